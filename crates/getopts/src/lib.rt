@@ -1,0 +1,2 @@
+//! Command-line options: declared groups, a list of words, and the one reading of those words.
+#![tactic(auto)]
