@@ -1,0 +1,5 @@
+pub mod Names
+pub mod Options
+pub mod Fail
+pub mod Scan
+pub mod Matches

@@ -1,2 +1,10 @@
 //! Command-line options: declared groups, a list of words, and the one reading of those words.
 #![tactic(auto)]
+
+mod fail;
+mod names;
+mod options;
+
+pub use fail::Fail;
+pub use names::names_lawful;
+pub use options::{HasArg, Occur, Options, ParsingStyle};

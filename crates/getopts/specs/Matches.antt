@@ -1,0 +1,81 @@
+-- What the matches of a reading hold, and whether the counts are kept.
+use Rattle.std.specs.Prelude.{◌≡◌, ◌==◌, ℕ, ◌+◌, ◌≤◌, ⊤, List, [], ◌∷◌, ◌++◌, length, map, Option}
+use Rattle.std.specs.List.{AllByRecursion, filter}
+use Rattle.getopts.specs.Names.{Text, Names, main_name}
+use Rattle.getopts.specs.Options.{Group, Declared, Grammar, grammar_of}
+use Rattle.getopts.specs.Fail.{Fault, option_missing, option_duplicated}
+use Rattle.getopts.specs.Scan.{Reading, Occurrence, occurrences_of, free_words, trailing_start}
+use Rattle.getopts.specs.declared.options.HasArg.{HasArg}
+use Rattle.getopts.specs.declared.options.Occur.{Occur}
+use Rattle.getopts.specs.declared.options.Occur.TheVariants.{Req, Optional, Multi}
+
+-- one occurrence of a known group: its position, and the value if there is one
+pub record Found : Type 0 where
+  pub position : ℕ
+  pub value : Option Text
+
+-- a group as matches hold it, with its occurrences in the order of the line
+pub record MatchedGroup : Type 0 where
+  pub names : Names
+  pub kind : HasArg
+  pub occurrence : Occur
+  pub found : List Found
+
+-- what matches hold: the groups, the free words, and where the words after a stop begin among them
+pub record Matched : Type 0 where
+  pub groups : List MatchedGroup
+  pub free : List Text
+  pub trailing_start : Option ℕ
+
+-- the occurrences of the group at this place
+abbrev pub found_at : ℕ → List Occurrence → List Found
+found_at place occurrences = map (λ o. record { position = o.position; value = o.value }) (filter (λ o. o.group == place) occurrences)
+
+-- each group with its occurrences, where the first group has this place
+abbrev pub matched_from : ℕ → List Group → List Occurrence → List MatchedGroup
+matched_from place [] occurrences = []
+matched_from place (group ∷ groups) occurrences = record {
+  names = group.names;
+  kind = group.kind;
+  occurrence = group.occurrence;
+  found = found_at place occurrences
+} ∷ matched_from (place + 1) groups occurrences
+
+-- the matches of a reading
+abbrev pub matches_of : Declared → Reading → Matched
+matches_of options reading = record {
+  groups = matched_from 0 options.groups (occurrences_of (grammar_of options) reading);
+  free = free_words reading;
+  trailing_start = trailing_start reading
+}
+
+-- the number of occurrences that a group may have: exactly one, at most one, or any
+abbrev pub FitsCount : Occur → ℕ → Type 0
+FitsCount Req count = count ≡ 1
+FitsCount Optional count = count ≤ 1
+FitsCount Multi count = ⊤
+
+-- a group keeps its count
+abbrev pub KeepsCount : MatchedGroup → Type 0
+KeepsCount group = FitsCount group.occurrence (length group.found)
+
+-- each group keeps its count
+abbrev pub KeepsCounts : List MatchedGroup → Type 0
+KeepsCounts groups = AllByRecursion KeepsCount groups
+
+-- the fault of a group that breaks its count: missing where there is no occurrence, else given too often
+abbrev pub broken_count : MatchedGroup → Fault
+broken_count group = broken_by group.found where
+  broken_by : List Found → Fault
+  broken_by [] = option_missing (main_name group.names)
+  broken_by (first ∷ others) = option_duplicated (main_name group.names)
+
+-- the count fault: that of the first group in order of definition that breaks its count
+pub record IsCountFault (groups : List MatchedGroup) (fault : Fault) : Type 0 where
+  pub before : List MatchedGroup
+  pub group : MatchedGroup
+  pub after : List MatchedGroup
+  pub groups_are : groups ≡ before ++ group ∷ after
+  pub kept : KeepsCounts before
+  pub broken : ¬ (KeepsCount group)
+  pub fault_is : fault ≡ broken_count group

@@ -1,0 +1,50 @@
+-- Names of options: the two names of a group, which pairs are lawful, and what a name resolves to.
+use Rattle.std.specs.Prelude.{◌≢◌, ◌==◌, ℕ, ◌+◌, ◌<◌, ◌≤◌, Bool, ◌&&◌, not, List, length, Option, if◌then◌else◌}
+use Rattle.std.specs.List.{find, position}
+use Rattle.std.specs.Option.{option_and_then, option_or}
+use Rattle.std.specs.Str.{bytes_eq}
+
+-- a text, as its bytes
+abbrev pub Text : Type 0
+Text = List ℕ
+
+-- the short and the long name of a group; either may be empty
+pub record Names : Type 0 where
+  pub short : Text
+  pub long : Text
+
+-- the short name has at most one byte, the long name doesn't have exactly one, and not both are empty
+pub record AreLawful (short long : Text) : Type 0 where
+  pub short_fits : length short ≤ 1
+  pub long_fits : length long ≢ 1
+  pub named : 0 < length short + length long
+
+-- a group's two names are lawful
+abbrev pub IsLawfullyNamed : Names → Type 0
+IsLawfullyNamed names = AreLawful names.short names.long
+
+-- a text with no byte
+abbrev pub is_empty : Text → Bool
+is_empty text = length text == 0
+
+-- the main name: the long name where there is one, else the short name
+abbrev pub main_name : Names → Text
+main_name names = if is_empty names.long then names.short else names.long
+
+-- whether this is the group's main name
+abbrev pub is_main : Text → Names → Bool
+is_main name names = bytes_eq (main_name names) name
+
+-- whether this is the group's alias: its short name, where it has both
+abbrev pub is_alias : Text → Names → Bool
+is_alias name names = not (is_empty names.long) && not (is_empty names.short) && bytes_eq names.short name
+
+-- the place of the first group with this main name
+abbrev pub main_place : List Names → Text → Option ℕ
+main_place groups name = position (is_main name) groups
+
+-- The place of the group that a name resolves to: the first with this main name; where there is none,
+-- the first whose main name is that of the first group with this alias.
+abbrev pub resolution : List Names → Text → Option ℕ
+resolution groups name = option_or (main_place groups name)
+    (option_and_then (λ declarer. main_place groups (main_name declarer)) (find (is_alias name) groups))

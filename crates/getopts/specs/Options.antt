@@ -1,0 +1,51 @@
+-- What options hold: groups in order of definition, a parsing style and a mode.
+use Rattle.std.specs.Prelude.{◌≡◌, ℕ, Bool, List, Option, map, slice_get}
+use Rattle.std.specs.List.{AllByRecursion}
+use Rattle.std.specs.Option.{option_and_then, option_map}
+use Rattle.getopts.specs.Names.{Text, Names, IsLawfullyNamed, resolution}
+use Rattle.getopts.specs.declared.options.HasArg.{HasArg}
+use Rattle.getopts.specs.declared.options.Occur.{Occur}
+use Rattle.getopts.specs.declared.options.ParsingStyle.{ParsingStyle}
+
+-- a group: two names, a hint, a description, a kind of argument and a kind of occurrence
+pub record Group : Type 0 where
+  pub names : Names
+  pub hint : Text
+  pub description : Text
+  pub kind : HasArg
+  pub occurrence : Occur
+
+-- groups in order of definition, a parsing style, and whether the mode is long-only
+pub record Declared : Type 0 where
+  pub groups : List Group
+  pub style : ParsingStyle
+  pub long_only : Bool
+
+-- each group is lawfully named
+abbrev pub AreLawfullyNamed : List Group → Type 0
+AreLawfullyNamed groups = AllByRecursion (λ group. IsLawfullyNamed group.names) groups
+
+-- the names of each group
+abbrev pub names_of : List Group → List Names
+names_of groups = map (λ group. group.names) groups
+
+-- What the reading of words asks of options: the place of the group that a name resolves to, that
+-- group's kind of argument, the style and the mode.
+pub record Grammar : Type 0 where
+  pub place_of : Text → Option ℕ
+  pub kind_of : Text → Option HasArg
+  pub style : ParsingStyle
+  pub long_only : Bool
+
+-- the kind of argument of the group that a name resolves to
+abbrev pub kind_of : List Group → Text → Option HasArg
+kind_of groups name = option_and_then (λ place. option_map (λ group. group.kind) (slice_get groups place)) (resolution (names_of groups) name)
+
+-- the grammar of options
+abbrev pub grammar_of : Declared → Grammar
+grammar_of options = record {
+  place_of = resolution (names_of options.groups);
+  kind_of = kind_of options.groups;
+  style = options.style;
+  long_only = options.long_only
+}

@@ -1,0 +1,351 @@
+-- How words are read: items, their spelling, when they are lawful, readings of a line, the occurrences
+-- and free words of a reading, and the faults of a line that has none.
+use Rattle.std.specs.Prelude.{◌≡◌, ◌≢◌, ◌==◌, ◌⊎◌, ⊤, ℕ, ◌+◌, ◌<◌, Bool, true, false, List, [], ◌∷◌, ◌++◌, length, map, Option, Some, None, IsSome, encode_utf8}
+use Rattle.std.specs.Char.{IsScalar}
+use Rattle.std.specs.List.{AllByRecursion, list_any}
+use Rattle.std.specs.Option.{unwrap_or}
+use Rattle.getopts.specs.Names.{Text}
+use Rattle.getopts.specs.Options.{Grammar}
+use Rattle.getopts.specs.Fail.{Fault, argument_missing, unrecognized_option, option_missing, option_duplicated, unexpected_argument}
+use Rattle.getopts.specs.declared.options.HasArg.{HasArg}
+use Rattle.getopts.specs.declared.options.HasArg.TheVariants.{Yes, No, Maybe}
+use Rattle.getopts.specs.declared.options.ParsingStyle.{ParsingStyle}
+use Rattle.getopts.specs.declared.options.ParsingStyle.TheVariants.{FloatingFrees, StopAtFirstFree}
+
+-- the byte `-`
+abbrev pub dash : ℕ
+dash = 45
+
+-- the byte `=`
+abbrev pub equals_sign : ℕ
+equals_sign = 61
+
+-- whether a word is dashed: it begins with `-` and has at least two bytes
+abbrev pub is_dashed : Text → Bool
+is_dashed [] = false
+is_dashed (c ∷ []) = false
+is_dashed (c ∷ d ∷ more) = c == dash
+
+-- whether a text begins with `-`
+abbrev pub begins_with_dash : Text → Bool
+begins_with_dash [] = false
+begins_with_dash (c ∷ more) = c == dash
+
+-- whether a text holds `=`
+abbrev pub holds_equals : Text → Bool
+holds_equals text = list_any (λ c. c == equals_sign) text
+
+-- the word `--`
+abbrev pub stop_word : Text
+stop_word = dash ∷ dash ∷ []
+
+-- the argument of an option: none, attached in its word, or separate as the next word
+pub data Argument : Type 0 where
+  none : Argument
+  attached : Text → Argument
+  separate : Text → Argument
+
+-- the dashes before a name in long form
+pub data Dashes : Type 0 where
+  one : Dashes
+  two : Dashes
+
+-- how a cluster ends: after its flags, or in an option that may have an argument
+pub data End : Type 0 where
+  flags : End
+  ends_in : ℕ → Argument → End
+
+-- An item: a free word; a name in long form, with its argument; or a cluster, which is flags of one
+-- byte each, and an end.
+pub data Item : Type 0 where
+  free : Text → Item
+  long : Dashes → Text → Argument → Item
+  cluster : List ℕ → End → Item
+
+-- the text of the dashes
+abbrev pub dash_text : Dashes → Text
+dash_text one = dash ∷ []
+dash_text two = dash ∷ dash ∷ []
+
+-- `=` and the attached argument, if there is one
+abbrev pub with_equals : Option Text → Text
+with_equals None = []
+with_equals (Some argument) = equals_sign ∷ argument
+
+-- a word in long form: dashes, a name, and perhaps `=` and an attached argument
+abbrev pub long_word : Dashes → Text → Option Text → Text
+long_word dashes name argument = dash_text dashes ++ (name ++ with_equals argument)
+
+-- the attached argument
+abbrev pub attached_argument : Argument → Option Text
+attached_argument none = None
+attached_argument (attached argument) = Some argument
+attached_argument (separate word) = None
+
+-- the value that an argument gives to its option
+abbrev pub value_of : Argument → Option Text
+value_of none = None
+value_of (attached argument) = Some argument
+value_of (separate word) = Some word
+
+-- what the end adds to the cluster's word: nothing, or the option and its attached argument
+abbrev pub end_text : End → Text
+end_text flags = []
+end_text (ends_in option argument) = option ∷ unwrap_or (attached_argument argument) []
+
+-- a separate argument is the next word: the words that an argument adds before those that follow
+abbrev pub argument_words : Argument → List Text → List Text
+argument_words none more = more
+argument_words (attached argument) more = more
+argument_words (separate word) more = word ∷ more
+
+-- the words that an end adds before those that follow
+abbrev pub end_words : End → List Text → List Text
+end_words flags more = more
+end_words (ends_in option argument) more = argument_words argument more
+
+-- the words that an item spells, before those that follow
+abbrev pub spelled : Item → List Text → List Text
+spelled (free word) more = word ∷ more
+spelled (long dashes name argument) more = long_word dashes name (attached_argument argument) ∷ argument_words argument more
+spelled (cluster names end) more = (dash ∷ (names ++ end_text end)) ∷ end_words end more
+
+-- the words that items spell one after the other, before those that follow
+abbrev pub spelled_all : List Item → List Text → List Text
+spelled_all [] more = more
+spelled_all (item ∷ items) more = spelled item (spelled_all items more)
+
+-- which dashes may stand before a name: two; in long-only mode one too, where the name begins with no dash
+abbrev pub MayStandBefore : Bool → Dashes → Text → Type 0
+MayStandBefore long_only one name = (long_only ≡ true) × (begins_with_dash name ≡ false)
+MayStandBefore long_only two name = ⊤
+
+-- The arguments that a kind may have in long form: none for No; one, attached or separate, for Yes;
+-- at most an attached one for Maybe.
+abbrev pub FitsLong : HasArg → Argument → Type 0
+FitsLong No none = ⊤
+FitsLong No (attached argument) = ⊥
+FitsLong No (separate word) = ⊥
+FitsLong Yes none = ⊥
+FitsLong Yes (attached argument) = ⊤
+FitsLong Yes (separate word) = ⊤
+FitsLong Maybe none = ⊤
+FitsLong Maybe (attached argument) = ⊤
+FitsLong Maybe (separate word) = ⊥
+
+-- The arguments that a kind may have at the end of a cluster: an attached one is not empty; for Yes a
+-- separate one is any word; for Maybe it isn't dashed, and there may be none.
+abbrev pub FitsEnd : HasArg → Argument → Type 0
+FitsEnd No argument = ⊥
+FitsEnd Yes none = ⊥
+FitsEnd Yes (attached argument) = argument ≢ []
+FitsEnd Yes (separate word) = ⊤
+FitsEnd Maybe none = ⊤
+FitsEnd Maybe (attached argument) = argument ≢ []
+FitsEnd Maybe (separate word) = is_dashed word ≡ false
+
+-- the name is a flag: one byte that resolves to a group of kind No
+abbrev pub IsFlag : Grammar → ℕ → Type 0
+IsFlag grammar name = grammar.kind_of (name ∷ []) ≡ Some No
+
+-- a lawful end of a cluster with these flags
+abbrev pub IsLawfulEnd : Grammar → List ℕ → End → Type 0
+IsLawfulEnd grammar names flags = names ≢ []
+IsLawfulEnd grammar names (ends_in option argument) = (kind : HasArg) × (grammar.kind_of (option ∷ []) ≡ Some kind) × FitsEnd kind argument
+
+-- a lawful item in long form
+pub record IsLawfulLong (grammar : Grammar) (dashes : Dashes) (name : Text) (argument : Argument) : Type 0 where
+  pub before : MayStandBefore grammar.long_only dashes name
+  pub cut_once : holds_equals name ≡ false
+  pub resolves : (kind : HasArg) × (grammar.kind_of name ≡ Some kind) × FitsLong kind argument
+
+-- a lawful cluster: in ordinary mode, with no `-` after its dash, of flags and a lawful end
+pub record IsLawfulCluster (grammar : Grammar) (names : List ℕ) (end : End) : Type 0 where
+  pub ordinary : grammar.long_only ≡ false
+  pub short_form : begins_with_dash (names ++ end_text end) ≡ false
+  pub each : AllByRecursion (IsFlag grammar) names
+  pub last : IsLawfulEnd grammar names end
+
+-- a lawful item; a free word isn't dashed, and there is none under `StopAtFirstFree`
+abbrev pub IsLawfulItem : Grammar → Item → Type 0
+IsLawfulItem grammar (free word) = (is_dashed word ≡ false) × (grammar.style ≡ FloatingFrees)
+IsLawfulItem grammar (long dashes name argument) = IsLawfulLong grammar dashes name argument
+IsLawfulItem grammar (cluster names end) = IsLawfulCluster grammar names end
+
+-- whether an item is a bare cluster: it ends in an option without an argument
+abbrev pub is_bare : Item → Bool
+is_bare (free word) = false
+is_bare (long dashes name argument) = false
+is_bare (cluster names flags) = false
+is_bare (cluster names (ends_in option none)) = true
+is_bare (cluster names (ends_in option (attached argument))) = false
+is_bare (cluster names (ends_in option (separate word))) = false
+
+-- the line ends, or its next word is dashed
+abbrev pub EndsOrIsDashed : List Text → Type 0
+EndsOrIsDashed [] = ⊤
+EndsOrIsDashed (word ∷ words) = is_dashed word ≡ true
+
+-- after each bare cluster the line ends or its next word is dashed
+abbrev pub AreWellFollowed : List Item → List Text → Type 0
+AreWellFollowed [] more = ⊤
+AreWellFollowed (item ∷ items) more = (is_bare item ≡ true → EndsOrIsDashed (spelled_all items more)) × AreWellFollowed items more
+
+-- What follows the items: the end of the line; the stop `--` and the words after it; or, from the first free word
+-- on, the rest.
+pub data Tail : Type 0 where
+  line_end : Tail
+  stop : List Text → Tail
+  rest : List Text → Tail
+
+-- the words that a tail spells
+abbrev pub tail_words : Tail → List Text
+tail_words line_end = []
+tail_words (stop words) = stop_word ∷ words
+tail_words (rest words) = words
+
+-- words that begin with one that isn't dashed
+abbrev pub BeginsFree : List Text → Type 0
+BeginsFree [] = ⊥
+BeginsFree (word ∷ words) = is_dashed word ≡ false
+
+-- a lawful tail; a rest begins with a word that isn't dashed, and stands only under `StopAtFirstFree`
+abbrev pub IsLawfulTail : Grammar → Tail → Type 0
+IsLawfulTail grammar line_end = ⊤
+IsLawfulTail grammar (stop words) = ⊤
+IsLawfulTail grammar (rest words) = BeginsFree words × (grammar.style ≡ StopAtFirstFree)
+
+-- a list of items and a tail
+pub record Reading : Type 0 where
+  pub items : List Item
+  pub tail : Tail
+
+-- A reading of a line: lawful items and a lawful tail whose spellings, one after the other, are its
+-- words, each bare cluster followed as it may be.
+pub record IsReading (grammar : Grammar) (reading : Reading) (words : List Text) : Type 0 where
+  pub spells : spelled_all reading.items (tail_words reading.tail) ≡ words
+  pub items : AllByRecursion (IsLawfulItem grammar) reading.items
+  pub tail : IsLawfulTail grammar reading.tail
+  pub followed : AreWellFollowed reading.items (tail_words reading.tail)
+
+-- a group that is mentioned, by its place, and perhaps a value
+pub record Mention : Type 0 where
+  pub group : ℕ
+  pub value : Option Text
+
+-- what a name with this value mentions
+abbrev pub mention : Grammar → Text → Option Text → Mention
+mention grammar name value = record { group = unwrap_or (grammar.place_of name) 0; value = value }
+
+-- what the end of a cluster mentions
+abbrev pub end_mentions : Grammar → End → List Mention
+end_mentions grammar flags = []
+end_mentions grammar (ends_in option argument) = mention grammar (option ∷ []) (value_of argument) ∷ []
+
+-- what an item mentions, in the order of its spelling
+abbrev pub mentions : Grammar → Item → List Mention
+mentions grammar (free word) = []
+mentions grammar (long dashes name argument) = mention grammar name (value_of argument) ∷ []
+mentions grammar (cluster names end) = map (λ name. mention grammar (name ∷ []) None) names ++ end_mentions grammar end
+
+-- an occurrence of a group: its place, the value if there is one, and the position in the line
+pub record Occurrence : Type 0 where
+  pub group : ℕ
+  pub value : Option Text
+  pub position : ℕ
+
+-- a mention at a position
+abbrev pub occurrence_at : ℕ → Mention → Occurrence
+occurrence_at position m = record { group = m.group; value = m.value; position = position }
+
+-- the occurrences of items, where so many items stand before them: a position is the number of items before
+abbrev pub occurrences_after : ℕ → Grammar → List Item → List Occurrence
+occurrences_after before grammar [] = []
+occurrences_after before grammar (item ∷ items) = map (occurrence_at before) (mentions grammar item) ++ occurrences_after (before + 1) grammar items
+
+-- the occurrences of a reading
+abbrev pub occurrences_of : Grammar → Reading → List Occurrence
+occurrences_of grammar reading = occurrences_after 0 grammar reading.items
+
+-- the words of the free items
+abbrev pub free_items : List Item → List Text
+free_items [] = []
+free_items (free word ∷ items) = word ∷ free_items items
+free_items (long dashes name argument ∷ items) = free_items items
+free_items (cluster names end ∷ items) = free_items items
+
+-- the free words of a tail
+abbrev pub tail_frees : Tail → List Text
+tail_frees line_end = []
+tail_frees (stop words) = words
+tail_frees (rest words) = words
+
+-- the free words of a reading
+abbrev pub free_words : Reading → List Text
+free_words reading = free_items reading.items ++ tail_frees reading.tail
+
+-- where the words after a stop begin among the free words, if any word follows it
+abbrev pub trailing_after : ℕ → Tail → Option ℕ
+trailing_after before line_end = None
+trailing_after before (stop []) = None
+trailing_after before (stop (word ∷ words)) = Some before
+trailing_after before (rest words) = None
+
+-- where the words after the stop begin among the free words of a reading
+abbrev pub trailing_start : Reading → Option ℕ
+trailing_start reading = trailing_after (length (free_items reading.items)) reading.tail
+
+-- a word in long form, with this name and this attached argument, which is neither the stop nor undashed
+pub record IsLongForm (grammar : Grammar) (word name : Text) (argument : Option Text) : Type 0 where
+  pub dashes : Dashes
+  pub before : MayStandBefore grammar.long_only dashes name
+  pub cut_once : holds_equals name ≡ false
+  pub word_is : word ≡ long_word dashes name argument
+  pub dashed : is_dashed word ≡ true
+  pub no_stop : word ≢ stop_word
+
+-- a word in short form: in ordinary mode, `-` and this text, which isn't empty and doesn't begin with `-`
+pub record IsShortForm (grammar : Grammar) (word text : Text) : Type 0 where
+  pub ordinary : grammar.long_only ≡ false
+  pub word_is : word ≡ dash ∷ text
+  pub filled : text ≢ []
+  pub second : begins_with_dash text ≡ false
+
+-- in short form, after flags, a character that has more than one byte or doesn't resolve
+pub record HasUnknownFlag (grammar : Grammar) (word name : Text) : Type 0 where
+  pub names : List ℕ
+  pub character : ℕ
+  pub more : Text
+  pub short_form : IsShortForm grammar word (names ++ (name ++ more))
+  pub each : AllByRecursion (IsFlag grammar) names
+  pub scalar : IsScalar character
+  pub name_is : name ≡ encode_utf8 character
+  pub unknown : (1 < length name) ⊎ (grammar.kind_of name ≡ None)
+
+-- in short form, after flags, a last name of one byte and of kind Yes
+pub record EndsInYes (grammar : Grammar) (word name : Text) : Type 0 where
+  pub names : List ℕ
+  pub option : ℕ
+  pub short_form : IsShortForm grammar word (names ++ (option ∷ []))
+  pub each : AllByRecursion (IsFlag grammar) names
+  pub name_is : name ≡ option ∷ []
+  pub kind : grammar.kind_of name ≡ Some Yes
+
+-- The faults of a word where an item begins, with these words after it: a name that doesn't resolve;
+-- an attached argument for kind No; no argument for kind Yes at the end of the line.
+abbrev pub IsFaultAt : Grammar → Text → List Text → Fault → Type 0
+IsFaultAt grammar word after (unrecognized_option name) = ((argument : Option Text) × IsLongForm grammar word name argument × (grammar.kind_of name ≡ None)) ⊎ HasUnknownFlag grammar word name
+IsFaultAt grammar word after (unexpected_argument name) = (argument : Text) × IsLongForm grammar word name (Some argument) × (grammar.kind_of name ≡ Some No)
+IsFaultAt grammar word after (argument_missing name) = ((IsLongForm grammar word name None × (grammar.kind_of name ≡ Some Yes)) ⊎ EndsInYes grammar word name) × (after ≡ [])
+IsFaultAt grammar word after (option_missing name) = ⊥
+IsFaultAt grammar word after (option_duplicated name) = ⊥
+
+-- A scan fault of a line: the fault of a word, where the words before it have a reading that ends there.
+pub record IsScanFault (grammar : Grammar) (words : List Text) (fault : Fault) : Type 0 where
+  pub before : List Text
+  pub word : Text
+  pub after : List Text
+  pub items : List Item
+  pub words_are : words ≡ before ++ word ∷ after
+  pub reads : IsReading grammar (record { items = items; tail = line_end }) before
+  pub fault_at : IsFaultAt grammar word after fault
