@@ -2,7 +2,10 @@
 use Rattle.std.specs.Prelude.{◌≡◌, ℕ, Bool, List, Option, map, slice_get}
 use Rattle.std.specs.List.{AllByRecursion}
 use Rattle.std.specs.Option.{option_and_then, option_map}
-use Rattle.getopts.specs.Names.{Text, Names, IsLawfullyNamed, resolution}
+use Rattle.std.specs.String.{string_bytes}
+use Rattle.getopts.specs.Names.{Text, Names, IsLawfullyNamed, resolution, names_view}
+use Rattle.getopts.specs.declared.options.OptGroup.{OptGroup}
+use Rattle.getopts.specs.declared.options.Opt.{Opt}
 use Rattle.getopts.specs.declared.options.HasArg.{HasArg}
 use Rattle.getopts.specs.declared.options.Occur.{Occur}
 use Rattle.getopts.specs.declared.options.ParsingStyle.{ParsingStyle}
@@ -14,6 +17,30 @@ pub record Group : Type 0 where
   pub description : Text
   pub kind : HasArg
   pub occurrence : Occur
+
+-- a group as the code holds it
+abbrev pub group_view : OptGroup → Group
+group_view held = record {
+  names = names_view held.names;
+  hint = string_bytes held.hint;
+  description = string_bytes held.desc;
+  kind = held.hasarg;
+  occurrence = held.occur
+}
+
+-- what reading asks of a group: its names, its kind and its occurrence kind
+pub record Known : Type 0 where
+  pub names : Names
+  pub kind : HasArg
+  pub occurrence : Occur
+
+-- what reading asks of a group, from the whole group
+abbrev pub known_of : Group → Known
+known_of group = record { names = group.names; kind = group.kind; occurrence = group.occurrence }
+
+-- the same as the code holds it
+abbrev pub opt_view : Opt → Known
+opt_view held = record { names = names_view held.names; kind = held.hasarg; occurrence = held.occur }
 
 -- groups in order of definition, a parsing style, and whether the mode is long-only
 pub record Declared : Type 0 where
