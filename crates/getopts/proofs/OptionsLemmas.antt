@@ -28,9 +28,9 @@ pub resolution-map : {X : Type 0} (f : X → Names) (xs : List X) (name : Text) 
 resolution-map {X} f xs name =
     ap (λ o. option_or o (option_and_then (λ declarer. position (is_main (main_name declarer)) (map f xs)) (find (is_alias name) (map f xs)))) (position-map f (is_main name) xs)
     ∙ ap (λ o. option_or (position (λ x. is_main name (f x)) xs) o) (ap (option_and_then (λ declarer. position (is_main (main_name declarer)) (map f xs))) (find-map f (is_alias name) xs) ∙ followed (find (λ x. is_alias name (f x)) xs)) where
-    followed : (o : Option X) → option_and_then (λ declarer. position (is_main (main_name declarer)) (map f xs)) (option_map f o) ≡ option_and_then (λ declarer. position (λ x. is_main (main_name (f declarer)) (f x)) xs) o
-    followed None = refl
-    followed (Some x) = position-map f (is_main (main_name (f x))) xs
+      followed : (o : Option X) → option_and_then (λ declarer. position (is_main (main_name declarer)) (map f xs)) (option_map f o) ≡ option_and_then (λ declarer. position (λ x. is_main (main_name (f declarer)) (f x)) xs) o
+      followed None = refl
+      followed (Some x) = position-map f (is_main (main_name (f x))) xs
 
 module _ {X : Type 0} (f : X → Names) (xs : List X) (name : Text) where
   -- a first main name answers

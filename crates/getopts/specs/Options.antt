@@ -1,5 +1,5 @@
 -- What options hold: groups in order of definition, a parsing style and a mode.
-use Rattle.std.specs.Prelude.{◌≡◌, ℕ, Bool, List, Option, map, slice_get}
+use Rattle.std.specs.Prelude.{◌≡◌, ℕ, Bool, List, [], ◌∷◌, ◌++◌, Option, map, slice_get}
 use Rattle.std.specs.List.{AllByRecursion}
 use Rattle.std.specs.Option.{option_and_then, option_map}
 use Rattle.std.specs.String.{string_bytes}
@@ -25,7 +25,7 @@ group_view held = record {
   hint = string_bytes held.hint;
   description = string_bytes held.desc;
   kind = held.hasarg;
-  occurrence = held.occur
+  occurrence = held.occur;
 }
 
 -- what reading asks of a group: its names, its kind and its occurrence kind
@@ -47,6 +47,10 @@ pub record Declared : Type 0 where
   pub groups : List Group
   pub style : ParsingStyle
   pub long_only : Bool
+
+-- the options with one more group, the last
+abbrev pub with_group : Declared → Group → Declared
+with_group options group = record options { groups = options.groups ++ group ∷ [] }
 
 -- each group is lawfully named
 abbrev pub AreLawfullyNamed : List Group → Type 0
@@ -74,5 +78,5 @@ grammar_of options = record {
   place_of = resolution (names_of options.groups);
   kind_of = kind_of options.groups;
   style = options.style;
-  long_only = options.long_only
+  long_only = options.long_only;
 }

@@ -106,7 +106,7 @@ impl Model for Options {
 }
 
 impl Options {
-    ghost use Rattle.getopts.specs.Options.{Group};
+    ghost use Rattle.getopts.specs.Options.{with_group};
 
     /// Options with no groups, in `FloatingFrees` and ordinary mode. Takes no memory; the calls that
     /// add a group grow the options with this allocator.
@@ -121,8 +121,8 @@ impl Options {
         }
     }
 
-    /// Adds a group.
-    pub fn opt(
+    /// Adds a group as the last one.
+    fn push_group(
         &mut self,
         short_name: &str,
         long_name: &str,
@@ -132,13 +132,13 @@ impl Options {
         occur: Occur,
     ) -> Result<(), AllocError>
         requires { AreLawful short_name.now long_name.now }
-        ensures ok { OnOk result (self.new ≡ record self.old { groups = self.old.groups ++ record {
-            names = record { short = short_name.now; long = long_name.now };
-            hint = hint.now;
-            description = desc.now;
-            kind = hasarg;
-            occurrence = occur
-        } ∷ [] }) }
+        ensures ok { OnOk result (self.new ≡ with_group self.old (record {
+          names = record { short = short_name.now; long = long_name.now };
+          hint = hint.now;
+          description = desc.now;
+          kind = hasarg;
+          occurrence = occur;
+        })) }
         ensures err { OnErr result (self.new ≡ self.old) }
     {
         let group = OptGroup {
@@ -150,5 +150,43 @@ impl Options {
         };
         self.groups.push(group)?;
         Ok(())
+    }
+
+    /// Adds a group as the last one, with any kind of argument and any kind of occurrence.
+    ///
+    /// The names have to be lawful, which `names_lawful` tests. `hint` stands for the argument in usage
+    /// texts, `desc` is the description there. The answer is a reference to the same options, so calls
+    /// can be chained with `?`. An error comes only where memory was refused, and leaves the options
+    /// unchanged.
+    pub fn opt(
+        &mut self,
+        short_name: &str,
+        long_name: &str,
+        desc: &str,
+        hint: &str,
+        hasarg: HasArg,
+        occur: Occur,
+    ) -> Result<&mut Options, AllocError>
+        requires { AreLawful short_name.now long_name.now }
+        ensures added { IfOk result (λ options. options.now ≡ with_group self.old (record {
+          names = record { short = short_name.now; long = long_name.now };
+          hint = hint.now;
+          description = desc.now;
+          kind = hasarg;
+          occurrence = occur;
+        })) }
+        ensures same_options { IfOk result (λ options. options.ghost_name ≡ self.entry.ghost_name) }
+    {
+        self.push_group(short_name, long_name, desc, hint, hasarg, occur)?;
+        Ok(self)
+    }
+
+    /// Sets the parsing style.
+    pub fn parsing_style(&mut self, style: ParsingStyle) -> &mut Options
+        ensures set { result.now ≡ record self.old { style = style } }
+        ensures same_options { result.ghost_name ≡ self.entry.ghost_name }
+    {
+        self.style = style;
+        self
     }
 }
