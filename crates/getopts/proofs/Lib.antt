@@ -1,2 +1,4 @@
 pub mod OptionsLemmas
+pub mod ScanItems
 pub mod ScanTurns
+pub mod ScanWords

@@ -2,4 +2,5 @@ pub mod Names
 pub mod Options
 pub mod Fail
 pub mod Scan
+pub mod Line
 pub mod Matches

@@ -80,3 +80,16 @@ grammar_of options = record {
   style = options.style;
   long_only = options.long_only;
 }
+
+-- the kind of argument of the option that a name resolves to, as the code holds options
+abbrev pub opt_kind_of : List Opt → Text → Option HasArg
+opt_kind_of opts name = option_and_then (λ place. option_map (λ opt. opt.hasarg) (slice_get opts place)) (resolution (map (λ opt. names_view opt.names) opts) name)
+
+-- the grammar of options as the code holds them
+abbrev pub opts_grammar : List Opt → ParsingStyle → Bool → Grammar
+opts_grammar opts style long_only = record {
+  place_of = resolution (map (λ opt. names_view opt.names) opts);
+  kind_of = opt_kind_of opts;
+  style = style;
+  long_only = long_only
+}
