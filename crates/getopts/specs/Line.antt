@@ -1,11 +1,12 @@
 -- What the functions of `scan` find in the words that they are given.
-use Rattle.std.specs.Prelude.{◌≡◌, ◌≢◌, ℕ, ◌≤◌, Bool, true, List, [], ◌∷◌, ◌++◌, length, map, drop, Option}
+use Rattle.std.specs.Prelude.{◌≡◌, ◌≢◌, ℕ, ◌≤◌, Bool, true, List, [], ◌∷◌, ◌++◌, length, map, drop, Option, None}
 use Rattle.std.specs.Borrow.{Bor}
 use Rattle.std.specs.List.{AllByRecursion}
-use Rattle.std.specs.Option.{option_copied}
+use Rattle.std.specs.Option.{option_copied, unwrap_or}
 use Rattle.getopts.specs.Names.{Text, IsLawfullyNamed, names_view}
 use Rattle.getopts.specs.Options.{Grammar, opts_grammar}
-use Rattle.getopts.specs.Scan.{dash_text, Dashes, MayStandBefore, is_dashed, stop_word, Item, BeginsWith, Occurrence, occurrence_at, mentions, Reading, IsReading, occurrences_of, free_words, trailing_start}
+use Rattle.getopts.specs.Scan.{dash_text, Dashes, MayStandBefore, Argument, none, FitsEnd, value_of, attached_argument, argument_words, EndsOrIsDashed, mention, is_dashed, stop_word, Item, BeginsWith, Occurrence, occurrence_at, mentions, Reading, IsReading, occurrences_of, free_words, trailing_start}
+use Rattle.getopts.specs.declared.options.HasArg.{HasArg}
 use Rattle.getopts.specs.declared.options.Opt.{Opt}
 use Rattle.getopts.specs.declared.scan.Occurrence.{Occurrence as Held}
 use Rattle.getopts.specs.declared.scan.Line.{Line}
@@ -22,6 +23,10 @@ occurrence_view held = record { group = held.group; value = option_copied held.v
 -- the occurrences as the code holds them
 abbrev pub occurrences_view : List Held → List Occurrence
 occurrences_view held = map occurrence_view held
+
+-- the occurrences of flags, all at one position
+abbrev pub flag_occurrences : Grammar → ℕ → List ℕ → List Occurrence
+flag_occurrences grammar position names = map (λ name. occurrence_at position (mention grammar (name ∷ []) None)) names
 
 -- the grammar of a scanner's options, style and mode
 abbrev pub scanner_grammar : Scanner → Grammar
@@ -45,6 +50,17 @@ pub record ReadsItem (grammar : Grammar) (word : Text) (after : List Text) (posi
   pub within : used ≤ length after
   pub begins : BeginsWith grammar (word ∷ after) item (drop used after)
   pub found : occurrences ≡ map (occurrence_at position) (mentions grammar item)
+
+-- How an option of this kind ends a cluster: the rest of the word and the words after it are its
+-- argument and what follows, with this value.
+pub record IsEnding (kind : HasArg) (rest : Text) (after : List Text) (value : Option Text) (used : ℕ) : Type 0 where
+  pub argument : Argument
+  pub fits : FitsEnd kind argument
+  pub value_is : value ≡ value_of argument
+  pub rest_is : rest ≡ unwrap_or (attached_argument argument) []
+  pub within : used ≤ length after
+  pub after_is : after ≡ argument_words argument (drop used after)
+  pub followed : argument ≡ none → EndsOrIsDashed (drop used after)
 
 -- The words have a reading with what the line holds.
 pub record ReadsLine (grammar : Grammar) (words : List Text) (line : Line) : Type 0 where

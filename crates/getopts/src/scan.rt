@@ -1,6 +1,10 @@
 //! Reading words as items, from the first to the last.
 
-ghost use Rattle.std.specs.Prelude.{◌≡◌, ◌≢◌, ◌∷◌, ◌++◌, [], List, MatchOption, Some, None, true, false, IfOk, IfErr, slice_get};
+ghost use Rattle.std.specs.Prelude.{◌≡◌, ◌≢◌, ◌<◌, ◌∷◌, ◌++◌, [], ℕ, List, length, MatchOption, Some, None, true, false, IfOk, IfErr, slice_get, slice_index, encode_utf8};
+ghost use Rattle.std.specs.Char.{IsScalar};
+ghost use Rattle.std.specs.Str.{IsCharBoundary};
+ghost use Rattle.getopts.specs.Fail.{Tells, argument_missing};
+ghost use Rattle.getopts.specs.Line.{texts, IsEnding};
 ghost use Rattle.std.specs.Option.{option_copied};
 ghost use Rattle.getopts.specs.Names.{Text};
 ghost use Rattle.getopts.specs.Scan.{dash, is_dashed, holds_equals, with_equals, IsFaultAt, IsShortForm, IsScanFault, Occurrence as Found};
@@ -71,10 +75,60 @@ fn name_and_argument(text: &str) -> (&str, Option<&str>)
     }
 }
 
+/// Whether a word is dashed: it begins with `-` and goes on.
+fn is_dashed(word: &str) -> bool
+    ensures { result ≡ is_dashed word.now }
+{
+    dashed_text(word).is_some()
+}
+
+/// The first character of a text, as a text.
+fn first_character(text: &str) -> &str
+    requires { text.now ≢ [] }
+    ensures { (character : ℕ) × (more : Text) × IsScalar character × (result.now ≡ encode_utf8 character)
+        × (text.now ≡ result.now ++ more) }
+{
+    match text.chars().next() {
+        Some(character) => &text[..character.len_utf8()],
+        None => text,
+    }
+}
+
+/// The value of an option of kind Yes or Maybe in a cluster, by the rest of its word and the words
+/// after that, and how many of those it uses.
+fn ending<'w>(
+    alloc: Global,
+    hasarg: HasArg,
+    name: &str,
+    rest: &'w str,
+    after: &[&'w str],
+) -> Result<(Option<&'w str>, usize), Fail>
+    requires { hasarg ≢ HasArg.No }
+    ensures ok { IfOk result (λ found. IsEnding hasarg rest.now (texts after.now) (option_copied found.0) found.1) }
+    ensures err { IfErr result (λ fail. Tells fail (λ fault. (fault ≡ argument_missing name.now)
+        × (hasarg ≡ HasArg.Yes) × (rest.now ≡ []) × (texts after.now ≡ []))) }
+{
+    if !rest.is_empty() {
+        return Ok((Some(rest), 0));
+    }
+    match (hasarg, after.first().copied()) {
+        (HasArg::Yes, Some(word)) => Ok((Some(word), 1)),
+        (HasArg::Yes, None) => Err(Fail::argument_missing(alloc, name)),
+        (HasArg::Maybe, Some(word)) => {
+            if is_dashed(word) {
+                Ok((None, 0))
+            } else {
+                Ok((Some(word), 1))
+            }
+        }
+        (HasArg::Maybe, None) => Ok((None, 0)),
+        (HasArg::No, _) => unreachable!(),
+    }
+}
+
 impl<'o> Scanner<'o> {
     ghost use Rattle.std.specs.Prelude.{drop, map};
-    ghost use Rattle.getopts.specs.Fail.{Tells};
-    ghost use Rattle.getopts.specs.Line.{texts, occurrence_view, occurrences_view, scanner_grammar, IsLawfulScanner, IsInLongForm, ReadsItem, ReadsLine};
+    ghost use Rattle.getopts.specs.Line.{occurrence_view, occurrences_view, scanner_grammar, IsLawfulScanner, IsInLongForm, ReadsItem, ReadsLine};
 
     /// The place and the kind of argument of the option that a name resolves to.
     fn option(&self, name: &str) -> Option<(usize, HasArg)>
@@ -114,6 +168,22 @@ impl<'o> Scanner<'o> {
             (HasArg::Yes, Some(value)) => Ok((Occurrence::with_value(group, position, value), 0)),
             (HasArg::Maybe, None) => Ok((Occurrence::bare(group, position), 0)),
             (HasArg::Maybe, Some(value)) => Ok((Occurrence::with_value(group, position, value), 0)),
+        }
+    }
+
+    /// The option that the byte at a place in a cluster names; only names of one byte resolve there.
+    fn option_at(&self, text: &str, at: usize) -> Option<(usize, HasArg)>
+        requires named { IsLawfulScanner self.now }
+        requires within { at < length text.now }
+        requires boundary { IsCharBoundary text.now at }
+        ensures { let grammar = scanner_grammar self.now in let name = slice_index text.now at ∷ [] in
+            MatchOption result (grammar.kind_of name ≡ None)
+            (λ option. (slice_index text.now at < 128) × (grammar.place_of name ≡ Some option.0) × (grammar.kind_of name ≡ Some option.1)) }
+    {
+        if text.as_bytes()[at].is_ascii() {
+            self.option(&text[at..at + 1])
+        } else {
+            None
         }
     }
 }
