@@ -1,2 +1,3 @@
 pub mod ScanTurns
 pub mod ScanTexts
+pub mod ScanSteps
