@@ -90,3 +90,108 @@ long_sound grammar dashes word text more form =
     let cut : HasDashes grammar dashes word (long_name text ++ with_equals (long_argument text)) =
     subst (HasDashes grammar dashes word) (sym (name-append-argument text)) form in
     named_sound grammar dashes word (long_name text) (long_argument text) more cut (holds_equals-long_name text) (grammar.kind_of (long_name text)) refl
+
+-- each flag is ASCII
+flags_ascii : (grammar : Grammar) → IsNamed grammar → (names : List ℕ) → AllByRecursion (IsFlag grammar) names → AllByRecursion (λ byte. byte < 128) names
+flags_ascii grammar named [] each = tt
+flags_ascii grammar named (byte ∷ names) each = (flag_ascii (named.ascii byte), flags_ascii grammar named names each.1) where
+  flag_ascii : byte < 128 ⊎ (grammar.kind_of (byte ∷ []) ≡ None) → byte < 128
+  flag_ascii (inl ascii) = ascii
+  flag_ascii (inr unknown) = let flag : grammar.kind_of (byte ∷ []) ≡ Some No = each.0 in cc
+
+-- a line that begins with a cluster
+begins_cluster : (grammar : Grammar) (word : Text) (names : List ℕ) (end : End) (more : List Text)
+    → IsShortForm grammar word (names ++ end_text end) → AllByRecursion (IsFlag grammar) names → IsLawfulEnd grammar names end
+    → (is_bare (cluster names end) ≡ true → EndsOrIsDashed more)
+    → BeginsWith grammar (word ∷ end_words end more) (cluster names end) more
+begins_cluster grammar word names end more form each last followed = record {
+  spells = ap (λ (w : Text). w ∷ end_words end more) form.word_is;
+  lawful = record { ordinary = form.ordinary; short_form = form.second; each = each; last = last };
+  followed = followed
+}
+
+-- a name of kind Maybe at the end of a cluster
+maybe_sound : (grammar : Grammar) (word : Text) (names : List ℕ) (option : ℕ) (more : List Text)
+    → IsShortForm grammar word (names ++ option ∷ []) → AllByRecursion (IsFlag grammar) names → grammar.kind_of (option ∷ []) ≡ Some Maybe
+    → IsSoundTurn grammar word more (maybe_turn names option more)
+maybe_sound grammar word names option [] form each resolved =
+    begins_cluster grammar word names (ends_in option none) [] form each (Maybe, resolved, tt) (λ bare. tt)
+maybe_sound grammar word names option (next ∷ others) form each resolved = elim (cases_Bool (is_dashed next)) [
+  | inl dashed ↦ rw dashed (begins_cluster grammar word names (ends_in option none) (next ∷ others) form each (Maybe, resolved, tt) (λ bare. dashed))
+  | inr plain ↦ rw plain (next, others, refl, begins_cluster grammar word names (ends_in option (separate next)) others form each (Maybe, resolved, plain) (λ bare. absurd (false≢true bare)))
+]
+
+-- a name in a cluster, after flags, that isn't itself a flag
+pub option_sound : (grammar : Grammar) (word : Text) (names : List ℕ) (option : ℕ) (text : Text) (more : List Text)
+    → IsShortForm grammar word (names ++ option ∷ text) → AllByRecursion (IsFlag grammar) names
+    → (kind : HasArg) → grammar.kind_of (option ∷ []) ≡ Some kind → kind ≢ No
+    → IsSoundTurn grammar word more (option_turn kind names option text more)
+option_sound grammar word names option text more form each No resolved other = absurd (other refl)
+option_sound grammar word names option (c ∷ text) more form each Yes resolved other =
+    begins_cluster grammar word names (ends_in option (attached (c ∷ text))) more form each (Yes, resolved, λ e. cc e) (λ bare. absurd (false≢true bare))
+option_sound grammar word names option (c ∷ text) more form each Maybe resolved other =
+    begins_cluster grammar word names (ends_in option (attached (c ∷ text))) more form each (Maybe, resolved, λ e. cc e) (λ bare. absurd (false≢true bare))
+option_sound grammar word names option [] [] form each Yes resolved other =
+    λ utf8. (inr (record { names = names; option = option; short_form = form; each = each; name_is = refl; kind = resolved }), refl)
+option_sound grammar word names option [] (next ∷ others) form each Yes resolved other =
+    (next, others, refl, begins_cluster grammar word names (ends_in option (separate next)) others form each (Yes, resolved, tt) (λ bare. absurd (false≢true bare)))
+option_sound grammar word names option [] more form each Maybe resolved other =
+    maybe_sound grammar word names option more form each resolved
+
+-- what doesn't resolve, after flags
+unknown_flag : (grammar : Grammar) → IsNamed grammar → (word : Text) (names : List ℕ) (byte : ℕ) (text : Text)
+    → IsShortForm grammar word (names ++ byte ∷ text) → AllByRecursion (IsFlag grammar) names → grammar.kind_of (byte ∷ []) ≡ None
+    → IsUtf8 word → HasUnknownFlag grammar word (first_char (byte ∷ text))
+unknown_flag grammar named word names byte text form each resolved utf8 =
+    let whole : IsUtf8 (dash ∷ (names ++ byte ∷ text)) = subst IsUtf8 form.word_is utf8 in
+    let flags_first : IsUtf8 (names ++ byte ∷ text) = IsUtf8-past_ascii dash (names ++ byte ∷ text) (omega arith) whole in
+    let from : IsUtf8 (byte ∷ text) = IsUtf8-past_asciis names (byte ∷ text) (flags_ascii grammar named names each) flags_first in
+    let begins = begins_with_char byte text from in
+    let at : byte ∷ text ≡ first_char (byte ∷ text) ++ begins.1.rest = rw begins.1.first begins.1.text_is in
+    record {
+      names = names;
+      character = begins.0;
+      more = begins.1.rest;
+      short_form = subst (λ (t : Text). IsShortForm grammar word (names ++ t)) at form;
+      each = each;
+      scalar = begins.1.scalar;
+      name_is = begins.1.first;
+      unknown = rw begins.1.first (unknown_name begins.0 begins.1.rest begins.1.text_is)
+    } where
+  unknown_name : (c : ℕ) (others : Text) → byte ∷ text ≡ encode_utf8 c ++ others → (1 < length (encode_utf8 c)) ⊎ (grammar.kind_of (encode_utf8 c) ≡ None)
+  unknown_name c others e = elim (cases_lt byte 128) [
+    | inl ascii ↦ inr (rw (encode-ascii_byte c byte text others e ascii) resolved)
+    | inr wide ↦ inl (length-encode-wide c byte text others e wide)
+  ]
+
+-- one byte of a cluster, by what it resolves to
+pub byte_sound : (grammar : Grammar) → IsNamed grammar → (word : Text) (names : List ℕ) (byte : ℕ) (text : Text) (more : List Text)
+    → IsShortForm grammar word (names ++ byte ∷ text) → AllByRecursion (IsFlag grammar) names
+    → (kind : Option HasArg) → grammar.kind_of (byte ∷ []) ≡ kind
+    → (after : Turn) → (kind ≡ Some No → IsSoundTurn grammar word more after)
+    → IsSoundTurn grammar word more (byte_turn kind names byte text more after)
+byte_sound grammar named word names byte text more form each None resolved after flag =
+    λ utf8. inr (unknown_flag grammar named word names byte text form each resolved utf8)
+byte_sound grammar named word names byte text more form each (Some No) resolved after flag = flag refl
+byte_sound grammar named word names byte text more form each (Some Yes) resolved after flag =
+    option_sound grammar word names byte text more form each Yes resolved (λ e. cc e)
+byte_sound grammar named word names byte text more form each (Some Maybe) resolved after flag =
+    option_sound grammar word names byte text more form each Maybe resolved (λ e. cc e)
+
+-- one flag more
+pub flags_push : (grammar : Grammar) (names : List ℕ) (byte : ℕ) → AllByRecursion (IsFlag grammar) names → IsFlag grammar byte
+    → AllByRecursion (IsFlag grammar) (names ++ byte ∷ [])
+flags_push grammar names byte each flag = AllByRecursion-append (IsFlag grammar) names (byte ∷ []) each (flag, tt)
+
+-- a cluster, by the flags that were read and the text that is left
+pub cluster_sound : (grammar : Grammar) → IsNamed grammar → (word : Text) (names : List ℕ) (text : Text) (more : List Text)
+    → IsShortForm grammar word (names ++ text) → AllByRecursion (IsFlag grammar) names
+    → IsSoundTurn grammar word more (cluster_turn grammar names text more)
+unfolding cluster_turn
+cluster_sound grammar named word names [] more form each =
+    begins_cluster grammar word names flags more form each (λ e. form.filled (rw e refl)) (λ bare. absurd (false≢true bare))
+cluster_sound grammar named word names (byte ∷ text) more form each =
+    byte_sound grammar named word names byte text more form each (grammar.kind_of (byte ∷ [])) refl (cluster_turn grammar (names ++ byte ∷ []) text more)
+      (λ flag. cluster_sound grammar named word (names ++ byte ∷ []) text more
+        (subst (IsShortForm grammar word) (sym (append_assoc names (byte ∷ []) text)) form)
+        (flags_push grammar names byte each flag))
