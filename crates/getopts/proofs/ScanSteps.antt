@@ -43,7 +43,7 @@ long_form grammar dashes word name argument form plain = record {
   cut_once = plain;
   word_is = form.word_is;
   dashed = form.dashed;
-  no_stop = form.no_stop
+  no_stop = form.no_stop;
 }
 
 -- a line that begins with an item in long form
@@ -56,9 +56,9 @@ begins_long grammar dashes word name argument kind more form plain resolved fits
   lawful = record {
     before = before_front grammar.long_only dashes name (with_equals (attached_argument argument)) form.before;
     cut_once = plain;
-    resolves = (kind, resolved, fits)
+    resolves = (kind, resolved, fits);
   };
-  followed = λ bare. absurd (false≢true bare)
+  followed = λ bare. absurd (false≢true bare);
 }
 
 -- a name in long form, by its kind
@@ -107,7 +107,7 @@ begins_cluster : (grammar : Grammar) (word : Text) (names : List ℕ) (end : End
 begins_cluster grammar word names end more form each last followed = record {
   spells = ap (λ (w : Text). w ∷ end_words end more) form.word_is;
   lawful = record { ordinary = form.ordinary; short_form = form.second; each = each; last = last };
-  followed = followed
+  followed = followed;
 }
 
 -- a name of kind Maybe at the end of a cluster
@@ -156,13 +156,13 @@ unknown_flag grammar named word names byte text form each resolved utf8 =
       each = each;
       scalar = begins.1.scalar;
       name_is = begins.1.first;
-      unknown = rw begins.1.first (unknown_name begins.0 begins.1.rest begins.1.text_is)
+      unknown = rw begins.1.first (unknown_name begins.0 begins.1.rest begins.1.text_is);
     } where
-  unknown_name : (c : ℕ) (others : Text) → byte ∷ text ≡ encode_utf8 c ++ others → (1 < length (encode_utf8 c)) ⊎ (grammar.kind_of (encode_utf8 c) ≡ None)
-  unknown_name c others e = elim (cases_lt byte 128) [
-    | inl ascii ↦ inr (rw (encode-ascii_byte c byte text others e ascii) resolved)
-    | inr wide ↦ inl (length-encode-wide c byte text others e wide)
-  ]
+      unknown_name : (c : ℕ) (others : Text) → byte ∷ text ≡ encode_utf8 c ++ others → (1 < length (encode_utf8 c)) ⊎ (grammar.kind_of (encode_utf8 c) ≡ None)
+      unknown_name c others e = elim (cases_lt byte 128) [
+        | inl ascii ↦ inr (rw (encode-ascii_byte c byte text others e ascii) resolved)
+        | inr wide ↦ inl (length-encode-wide c byte text others e wide)
+      ]
 
 -- one byte of a cluster, by what it resolves to
 pub byte_sound : (grammar : Grammar) → IsNamed grammar → (word : Text) (names : List ℕ) (byte : ℕ) (text : Text) (more : List Text)
@@ -192,6 +192,122 @@ cluster_sound grammar named word names [] more form each =
     begins_cluster grammar word names flags more form each (λ e. form.filled (rw e refl)) (λ bare. absurd (false≢true bare))
 cluster_sound grammar named word names (byte ∷ text) more form each =
     byte_sound grammar named word names byte text more form each (grammar.kind_of (byte ∷ [])) refl (cluster_turn grammar (names ++ byte ∷ []) text more)
-      (λ flag. cluster_sound grammar named word (names ++ byte ∷ []) text more
-        (subst (IsShortForm grammar word) (sym (append_assoc names (byte ∷ []) text)) form)
-        (flags_push grammar names byte each flag))
+    (λ flag. cluster_sound grammar named word (names ++ byte ∷ []) text more
+    (subst (IsShortForm grammar word) (sym (append_assoc names (byte ∷ []) text)) form)
+    (flags_push grammar names byte each flag))
+
+-- What a word is: it isn't dashed; it is `--`; it is in long form; or it is in short form.
+pub data Shape (grammar : Grammar) (word : Text) : Type 0 where
+  is_free : is_dashed word ≡ false → Shape grammar word
+  is_stop : word ≡ stop_word → Shape grammar word
+  is_long : (dashes : Dashes) (text : Text) → HasDashes grammar dashes word text → Shape grammar word
+  is_short : (text : Text) → IsShortForm grammar word text → Shape grammar word
+
+-- a word that isn't `--` fails the test for it
+pub other_than_stop : (word : Text) → word ≢ stop_word → bytes_eq word stop_word ≡ false
+other_than_stop word other = elim (cases_Bool (bytes_eq word stop_word)) [
+  | inl same ↦ absurd (other ((bytes_eq-Decides word stop_word).0 same))
+  | inr differs ↦ differs
+]
+
+-- the turn of a word that isn't dashed
+pub turn_free : (grammar : Grammar) (word : Text) (more : List Text) → is_dashed word ≡ false → turn grammar word more ≡ free_turn grammar.style word more
+unfolding turn
+turn_free grammar word more plain = rw plain refl
+
+-- the turn of `--`
+pub turn_stop : (grammar : Grammar) (more : List Text) → turn grammar stop_word more ≡ ends (stop more)
+unfolding turn
+turn_stop grammar more = refl
+
+-- the turn of a dashed word other than `--`
+pub turn_item : (grammar : Grammar) (word : Text) (more : List Text) → is_dashed word ≡ true → word ≢ stop_word → turn grammar word more ≡ item_turn grammar word more
+unfolding turn
+turn_item grammar word more dashed other = rw (dashed, other_than_stop word other) refl
+
+-- the turn of a word in long form
+pub turn_long : (grammar : Grammar) (dashes : Dashes) (word text : Text) (more : List Text) → HasDashes grammar dashes word text → turn grammar word more ≡ long_turn grammar dashes text more
+unfolding item_turn
+turn_long grammar two word text more form = turn_item grammar word more form.dashed form.no_stop ∙ rw form.word_is refl
+turn_long grammar one word [] more form = let dashed = rw form.word_is at form.dashed in cc dashed
+turn_long grammar one word (c ∷ text) more form = turn_item grammar word more form.dashed form.no_stop ∙ rw (form.word_is, form.before.1, form.before.0) refl
+
+-- the turn of a word in short form
+pub turn_short : (grammar : Grammar) (word text : Text) (more : List Text) → IsShortForm grammar word text → turn grammar word more ≡ cluster_turn grammar [] text more
+unfolding turn item_turn
+turn_short grammar word [] more form = absurd (form.filled refl)
+turn_short grammar word (c ∷ text) more form = rw (form.word_is, form.second, form.ordinary) refl
+
+-- what a word is
+pub shape : (grammar : Grammar) (word : Text) → Shape grammar word
+shape grammar word = elim (cases_Bool (is_dashed word)) [
+  | inr plain ↦ is_free plain
+  | inl dashed ↦ elim (cases_Bool (bytes_eq word stop_word)) [
+    | inl same ↦ is_stop ((bytes_eq-Decides word stop_word).0 same)
+    | inr differs ↦ dashed_shape word dashed (λ e. cc ((bytes_eq-Decides word stop_word).1 e, differs))
+  ]
+] where
+  dashed_shape : (word : Text) → is_dashed word ≡ true → word ≢ stop_word → Shape grammar word
+  dashed_shape [] dashed other = cc dashed
+  dashed_shape (first ∷ []) dashed other = cc dashed
+  dashed_shape (first ∷ second ∷ text) dashed other =
+      let starts : first ≡ dash = eqb-true first dash dashed in
+      elim (cases_Bool (second == dash)) [
+        | inl again ↦
+            let seconds : second ≡ dash = eqb-true second dash again in
+            is_long two text (record { before = tt; word_is = rw (starts, seconds) refl; dashed = dashed; no_stop = other })
+        | inr name ↦ elim (cases_Bool grammar.long_only) [
+          | inl long_only ↦ is_long one (second ∷ text) (record { before = (long_only, name); word_is = rw starts refl; dashed = dashed; no_stop = other })
+          | inr ordinary ↦ is_short (second ∷ text) (record { ordinary = ordinary; word_is = rw starts refl; filled = λ e. cc e; second = name })
+        ]
+      ]
+
+-- a word that isn't dashed
+free_sound : (grammar : Grammar) (word : Text) (more : List Text) → is_dashed word ≡ false
+    → (style : ParsingStyle) → grammar.style ≡ style → IsSoundTurn grammar word more (free_turn style word more)
+free_sound grammar word more plain FloatingFrees style = record { spells = refl; lawful = (plain, style); followed = λ bare. absurd (false≢true bare) }
+free_sound grammar word more plain StopAtFirstFree style = ((plain, style), refl)
+
+-- the first word of a line
+pub turn_sound : (grammar : Grammar) → IsNamed grammar → (word : Text) (more : List Text) → IsSoundTurn grammar word more (turn grammar word more)
+turn_sound grammar named word more = by_shape (shape grammar word) where
+  by_shape : Shape grammar word → IsSoundTurn grammar word more (turn grammar word more)
+  by_shape (is_free plain) = rw (turn_free grammar word more plain) (free_sound grammar word more plain grammar.style refl)
+  by_shape (is_stop same) = subst (λ (t : Turn). IsSoundTurn grammar word more t) (sym (turn_stop grammar more) ∙ ap (λ (w : Text). turn grammar w more) (sym same)) (tt, rw same refl)
+  by_shape (is_long dashes text form) = rw (turn_long grammar dashes word text more form) (long_sound grammar dashes word text more form)
+  by_shape (is_short text form) = rw (turn_short grammar word text more form) (cluster_sound grammar named word [] text more form tt)
+
+-- What a sound turn says, by its case. Cite them with `named_sound`, `long_sound`, `option_sound`, `byte_sound`,
+-- `cluster_sound` or `turn_sound`.
+module _ (grammar : Grammar) (word : Text) (more : List Text) (said : Turn) (sound : IsSoundTurn grammar word more said) where
+  -- the line begins with the item, which this word alone spells
+  pub sound_one : (item : Item) → said ≡ takes_one item → BeginsWith grammar (word ∷ more) item more
+  sound_one item e = subst (λ (t : Turn). IsSoundTurn grammar word more t) e sound
+
+  -- the line begins with the item, which this word and the next spell
+  pub sound_two : (item : Item) → said ≡ takes_two item
+      → (next : Text) × (others : List Text) × (more ≡ next ∷ others) × BeginsWith grammar (word ∷ more) item others
+  sound_two item e = subst (λ (t : Turn). IsSoundTurn grammar word more t) e sound
+
+  -- the line is this lawful tail
+  pub sound_ends : (tail : Tail) → said ≡ ends tail → IsLawfulTail grammar tail × (tail_words tail ≡ word ∷ more)
+  sound_ends tail e = subst (λ (t : Turn). IsSoundTurn grammar word more t) e sound
+
+  -- the word has this fault
+  pub sound_faults : (fault : Fault) → IsUtf8 word → said ≡ faults fault → IsFaultAt grammar word more fault
+  sound_faults fault utf8 e = let at : IsSoundTurn grammar word more (faults fault) = subst (λ (t : Turn). IsSoundTurn grammar word more t) e sound in at utf8
+
+-- The same of the first word of a line.
+module _ (grammar : Grammar) (named : IsNamed grammar) (word : Text) (more : List Text) where
+  pub turn_one : (item : Item) → turn grammar word more ≡ takes_one item → BeginsWith grammar (word ∷ more) item more
+  turn_one = sound_one grammar word more (turn grammar word more) (turn_sound grammar named word more)
+
+  pub turn_two : (item : Item) → turn grammar word more ≡ takes_two item
+      → (next : Text) × (others : List Text) × (more ≡ next ∷ others) × BeginsWith grammar (word ∷ more) item others
+  turn_two = sound_two grammar word more (turn grammar word more) (turn_sound grammar named word more)
+
+  pub turn_ends : (tail : Tail) → turn grammar word more ≡ ends tail → IsLawfulTail grammar tail × (tail_words tail ≡ word ∷ more)
+  turn_ends = sound_ends grammar word more (turn grammar word more) (turn_sound grammar named word more)
+
+  pub turn_faults : (fault : Fault) → IsUtf8 word → turn grammar word more ≡ faults fault → IsFaultAt grammar word more fault
+  turn_faults = sound_faults grammar word more (turn grammar word more) (turn_sound grammar named word more)

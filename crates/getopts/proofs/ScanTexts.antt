@@ -115,12 +115,15 @@ pub begins_with_char : (byte : ℕ) (text : Text) → IsUtf8 (byte ∷ text) →
 begins_with_char byte text (cs, spelled) = from_chars cs spelled.0 spelled.1 where
   from_chars : (cs : List ℕ) → scalars cs ≡ true → encodes cs ≡ byte ∷ text → (character : ℕ) × BeginsWithChar (byte ∷ text) character
   from_chars [] scalar e = cc e
-  from_chars (c ∷ cs) scalar e = (c, record {
-    rest = encodes cs;
-    scalar = (and_parts (scalar_test c) (scalars cs) scalar).0;
-    first = first_char-chars (byte ∷ text) c cs (subst (λ (t : Text). chars t ≡ c ∷ cs) e (chars-encodes (c ∷ cs) scalar));
-    text_is = sym e
-  })
+  from_chars (c ∷ cs) scalar e = (
+    c,
+    record {
+      rest = encodes cs;
+      scalar = (and_parts (scalar_test c) (scalars cs) scalar).0;
+      first = first_char-chars (byte ∷ text) c cs (subst (λ (t : Text). chars t ≡ c ∷ cs) e (chars-encodes (c ∷ cs) scalar));
+      text_is = sym e;
+    },
+  )
 
 -- the first character of a text that begins with a character
 pub first_char-append : (c : ℕ) (rest : Text) → IsUtf8 (encode_utf8 c ++ rest) → first_char (encode_utf8 c ++ rest) ≡ encode_utf8 c
