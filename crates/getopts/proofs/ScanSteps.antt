@@ -1,6 +1,6 @@
 -- One word: what `turn` says of it is what the definitions say.
-use Rattle.std.proofs.Common.{◌≡◌, ◌≢◌, ◌==◌, ◌⊎◌, ℕ, ◌+◌, ◌<◌, ◌≤◌, Bool, true, false, cond, List, [], ◌∷◌, ◌++◌, length, Option, Some, None, refl, sym, ap, ◌∙◌, subst, inl, inr, arith, encode_utf8, append_assoc, append-nil}
-use Rattle.std.proofs.lemmas.Bool.{cases_Bool, cases_lt, eqb-true, true≢false, false≢true}
+use Rattle.std.proofs.Common.{◌≡◌, ◌≢◌, ◌==◌, ◌⊎◌, ℕ, ◌+◌, ◌<◌, ◌≤◌, Bool, true, false, cond, List, [], ◌∷◌, ◌++◌, length, Option, Some, None, refl, sym, ap, ◌∙◌, subst, inl, inr, arith, encode_utf8, unwrap_or, append_assoc, append-nil}
+use Rattle.std.proofs.lemmas.Bool.{cases_Bool, cases_lt, eqb-true, eq-eqb, true≢false, false≢true}
 use Rattle.std.specs.List.{AllByRecursion}
 use Rattle.std.specs.Str.{IsUtf8, bytes_eq}
 use Rattle.std.proofs.lemmas.Slice.Eq.{bytes_eq-Decides}
@@ -311,3 +311,154 @@ module _ (grammar : Grammar) (named : IsNamed grammar) (word : Text) (more : Lis
 
   pub turn_faults : (fault : Fault) → IsUtf8 word → turn grammar word more ≡ faults fault → IsFaultAt grammar word more fault
   turn_faults = sound_faults grammar word more (turn grammar word more) (turn_sound grammar named word more)
+
+-- Now the other way: what a line begins with settles the turn of its first word.
+
+-- the turn of a word in long form, by its name and its attached argument
+pub long_turn_cut : (grammar : Grammar) (dashes : Dashes) (name : Text) (argument : Option Text) (more : List Text) → holds_equals name ≡ false
+    → long_turn grammar dashes (name ++ with_equals argument) more ≡ named_turn (grammar.kind_of name) dashes name argument more
+long_turn_cut grammar dashes name argument more plain = rw (long_name-append name argument plain, long_argument-append name argument plain) refl
+
+-- dashes that may stand before a name may stand before it and its argument
+before_more : (long_only : Bool) (dashes : Dashes) (name : Text) (argument : Option Text) → MayStandBefore long_only dashes name → MayStandBefore long_only dashes (name ++ with_equals argument)
+before_more long_only one name argument before = (before.0, begins_with_dash-append name argument before.1)
+before_more long_only two name argument before = tt
+
+-- the turn of a word in long form
+pub long_form_turn : (grammar : Grammar) (word name : Text) (argument : Option Text) (more : List Text) (form : IsLongForm grammar word name argument)
+    → turn grammar word more ≡ named_turn (grammar.kind_of name) form.dashes name argument more
+long_form_turn grammar word name argument more form =
+    turn_long grammar form.dashes word (name ++ with_equals argument) more (record {
+      before = before_more grammar.long_only form.dashes name argument form.before;
+      word_is = form.word_is;
+      dashed = form.dashed;
+      no_stop = form.no_stop
+    }) ∙ long_turn_cut grammar form.dashes name argument more form.cut_once
+
+-- the word of a name that resolves, with its dashes and its argument, is dashed and not `--`
+resolved_dashes : (grammar : Grammar) → IsNamed grammar → (dashes : Dashes) (name : Text) (argument : Option Text) (kind : HasArg)
+    → MayStandBefore grammar.long_only dashes name → grammar.kind_of name ≡ Some kind
+    → HasDashes grammar dashes (long_word dashes name argument) (name ++ with_equals argument)
+resolved_dashes grammar named dashes [] argument kind before resolved = let empty = named.empty in cc
+resolved_dashes grammar named one (c ∷ name) argument kind before resolved = record {
+  before = before_more grammar.long_only one (c ∷ name) argument before;
+  word_is = refl;
+  dashed = refl;
+  no_stop = λ e. let same : c ≡ dash = cc in false≢true (sym before.1 ∙ eq-eqb c dash same)
+}
+resolved_dashes grammar named two (c ∷ name) argument kind before resolved = record {
+  before = before_more grammar.long_only two (c ∷ name) argument before;
+  word_is = refl;
+  dashed = refl;
+  no_stop = λ e. cc e
+}
+
+-- the turn of the word of a name that resolves
+resolved_turn : (grammar : Grammar) → IsNamed grammar → (dashes : Dashes) (name : Text) (argument : Option Text) (more : List Text) (kind : HasArg)
+    → MayStandBefore grammar.long_only dashes name → holds_equals name ≡ false → grammar.kind_of name ≡ Some kind
+    → turn grammar (long_word dashes name argument) more ≡ named_turn (Some kind) dashes name argument more
+resolved_turn grammar named dashes name argument more kind before plain resolved =
+    turn_long grammar dashes (long_word dashes name argument) (name ++ with_equals argument) more (resolved_dashes grammar named dashes name argument kind before resolved)
+    ∙ long_turn_cut grammar dashes name argument more plain
+    ∙ ap (λ (k : Option HasArg). named_turn k dashes name argument more) resolved
+
+-- flags go before what is left
+pub cluster_flags : (grammar : Grammar) (before names : List ℕ) (text : Text) (more : List Text) → AllByRecursion (IsFlag grammar) names
+    → cluster_turn grammar before (names ++ text) more ≡ cluster_turn grammar (before ++ names) text more
+unfolding cluster_turn
+cluster_flags grammar before [] text more each = rw (append-nil before) refl
+cluster_flags grammar before (byte ∷ names) text more each =
+    let flag : grammar.kind_of (byte ∷ []) ≡ Some No = each.0 in
+    let first : cluster_turn grammar before (byte ∷ (names ++ text)) more ≡ cluster_turn grammar (before ++ byte ∷ []) (names ++ text) more =
+    ap (λ (kind : Option HasArg). byte_turn kind before byte (names ++ text) more (cluster_turn grammar (before ++ byte ∷ []) (names ++ text) more)) flag in
+    first ∙ cluster_flags grammar (before ++ byte ∷ []) names text more each.1 ∙ ap (λ (front : List ℕ). cluster_turn grammar front text more) (append_assoc before (byte ∷ []) names)
+
+-- the turn of a word in short form, after its flags
+pub short_turn_flags : (grammar : Grammar) (word : Text) (names : List ℕ) (text : Text) (more : List Text)
+    → IsShortForm grammar word (names ++ text) → AllByRecursion (IsFlag grammar) names
+    → turn grammar word more ≡ cluster_turn grammar names text more
+short_turn_flags grammar word names text more form each = turn_short grammar word (names ++ text) more form ∙ cluster_flags grammar [] names text more each
+
+-- the turn of a word in short form, at a byte after its flags
+pub short_turn_byte : (grammar : Grammar) (word : Text) (names : List ℕ) (byte : ℕ) (text : Text) (more : List Text) (kind : Option HasArg)
+    → IsShortForm grammar word (names ++ byte ∷ text) → AllByRecursion (IsFlag grammar) names → grammar.kind_of (byte ∷ []) ≡ kind
+    → turn grammar word more ≡ byte_turn kind names byte text more (cluster_turn grammar (names ++ byte ∷ []) text more)
+unfolding cluster_turn
+short_turn_byte grammar word names byte text more kind form each resolved =
+    short_turn_flags grammar word names (byte ∷ text) more form each
+    ∙ ap (λ (k : Option HasArg). byte_turn k names byte text more (cluster_turn grammar (names ++ byte ∷ []) text more)) resolved
+
+-- the turn of a line's first word takes this item, and these words follow it
+abbrev pub TakesItem : Grammar → List Text → Item → List Text → Type 0
+TakesItem grammar [] item others = ⊥
+TakesItem grammar (word ∷ more) item others =
+    ((turn grammar word more ≡ takes_one item) × (more ≡ others)) ⊎ ((turn grammar word more ≡ takes_two item) × (next : Text) × (more ≡ next ∷ others))
+
+-- the turn of a lawful item in long form
+long_taken : (grammar : Grammar) → IsNamed grammar → (dashes : Dashes) (name : Text) (argument : Argument) (more : List Text)
+    → MayStandBefore grammar.long_only dashes name → holds_equals name ≡ false
+    → (kind : HasArg) → grammar.kind_of name ≡ Some kind → FitsLong kind argument
+    → TakesItem grammar (spelled (long dashes name argument) more) (long dashes name argument) more
+long_taken grammar named dashes name none more before plain Yes resolved fits = absurd fits
+long_taken grammar named dashes name none more before plain No resolved fits = inl (resolved_turn grammar named dashes name None more No before plain resolved, refl)
+long_taken grammar named dashes name none more before plain Maybe resolved fits = inl (resolved_turn grammar named dashes name None more Maybe before plain resolved, refl)
+long_taken grammar named dashes name (attached argument) more before plain Yes resolved fits = inl (resolved_turn grammar named dashes name (Some argument) more Yes before plain resolved, refl)
+long_taken grammar named dashes name (attached argument) more before plain No resolved fits = absurd fits
+long_taken grammar named dashes name (attached argument) more before plain Maybe resolved fits = inl (resolved_turn grammar named dashes name (Some argument) more Maybe before plain resolved, refl)
+long_taken grammar named dashes name (separate next) more before plain Yes resolved fits = inr (resolved_turn grammar named dashes name None (next ∷ more) Yes before plain resolved, next, refl)
+long_taken grammar named dashes name (separate next) more before plain No resolved fits = absurd fits
+long_taken grammar named dashes name (separate next) more before plain Maybe resolved fits = absurd fits
+
+-- a lawful cluster's word is in short form
+lawful_short : (grammar : Grammar) (names : List ℕ) (end : End) → IsLawfulCluster grammar names end
+    → IsShortForm grammar (dash ∷ (names ++ end_text end)) (names ++ end_text end)
+lawful_short grammar names end lawful = record { ordinary = lawful.ordinary; word_is = refl; filled = end_filled end lawful.last; second = lawful.short_form } where
+  end_filled : (e : End) → IsLawfulEnd grammar names e → names ++ end_text e ≢ []
+  end_filled flags last = λ e. last (sym (append-nil names) ∙ e)
+  end_filled (ends_in option argument) last = filled-append names option (unwrap_or (attached_argument argument) [])
+
+-- a bare cluster, by what follows it
+maybe_taken : (names : List ℕ) (option : ℕ) (more : List Text) → EndsOrIsDashed more → maybe_turn names option more ≡ takes_one (cluster names (ends_in option none))
+maybe_taken names option [] followed = refl
+maybe_taken names option (next ∷ others) followed = rw followed refl
+
+-- the turn of a lawful cluster that ends in an option
+ending_taken : (grammar : Grammar) (names : List ℕ) (option : ℕ) (argument : Argument) (more : List Text)
+    → IsLawfulCluster grammar names (ends_in option argument)
+    → (kind : HasArg) → grammar.kind_of (option ∷ []) ≡ Some kind → FitsEnd kind argument
+    → (is_bare (cluster names (ends_in option argument)) ≡ true → EndsOrIsDashed more)
+    → TakesItem grammar (spelled (cluster names (ends_in option argument)) more) (cluster names (ends_in option argument)) more
+ending_taken grammar names option argument more lawful No resolved fits followed = absurd fits
+ending_taken grammar names option none more lawful Yes resolved fits followed = absurd fits
+ending_taken grammar names option none more lawful Maybe resolved fits followed =
+    inl (short_turn_byte grammar (dash ∷ (names ++ option ∷ [])) names option [] more (Some Maybe) (lawful_short grammar names (ends_in option none) lawful) lawful.each resolved
+      ∙ maybe_taken names option more (followed refl), refl)
+ending_taken grammar names option (attached []) more lawful Yes resolved fits followed = absurd (fits refl)
+ending_taken grammar names option (attached []) more lawful Maybe resolved fits followed = absurd (fits refl)
+ending_taken grammar names option (attached (c ∷ text)) more lawful Yes resolved fits followed =
+    inl (short_turn_byte grammar (dash ∷ (names ++ option ∷ c ∷ text)) names option (c ∷ text) more (Some Yes) (lawful_short grammar names (ends_in option (attached (c ∷ text))) lawful) lawful.each resolved, refl)
+ending_taken grammar names option (attached (c ∷ text)) more lawful Maybe resolved fits followed =
+    inl (short_turn_byte grammar (dash ∷ (names ++ option ∷ c ∷ text)) names option (c ∷ text) more (Some Maybe) (lawful_short grammar names (ends_in option (attached (c ∷ text))) lawful) lawful.each resolved, refl)
+ending_taken grammar names option (separate next) more lawful Yes resolved fits followed =
+    inr (short_turn_byte grammar (dash ∷ (names ++ option ∷ [])) names option [] (next ∷ more) (Some Yes) (lawful_short grammar names (ends_in option (separate next)) lawful) lawful.each resolved, next, refl)
+ending_taken grammar names option (separate next) more lawful Maybe resolved fits followed =
+    inr (short_turn_byte grammar (dash ∷ (names ++ option ∷ [])) names option [] (next ∷ more) (Some Maybe) (lawful_short grammar names (ends_in option (separate next)) lawful) lawful.each resolved
+      ∙ rw fits refl, next, refl)
+
+-- the words that a lawful item spells
+pub spelled_turn : (grammar : Grammar) → IsNamed grammar → (item : Item) (more : List Text) → IsLawfulItem grammar item
+    → (is_bare item ≡ true → EndsOrIsDashed more) → TakesItem grammar (spelled item more) item more
+unfolding cluster_turn
+spelled_turn grammar named (free word) more lawful followed = inl (turn_free grammar word more lawful.0 ∙ ap (λ (style : ParsingStyle). free_turn style word more) lawful.1, refl)
+spelled_turn grammar named (long dashes name argument) more lawful followed =
+    long_taken grammar named dashes name argument more lawful.before lawful.cut_once lawful.resolves.0 lawful.resolves.1 lawful.resolves.2
+spelled_turn grammar named (cluster names flags) more lawful followed =
+    inl (short_turn_flags grammar (dash ∷ (names ++ [])) names [] more (lawful_short grammar names flags lawful) lawful.each, refl)
+spelled_turn grammar named (cluster names (ends_in option argument)) more lawful followed =
+    ending_taken grammar names option argument more lawful lawful.last.0 lawful.last.1 lawful.last.2 followed
+
+-- a line that begins with an item
+pub begins_turn : (grammar : Grammar) → IsNamed grammar → (words : List Text) (item : Item) (more : List Text) → BeginsWith grammar words item more
+    → TakesItem grammar words item more
+begins_turn grammar named words item more begins =
+    subst (λ (line : List Text). TakesItem grammar line item more) (sym begins.spells) (spelled_turn grammar named item more begins.lawful begins.followed)
