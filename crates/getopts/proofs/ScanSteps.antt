@@ -13,7 +13,8 @@ use Rattle.getopts.specs.declared.options.HasArg.TheVariants.{Yes, No, Maybe}
 use Rattle.getopts.specs.declared.options.ParsingStyle.{ParsingStyle}
 use Rattle.getopts.specs.declared.options.ParsingStyle.TheVariants.{FloatingFrees, StopAtFirstFree}
 use Rattle.getopts.proofs.ScanTurns.{IsNamed, Turn, ends, takes_one, takes_two, faults, first_char, turn_with_next, named_turn, long_name, long_argument, long_turn, maybe_turn, option_turn, byte_turn, cluster_turn, item_turn, free_turn, turn}
-use Rattle.getopts.proofs.ScanTexts.{name-append-argument, holds_equals-long_name, long_name-append, long_argument-append, begins_with_dash-append, begins_with_dash-front, filled-append, AllByRecursion-append, IsUtf8-past_ascii, IsUtf8-past_asciis, BeginsWithChar, begins_with_char, encode-ascii_byte, length-encode-wide}
+use Rattle.getopts.proofs.ScanTexts.{name-append-argument, holds_equals-long_name, long_name-append, long_argument-append, begins_with_dash-append, begins_with_dash-front, filled-append, AllByRecursion-append, IsUtf8-past_ascii, IsUtf8-past_asciis, BeginsWithChar, begins_with_char, encode-ascii_byte, length-encode-wide, first_char-append}
+use Rattle.std.proofs.lemmas.Str.{length-encode, len_utf8_bounds}
 
 -- What a turn says of a line that begins with this word is so: its tail, its item or its fault.
 abbrev pub IsSoundTurn : Grammar → Text → List Text → Turn → Type 0
@@ -237,6 +238,11 @@ pub turn_short : (grammar : Grammar) (word text : Text) (more : List Text) → I
 unfolding turn item_turn
 turn_short grammar word [] more form = absurd (form.filled refl)
 turn_short grammar word (c ∷ text) more form = rw (form.word_is, form.second, form.ordinary) refl
+
+-- a word in short form is dashed
+pub short_dashed : (grammar : Grammar) (word text : Text) → IsShortForm grammar word text → is_dashed word ≡ true
+short_dashed grammar word [] form = absurd (form.filled refl)
+short_dashed grammar word (c ∷ text) form = rw form.word_is refl
 
 -- what a word is
 pub shape : (grammar : Grammar) (word : Text) → Shape grammar word
@@ -462,3 +468,82 @@ pub begins_turn : (grammar : Grammar) → IsNamed grammar → (words : List Text
     → TakesItem grammar words item more
 begins_turn grammar named words item more begins =
     subst (λ (line : List Text). TakesItem grammar line item more) (sym begins.spells) (spelled_turn grammar named item more begins.lawful begins.followed)
+
+-- the turn of a name that is typed in long form, by its kind
+long_fault : (grammar : Grammar) (word name : Text) (argument : Option Text) (more : List Text) (kind : Option HasArg)
+    (form : IsLongForm grammar word name argument) → grammar.kind_of name ≡ kind
+    → turn grammar word more ≡ named_turn kind form.dashes name argument more
+long_fault grammar word name argument more kind form resolved =
+    long_form_turn grammar word name argument more form ∙ ap (λ (k : Option HasArg). named_turn k form.dashes name argument more) resolved
+
+-- a character that is wide or doesn't resolve is unknown by its first byte
+unknown_byte : (grammar : Grammar) → IsNamed grammar → (c byte : ℕ) (text : Text) → encode_utf8 c ≡ byte ∷ text
+    → (1 < length (encode_utf8 c)) ⊎ (grammar.kind_of (encode_utf8 c) ≡ None) → grammar.kind_of (byte ∷ []) ≡ None
+unknown_byte grammar named c byte text e unknown = by_byte (cases_lt byte 128) (named.ascii byte) unknown where
+  alone : byte < 128 → encode_utf8 c ≡ byte ∷ []
+  alone ascii = encode-ascii_byte c byte text [] (sym e ∙ sym (append-nil (encode_utf8 c))) ascii
+  by_byte : (byte < 128) ⊎ (128 ≤ byte) → (byte < 128) ⊎ (grammar.kind_of (byte ∷ []) ≡ None) → (1 < length (encode_utf8 c)) ⊎ (grammar.kind_of (encode_utf8 c) ≡ None)
+      → grammar.kind_of (byte ∷ []) ≡ None
+  by_byte size (inr unresolved) known = unresolved
+  by_byte (inr wide) (inl ascii) known = absurd (omega arith)
+  by_byte (inl ascii) (inl same) (inr unresolved) = rw (alone ascii) at unresolved
+  by_byte (inl ascii) (inl same) (inl longer) = absurd (omega (arith, rw (alone ascii) at longer))
+
+-- a character has a byte
+encode_filled : (c : ℕ) → encode_utf8 c ≢ []
+encode_filled c e =
+    let size : length (encode_utf8 c) ≡ 0 = ap length e in
+    absurd (omega (arith, length-encode c, len_utf8_bounds c))
+
+-- a word with an unknown flag, by the flag's bytes
+unknown_bytes_turn : (grammar : Grammar) → IsNamed grammar → (word : Text) (names : List ℕ) (c : ℕ) (bytes text : Text) (more : List Text)
+    → bytes ≡ encode_utf8 c → IsUtf8 (bytes ++ text) → IsShortForm grammar word (names ++ (bytes ++ text)) → AllByRecursion (IsFlag grammar) names
+    → (1 < length bytes) ⊎ (grammar.kind_of bytes ≡ None)
+    → turn grammar word more ≡ faults (unrecognized_option bytes)
+unknown_bytes_turn grammar named word names c [] text more e utf8 form each unknown = absurd (encode_filled c (sym e))
+unknown_bytes_turn grammar named word names c (byte ∷ bytes) text more e utf8 form each unknown =
+    let none_there : grammar.kind_of (byte ∷ []) ≡ None =
+    unknown_byte grammar named c byte bytes (sym e) (subst (λ (b : Text). (1 < length b) ⊎ (grammar.kind_of b ≡ None)) e unknown) in
+    let at_name : IsUtf8 (encode_utf8 c ++ text) = subst (λ (b : Text). IsUtf8 (b ++ text)) e utf8 in
+    let first : first_char (byte ∷ (bytes ++ text)) ≡ byte ∷ bytes =
+    subst (λ (b : Text). first_char (b ++ text) ≡ b) (sym e) (first_char-append c text at_name) in
+    short_turn_byte grammar word names byte (bytes ++ text) more None form each none_there
+    ∙ ap (λ (t : Text). faults (unrecognized_option t)) first
+
+-- a word with an unknown flag
+unknown_turn : (grammar : Grammar) → IsNamed grammar → (word name : Text) (more : List Text) → IsUtf8 word → HasUnknownFlag grammar word name
+    → turn grammar word more ≡ faults (unrecognized_option name)
+unknown_turn grammar named word name more utf8 has =
+    let whole : IsUtf8 (dash ∷ (has.names ++ (name ++ has.more))) = subst IsUtf8 has.short_form.word_is utf8 in
+    let from : IsUtf8 (name ++ has.more) = IsUtf8-past_asciis has.names (name ++ has.more) (flags_ascii grammar named has.names has.each)
+      (IsUtf8-past_ascii dash (has.names ++ (name ++ has.more)) (omega arith) whole) in
+    unknown_bytes_turn grammar named word has.names has.character name has.more more has.name_is from has.short_form has.each has.unknown
+
+-- a word that ends in an option of kind Yes, at the end of the line
+missing_turn : (grammar : Grammar) (word name : Text) → EndsInYes grammar word name → turn grammar word [] ≡ faults (argument_missing name)
+missing_turn grammar word name has =
+    let kind : grammar.kind_of (has.option ∷ []) ≡ Some Yes = rw has.name_is at has.kind in
+    short_turn_byte grammar word has.names has.option [] [] (Some Yes) has.short_form has.each kind
+    ∙ ap (λ (t : Text). faults (argument_missing t)) (sym has.name_is)
+
+-- a word with a fault
+pub fault_turn : (grammar : Grammar) → IsNamed grammar → (word : Text) (more : List Text) (fault : Fault) → IsUtf8 word → IsFaultAt grammar word more fault
+    → turn grammar word more ≡ faults fault
+fault_turn grammar named word more (unrecognized_option name) utf8 (inl at) = long_fault grammar word name at.0 more None at.1 at.2
+fault_turn grammar named word more (unrecognized_option name) utf8 (inr has) = unknown_turn grammar named word name more utf8 has
+fault_turn grammar named word more (unexpected_argument name) utf8 at = long_fault grammar word name (Some at.0) more (Some No) at.1 at.2
+fault_turn grammar named word [] (argument_missing name) utf8 (inl long_end, ended) = long_fault grammar word name None [] (Some Yes) long_end.0 long_end.1
+fault_turn grammar named word [] (argument_missing name) utf8 (inr has, ended) = missing_turn grammar word name has
+fault_turn grammar named word (next ∷ others) (argument_missing name) utf8 at = cc at.1
+fault_turn grammar named word more (option_missing name) utf8 at = absurd at
+fault_turn grammar named word more (option_duplicated name) utf8 at = absurd at
+
+-- a word with a fault is dashed
+pub fault_dashed : (grammar : Grammar) (word : Text) (more : List Text) (fault : Fault) → IsFaultAt grammar word more fault → is_dashed word ≡ true
+fault_dashed grammar word more (unrecognized_option name) (inl at) = at.1.dashed
+fault_dashed grammar word more (unrecognized_option name) (inr has) = short_dashed grammar word (has.names ++ (name ++ has.more)) has.short_form
+fault_dashed grammar word more (unexpected_argument name) at = at.1.dashed
+fault_dashed grammar word more (argument_missing name) (inl long_end, ended) = long_end.0.dashed
+fault_dashed grammar word more (argument_missing name) (inr has, ended) = short_dashed grammar word (has.names ++ has.option ∷ []) has.short_form
+fault_dashed grammar word more (option_missing name) at = absurd at
+fault_dashed grammar word more (option_duplicated name) at = absurd at
