@@ -1,3 +1,4 @@
 pub mod ScanTurns
 pub mod ScanTexts
 pub mod ScanSteps
+pub mod ScanReadings
