@@ -142,3 +142,134 @@ fault_read grammar named words fault texts is =
     ∙ items_read grammar named is.items (is.word ∷ is.after) is.reads.items followed
     ∙ ap (with_items is.items) (read_error grammar is.word is.after fault (fault_turn grammar named is.word is.after fault utf8.0 is.fault_at))
     ∙ with_items-fault is.items fault
+
+-- The laws of a line: at most one reading, at most one fault, and never both.
+module _ (grammar : Grammar) (named : IsNamed grammar) (words : List Text) where
+  -- two readings of a line are one
+  pub only_reading : (r s : Reading) → IsReading grammar r words → IsReading grammar s words → r ≡ s
+  only_reading r s first second =
+      let read_r = reading_read grammar named r words first in
+      let read_s = reading_read grammar named s words second in
+      cc
+
+  -- two faults of a line are one
+  pub only_fault : (f g : Fault) → AreTexts words → IsScanFault grammar words f → IsScanFault grammar words g → f ≡ g
+  only_fault f g texts first second =
+      let read_f = fault_read grammar named words f texts first in
+      let read_g = fault_read grammar named words g texts second in
+      cc
+
+  -- a line with a fault has no reading
+  pub no_reading : (f : Fault) (r : Reading) → AreTexts words → IsScanFault grammar words f → IsReading grammar r words → ⊥
+  no_reading f r texts fault reading =
+      let read_f = fault_read grammar named words f texts fault in
+      let read_r = reading_read grammar named r words reading in
+      cc
+
+-- What an outcome says of a line is so: it has this reading, or, where its words are texts, this fault.
+abbrev pub IsSoundOutcome : Grammar → List Text → Result Reading Fault → Type 0
+IsSoundOutcome grammar words (Ok reading) = IsReading grammar reading words
+IsSoundOutcome grammar words (Err fault) = AreTexts words → IsScanFault grammar words fault
+
+-- a reading of the words after an item, with the item
+pub reading_step : (grammar : Grammar) (words : List Text) (item : Item) (others : List Text) (reading : Reading)
+    → BeginsWith grammar words item others → IsReading grammar reading others
+    → IsReading grammar (record { items = item ∷ reading.items; tail = reading.tail }) words
+reading_step grammar words item others reading begins is = record {
+  spells = ap (spelled item) is.spells ∙ sym begins.spells;
+  items = (begins.lawful, is.items);
+  tail = is.tail;
+  followed = (λ bare. subst EndsOrIsDashed (sym is.spells) (begins.followed bare), is.followed)
+}
+
+-- a fault of the words after an item is a fault of the line
+pub fault_step : (grammar : Grammar) (words : List Text) (item : Item) (others : List Text) (fault : Fault)
+    → BeginsWith grammar words item others → IsScanFault grammar others fault → IsScanFault grammar words fault
+fault_step grammar words item others fault begins is = record {
+  before = spelled item is.before;
+  word = is.word;
+  after = is.after;
+  items = item ∷ is.items;
+  words_are = begins.spells ∙ ap (spelled item) is.words_are ∙ spelled-append item is.before (is.word ∷ is.after);
+  reads = record {
+    spells = ap (spelled item) is.reads.spells;
+    items = (begins.lawful, is.reads.items);
+    tail = tt;
+    followed = (
+      λ bare. subst EndsOrIsDashed (sym is.reads.spells) (ends-front is.before (is.word ∷ is.after) (subst EndsOrIsDashed is.words_are (begins.followed bare))),
+      is.reads.followed
+    )
+  };
+  fault_at = is.fault_at
+}
+
+-- an item before an outcome
+item_sound : (grammar : Grammar) (words : List Text) (item : Item) (others : List Text) (outcome : Result Reading Fault)
+    → BeginsWith grammar words item others → (AreTexts words → AreTexts others) → IsSoundOutcome grammar others outcome
+    → IsSoundOutcome grammar words (with_item item outcome)
+item_sound grammar words item others (Ok reading) begins texts sound = reading_step grammar words item others reading begins sound
+item_sound grammar words item others (Err fault) begins texts sound = λ whole. fault_step grammar words item others fault begins (sound (texts whole))
+
+-- a line that is a tail
+tail_sound : (grammar : Grammar) (words : List Text) (tail : Tail) → IsLawfulTail grammar tail → tail_words tail ≡ words
+    → IsReading grammar (record { items = []; tail = tail }) words
+tail_sound grammar words tail lawful spells = record { spells = spells; items = tt; tail = lawful; followed = tt }
+
+-- a line whose first word has a fault
+fault_here : (grammar : Grammar) (word : Text) (more : List Text) (fault : Fault) → IsFaultAt grammar word more fault → IsScanFault grammar (word ∷ more) fault
+fault_here grammar word more fault at = record {
+  before = [];
+  word = word;
+  after = more;
+  items = [];
+  words_are = refl;
+  reads = tail_sound grammar [] line_end tt refl;
+  fault_at = at
+}
+
+-- the outcome of a line, by the turn of its first word
+after_turn_sound : (grammar : Grammar) (word : Text) (more : List Text) (said : Turn) (after_one after_two : Result Reading Fault)
+    → IsSoundTurn grammar word more said → IsSoundOutcome grammar more after_one → IsSoundOutcome grammar (drop 1 more) after_two
+    → IsSoundOutcome grammar (word ∷ more) (after_turn said after_one after_two)
+after_turn_sound grammar word more (ends tail) after_one after_two sound one_sound two_sound = tail_sound grammar (word ∷ more) tail sound.0 sound.1
+after_turn_sound grammar word more (takes_one item) after_one after_two sound one_sound two_sound =
+    item_sound grammar (word ∷ more) item more after_one sound (λ texts. texts.1) one_sound
+after_turn_sound grammar word more (takes_two item) after_one after_two sound one_sound two_sound =
+    item_sound grammar (word ∷ more) item sound.1 after_two sound.3
+      (λ texts. let next_texts : AreTexts (sound.0 ∷ sound.1) = subst AreTexts sound.2 texts.1 in next_texts.1)
+      (subst (λ (line : List Text). IsSoundOutcome grammar (drop 1 line) after_two) sound.2 two_sound)
+after_turn_sound grammar word more (faults fault) after_one after_two sound one_sound two_sound =
+    λ texts. fault_here grammar word more fault (sound texts.0)
+
+-- the outcomes of a line and of the line without its first word
+both_sound : (grammar : Grammar) → IsNamed grammar → (words : List Text)
+    → IsSoundOutcome grammar words (read_both grammar words).0 × IsSoundOutcome grammar (drop 1 words) (read_both grammar words).1
+unfolding read_both
+both_sound grammar named [] = (tail_sound grammar [] line_end tt refl, tail_sound grammar [] line_end tt refl)
+both_sound grammar named (word ∷ more) =
+    let after : IsSoundOutcome grammar more (read_both grammar more).0 × IsSoundOutcome grammar (drop 1 more) (read_both grammar more).1 = both_sound grammar named more in
+    (after_turn_sound grammar word more (turn grammar word more) (read_both grammar more).0 (read_both grammar more).1 (turn_sound grammar named word more) after.0 after.1, after.0)
+
+-- what `read` gives for a line
+pub read_sound : (grammar : Grammar) → IsNamed grammar → (words : List Text) → IsSoundOutcome grammar words (read grammar words)
+unfolding read
+read_sound grammar named words = (both_sound grammar named words).0
+
+-- a reading that `read` gives is one of the line
+pub read_reading : (grammar : Grammar) → IsNamed grammar → (words : List Text) (reading : Reading) → read grammar words ≡ Ok reading → IsReading grammar reading words
+read_reading grammar named words reading e = subst (λ (o : Result Reading Fault). IsSoundOutcome grammar words o) e (read_sound grammar named words)
+
+-- a fault that `read` gives is one of the line
+pub read_fault : (grammar : Grammar) → IsNamed grammar → (words : List Text) (fault : Fault) → AreTexts words → read grammar words ≡ Err fault → IsScanFault grammar words fault
+read_fault grammar named words fault texts e =
+    let sound : IsSoundOutcome grammar words (Err fault) = subst (λ (o : Result Reading Fault). IsSoundOutcome grammar words o) e (read_sound grammar named words) in
+    sound texts
+
+-- a line of texts has a reading or a fault
+pub reading_or_fault : (grammar : Grammar) → IsNamed grammar → (words : List Text) → AreTexts words
+    → ((reading : Reading) × IsReading grammar reading words) ⊎ ((fault : Fault) × IsScanFault grammar words fault)
+reading_or_fault grammar named words texts = by_outcome (read grammar words) (read_sound grammar named words) where
+  by_outcome : (outcome : Result Reading Fault) → IsSoundOutcome grammar words outcome
+      → ((reading : Reading) × IsReading grammar reading words) ⊎ ((fault : Fault) × IsScanFault grammar words fault)
+  by_outcome (Ok reading) sound = inl (reading, sound)
+  by_outcome (Err fault) sound = inr (fault, sound texts)
