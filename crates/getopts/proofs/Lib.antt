@@ -1,1 +1,2 @@
+mod ScanLawProofs
 pub mod ScanTurns

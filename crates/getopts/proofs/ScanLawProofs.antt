@@ -1,0 +1,326 @@
+-- The laws of readings, proved of every grammar: an item's place among others, lines joined, free words
+-- and positions.
+use Rattle.std.proofs.Common.{◌≡◌, ◌≢◌, ℕ, ◌+◌, ◌<◌, ◌≤◌, Bool, true, false, List, [], ◌∷◌, ◌++◌, length, map, drop, Some, None, refl, sym, ap, ◌∙◌, subst, arith}
+use Rattle.std.specs.List.{AllByRecursion, flat_map, filter}
+use Rattle.std.specs.List.Sorted.{IsNonDecreasingBy}
+use Rattle.std.proofs.lemmas.List.{append-nil, append_assoc, length-append}
+use Rattle.std.proofs.lemmas.List.Kept.{IsNonDecreasingBy-filter}
+use Rattle.std.proofs.lemmas.Grind.{flat_map-append}
+use Rattle.getopts.specs.Names.{Text}
+use Rattle.getopts.specs.Options.{Grammar}
+use Rattle.getopts.specs.Scan.{dash, is_dashed, begins_with_dash, Argument, none, attached, separate, Dashes, one, two, dash_text, End, flags, ends_in, Item, free, long, cluster, end_text, spelled, spelled_all, is_bare, MayStandBefore, IsFlag, IsLawfulEnd, IsLawfulLong, IsLawfulCluster, IsLawfulItem, EndsOrIsDashed, AreWellFollowed, Tail, line_end, stop, rest, tail_words, tail_frees, Reading, IsReading, Mention, Occurrence, occurrence_at, mentions, occurrences_after, occurrences_of, free_items, free_words, trailing_after, trailing_start, value_of, attached_argument, FitsEnd, FitsLong, mention}
+use Rattle.getopts.specs.Matches.{found_at}
+use Rattle.getopts.specs.ScanLaws.{mentions_of, words_of, reading_of, HaveSameMatches, DifferInPositions, MayStandFor, LongAttachedOrSeparate, ShortAttachedOrSeparate, ClusterSplits, OneDashOrTwo, is_last_bare, joined_reading, HasContentOfBoth, LinesCompose, IsAfterStop, TrailingStartIsAfterStop, IsSubsequence, empty, kept, left_out, FreeWordsAreSubsequence, PositionsAreInOrder}
+use Rattle.getopts.specs.declared.options.HasArg.{HasArg}
+use Rattle.getopts.specs.declared.options.HasArg.TheVariants.{Yes}
+
+-- what holds of each of two lists holds of each of both
+AllByRecursion-append : {X : Type 0} (P : X → Type 0) (xs ys : List X) → AllByRecursion P xs → AllByRecursion P ys → AllByRecursion P (xs ++ ys)
+AllByRecursion-append P [] ys left right = right
+AllByRecursion-append P (x ∷ xs) ys left right = (left.0, AllByRecursion-append P xs ys left.1 right)
+
+AllByRecursion-left : {X : Type 0} (P : X → Type 0) (xs ys : List X) → AllByRecursion P (xs ++ ys) → AllByRecursion P xs
+AllByRecursion-left P [] ys each = tt
+AllByRecursion-left P (x ∷ xs) ys each = (each.0, AllByRecursion-left P xs ys each.1)
+
+AllByRecursion-right : {X : Type 0} (P : X → Type 0) (xs ys : List X) → AllByRecursion P (xs ++ ys) → AllByRecursion P ys
+AllByRecursion-right P [] ys each = each
+AllByRecursion-right P (x ∷ xs) ys each = AllByRecursion-right P xs ys each.1
+
+-- the first word of an item isn't changed by what follows it
+dashed_before_others : (item : Item) (words others : List Text) → EndsOrIsDashed (spelled item words) → EndsOrIsDashed (spelled item others)
+dashed_before_others (free word) words others begins = begins
+dashed_before_others (long dashes name argument) words others begins = begins
+dashed_before_others (cluster names end) words others begins = begins
+
+-- only ordinary mode has bare clusters
+ordinary_from_bare : (grammar : Grammar) (item : Item) → IsLawfulItem grammar item → is_bare item ≡ true → grammar.long_only ≡ false
+ordinary_from_bare grammar (free word) lawful bare = cc bare
+ordinary_from_bare grammar (long dashes name argument) lawful bare = cc bare
+ordinary_from_bare grammar (cluster names end) lawful bare = lawful.ordinary
+
+-- a word in long form is dashed in ordinary mode
+is_dashed-long : (grammar : Grammar) (dashes : Dashes) (name text : Text) → MayStandBefore grammar.long_only dashes name → grammar.long_only ≡ false → is_dashed (dash_text dashes ++ text) ≡ true
+is_dashed-long grammar one name text before ordinary = cc (before.0, ordinary)
+is_dashed-long grammar two name text before ordinary = refl
+
+-- a cluster's text isn't empty
+filled_from_lawful : (grammar : Grammar) (names : List ℕ) (end : End) → IsLawfulEnd grammar names end → names ++ end_text end ≢ []
+filled_from_lawful grammar [] flags lawful nil = lawful refl
+filled_from_lawful grammar [] (ends_in option argument) lawful nil = cc nil
+filled_from_lawful grammar (name ∷ names) end lawful nil = cc nil
+
+-- a `-` before a text that isn't empty is a dashed word
+is_dashed-cons : (text : Text) → text ≢ [] → is_dashed (dash ∷ text) ≡ true
+is_dashed-cons [] filled = absurd (filled refl)
+is_dashed-cons (byte ∷ text) filled = refl
+
+-- a lawful cluster's word is dashed
+is_dashed-cluster : (grammar : Grammar) (names : List ℕ) (end : End) → IsLawfulCluster grammar names end → is_dashed (dash ∷ (names ++ end_text end)) ≡ true
+is_dashed-cluster grammar names end lawful = is_dashed-cons (names ++ end_text end) (filled_from_lawful grammar names end lawful.last)
+
+-- What lets items stand where others stood, before these words: they are lawful where those are, begin
+-- with a dashed word in ordinary mode, and are followed as they may be where those are.
+record FitInPlace (grammar : Grammar) (old new : List Item) (more : List Text) : Type 0 where
+  lawful : AllByRecursion (IsLawfulItem grammar) old → AllByRecursion (IsLawfulItem grammar) new
+  dashed : AllByRecursion (IsLawfulItem grammar) new → grammar.long_only ≡ false → EndsOrIsDashed (spelled_all new more)
+  followed : AreWellFollowed old more → AreWellFollowed new more
+
+-- items before others begin with a dashed word, where they do so before the old ones
+begins_in_place : (front old new : List Item) (more : List Text) → EndsOrIsDashed (spelled_all new more) → EndsOrIsDashed (spelled_all (front ++ old) more) → EndsOrIsDashed (spelled_all (front ++ new) more)
+begins_in_place [] old new more dashed begins = dashed
+begins_in_place (item ∷ front) old new more dashed begins = dashed_before_others item _ _ begins
+
+-- bare clusters in front stay followed as they may be
+followed_in_place : (grammar : Grammar) (front old new : List Item) (more : List Text) → AllByRecursion (IsLawfulItem grammar) front → (grammar.long_only ≡ false → EndsOrIsDashed (spelled_all new more)) → (AreWellFollowed old more → AreWellFollowed new more) → AreWellFollowed (front ++ old) more → AreWellFollowed (front ++ new) more
+followed_in_place grammar [] old new more lawful dashed followed before = followed before
+followed_in_place grammar (item ∷ front) old new more lawful dashed followed before =
+    (λ bare. begins_in_place front old new more (dashed (ordinary_from_bare grammar item lawful.0 bare)) (before.0 bare),
+    followed_in_place grammar front old new more lawful.1 dashed followed before.1)
+
+-- a reading stays one where other items stand that fit in place
+reads_in_place : (grammar : Grammar) (front old new : List Item) (tail : Tail) (words : List Text) → FitInPlace grammar old new (tail_words tail) → IsReading grammar (record { items = front ++ old; tail = tail }) words → IsReading grammar (record { items = front ++ new; tail = tail }) (spelled_all (front ++ new) (tail_words tail))
+reads_in_place grammar front old new tail words fit reads =
+    let ahead : AllByRecursion (IsLawfulItem grammar) front = AllByRecursion-left (IsLawfulItem grammar) front old reads.items in
+    let lawful : AllByRecursion (IsLawfulItem grammar) new = fit.lawful (AllByRecursion-right (IsLawfulItem grammar) front old reads.items) in
+    record {
+      spells = refl;
+      items = AllByRecursion-append (IsLawfulItem grammar) front new ahead lawful;
+      tail = reads.tail;
+      followed = followed_in_place grammar front old new (tail_words tail) ahead (fit.dashed lawful) fit.followed reads.followed
+    }
+
+-- occurrences are the same where those of the changed items are
+occurrences_in_place : (grammar : Grammar) (front old new : List Item) → ((before : ℕ) → occurrences_after before grammar new ≡ occurrences_after before grammar old) → (before : ℕ) → occurrences_after before grammar (front ++ new) ≡ occurrences_after before grammar (front ++ old)
+occurrences_in_place grammar [] old new same before = same before
+occurrences_in_place grammar (item ∷ front) old new same before = ap (λ later. map (occurrence_at before) (mentions grammar item) ++ later) (occurrences_in_place grammar front old new same (before + 1))
+
+-- the free items of two lists
+free_items-append : (items others : List Item) → free_items (items ++ others) ≡ free_items items ++ free_items others
+free_items-append [] others = refl
+free_items-append (free word ∷ items) others = ap (λ words. word ∷ words) (free_items-append items others)
+free_items-append (long dashes name argument ∷ items) others = free_items-append items others
+free_items-append (cluster names end ∷ items) others = free_items-append items others
+
+free_items_in_place : (front old new : List Item) → free_items new ≡ free_items old → free_items (front ++ new) ≡ free_items (front ++ old)
+free_items_in_place front old new same = rw (free_items-append front new, same, ← free_items-append front old)
+
+-- readings have the same matches where the items in place have the same occurrences and free words
+HaveSameMatches-in_place : (grammar : Grammar) (front old new : List Item) (tail : Tail) → ((before : ℕ) → occurrences_after before grammar new ≡ occurrences_after before grammar old) → free_items new ≡ free_items old → HaveSameMatches grammar (record { items = front ++ old; tail = tail }) (record { items = front ++ new; tail = tail })
+HaveSameMatches-in_place grammar front old new tail same same_free =
+    let same_words : free_items (front ++ new) ≡ free_items (front ++ old) = free_items_in_place front old new same_free in
+    record {
+      occurrences = occurrences_in_place grammar front old new same 0;
+      free = ap (λ words. words ++ tail_frees tail) same_words;
+      trailing = ap (λ words. trailing_after (length words) tail) same_words
+    }
+
+-- a long item may stand for another with the same name and value
+MayStandFor-long : (grammar : Grammar) (dashes other : Dashes) (name : Text) (argument new_argument : Argument) → value_of new_argument ≡ value_of argument → (IsLawfulLong grammar dashes name argument → IsLawfulLong grammar other name new_argument) → MayStandFor grammar (HaveSameMatches grammar) (long other name new_argument ∷ []) (long dashes name argument)
+MayStandFor-long grammar dashes other name argument new_argument same_value lawful words front back tail reads =
+    let old : List Item = long dashes name argument ∷ back in
+    let new : List Item = long other name new_argument ∷ back in
+    let fit : FitInPlace grammar old new (tail_words tail) = record {
+      lawful = λ each. (lawful each.0, each.1);
+      dashed = λ each ordinary. is_dashed-long grammar other name _ each.0.before ordinary;
+      followed = λ each. (λ bare. cc bare, each.1)
+    } in
+    let same : (before : ℕ) → occurrences_after before grammar new ≡ occurrences_after before grammar old =
+    λ before. ap (λ value. occurrence_at before (mention grammar name value) ∷ occurrences_after (before + 1) grammar back) same_value in
+    (reads_in_place grammar front old new tail words fit reads, HaveSameMatches-in_place grammar front old new tail same refl)
+
+-- a lawful long item of kind Yes is lawful with any argument that Yes may have
+IsLawfulLong-yes : (grammar : Grammar) (dashes : Dashes) (name : Text) (argument new_argument : Argument) → grammar.kind_of name ≡ Some Yes → FitsLong Yes new_argument → IsLawfulLong grammar dashes name argument → IsLawfulLong grammar dashes name new_argument
+IsLawfulLong-yes grammar dashes name argument new_argument kind fits lawful = record { before = lawful.before; cut_once = lawful.cut_once; resolves = (Yes, kind, fits) }
+
+-- a long argument attached or separate
+pub long_attached_or_separate : (grammar : Grammar) → LongAttachedOrSeparate grammar
+long_attached_or_separate grammar = record {
+  to_separate = λ dashes name argument kind. MayStandFor-long grammar dashes dashes name (attached argument) (separate argument) refl (IsLawfulLong-yes grammar dashes name (attached argument) (separate argument) kind tt);
+  to_attached = λ dashes name argument kind. MayStandFor-long grammar dashes dashes name (separate argument) (attached argument) refl (IsLawfulLong-yes grammar dashes name (separate argument) (attached argument) kind tt)
+}
+
+-- either dashes may stand in long-only mode before a name that doesn't begin with `-`
+MayStandBefore-long_only : (long_only : Bool) (dashes : Dashes) (name : Text) → long_only ≡ true → begins_with_dash name ≡ false → MayStandBefore long_only dashes name
+MayStandBefore-long_only long_only one name only plain = (only, plain)
+MayStandBefore-long_only long_only two name only plain = tt
+
+-- one dash or two
+pub one_dash_or_two : (grammar : Grammar) → OneDashOrTwo grammar
+one_dash_or_two grammar dashes other name argument only plain = MayStandFor-long grammar dashes other name argument argument refl (λ lawful. record { before = MayStandBefore-long_only grammar.long_only other name only plain; cut_once = lawful.cut_once; resolves = lawful.resolves })
+
+-- what follows a cluster's first name isn't looked at for the dash
+begins_with_dash-argument : (names : List ℕ) (option : ℕ) (text other : Text) → begins_with_dash (names ++ option ∷ text) ≡ begins_with_dash (names ++ option ∷ other)
+begins_with_dash-argument [] option text other = refl
+begins_with_dash-argument (name ∷ names) option text other = refl
+
+-- a cluster that ends in an option of kind Yes may stand for another with the same value
+MayStandFor-cluster : (grammar : Grammar) (names : List ℕ) (option : ℕ) (argument new_argument : Argument) → value_of new_argument ≡ value_of argument → grammar.kind_of (option ∷ []) ≡ Some Yes → FitsEnd Yes new_argument → is_bare (cluster names (ends_in option new_argument)) ≡ false → MayStandFor grammar (HaveSameMatches grammar) (cluster names (ends_in option new_argument) ∷ []) (cluster names (ends_in option argument))
+MayStandFor-cluster grammar names option argument new_argument same_value kind fits filled words front back tail reads =
+    let old : List Item = cluster names (ends_in option argument) ∷ back in
+    let new : List Item = cluster names (ends_in option new_argument) ∷ back in
+    let fit : FitInPlace grammar old new (tail_words tail) = record {
+      lawful = λ each. (record {
+        ordinary = each.0.ordinary;
+        short_form = begins_with_dash-argument names option _ _ ∙ each.0.short_form;
+        each = each.0.each;
+        last = (Yes, kind, fits)
+      }, each.1);
+      dashed = λ each ordinary. is_dashed-cluster grammar names (ends_in option new_argument) each.0;
+      followed = λ each. (λ bare. cc (bare, filled), each.1)
+    } in
+    let same : (before : ℕ) → occurrences_after before grammar new ≡ occurrences_after before grammar old =
+    λ before. ap (λ value. map (occurrence_at before) (map (λ name. mention grammar (name ∷ []) None) names ++ mention grammar (option ∷ []) value ∷ []) ++ occurrences_after (before + 1) grammar back) same_value in
+    (reads_in_place grammar front old new tail words fit reads, HaveSameMatches-in_place grammar front old new tail same refl)
+
+-- a short argument attached or separate
+pub short_attached_or_separate : (grammar : Grammar) → ShortAttachedOrSeparate grammar
+short_attached_or_separate grammar = record {
+  to_separate = λ names option argument kind. MayStandFor-cluster grammar names option (attached argument) (separate argument) refl kind tt refl;
+  to_attached = λ names option argument kind filled. MayStandFor-cluster grammar names option (separate argument) (attached argument) refl kind filled refl
+}
+
+-- the rest of a cluster is as bare as the whole
+is_bare-rest : (flag : ℕ) (names : List ℕ) (end : End) → is_bare (cluster names end) ≡ true → is_bare (cluster (flag ∷ names) end) ≡ true
+is_bare-rest flag names flags bare = bare
+is_bare-rest flag names (ends_in option none) bare = bare
+is_bare-rest flag names (ends_in option (attached argument)) bare = bare
+is_bare-rest flag names (ends_in option (separate word)) bare = bare
+
+-- the rest of a cluster, where it has text, ends lawfully
+IsLawfulEnd-rest : (grammar : Grammar) (flag : ℕ) (names : List ℕ) (end : End) → names ++ end_text end ≢ [] → IsLawfulEnd grammar (flag ∷ names) end → IsLawfulEnd grammar names end
+IsLawfulEnd-rest grammar flag names flags filled lawful = λ nil. filled (append-nil names ∙ nil)
+IsLawfulEnd-rest grammar flag names (ends_in option argument) filled lawful = lawful
+
+-- readings have the same mentions and free words where the items in place have
+DifferInPositions-in_place : (grammar : Grammar) (front old new : List Item) (tail : Tail) → flat_map (mentions grammar) new ≡ flat_map (mentions grammar) old → free_items new ≡ free_items old → DifferInPositions grammar (record { items = front ++ old; tail = tail }) (record { items = front ++ new; tail = tail })
+DifferInPositions-in_place grammar front old new tail same same_free =
+    let same_words : free_items (front ++ new) ≡ free_items (front ++ old) = free_items_in_place front old new same_free in
+    record {
+      mentions = rw (flat_map-append (mentions grammar) front new, same, ← flat_map-append (mentions grammar) front old) refl;
+      free = ap (λ words. words ++ tail_frees tail) same_words;
+      trailing = ap (λ words. trailing_after (length words) tail) same_words
+    }
+
+-- a cluster splits after its first flag
+pub cluster_splits : (grammar : Grammar) → ClusterSplits grammar
+cluster_splits grammar flag names end filled plain words front back tail reads =
+    let old : List Item = cluster (flag ∷ names) end ∷ back in
+    let new : List Item = cluster (flag ∷ []) flags ∷ cluster names end ∷ back in
+    let fit : FitInPlace grammar old new (tail_words tail) = record {
+      lawful = λ each. (record {
+        ordinary = each.0.ordinary;
+        short_form = each.0.short_form;
+        each = (each.0.each.0, tt);
+        last = λ nil. cc nil
+      }, (record {
+        ordinary = each.0.ordinary;
+        short_form = plain;
+        each = each.0.each.1;
+        last = IsLawfulEnd-rest grammar flag names end filled each.0.last
+      }, each.1));
+      dashed = λ each ordinary. refl;
+      followed = λ each. (λ bare. cc bare, (λ bare. each.0 (is_bare-rest flag names end bare), each.1))
+    } in
+    (reads_in_place grammar front old new tail words fit reads, DifferInPositions-in_place grammar front old new tail refl refl)
+
+-- the words of an item, before two lists of words
+spelled-append : (item : Item) (words more : List Text) → spelled item (words ++ more) ≡ spelled item words ++ more
+spelled-append (free word) words more = refl
+spelled-append (long dashes name none) words more = refl
+spelled-append (long dashes name (attached argument)) words more = refl
+spelled-append (long dashes name (separate word)) words more = refl
+spelled-append (cluster names flags) words more = refl
+spelled-append (cluster names (ends_in option none)) words more = refl
+spelled-append (cluster names (ends_in option (attached argument))) words more = refl
+spelled-append (cluster names (ends_in option (separate word))) words more = refl
+
+-- the words of items, before two lists of words
+spelled_all-before_both : (items : List Item) (words more : List Text) → spelled_all items (words ++ more) ≡ spelled_all items words ++ more
+spelled_all-before_both [] words more = refl
+spelled_all-before_both (item ∷ items) words more = ap (spelled item) (spelled_all-before_both items words more) ∙ spelled-append item (spelled_all items words) more
+
+-- the words of two lists of items
+spelled_all-append : (items others : List Item) (more : List Text) → spelled_all (items ++ others) more ≡ spelled_all items (spelled_all others more)
+spelled_all-append [] others more = refl
+spelled_all-append (item ∷ items) others more = ap (spelled item) (spelled_all-append items others more)
+
+-- bare clusters stay followed as they may be where others stand after the last item, which isn't bare
+followed_by_others : (items others : List Item) (more : List Text) → is_last_bare items ≡ false → AreWellFollowed items [] → AreWellFollowed others more → AreWellFollowed (items ++ others) more
+followed_by_others [] others more last before after = after
+followed_by_others (item ∷ []) others more last before after = (λ bare. cc (last, bare), after)
+followed_by_others (item ∷ next ∷ items) others more last before after =
+    (λ bare. dashed_before_others next _ _ (before.0 bare), followed_by_others (next ∷ items) others more last before.1 after)
+
+-- a line read to its end by these items, and the items and the tail of another, are read together
+reads_joined : (grammar : Grammar) (items : List Item) (second : Reading) (words more : List Text) → IsReading grammar (record { items = items; tail = line_end }) words → is_last_bare items ≡ false → IsReading grammar second more → IsReading grammar (record { items = items ++ second.items; tail = second.tail }) (words ++ more)
+reads_joined grammar items second words more reads last after = record {
+  spells = spelled_all-append items second.items (tail_words second.tail) ∙ (ap (spelled_all items) after.spells ∙ (spelled_all-before_both items [] more ∙ ap (λ front. front ++ more) reads.spells));
+  items = AllByRecursion-append (IsLawfulItem grammar) items second.items reads.items after.items;
+  tail = after.tail;
+  followed = followed_by_others items second.items (tail_words second.tail) last reads.followed after.followed
+}
+
+-- two readings joined have the content of both
+HasContentOfBoth-joined : (grammar : Grammar) (first second : Reading) → first.tail ≡ line_end → HasContentOfBoth grammar first second (joined_reading first second)
+HasContentOfBoth-joined grammar first second ends = record {
+  mentions = flat_map-append (mentions grammar) first.items second.items;
+  free = rw (free_items-append first.items second.items, ends, append-nil (free_items first.items), append_assoc (free_items first.items) (free_items second.items) (tail_frees second.tail)) refl
+}
+
+-- lines compose, where a line has one reading at most
+pub lines_compose : (grammar : Grammar) → ((reading other : Reading) (words : List Text) → IsReading grammar reading words → IsReading grammar other words → reading ≡ other) → LinesCompose grammar
+lines_compose grammar only first second words more reads ends last after =
+    let at_end : IsReading grammar (record { items = first.items; tail = line_end }) words = subst (λ tail. IsReading grammar (record { items = first.items; tail = tail }) words) ends reads in
+    let joined : IsReading grammar (joined_reading first second) (words ++ more) = reads_joined grammar first.items second words more at_end last after in
+    (joined, λ whole reads_whole. subst (HasContentOfBoth grammar first second) (only (joined_reading first second) whole (words ++ more) joined reads_whole) (HasContentOfBoth-joined grammar first second ends))
+
+-- the words after a list of words
+drop-append : {X : Type 0} (xs ys : List X) → drop (length xs) (xs ++ ys) ≡ ys
+drop-append [] ys = refl
+drop-append (x ∷ xs) ys = drop-append xs ys
+
+-- the trailing start of a tail after so many free words
+trailing_in_tail : (frees : List Text) (items : List Item) (tail : Tail) (start : ℕ) → free_items items ≡ frees → trailing_after (length frees) tail ≡ Some start → IsAfterStop (record { items = items; tail = tail }) start
+trailing_in_tail frees items line_end start are at = cc at
+trailing_in_tail frees items (rest words) start are at = cc at
+trailing_in_tail frees items (stop []) start are at = cc at
+trailing_in_tail frees items (stop (word ∷ words)) start are at =
+    let here : length frees ≡ start = cc at in
+    record {
+      below = rw (are, ← here) (omega (arith, length-append frees (word ∷ words)));
+      words = word ∷ words;
+      tail_is = refl;
+      free_from = rw (are, ← here) (drop-append frees (word ∷ words))
+    }
+
+-- the trailing start is after the stop
+pub trailing_start_is_after_stop : (grammar : Grammar) → TrailingStartIsAfterStop grammar
+trailing_start_is_after_stop grammar reading words start reads at = trailing_in_tail (free_items reading.items) reading.items reading.tail start refl at
+
+-- each word is among the words
+IsSubsequence-refl : (words : List Text) → IsSubsequence words words
+IsSubsequence-refl [] = empty
+IsSubsequence-refl (word ∷ words) = kept word (IsSubsequence-refl words)
+
+-- the free words of a tail are among its words
+IsSubsequence-tail : (tail : Tail) → IsSubsequence (tail_frees tail) (tail_words tail)
+IsSubsequence-tail line_end = empty
+IsSubsequence-tail (stop words) = left_out _ (IsSubsequence-refl words)
+IsSubsequence-tail (rest words) = IsSubsequence-refl words
+
+-- the free words of items and a tail are among their words
+IsSubsequence-items : (items : List Item) (tail : Tail) → IsSubsequence (free_items items ++ tail_frees tail) (spelled_all items (tail_words tail))
+IsSubsequence-items [] tail = IsSubsequence-tail tail
+IsSubsequence-items (free word ∷ items) tail = kept word (IsSubsequence-items items tail)
+IsSubsequence-items (long dashes name none ∷ items) tail = left_out _ (IsSubsequence-items items tail)
+IsSubsequence-items (long dashes name (attached argument) ∷ items) tail = left_out _ (IsSubsequence-items items tail)
+IsSubsequence-items (long dashes name (separate word) ∷ items) tail = left_out _ (left_out _ (IsSubsequence-items items tail))
+IsSubsequence-items (cluster names flags ∷ items) tail = left_out _ (IsSubsequence-items items tail)
+IsSubsequence-items (cluster names (ends_in option none) ∷ items) tail = left_out _ (IsSubsequence-items items tail)
+IsSubsequence-items (cluster names (ends_in option (attached argument)) ∷ items) tail = left_out _ (IsSubsequence-items items tail)
+IsSubsequence-items (cluster names (ends_in option (separate word)) ∷ items) tail = left_out _ (left_out _ (IsSubsequence-items items tail))
+
+-- free words are a subsequence of the words
+pub free_words_are_subsequence : (grammar : Grammar) → FreeWordsAreSubsequence grammar
+free_words_are_subsequence grammar reading words reads = subst (IsSubsequence (free_words reading)) reads.spells (IsSubsequence-items reading.items reading.tail)
