@@ -1,16 +1,16 @@
 -- The laws of readings, proved of every grammar: an item's place among others, lines joined, free words
 -- and positions.
-use Rattle.std.proofs.Common.{◌≡◌, ◌≢◌, ℕ, ◌+◌, ◌<◌, ◌≤◌, Bool, true, false, List, [], ◌∷◌, ◌++◌, length, map, drop, Some, None, refl, sym, ap, ◌∙◌, subst, arith}
+use Rattle.std.proofs.Common.{◌≡◌, ◌≢◌, ℕ, ◌+◌, ◌<◌, ◌≤◌, Bool, true, false, List, [], ◌∷◌, ◌++◌, length, map, drop, get_or, ◌==◌, zero, suc, cond, Some, None, refl, sym, ap, ◌∙◌, subst, arith}
 use Rattle.std.specs.List.{AllByRecursion, flat_map, filter}
 use Rattle.std.specs.List.Sorted.{IsNonDecreasingBy}
 use Rattle.std.proofs.lemmas.List.{append-nil, append_assoc, length-append}
 use Rattle.std.proofs.lemmas.List.Kept.{IsNonDecreasingBy-filter}
 use Rattle.std.proofs.lemmas.Grind.{flat_map-append}
 use Rattle.getopts.specs.Names.{Text}
-use Rattle.getopts.specs.Options.{Grammar}
+use Rattle.getopts.specs.Options.{Group, Grammar}
 use Rattle.getopts.specs.Scan.{dash, is_dashed, begins_with_dash, Argument, none, attached, separate, Dashes, one, two, dash_text, End, flags, ends_in, Item, free, long, cluster, end_text, spelled, spelled_all, is_bare, MayStandBefore, IsFlag, IsLawfulEnd, IsLawfulLong, IsLawfulCluster, IsLawfulItem, EndsOrIsDashed, AreWellFollowed, Tail, line_end, stop, rest, tail_words, tail_frees, Reading, IsReading, Mention, Occurrence, occurrence_at, mentions, occurrences_after, occurrences_of, free_items, free_words, trailing_after, trailing_start, value_of, attached_argument, FitsEnd, FitsLong, mention}
-use Rattle.getopts.specs.Matches.{found_at}
-use Rattle.getopts.specs.ScanLaws.{mentions_of, words_of, reading_of, HaveSameMatches, DifferInPositions, MayStandFor, LongAttachedOrSeparate, ShortAttachedOrSeparate, ClusterSplits, OneDashOrTwo, is_last_bare, joined_reading, HasContentOfBoth, LinesCompose, IsAfterStop, TrailingStartIsAfterStop, IsSubsequence, empty, kept, left_out, FreeWordsAreSubsequence, PositionsAreInOrder}
+use Rattle.getopts.specs.Matches.{Found, found_at, matched_from}
+use Rattle.getopts.specs.ScanLaws.{mentions_of, words_of, reading_of, HaveSameMatches, DifferInPositions, MayStandFor, LongAttachedOrSeparate, ShortAttachedOrSeparate, ClusterSplits, OneDashOrTwo, is_last_bare, joined_reading, HasContentOfBoth, LinesCompose, IsAfterStop, TrailingStartIsAfterStop, IsSubsequence, empty, kept, left_out, FreeWordsAreSubsequence, NeverDecrease, PositionsAreInOrder, HavePositionsInOrder}
 use Rattle.getopts.specs.declared.options.HasArg.{HasArg}
 use Rattle.getopts.specs.declared.options.HasArg.TheVariants.{Yes}
 
@@ -324,3 +324,53 @@ IsSubsequence-items (cluster names (ends_in option (separate word)) ∷ items) t
 -- free words are a subsequence of the words
 pub free_words_are_subsequence : (grammar : Grammar) → FreeWordsAreSubsequence grammar
 free_words_are_subsequence grammar reading words reads = subst (IsSubsequence (free_words reading)) reads.spells (IsSubsequence-items reading.items reading.tail)
+
+-- the positions are at least this one, and never decrease
+abbrev RiseFrom : ℕ → List Found → Type 0
+RiseFrom low [] = Unit {0}
+RiseFrom low (found ∷ founds) = (low ≤ found.position) × RiseFrom found.position founds
+
+-- so they do from a lower one
+RiseFrom-lower : (low high : ℕ) (founds : List Found) → low ≤ high → RiseFrom high founds → RiseFrom low founds
+RiseFrom-lower low high [] below rise = tt
+RiseFrom-lower low high (found ∷ founds) below rise = (omega (arith, rise.0), rise.1)
+
+-- each is at least the lowest
+low_below_each : (low : ℕ) (founds : List Found) → RiseFrom low founds → (index : ℕ) (default : Found) → index < length founds → low ≤ (get_or founds index default).position
+low_below_each low [] rise index default in_range = absurd (omega arith)
+low_below_each low (found ∷ founds) rise zero default in_range = rise.0
+low_below_each low (found ∷ founds) rise (suc index) default in_range =
+    let step : found.position ≤ (get_or founds index default).position = low_below_each found.position founds rise.1 index default (omega arith) in
+    omega (arith, rise.0, step)
+
+-- positions that rise never decrease
+NeverDecrease-from_rise : (low : ℕ) (founds : List Found) → RiseFrom low founds → NeverDecrease founds
+NeverDecrease-from_rise low [] rise i j default ordered in_range = absurd (omega arith)
+NeverDecrease-from_rise low (found ∷ founds) rise zero zero default ordered in_range = omega arith
+NeverDecrease-from_rise low (found ∷ founds) rise zero (suc j) default ordered in_range = low_below_each found.position founds rise.1 j default (omega arith)
+NeverDecrease-from_rise low (found ∷ founds) rise (suc i) zero default ordered in_range = absurd (omega arith)
+NeverDecrease-from_rise low (found ∷ founds) rise (suc i) (suc j) default ordered in_range = NeverDecrease-from_rise found.position founds rise.1 i j default (omega arith) (omega arith)
+
+-- they still rise where an occurrence at the lowest position stands before them, or is left out
+RiseFrom-more : (here : Bool) (first : Occurrence) (later : List Occurrence) → RiseFrom first.position (map (λ o. record { position = o.position; value = o.value }) later) → RiseFrom first.position (map (λ o. record { position = o.position; value = o.value }) (cond here (first ∷ later) later))
+RiseFrom-more true first later rise = (omega arith, rise)
+RiseFrom-more false first later rise = rise
+
+-- the occurrences of one item rise from its position, where the later ones do
+RiseFrom-item : (place position : ℕ) (told : List Mention) (later : List Occurrence) → RiseFrom position (found_at place later) → RiseFrom position (found_at place (map (occurrence_at position) told ++ later))
+RiseFrom-item place position [] later rise = rise
+RiseFrom-item place position (first ∷ told) later rise = RiseFrom-more (first.group == place) (occurrence_at position first) _ (RiseFrom-item place position told later rise)
+
+-- the occurrences of items rise from the first position
+RiseFrom-items : (grammar : Grammar) (place before : ℕ) (items : List Item) → RiseFrom before (found_at place (occurrences_after before grammar items))
+RiseFrom-items grammar place before [] = tt
+RiseFrom-items grammar place before (item ∷ items) = RiseFrom-item place before (mentions grammar item) (occurrences_after (before + 1) grammar items) (RiseFrom-lower before (before + 1) _ (omega arith) (RiseFrom-items grammar place (before + 1) items))
+
+-- positions in order
+pub positions_are_in_order : (grammar : Grammar) → PositionsAreInOrder grammar
+positions_are_in_order grammar reading words place reads = NeverDecrease-from_rise 0 _ (RiseFrom-items grammar place 0 reading.items)
+
+-- positions in order, of the groups that matches of a reading hold
+pub HavePositionsInOrder-matched : (grammar : Grammar) (reading : Reading) (place : ℕ) (groups : List Group) → HavePositionsInOrder (matched_from place groups (occurrences_of grammar reading))
+HavePositionsInOrder-matched grammar reading place [] = tt
+HavePositionsInOrder-matched grammar reading place (group ∷ groups) = (NeverDecrease-from_rise 0 _ (RiseFrom-items grammar place 0 reading.items), HavePositionsInOrder-matched grammar reading (place + 1) groups)

@@ -1,12 +1,12 @@
 -- Laws of readings: which items may stand for others, how lines compose, and what free words, the
 -- trailing start and positions keep to.
 use Rattle.std.specs.Prelude.{◌≡◌, ◌≢◌, ℕ, ◌<◌, Bool, true, false, List, [], ◌∷◌, ◌++◌, length, drop, Some}
-use Rattle.std.specs.List.{flat_map}
+use Rattle.std.specs.List.{AllByRecursion, flat_map}
 use Rattle.std.specs.List.Sorted.{IsNonDecreasingBy}
 use Rattle.getopts.specs.Names.{Text}
 use Rattle.getopts.specs.Options.{Grammar}
 use Rattle.getopts.specs.Scan.{begins_with_dash, Argument, attached, separate, Dashes, End, flags, ends_in, Item, long, cluster, end_text, spelled_all, is_bare, Tail, line_end, stop, tail_words, Reading, IsReading, Mention, mentions, occurrences_of, free_words, trailing_start}
-use Rattle.getopts.specs.Matches.{found_at}
+use Rattle.getopts.specs.Matches.{Found, found_at, MatchedGroup}
 use Rattle.getopts.specs.declared.options.HasArg.TheVariants.{Yes}
 
 -- what a reading mentions, in the order of the line: its occurrences without their positions
@@ -121,8 +121,16 @@ pub data IsSubsequence : List Text → List Text → Type 0 where
 abbrev pub FreeWordsAreSubsequence : Grammar → Type 0
 FreeWordsAreSubsequence grammar = (reading : Reading) (words : List Text) → IsReading grammar reading words → IsSubsequence (free_words reading) words
 
--- Positions in order: those of a group's occurrences never decrease.
+-- positions never decrease
+abbrev pub NeverDecrease : List Found → Type 0
+NeverDecrease founds = IsNonDecreasingBy (λ found. found.position) founds
+
+-- Positions in order: those of each group's occurrences never decrease.
 abbrev pub PositionsAreInOrder : Grammar → Type 0
 PositionsAreInOrder grammar = (reading : Reading) (words : List Text) (place : ℕ)
     → IsReading grammar reading words
-    → IsNonDecreasingBy (λ found. found.position) (found_at place (occurrences_of grammar reading))
+    → NeverDecrease (found_at place (occurrences_of grammar reading))
+
+-- each group that matches hold has its positions in order
+abbrev pub HavePositionsInOrder : List MatchedGroup → Type 0
+HavePositionsInOrder groups = AllByRecursion (λ group. NeverDecrease group.found) groups
