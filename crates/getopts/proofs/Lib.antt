@@ -1,2 +1,2 @@
-mod ScanLawProofs
+pub mod ScanLawProofs
 pub mod ScanTurns

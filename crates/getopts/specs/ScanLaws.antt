@@ -1,6 +1,6 @@
 -- Laws of readings: which items may stand for others, how lines compose, and what free words, the
--- trailing start and positions keep to.
-use Rattle.std.specs.Prelude.{◌≡◌, ◌≢◌, ℕ, ◌<◌, Bool, true, false, List, [], ◌∷◌, ◌++◌, length, drop, Some}
+-- trailing start and positions keep to. Each is about every reading of every line.
+use Rattle.std.specs.Prelude.{◌≡◌, ◌≢◌, ℕ, ◌<◌, Bool, false, true, List, [], ◌∷◌, ◌++◌, length, drop, Some}
 use Rattle.std.specs.List.{AllByRecursion, flat_map}
 use Rattle.std.specs.List.Sorted.{IsNonDecreasingBy}
 use Rattle.getopts.specs.Names.{Text}
@@ -21,55 +21,63 @@ words_of reading = spelled_all reading.items (tail_words reading.tail)
 abbrev pub reading_of : List Item → List Item → List Item → Tail → Reading
 reading_of front middle back tail = record { items = front ++ (middle ++ back); tail = tail }
 
--- two readings have the same occurrences, positions too, the same free words and the same trailing start
-pub record HaveSameMatches (grammar : Grammar) (old new : Reading) : Type 0 where
+-- The new reading is one of the words that it spells, and has the old one's occurrences, positions too,
+-- free words and trailing start.
+pub record ReadsAlike (grammar : Grammar) (old new : Reading) : Type 0 where
+  pub reads : IsReading grammar new (words_of new)
   pub occurrences : occurrences_of grammar new ≡ occurrences_of grammar old
   pub free : free_words new ≡ free_words old
   pub trailing : trailing_start new ≡ trailing_start old
 
--- two readings differ in positions alone: they have the same mentions, free words and trailing start
-pub record DifferInPositions (grammar : Grammar) (old new : Reading) : Type 0 where
+-- The new reading is one of the words that it spells, and has the old one's mentions, free words and
+-- trailing start: positions alone may differ.
+pub record ReadsAlikeButForPositions (grammar : Grammar) (old new : Reading) : Type 0 where
+  pub reads : IsReading grammar new (words_of new)
   pub mentions : mentions_of grammar new ≡ mentions_of grammar old
   pub free : free_words new ≡ free_words old
   pub trailing : trailing_start new ≡ trailing_start old
 
--- Wherever the item stands in a reading of a line, the others in its place make a reading of the words
--- that it spells, and the two readings are alike.
-abbrev pub MayStandFor : Grammar → (Reading → Reading → Type 0) → List Item → Item → Type 0
-MayStandFor grammar Alike others item = (words : List Text) (front back : List Item) (tail : Tail)
+-- wherever the item stands in a reading of a line, the others may stand in its place, and that reads alike
+abbrev pub MayStandFor : (Grammar → Reading → Reading → Type 0) → Grammar → List Item → Item → Type 0
+MayStandFor Alike grammar others item = (front back : List Item) (tail : Tail) (words : List Text)
     → IsReading grammar (reading_of front (item ∷ []) back tail) words
-    → IsReading grammar (reading_of front others back tail) (words_of (reading_of front others back tail)) × Alike (reading_of front (item ∷ []) back tail) (reading_of front others back tail)
+    → Alike grammar (reading_of front (item ∷ []) back tail) (reading_of front others back tail)
 
 -- A long argument attached or separate: `--name=argument` and `--name`, `argument` read alike, where
 -- the name's kind is Yes.
 pub record LongAttachedOrSeparate (grammar : Grammar) : Type 0 where
-  pub to_separate : (dashes : Dashes) (name argument : Text) → grammar.kind_of name ≡ Some Yes
-      → MayStandFor grammar (HaveSameMatches grammar) (long dashes name (separate argument) ∷ []) (long dashes name (attached argument))
-  pub to_attached : (dashes : Dashes) (name argument : Text) → grammar.kind_of name ≡ Some Yes
-      → MayStandFor grammar (HaveSameMatches grammar) (long dashes name (attached argument) ∷ []) (long dashes name (separate argument))
+  pub to_separate : (dashes : Dashes) (name argument : Text)
+      → grammar.kind_of name ≡ Some Yes
+      → MayStandFor ReadsAlike grammar (long dashes name (separate argument) ∷ []) (long dashes name (attached argument))
+  pub to_attached : (dashes : Dashes) (name argument : Text)
+      → grammar.kind_of name ≡ Some Yes
+      → MayStandFor ReadsAlike grammar (long dashes name (attached argument) ∷ []) (long dashes name (separate argument))
 
 -- A short argument attached or separate: `-xargument` and `-x`, `argument` read alike, also after flags,
 -- where the kind of `x` is Yes and the argument isn't empty.
 pub record ShortAttachedOrSeparate (grammar : Grammar) : Type 0 where
-  pub to_separate : (names : List ℕ) (option : ℕ) (argument : Text) → grammar.kind_of (option ∷ []) ≡ Some Yes
-      → MayStandFor grammar (HaveSameMatches grammar) (cluster names (ends_in option (separate argument)) ∷ []) (cluster names (ends_in option (attached argument)))
-  pub to_attached : (names : List ℕ) (option : ℕ) (argument : Text) → grammar.kind_of (option ∷ []) ≡ Some Yes → argument ≢ []
-      → MayStandFor grammar (HaveSameMatches grammar) (cluster names (ends_in option (attached argument)) ∷ []) (cluster names (ends_in option (separate argument)))
+  pub to_separate : (names : List ℕ) (option : ℕ) (argument : Text)
+      → grammar.kind_of (option ∷ []) ≡ Some Yes
+      → MayStandFor ReadsAlike grammar (cluster names (ends_in option (separate argument)) ∷ []) (cluster names (ends_in option (attached argument)))
+  pub to_attached : (names : List ℕ) (option : ℕ) (argument : Text)
+      → grammar.kind_of (option ∷ []) ≡ Some Yes
+      → argument ≢ []
+      → MayStandFor ReadsAlike grammar (cluster names (ends_in option (attached argument)) ∷ []) (cluster names (ends_in option (separate argument)))
 
--- A cluster splits: `-xs` reads like `-x`, `-s`, where `x` is a flag and `s` isn't empty and doesn't begin
--- with `-`; positions alone differ.
+-- A cluster splits: `-xs` and `-x`, `-s` read alike but for positions, where `x` is a flag and `s` isn't
+-- empty and doesn't begin with `-`.
 abbrev pub ClusterSplits : Grammar → Type 0
 ClusterSplits grammar = (flag : ℕ) (names : List ℕ) (end : End)
     → names ++ end_text end ≢ []
     → begins_with_dash (names ++ end_text end) ≡ false
-    → MayStandFor grammar (DifferInPositions grammar) (cluster (flag ∷ []) flags ∷ cluster names end ∷ []) (cluster (flag ∷ names) end)
+    → MayStandFor ReadsAlikeButForPositions grammar (cluster (flag ∷ []) flags ∷ cluster names end ∷ []) (cluster (flag ∷ names) end)
 
 -- One dash or two: in long-only mode `-name` and `--name` read alike, where the name doesn't begin with `-`.
 abbrev pub OneDashOrTwo : Grammar → Type 0
 OneDashOrTwo grammar = (dashes other : Dashes) (name : Text) (argument : Argument)
     → grammar.long_only ≡ true
     → begins_with_dash name ≡ false
-    → MayStandFor grammar (HaveSameMatches grammar) (long other name argument ∷ []) (long dashes name argument)
+    → MayStandFor ReadsAlike grammar (long other name argument ∷ []) (long dashes name argument)
 
 -- whether the last item is a bare cluster
 abbrev pub is_last_bare : List Item → Bool
@@ -81,37 +89,44 @@ is_last_bare (item ∷ next ∷ items) = is_last_bare (next ∷ items)
 abbrev pub joined_reading : Reading → Reading → Reading
 joined_reading first second = record { items = first.items ++ second.items; tail = second.tail }
 
--- a reading has the mentions and the free words of two, one after the other
+-- the mentions and the free words of the whole are those of the first and then those of the second
 pub record HasContentOfBoth (grammar : Grammar) (first second whole : Reading) : Type 0 where
   pub mentions : mentions_of grammar whole ≡ mentions_of grammar first ++ mentions_of grammar second
   pub free : free_words whole ≡ free_words first ++ free_words second
 
--- Lines compose: where a first line is read to its end by items of which the last isn't a bare cluster, and
--- a second line has a reading, both readings joined are one of the two lines joined, and each reading of
--- these has the content of both.
-abbrev pub LinesCompose : Grammar → Type 0
-LinesCompose grammar = (first second : Reading) (words more : List Text)
-    → IsReading grammar first words
-    → first.tail ≡ line_end
-    → is_last_bare first.items ≡ false
-    → IsReading grammar second more
-    → IsReading grammar (joined_reading first second) (words ++ more) × ((whole : Reading) → IsReading grammar whole (words ++ more) → HasContentOfBoth grammar first second whole)
+-- Lines compose: where items up to the line's end, of which the last isn't a bare cluster, read a first line,
+-- and a second line has a reading, the two joined read both lines, and each reading of both has the content of the two.
+pub record LinesCompose (grammar : Grammar) : Type 0 where
+  pub joined : (first second : Reading) (words more : List Text)
+      → IsReading grammar first words
+      → first.tail ≡ line_end
+      → is_last_bare first.items ≡ false
+      → IsReading grammar second more
+      → IsReading grammar (joined_reading first second) (words ++ more)
+  pub content : (first second whole : Reading) (words more : List Text)
+      → IsReading grammar first words
+      → first.tail ≡ line_end
+      → is_last_bare first.items ≡ false
+      → IsReading grammar second more
+      → IsReading grammar whole (words ++ more)
+      → HasContentOfBoth grammar first second whole
 
--- the free words from this place on are the words after the stop, and there are some
+-- a place among the free words, from which on they are the words after the stop
 pub record IsAfterStop (reading : Reading) (start : ℕ) : Type 0 where
   pub below : start < length (free_words reading)
   pub words : List Text
   pub tail_is : reading.tail ≡ stop words
   pub free_from : drop start (free_words reading) ≡ words
 
--- The trailing start: where a reading has one, the free words from it on are the words after the stop.
+-- The trailing start: where there is one, it is a place among the free words, and these are from there on
+-- the words after the stop.
 abbrev pub TrailingStartIsAfterStop : Grammar → Type 0
 TrailingStartIsAfterStop grammar = (reading : Reading) (words : List Text) (start : ℕ)
     → IsReading grammar reading words
     → trailing_start reading ≡ Some start
     → IsAfterStop reading start
 
--- the first texts are the second with some left out, in the same order
+-- the texts are the words with some left out, in the same order
 pub data IsSubsequence : List Text → List Text → Type 0 where
   empty : IsSubsequence [] []
   kept : {texts words : List Text} (word : Text) → IsSubsequence texts words → IsSubsequence (word ∷ texts) (word ∷ words)
@@ -121,7 +136,7 @@ pub data IsSubsequence : List Text → List Text → Type 0 where
 abbrev pub FreeWordsAreSubsequence : Grammar → Type 0
 FreeWordsAreSubsequence grammar = (reading : Reading) (words : List Text) → IsReading grammar reading words → IsSubsequence (free_words reading) words
 
--- positions never decrease
+-- the positions of a group's occurrences never decrease
 abbrev pub NeverDecrease : List Found → Type 0
 NeverDecrease founds = IsNonDecreasingBy (λ found. found.position) founds
 
