@@ -193,11 +193,13 @@ MayStandBefore-long_only long_only two name only plain = tt
 
 -- one dash or two
 pub OneDashOrTwo_lem : (grammar : Grammar) → OneDashOrTwo grammar
-OneDashOrTwo_lem grammar dashes other name argument only plain = MayStandFor-long grammar dashes other name argument argument refl (λ lawful. record {
-  before = MayStandBefore-long_only grammar.long_only other name only plain;
-  cut_once = lawful.cut_once;
-  resolves = lawful.resolves;
-})
+OneDashOrTwo_lem grammar = record {
+  other_dashes = λ dashes other name argument only plain. MayStandFor-long grammar dashes other name argument argument refl (λ lawful. record {
+    before = MayStandBefore-long_only grammar.long_only other name only plain;
+    cut_once = lawful.cut_once;
+    resolves = lawful.resolves;
+  });
+}
 
 -- an argument doesn't change how a cluster begins after its dash
 begins_with_dash-argument : (names : List ℕ) (option : ℕ) (text other : Text) → begins_with_dash (names ++ option ∷ text) ≡ begins_with_dash (names ++ option ∷ other)
@@ -250,9 +252,11 @@ IsLawfulEnd-rest : (grammar : Grammar) (flag : ℕ) (names : List ℕ) (end : En
 IsLawfulEnd-rest grammar flag names flags filled lawful = λ nil. filled (append-nil names ∙ nil)
 IsLawfulEnd-rest grammar flag names (ends_in option argument) filled lawful = lawful
 
--- a cluster splits
-pub ClusterSplits_lem : (grammar : Grammar) → ClusterSplits grammar
-ClusterSplits_lem grammar flag names end filled plain front back tail words reads =
+-- a cluster may stand split after its first flag
+MayStandFor-split : (grammar : Grammar) (flag : ℕ) (names : List ℕ) (end : End) → names ++ end_text end ≢ []
+    → begins_with_dash (names ++ end_text end) ≡ false
+    → MayStandFor ReadsAlikeButForPositions grammar (cluster (flag ∷ []) flags ∷ cluster names end ∷ []) (cluster (flag ∷ names) end)
+MayStandFor-split grammar flag names end filled plain front back tail words reads =
     ReadsAlikeButForPositions-in_place grammar front (cluster (flag ∷ names) end ∷ back) (cluster (flag ∷ []) flags ∷ cluster names end ∷ back) tail words fit refl refl reads
   where
     fit : FitInPlace grammar (cluster (flag ∷ names) end ∷ back) (cluster (flag ∷ []) flags ∷ cluster names end ∷ back) (tail_words tail)
@@ -277,6 +281,10 @@ ClusterSplits_lem grammar flag names end filled plain front back tail words read
       dashed = λ each ordinary. refl;
       followed = λ each. (λ bare. cc bare, (λ bare. each.0 (is_bare-rest flag names end bare), each.1));
     }
+
+-- a cluster splits
+pub ClusterSplits_lem : (grammar : Grammar) → ClusterSplits grammar
+ClusterSplits_lem grammar = record { after_flag = MayStandFor-split grammar }
 
 -- the words of an item, before two lists of words
 spelled-append : (item : Item) (words more : List Text) → spelled item (words ++ more) ≡ spelled item words ++ more
@@ -356,7 +364,9 @@ IsAfterStop-tail frees items (stop (word ∷ words)) start are at =
 
 -- the trailing start is after the stop
 pub TrailingStartIsAfterStop_lem : (grammar : Grammar) → TrailingStartIsAfterStop grammar
-TrailingStartIsAfterStop_lem grammar reading words start reads at = IsAfterStop-tail (free_items reading.items) reading.items reading.tail start refl at
+TrailingStartIsAfterStop_lem grammar = record {
+  after_stop = λ reading words start reads at. IsAfterStop-tail (free_items reading.items) reading.items reading.tail start refl at;
+}
 
 -- each word is among the words
 IsSubsequence-refl : (words : List Text) → IsSubsequence words words
@@ -383,7 +393,9 @@ IsSubsequence-items (cluster names (ends_in option (separate word)) ∷ items) t
 
 -- free words are a subsequence of the words
 pub FreeWordsAreSubsequence_lem : (grammar : Grammar) → FreeWordsAreSubsequence grammar
-FreeWordsAreSubsequence_lem grammar reading words reads = subst (IsSubsequence (free_words reading)) reads.spells (IsSubsequence-items reading.items reading.tail)
+FreeWordsAreSubsequence_lem grammar = record {
+  subsequence = λ reading words reads. subst (IsSubsequence (free_words reading)) reads.spells (IsSubsequence-items reading.items reading.tail);
+}
 
 -- the positions are at least this one, and never decrease
 abbrev RiseFrom : ℕ → List Found → Type 0
@@ -428,7 +440,9 @@ RiseFrom-items grammar place before (item ∷ items) = RiseFrom-item place befor
 
 -- positions in order
 pub PositionsAreInOrder_lem : (grammar : Grammar) → PositionsAreInOrder grammar
-PositionsAreInOrder_lem grammar reading words place reads = NeverDecrease-from_rise 0 _ (RiseFrom-items grammar place 0 reading.items)
+PositionsAreInOrder_lem grammar = record {
+  of_group = λ reading words place reads. NeverDecrease-from_rise 0 _ (RiseFrom-items grammar place 0 reading.items);
+}
 
 -- positions in order, of the groups that matches of a reading hold
 pub HavePositionsInOrder-matched_from : (grammar : Grammar) (reading : Reading) (place : ℕ) (groups : List Group) → HavePositionsInOrder (matched_from place groups (occurrences_of grammar reading))

@@ -66,18 +66,18 @@ pub record ShortAttachedOrSeparate (grammar : Grammar) : Type 0 where
 
 -- A cluster splits: `-xs` and `-x`, `-s` read alike but for positions, where `x` is a flag and `s` isn't
 -- empty and doesn't begin with `-`.
-abbrev pub ClusterSplits : Grammar → Type 0
-ClusterSplits grammar = (flag : ℕ) (names : List ℕ) (end : End)
-    → names ++ end_text end ≢ []
-    → begins_with_dash (names ++ end_text end) ≡ false
-    → MayStandFor ReadsAlikeButForPositions grammar (cluster (flag ∷ []) flags ∷ cluster names end ∷ []) (cluster (flag ∷ names) end)
+pub record ClusterSplits (grammar : Grammar) : Type 0 where
+  pub after_flag : (flag : ℕ) (names : List ℕ) (end : End)
+      → names ++ end_text end ≢ []
+      → begins_with_dash (names ++ end_text end) ≡ false
+      → MayStandFor ReadsAlikeButForPositions grammar (cluster (flag ∷ []) flags ∷ cluster names end ∷ []) (cluster (flag ∷ names) end)
 
 -- One dash or two: in long-only mode `-name` and `--name` read alike, where the name doesn't begin with `-`.
-abbrev pub OneDashOrTwo : Grammar → Type 0
-OneDashOrTwo grammar = (dashes other : Dashes) (name : Text) (argument : Argument)
-    → grammar.long_only ≡ true
-    → begins_with_dash name ≡ false
-    → MayStandFor ReadsAlike grammar (long other name argument ∷ []) (long dashes name argument)
+pub record OneDashOrTwo (grammar : Grammar) : Type 0 where
+  pub other_dashes : (dashes other : Dashes) (name : Text) (argument : Argument)
+      → grammar.long_only ≡ true
+      → begins_with_dash name ≡ false
+      → MayStandFor ReadsAlike grammar (long other name argument ∷ []) (long dashes name argument)
 
 -- whether the last item is a bare cluster
 abbrev pub is_last_bare : List Item → Bool
@@ -120,11 +120,11 @@ pub record IsAfterStop (reading : Reading) (start : ℕ) : Type 0 where
 
 -- The trailing start: where there is one, it is a place among the free words, and these are from there on
 -- the words after the stop.
-abbrev pub TrailingStartIsAfterStop : Grammar → Type 0
-TrailingStartIsAfterStop grammar = (reading : Reading) (words : List Text) (start : ℕ)
-    → IsReading grammar reading words
-    → trailing_start reading ≡ Some start
-    → IsAfterStop reading start
+pub record TrailingStartIsAfterStop (grammar : Grammar) : Type 0 where
+  pub after_stop : (reading : Reading) (words : List Text) (start : ℕ)
+      → IsReading grammar reading words
+      → trailing_start reading ≡ Some start
+      → IsAfterStop reading start
 
 -- the texts are the words with some left out, in the same order
 pub data IsSubsequence : List Text → List Text → Type 0 where
@@ -133,18 +133,18 @@ pub data IsSubsequence : List Text → List Text → Type 0 where
   left_out : {texts words : List Text} (word : Text) → IsSubsequence texts words → IsSubsequence texts (word ∷ words)
 
 -- Free words are a subsequence of the words.
-abbrev pub FreeWordsAreSubsequence : Grammar → Type 0
-FreeWordsAreSubsequence grammar = (reading : Reading) (words : List Text) → IsReading grammar reading words → IsSubsequence (free_words reading) words
+pub record FreeWordsAreSubsequence (grammar : Grammar) : Type 0 where
+  pub subsequence : (reading : Reading) (words : List Text) → IsReading grammar reading words → IsSubsequence (free_words reading) words
 
 -- the positions of a group's occurrences never decrease
 abbrev pub NeverDecrease : List Found → Type 0
 NeverDecrease founds = IsNonDecreasingBy (λ found. found.position) founds
 
 -- Positions in order: those of each group's occurrences never decrease.
-abbrev pub PositionsAreInOrder : Grammar → Type 0
-PositionsAreInOrder grammar = (reading : Reading) (words : List Text) (place : ℕ)
-    → IsReading grammar reading words
-    → NeverDecrease (found_at place (occurrences_of grammar reading))
+pub record PositionsAreInOrder (grammar : Grammar) : Type 0 where
+  pub of_group : (reading : Reading) (words : List Text) (place : ℕ)
+      → IsReading grammar reading words
+      → NeverDecrease (found_at place (occurrences_of grammar reading))
 
 -- each group that matches hold has its positions in order
 abbrev pub HavePositionsInOrder : List MatchedGroup → Type 0
