@@ -37,7 +37,7 @@ pub record ReadsAlikeButForPositions (grammar : Grammar) (old new : Reading) : T
   pub free : free_words new ≡ free_words old
   pub trailing : trailing_start new ≡ trailing_start old
 
--- wherever the item stands in a reading of a line, the others may stand in its place, and that reads alike
+-- wherever the item stands in a reading of a line, the reading with the others in its place is alike
 abbrev pub MayStandFor : (Grammar → Reading → Reading → Type 0) → Grammar → List Item → Item → Type 0
 MayStandFor Alike grammar others item = (front back : List Item) (tail : Tail) (words : List Text)
     → IsReading grammar (reading_of front (item ∷ []) back tail) words
@@ -94,8 +94,9 @@ pub record HasContentOfBoth (grammar : Grammar) (first second whole : Reading) :
   pub mentions : mentions_of grammar whole ≡ mentions_of grammar first ++ mentions_of grammar second
   pub free : free_words whole ≡ free_words first ++ free_words second
 
--- Lines compose: where items up to the line's end, of which the last isn't a bare cluster, read a first line,
--- and a second line has a reading, the two joined read both lines, and each reading of both has the content of the two.
+-- Lines compose, in both styles: where a first line is read to its end by items of which the last isn't a
+-- bare cluster, and a second line has a reading, the readings joined are one of the lines joined, and each
+-- reading of these has the content of both.
 pub record LinesCompose (grammar : Grammar) : Type 0 where
   pub joined : (first second : Reading) (words more : List Text)
       → IsReading grammar first words
