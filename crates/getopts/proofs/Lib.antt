@@ -1,6 +1,7 @@
 pub mod NamesLemmas
 pub mod OptionsLemmas
 pub mod ScanItems
+pub mod ScanLawProofs
 pub mod ScanReadings
 pub mod ScanSteps
 pub mod ScanTexts

@@ -4,3 +4,4 @@ pub mod Fail
 pub mod Scan
 pub mod Line
 pub mod Matches
+pub mod ScanLaws
