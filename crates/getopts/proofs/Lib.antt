@@ -1,1 +1,2 @@
 pub mod ScanTurns
+pub mod CanonLemmas

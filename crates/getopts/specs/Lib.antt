@@ -3,3 +3,4 @@ pub mod Options
 pub mod Fail
 pub mod Scan
 pub mod Matches
+pub mod Canon

@@ -1,0 +1,146 @@
+-- The laws of the canonical line.
+use Rattle.std.proofs.Common.{◌≡◌, ◌≢◌, ◌⊎◌, ◌↔◌, ℕ, zero, suc, ◌+◌, ◌<◌, ◌≤◌, ◌==◌, Bool, true, false, cond, List, [], ◌∷◌, ◌++◌, length, map, get_or, Option, Some, None, refl, sym, ap, ◌∙◌, subst, inl, inr, arith, append_assoc, append-nil, length-append}
+use Rattle.std.proofs.lemmas.Bool.{or_parts, true≢false}
+use Rattle.std.proofs.lemmas.List.{length-map}
+use Rattle.std.proofs.lemmas.List.Quantifiers.{position-Some}
+use Rattle.std.proofs.lemmas.Option.{option_and_then_some, same_Some, slice_get-map, slice_get-get_or}
+use Rattle.std.proofs.lemmas.Slice.Eq.{bytes_eq-Decides}
+use Rattle.std.specs.Prelude.{⊤, slice_get}
+use Rattle.std.specs.List.{AllByRecursion, Contains, find, filter, flat_map}
+use Rattle.std.specs.Option.{option_map, option_map_or, option_and_then, option_or, unwrap_or}
+use Rattle.getopts.specs.Names.{Text, Names, main_name, is_alias, main_place, resolution}
+use Rattle.getopts.specs.Options.{Group, Declared, AreLawfullyNamed, names_of, Grammar, kind_of, grammar_of}
+use Rattle.getopts.specs.Scan.{dash, holds_equals, stop_word, Argument, none, attached, separate, one, two, End, flags, ends_in, value_of, with_equals, Item, free, long, cluster, long_word, spelled, spelled_all, FitsLong, FitsEnd, IsFlag, IsLawfulEnd, IsLawfulItem, Tail, stop, Reading, IsReading, Mention, mention, mentions, free_words}
+use Rattle.getopts.specs.Matches.{matches_of, KeepsCounts}
+use Rattle.getopts.specs.Canon.{Content, mentions_of, content_of, main_at, kind_at, IsPlain, IsSound, FitsKind, IsFitting, canonical_word, canonical_line, attached_value, canonical_item, canonical_reading, with_setting, IsCountKeeping, Says, IsReadBack, ReadsBackEverywhere, IsOnlyContent, IsItsOwn, TellsContent, HasNoItem, HasUnwritable, CanonicalLinesTell}
+use Rattle.getopts.specs.declared.options.HasArg.{HasArg}
+use Rattle.getopts.specs.declared.options.HasArg.TheVariants.{Yes, No, Maybe}
+use Rattle.getopts.specs.declared.options.ParsingStyle.{ParsingStyle}
+
+-- a pair of empty names
+abbrev no_names : Names
+no_names = record { short = []; long = [] }
+
+-- the first value, or the second where there is no first
+option_or-Some : {A : Type 0} (o p : Option A) (x : A) → option_or o p ≡ Some x → (o ≡ Some x) ⊎ (p ≡ Some x)
+option_or-Some None p x h = inr h
+option_or-Some (Some y) p x h = inl h
+
+-- a name resolves as the first place of some main name
+resolution-main : (groups : List Names) (name : Text) (i : ℕ) → resolution groups name ≡ Some i
+    → (asked : Text) × (main_place groups asked ≡ Some i)
+resolution-main groups name i h = elim (option_or-Some (main_place groups name) _ i h) [
+  | inl same ↦ (name, same)
+  | inr aliased ↦ option_and_then_some _ (find (is_alias name) groups) i aliased (λ declarer found there. (main_name declarer, there))
+]
+
+-- the first place of a main name has a group with that main name
+main_name-main_place : (groups : List Names) (asked : Text) (i : ℕ) → main_place groups asked ≡ Some i
+    → (i < length groups) × (main_name (get_or groups i no_names) ≡ asked)
+main_name-main_place groups asked i h =
+    let at = position-Some _ groups i no_names h in
+    (at.0, (bytes_eq-Decides (main_name (get_or groups i no_names)) asked).0 at.1)
+
+-- a first place of a main name is what that main name resolves to
+resolution-at_first : (groups : List Names) (asked : Text) (i : ℕ) → main_place groups asked ≡ Some i
+    → resolution groups asked ≡ Some i
+resolution-at_first groups asked i h = rw h refl
+
+main_at-get_or : (groups : List Group) (i : ℕ) → main_at groups i ≡ main_name (get_or (names_of groups) i no_names)
+main_at-get_or [] i = refl
+main_at-get_or (group ∷ groups) zero = refl
+main_at-get_or (group ∷ groups) (suc i) = main_at-get_or groups i
+
+-- what a name resolves to is what its own main name resolves to
+pub resolution-main_at : (groups : List Group) (name : Text) (i : ℕ) → resolution (names_of groups) name ≡ Some i
+    → resolution (names_of groups) (main_at groups i) ≡ Some i
+resolution-main_at groups name i h =
+    let first = resolution-main (names_of groups) name i h in
+    let at = main_name-main_place (names_of groups) first.0 i first.1 in
+    let same : main_at groups i ≡ first.0 = main_at-get_or groups i ∙ at.1 in
+    rw same (resolution-at_first (names_of groups) first.0 i first.1)
+
+-- what holds of each element of two lists
+AllByRecursion-append : {X : Type 0} (P : X → Type 0) (xs ys : List X) → AllByRecursion P xs → AllByRecursion P ys → AllByRecursion P (xs ++ ys)
+AllByRecursion-append P [] ys here after = after
+AllByRecursion-append P (x ∷ xs) ys here after = (here.0, AllByRecursion-append P xs ys here.1 after)
+
+AllByRecursion-weaker : {X : Type 0} (P Q : X → Type 0) → ((x : X) → P x → Q x) → (xs : List X) → AllByRecursion P xs → AllByRecursion Q xs
+AllByRecursion-weaker P Q each [] h = h
+AllByRecursion-weaker P Q each (x ∷ xs) h = (each x h.0, AllByRecursion-weaker P Q each xs h.1)
+
+AllByRecursion-map : {X Y : Type 0} (P : Y → Type 0) (Q : X → Type 0) (f : X → Y) → ((x : X) → Q x → P (f x)) → (xs : List X) → AllByRecursion Q xs → AllByRecursion P (map f xs)
+AllByRecursion-map P Q f each [] h = h
+AllByRecursion-map P Q f each (x ∷ xs) h = (each x h.0, AllByRecursion-map P Q f each xs h.1)
+
+-- a mention of a group that is what its own main name resolves to, with a value as its kind may
+record IsSoundMention (groups : List Group) (m : Mention) : Type 0 where
+  own : resolution (names_of groups) (main_at groups m.group) ≡ Some m.group
+  fits : (kind : HasArg) × (kind_at groups m.group ≡ Some kind) × FitsKind kind m.value
+
+-- what a name with a kind mentions
+IsSoundMention-mention : (options : Declared) (name : Text) (kind : HasArg) (value : Option Text)
+    → kind_of options.groups name ≡ Some kind → FitsKind kind value
+    → IsSoundMention options.groups (mention (grammar_of options) name value)
+IsSoundMention-mention options name kind value known fits =
+    option_and_then_some _ (resolution (names_of options.groups) name) kind known (λ place resolves there.
+        let same : unwrap_or (resolution (names_of options.groups) name) 0 ≡ place = ap (λ o. unwrap_or o 0) resolves in
+        rw same (record { own = resolution-main_at options.groups name place resolves; fits = (kind, there, fits) }))
+
+FitsKind-long : (kind : HasArg) (argument : Argument) → FitsLong kind argument → FitsKind kind (value_of argument)
+FitsKind-long No none h = h
+FitsKind-long No (attached value) h = h
+FitsKind-long No (separate word) h = h
+FitsKind-long Yes none h = h
+FitsKind-long Yes (attached value) h = h
+FitsKind-long Yes (separate word) h = h
+FitsKind-long Maybe none h = h
+FitsKind-long Maybe (attached value) h = h
+FitsKind-long Maybe (separate word) h = absurd h
+
+FitsKind-end : (kind : HasArg) (argument : Argument) → FitsEnd kind argument → FitsKind kind (value_of argument)
+FitsKind-end No argument h = absurd h
+FitsKind-end Yes none h = h
+FitsKind-end Yes (attached value) h = tt
+FitsKind-end Yes (separate word) h = h
+FitsKind-end Maybe none h = h
+FitsKind-end Maybe (attached value) h = tt
+FitsKind-end Maybe (separate word) h = tt
+
+IsSoundMention-flags : (options : Declared) (names : List ℕ) → AllByRecursion (IsFlag (grammar_of options)) names
+    → AllByRecursion (IsSoundMention options.groups) (map (λ name. mention (grammar_of options) (name ∷ []) None) names)
+IsSoundMention-flags options names each =
+    AllByRecursion-map (IsSoundMention options.groups) (IsFlag (grammar_of options)) _
+    (λ name flag. IsSoundMention-mention options (name ∷ []) No None flag tt) names each
+
+IsSoundMention-item : (options : Declared) (item : Item) → IsLawfulItem (grammar_of options) item
+    → AllByRecursion (IsSoundMention options.groups) (mentions (grammar_of options) item)
+IsSoundMention-item options (free word) lawful = tt
+IsSoundMention-item options (long dashes name argument) lawful =
+    let k = lawful.resolves in
+    (IsSoundMention-mention options name k.0 (value_of argument) k.1 (FitsKind-long k.0 argument k.2), tt)
+IsSoundMention-item options (cluster names flags) lawful =
+    AllByRecursion-append (IsSoundMention options.groups) _ [] (IsSoundMention-flags options names lawful.each) tt
+IsSoundMention-item options (cluster names (ends_in option argument)) lawful =
+    let k = lawful.last in
+    AllByRecursion-append (IsSoundMention options.groups) _ _ (IsSoundMention-flags options names lawful.each)
+    (IsSoundMention-mention options (option ∷ []) k.0 (value_of argument) k.1 (FitsKind-end k.0 argument k.2), tt)
+
+IsSoundMention-items : (options : Declared) (items : List Item) → AllByRecursion (IsLawfulItem (grammar_of options)) items
+    → AllByRecursion (IsSoundMention options.groups) (mentions_of (grammar_of options) items)
+IsSoundMention-items options [] lawful = tt
+IsSoundMention-items options (item ∷ items) lawful =
+    AllByRecursion-append (IsSoundMention options.groups) _ _ (IsSoundMention-item options item lawful.0)
+    (IsSoundMention-items options items lawful.1)
+
+-- the content of any reading is sound
+pub IsSound-reading : (options : Declared) (reading : Reading) (words : List Text) → IsReading (grammar_of options) reading words
+    → IsSound options.groups (content_of (grammar_of options) reading)
+IsSound-reading options reading words reads =
+    AllByRecursion-weaker (IsSoundMention options.groups) _ (λ m h. h.own) _ (IsSoundMention-items options reading.items reads.items)
+
+-- the content of any reading is fitting
+pub IsFitting-reading : (options : Declared) (reading : Reading) (words : List Text) → IsReading (grammar_of options) reading words
+    → IsFitting options.groups (content_of (grammar_of options) reading)
+IsFitting-reading options reading words reads =
+    AllByRecursion-weaker (IsSoundMention options.groups) _ (λ m h. h.fits) _ (IsSoundMention-items options reading.items reads.items)

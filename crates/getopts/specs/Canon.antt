@@ -1,0 +1,138 @@
+-- The canonical line: what a reading says, written again with main names alone; what such a line tells,
+-- and when there is none.
+use Rattle.std.specs.Prelude.{◌≡◌, ◌↔◌, ⊤, ℕ, Bool, false, List, [], ◌∷◌, ◌++◌, map, Option, Some, None, slice_get}
+use Rattle.std.specs.List.{AllByRecursion, Contains, flat_map}
+use Rattle.std.specs.Option.{option_map, option_map_or}
+use Rattle.getopts.specs.Names.{Text, main_name, resolution}
+use Rattle.getopts.specs.Options.{Group, Declared, names_of, Grammar, grammar_of}
+use Rattle.getopts.specs.Scan.{holds_equals, stop_word, Argument, none, attached, two, Item, long, long_word, spelled, IsLawfulItem, stop, Reading, IsReading, Mention, mentions, free_words}
+use Rattle.getopts.specs.Matches.{matches_of, KeepsCounts}
+use Rattle.getopts.specs.declared.options.HasArg.{HasArg}
+use Rattle.getopts.specs.declared.options.HasArg.TheVariants.{Yes, No, Maybe}
+use Rattle.getopts.specs.declared.options.ParsingStyle.{ParsingStyle}
+
+-- what a line says, whatever the positions: its mentions in order, and its free words
+pub record Content : Type 0 where
+  pub mentions : List Mention
+  pub free : List Text
+
+-- the mentions of items, in order
+abbrev pub mentions_of : Grammar → List Item → List Mention
+mentions_of grammar items = flat_map (mentions grammar) items
+
+-- the content of a reading
+abbrev pub content_of : Grammar → Reading → Content
+content_of grammar reading = record { mentions = mentions_of grammar reading.items; free = free_words reading }
+
+-- the main name of the group at this place; past the last group, the empty text
+abbrev pub main_at : List Group → ℕ → Text
+main_at groups place = option_map_or (λ group. main_name group.names) (slice_get groups place) []
+
+-- the kind of argument of the group at this place
+abbrev pub kind_at : List Group → ℕ → Option HasArg
+kind_at groups place = option_map (λ group. group.kind) (slice_get groups place)
+
+-- plain content: no mentioned group has a main name that holds `=`
+abbrev pub IsPlain : List Group → Content → Type 0
+IsPlain groups content = AllByRecursion (λ m. holds_equals (main_at groups m.group) ≡ false) content.mentions
+
+-- sound content: each mentioned group is what its own main name resolves to
+abbrev pub IsSound : List Group → Content → Type 0
+IsSound groups content = AllByRecursion (λ m. resolution (names_of groups) (main_at groups m.group) ≡ Some m.group) content.mentions
+
+-- the values that a kind may have: none for No, one for Yes, at most one for Maybe
+abbrev pub FitsKind : HasArg → Option Text → Type 0
+FitsKind No None = ⊤
+FitsKind No (Some value) = ⊥
+FitsKind Yes None = ⊥
+FitsKind Yes (Some value) = ⊤
+FitsKind Maybe None = ⊤
+FitsKind Maybe (Some value) = ⊤
+
+-- fitting content: each mentioned group is there, and has a value as its kind may
+abbrev pub IsFitting : List Group → Content → Type 0
+IsFitting groups content = AllByRecursion (λ m. (kind : HasArg) × (kind_at groups m.group ≡ Some kind) × FitsKind kind m.value) content.mentions
+
+-- the canonical word of a mention: `--main`, or `--main=value` where it has a value
+abbrev pub canonical_word : List Group → Mention → Text
+canonical_word groups m = long_word two (main_at groups m.group) m.value
+
+-- the canonical line of a content: the words of its mentions, then `--`, then its free words
+abbrev pub canonical_line : List Group → Content → List Text
+canonical_line groups content = map (canonical_word groups) content.mentions ++ stop_word ∷ content.free
+
+-- a value as an attached argument
+abbrev pub attached_value : Option Text → Argument
+attached_value None = none
+attached_value (Some value) = attached value
+
+-- the canonical item of a mention: two dashes, the main name, and the value attached
+abbrev pub canonical_item : List Group → Mention → Item
+canonical_item groups m = long two (main_at groups m.group) (attached_value m.value)
+
+-- the canonical reading of a content: the items of its mentions, and the stop with its free words
+abbrev pub canonical_reading : List Group → Content → Reading
+canonical_reading groups content = record { items = map (canonical_item groups) content.mentions; tail = stop content.free }
+
+-- options with the same groups in this style and mode
+abbrev pub with_setting : Declared → ParsingStyle → Bool → Declared
+with_setting options style long_only = record options { style = style; long_only = long_only }
+
+-- a reading of a line that keeps the counts
+pub record IsCountKeeping (options : Declared) (reading : Reading) (words : List Text) : Type 0 where
+  pub reads : IsReading (grammar_of options) reading words
+  pub keeps : KeepsCounts (matches_of options reading).groups
+
+-- A line says a content: in some style and mode it has a reading with this content that keeps the counts.
+pub record Says (options : Declared) (words : List Text) (content : Content) : Type 0 where
+  pub style : ParsingStyle
+  pub long_only : Bool
+  pub reading : Reading
+  pub accepted : IsCountKeeping (with_setting options style long_only) reading words
+  pub content_is : content ≡ content_of (grammar_of (with_setting options style long_only)) reading
+
+-- The canonical line of a content reads back: its canonical reading keeps the counts and has that content.
+pub record IsReadBack (options : Declared) (content : Content) : Type 0 where
+  pub accepted : IsCountKeeping options (canonical_reading options.groups content) (canonical_line options.groups content)
+  pub same : content_of (grammar_of options) (canonical_reading options.groups content) ≡ content
+
+-- the canonical line reads back in both styles and both modes
+abbrev pub ReadsBackEverywhere : Declared → Content → Type 0
+ReadsBackEverywhere options content = (style : ParsingStyle) (long_only : Bool) → IsReadBack (with_setting options style long_only) content
+
+-- of all sound and plain contents of these groups, this one alone has its canonical line
+abbrev pub IsOnlyContent : List Group → Content → Type 0
+IsOnlyContent groups content = (other : Content) → IsSound groups other → IsPlain groups other → (canonical_line groups other ≡ canonical_line groups content) ↔ (other ≡ content)
+
+-- the canonical line of what a canonical line says is that line, in both styles and both modes
+abbrev pub IsItsOwn : Declared → Content → Type 0
+IsItsOwn options content = (style : ParsingStyle) (long_only : Bool) → canonical_line options.groups (content_of (grammar_of (with_setting options style long_only)) (canonical_reading options.groups content)) ≡ canonical_line options.groups content
+
+-- what the canonical line of a sound and plain content tells
+pub record TellsContent (options : Declared) (content : Content) : Type 0 where
+  pub reads_back : ReadsBackEverywhere options content
+  pub only : IsOnlyContent options.groups content
+  pub its_own : IsItsOwn options content
+
+-- in neither style nor mode does the canonical word of this mention begin a lawful item with just this mention
+abbrev pub HasNoItem : Declared → Mention → Type 0
+HasNoItem options m = (style : ParsingStyle) (long_only : Bool) (item : Item) (after others : List Text)
+    → IsLawfulItem (grammar_of (with_setting options style long_only)) item
+    → mentions (grammar_of (with_setting options style long_only)) item ≡ m ∷ []
+    → spelled item after ≡ canonical_word options.groups m ∷ others
+    → ⊥
+
+-- some mention of the content can't be written by its canonical word
+pub record HasUnwritable (options : Declared) (content : Content) : Type 0 where
+  pub m : Mention
+  pub mentioned : Contains content.mentions m
+  pub no_item : HasNoItem options m
+
+-- The main theorem: let two lines say plain contents, each in a style and mode of its own. Their
+-- canonical lines are equal exactly if the contents are; and in both styles and both modes each
+-- canonical line reads back to its content.
+abbrev pub CanonicalLinesTell : Declared → Type 0
+CanonicalLinesTell options = (words others : List Text) (c e : Content)
+    → Says options words c → Says options others e
+    → IsPlain options.groups c → IsPlain options.groups e
+    → ((canonical_line options.groups c ≡ canonical_line options.groups e) ↔ (c ≡ e)) × ReadsBackEverywhere options c × ReadsBackEverywhere options e
