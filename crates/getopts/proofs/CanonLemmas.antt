@@ -10,7 +10,7 @@ use Rattle.std.specs.List.{AllByRecursion, Contains, find, filter, flat_map}
 use Rattle.std.specs.Option.{option_map, option_map_or, option_and_then, option_or, unwrap_or}
 use Rattle.getopts.specs.Names.{Text, Names, main_name, is_alias, main_place, resolution}
 use Rattle.getopts.specs.Options.{Group, Declared, AreLawfullyNamed, names_of, Grammar, kind_of, grammar_of}
-use Rattle.getopts.specs.Scan.{dash, holds_equals, stop_word, Argument, none, attached, separate, one, two, End, flags, ends_in, value_of, with_equals, Item, free, long, cluster, long_word, spelled, spelled_all, FitsLong, FitsEnd, IsFlag, IsLawfulEnd, IsLawfulItem, Tail, stop, Reading, IsReading, Mention, mention, mentions, free_words}
+use Rattle.getopts.specs.Scan.{dash, equals_sign, begins_with_dash, is_dashed, holds_equals, stop_word, Argument, none, attached, separate, Dashes, one, two, End, flags, ends_in, end_text, attached_argument, argument_words, value_of, with_equals, Item, free, long, cluster, long_word, spelled, spelled_all, FitsLong, FitsEnd, IsFlag, IsLawfulEnd, IsLawfulItem, AreWellFollowed, Tail, stop, Reading, IsReading, Mention, mention, mentions, Occurrence, occurrence_at, occurrences_after, occurrences_of, free_items, free_words}
 use Rattle.getopts.specs.Matches.{matches_of, KeepsCounts}
 use Rattle.getopts.specs.Canon.{Content, mentions_of, content_of, main_at, kind_at, IsPlain, IsSound, FitsKind, IsFitting, canonical_word, canonical_line, attached_value, canonical_item, canonical_reading, with_setting, IsCountKeeping, Says, IsReadBack, ReadsBackEverywhere, IsOnlyContent, IsItsOwn, TellsContent, HasNoItem, HasUnwritable, CanonicalLinesTell}
 use Rattle.getopts.specs.declared.options.HasArg.{HasArg}
@@ -144,3 +144,90 @@ pub IsFitting-reading : (options : Declared) (reading : Reading) (words : List T
     → IsFitting options.groups (content_of (grammar_of options) reading)
 IsFitting-reading options reading words reads =
     AllByRecursion-weaker (IsSoundMention options.groups) _ (λ m h. h.fits) _ (IsSoundMention-items options reading.items reads.items)
+
+-- an attached value is attached, adds no word, and is the value
+attached_argument-attached_value : (value : Option Text) → attached_argument (attached_value value) ≡ value
+attached_argument-attached_value None = refl
+attached_argument-attached_value (Some value) = refl
+
+argument_words-attached_value : (value : Option Text) (more : List Text) → argument_words (attached_value value) more ≡ more
+argument_words-attached_value None more = refl
+argument_words-attached_value (Some value) more = refl
+
+value_of-attached_value : (value : Option Text) → value_of (attached_value value) ≡ value
+value_of-attached_value None = refl
+value_of-attached_value (Some value) = refl
+
+FitsLong-attached_value : (kind : HasArg) (value : Option Text) → FitsKind kind value → FitsLong kind (attached_value value)
+FitsLong-attached_value No None h = h
+FitsLong-attached_value No (Some value) h = h
+FitsLong-attached_value Yes None h = h
+FitsLong-attached_value Yes (Some value) h = h
+FitsLong-attached_value Maybe None h = h
+FitsLong-attached_value Maybe (Some value) h = h
+
+-- the canonical items spell the canonical words
+spelled_all-canonical : (groups : List Group) (ms : List Mention) (more : List Text)
+    → spelled_all (map (canonical_item groups) ms) more ≡ map (canonical_word groups) ms ++ more
+spelled_all-canonical groups [] more = refl
+spelled_all-canonical groups (m ∷ ms) more = rw (attached_argument-attached_value m.value, argument_words-attached_value m.value, spelled_all-canonical groups ms more) refl
+
+-- a canonical item is lawful, where the main name holds no `=`
+IsLawfulItem-canonical : (options : Declared) (m : Mention) → IsSoundMention options.groups m
+    → holds_equals (main_at options.groups m.group) ≡ false
+    → IsLawfulItem (grammar_of options) (canonical_item options.groups m)
+IsLawfulItem-canonical options m sound plain = record {
+  before = tt;
+  cut_once = plain;
+  resolves = (sound.fits.0, ap (λ o. option_and_then (λ place. kind_at options.groups place) o) sound.own ∙ sound.fits.1, FitsLong-attached_value sound.fits.0 m.value sound.fits.2);
+}
+
+mentions-canonical : (options : Declared) (m : Mention) → IsSoundMention options.groups m
+    → mentions (grammar_of options) (canonical_item options.groups m) ≡ m ∷ []
+mentions-canonical options m sound =
+    let place : unwrap_or (resolution (names_of options.groups) (main_at options.groups m.group)) 0 ≡ m.group = ap (λ o. unwrap_or o 0) sound.own in
+    rw (place, value_of-attached_value m.value) refl
+
+mentions_of-canonical : (options : Declared) (ms : List Mention) → AllByRecursion (IsSoundMention options.groups) ms
+    → mentions_of (grammar_of options) (map (canonical_item options.groups) ms) ≡ ms
+mentions_of-canonical options [] sound = refl
+mentions_of-canonical options (m ∷ ms) sound =
+    ap (λ (here : List Mention). here ++ mentions_of (grammar_of options) (map (canonical_item options.groups) ms)) (mentions-canonical options m sound.0)
+    ∙ ap (λ (others : List Mention). m ∷ others) (mentions_of-canonical options ms sound.1)
+
+free_items-canonical : (groups : List Group) (ms : List Mention) → free_items (map (canonical_item groups) ms) ≡ []
+free_items-canonical groups [] = refl
+free_items-canonical groups (m ∷ ms) = free_items-canonical groups ms
+
+AreWellFollowed-canonical : (groups : List Group) (ms : List Mention) (more : List Text) → AreWellFollowed (map (canonical_item groups) ms) more
+AreWellFollowed-canonical groups [] more = tt
+AreWellFollowed-canonical groups (m ∷ ms) more = (λ bare. absurd (true≢false (sym bare)), AreWellFollowed-canonical groups ms more)
+
+IsLawfulItem-canonical_all : (options : Declared) (ms : List Mention) → AllByRecursion (IsSoundMention options.groups) ms
+    → AllByRecursion (λ m. holds_equals (main_at options.groups m.group) ≡ false) ms
+    → AllByRecursion (IsLawfulItem (grammar_of options)) (map (canonical_item options.groups) ms)
+IsLawfulItem-canonical_all options [] sound plain = tt
+IsLawfulItem-canonical_all options (m ∷ ms) sound plain = (IsLawfulItem-canonical options m sound.0 plain.0, IsLawfulItem-canonical_all options ms sound.1 plain.1)
+
+IsSoundMention-both : (groups : List Group) (ms : List Mention)
+    → AllByRecursion (λ m. resolution (names_of groups) (main_at groups m.group) ≡ Some m.group) ms
+    → AllByRecursion (λ m. (kind : HasArg) × (kind_at groups m.group ≡ Some kind) × FitsKind kind m.value) ms
+    → AllByRecursion (IsSoundMention groups) ms
+IsSoundMention-both groups [] own fits = tt
+IsSoundMention-both groups (m ∷ ms) own fits = (record { own = own.0; fits = fits.0 }, IsSoundMention-both groups ms own.1 fits.1)
+
+-- the canonical reading reads the canonical line
+IsReading-canonical : (options : Declared) (content : Content) → AllByRecursion (IsSoundMention options.groups) content.mentions
+    → IsPlain options.groups content
+    → IsReading (grammar_of options) (canonical_reading options.groups content) (canonical_line options.groups content)
+IsReading-canonical options content sound plain = record {
+  spells = spelled_all-canonical options.groups content.mentions (stop_word ∷ content.free);
+  items = IsLawfulItem-canonical_all options content.mentions sound plain;
+  tail = tt;
+  followed = AreWellFollowed-canonical options.groups content.mentions (stop_word ∷ content.free);
+}
+
+content_of-canonical : (options : Declared) (content : Content) → AllByRecursion (IsSoundMention options.groups) content.mentions
+    → content_of (grammar_of options) (canonical_reading options.groups content) ≡ content
+content_of-canonical options content sound =
+    rw (mentions_of-canonical options content.mentions sound, free_items-canonical options.groups content.mentions) refl
