@@ -2,6 +2,7 @@
 use Rattle.std.proofs.Common.{◌≡◌, ◌≢◌, ◌⊎◌, ◌↔◌, ℕ, zero, suc, ◌+◌, ◌<◌, ◌≤◌, ◌==◌, Bool, true, false, cond, List, [], ◌∷◌, ◌++◌, length, map, get_or, Option, Some, None, refl, sym, ap, ◌∙◌, subst, inl, inr, arith, append_assoc, append-nil, length-append}
 use Rattle.std.proofs.lemmas.Bool.{or_parts, true≢false}
 use Rattle.std.proofs.lemmas.List.{length-map}
+use Rattle.std.proofs.lemmas.List.Elements.{filter-append}
 use Rattle.std.proofs.lemmas.List.Quantifiers.{position-Some}
 use Rattle.std.proofs.lemmas.Option.{option_and_then_some, same_Some, slice_get-map, slice_get-get_or}
 use Rattle.std.proofs.lemmas.Slice.Eq.{bytes_eq-Decides}
@@ -11,7 +12,7 @@ use Rattle.std.specs.Option.{option_map, option_map_or, option_and_then, option_
 use Rattle.getopts.specs.Names.{Text, Names, main_name, is_alias, main_place, resolution}
 use Rattle.getopts.specs.Options.{Group, Declared, AreLawfullyNamed, names_of, Grammar, kind_of, grammar_of}
 use Rattle.getopts.specs.Scan.{dash, equals_sign, begins_with_dash, is_dashed, holds_equals, stop_word, Argument, none, attached, separate, Dashes, one, two, End, flags, ends_in, end_text, attached_argument, argument_words, value_of, with_equals, Item, free, long, cluster, long_word, spelled, spelled_all, FitsLong, FitsEnd, IsFlag, IsLawfulEnd, IsLawfulItem, AreWellFollowed, Tail, stop, Reading, IsReading, Mention, mention, mentions, Occurrence, occurrence_at, occurrences_after, occurrences_of, free_items, free_words}
-use Rattle.getopts.specs.Matches.{matches_of, KeepsCounts}
+use Rattle.getopts.specs.Matches.{found_at, matched_from, matches_of, FitsCount, KeepsCounts}
 use Rattle.getopts.specs.Canon.{Content, mentions_of, content_of, main_at, kind_at, IsPlain, IsSound, FitsKind, IsFitting, canonical_word, canonical_line, attached_value, canonical_item, canonical_reading, with_setting, IsCountKeeping, Says, IsReadBack, ReadsBackEverywhere, IsOnlyContent, IsItsOwn, TellsContent, HasNoItem, HasUnwritable, CanonicalLinesTell}
 use Rattle.getopts.specs.declared.options.HasArg.{HasArg}
 use Rattle.getopts.specs.declared.options.HasArg.TheVariants.{Yes, No, Maybe}
@@ -231,3 +232,74 @@ content_of-canonical : (options : Declared) (content : Content) → AllByRecursi
     → content_of (grammar_of options) (canonical_reading options.groups content) ≡ content
 content_of-canonical options content sound =
     rw (mentions_of-canonical options content.mentions sound, free_items-canonical options.groups content.mentions) refl
+
+length-cond : {X Y : Type 0} (b : Bool) (x : X) (y : Y) (xs : List X) (ys : List Y) → length xs ≡ length ys → length (cond b (x ∷ xs) xs) ≡ length (cond b (y ∷ ys) ys)
+length-cond true x y xs ys same = ap suc same
+length-cond false x y xs ys same = same
+
+length-filter-map : {X Y : Type 0} (p : Y → Bool) (f : X → Y) (xs : List X) → length (filter p (map f xs)) ≡ length (filter (λ x. p (f x)) xs)
+length-filter-map p f [] = refl
+length-filter-map p f (x ∷ xs) = length-cond (p (f x)) (f x) x (filter p (map f xs)) (filter (λ y. p (f y)) xs) (length-filter-map p f xs)
+
+-- the number of mentions of the group at a place
+abbrev count_at : ℕ → List Mention → ℕ
+count_at place ms = length (filter (λ m. m.group == place) ms)
+
+-- a group has as many occurrences as mentions
+length-occurrences : (place before : ℕ) (grammar : Grammar) (items : List Item)
+    → length (filter (λ o. o.group == place) (occurrences_after before grammar items)) ≡ count_at place (mentions_of grammar items)
+length-occurrences place before grammar [] = refl
+length-occurrences place before grammar (item ∷ items) =
+    let here = length-filter-map (λ o. o.group == place) (occurrence_at before) (mentions grammar item) in
+    let after = length-occurrences place (before + 1) grammar items in
+    simp (filter-append, length-append, here, after)
+
+length-found_at : (place : ℕ) (grammar : Grammar) (reading : Reading)
+    → length (found_at place (occurrences_of grammar reading)) ≡ count_at place (mentions_of grammar reading.items)
+length-found_at place grammar reading = length-map _ _ ∙ length-occurrences place 0 grammar reading.items
+
+KeepsCounts-same : (groups : List Group) (place : ℕ) (os ps : List Occurrence)
+    → ((k : ℕ) → length (found_at k os) ≡ length (found_at k ps))
+    → KeepsCounts (matched_from place groups os) → KeepsCounts (matched_from place groups ps)
+KeepsCounts-same [] place os ps same keeps = tt
+KeepsCounts-same (group ∷ groups) place os ps same keeps =
+    (subst (λ (n : ℕ). FitsCount group.occurrence n) (same place) keeps.0, KeepsCounts-same groups (place + 1) os ps same keeps.1)
+
+-- readings with equal mentions keep the counts alike
+pub KeepsCounts-mentions : (groups : List Group) (grammar other : Grammar) (r q : Reading)
+    → mentions_of grammar r.items ≡ mentions_of other q.items
+    → KeepsCounts (matched_from 0 groups (occurrences_of grammar r)) → KeepsCounts (matched_from 0 groups (occurrences_of other q))
+KeepsCounts-mentions groups grammar other r q same keeps =
+    KeepsCounts-same groups 0 _ _ (λ k. length-found_at k grammar r ∙ ap (λ ms. count_at k ms) same ∙ sym (length-found_at k other q)) keeps
+
+-- A sound, fitting and plain content, with which a reading keeps the counts, reads back from its canonical line.
+ReadsBackEverywhere-content : (options : Declared) (content : Content) (grammar : Grammar) (reading : Reading)
+    → AllByRecursion (IsSoundMention options.groups) content.mentions → IsPlain options.groups content
+    → mentions_of grammar reading.items ≡ content.mentions
+    → KeepsCounts (matched_from 0 options.groups (occurrences_of grammar reading))
+    → ReadsBackEverywhere options content
+ReadsBackEverywhere-content options content grammar reading sound plain same keeps style long_only =
+    let set = with_setting options style long_only in
+    let back = content_of-canonical set content sound in
+    record {
+      accepted = record {
+        reads = IsReading-canonical set content sound plain;
+        keeps = KeepsCounts-mentions options.groups grammar (grammar_of set) reading (canonical_reading options.groups content) (same ∙ sym (ap (λ c. c.mentions) back)) keeps;
+      };
+      same = back;
+    }
+
+-- the content of a line is sound
+pub IsSound-says : (options : Declared) (words : List Text) (content : Content) → Says options words content → IsSound options.groups content
+IsSound-says options words content says =
+    let set = with_setting options says.style says.long_only in
+    rw says.content_is (IsSound-reading set says.reading words says.accepted.reads)
+
+-- the plain content of a line reads back from its canonical line
+pub ReadsBackEverywhere-says : (options : Declared) (words : List Text) (content : Content) → Says options words content
+    → IsPlain options.groups content → ReadsBackEverywhere options content
+ReadsBackEverywhere-says options words content says plain =
+    let set = with_setting options says.style says.long_only in
+    ReadsBackEverywhere-content options content (grammar_of set) says.reading
+    (rw says.content_is (IsSoundMention-items set says.reading.items says.accepted.reads.items)) plain
+    (sym (ap (λ c. c.mentions) says.content_is)) says.accepted.keeps
