@@ -1,6 +1,6 @@
 -- The laws of the canonical line.
 use Rattle.std.proofs.Common.{◌≡◌, ◌≢◌, ◌⊎◌, ◌↔◌, ℕ, zero, suc, ◌+◌, ◌<◌, ◌≤◌, ◌==◌, Bool, true, false, cond, List, [], ◌∷◌, ◌++◌, length, map, get_or, Option, Some, None, refl, sym, ap, ◌∙◌, subst, inl, inr, arith, append_assoc, append-nil, length-append}
-use Rattle.std.proofs.lemmas.Bool.{or_parts, true≢false}
+use Rattle.std.proofs.lemmas.Bool.{or_parts, true≢false, eq-eqb, ne_eqb}
 use Rattle.std.proofs.lemmas.List.{length-map}
 use Rattle.std.proofs.lemmas.List.Elements.{filter-append}
 use Rattle.std.proofs.lemmas.List.Quantifiers.{position-Some}
@@ -303,3 +303,68 @@ ReadsBackEverywhere-says options words content says plain =
     ReadsBackEverywhere-content options content (grammar_of set) says.reading
     (rw says.content_is (IsSoundMention-items set says.reading.items says.accepted.reads.items)) plain
     (sym (ap (λ c. c.mentions) says.content_is)) says.accepted.keeps
+
+-- a text that holds no `=` is cut off at one place only
+cut_once-with_equals : (a b : Text) (v w : Option Text) → holds_equals a ≡ false → holds_equals b ≡ false
+    → a ++ with_equals v ≡ b ++ with_equals w → (a ≡ b) × (v ≡ w)
+cut_once-with_equals [] [] None None ha hb e = (refl, refl)
+cut_once-with_equals [] [] None (Some w) ha hb e = cc
+cut_once-with_equals [] [] (Some v) None ha hb e = cc
+cut_once-with_equals [] [] (Some v) (Some w) ha hb e = (refl, cc)
+cut_once-with_equals [] (y ∷ b) None w ha hb e = cc
+cut_once-with_equals [] (y ∷ b) (Some v) w ha hb e =
+    let head : equals_sign ≡ y = cc in
+    absurd (true≢false (sym (eq-eqb y equals_sign (sym head)) ∙ (or_parts (y == equals_sign) (holds_equals b) hb).0))
+cut_once-with_equals (x ∷ a) [] v None ha hb e = cc
+cut_once-with_equals (x ∷ a) [] v (Some w) ha hb e =
+    let head : x ≡ equals_sign = cc in
+    absurd (true≢false (sym (eq-eqb x equals_sign head) ∙ (or_parts (x == equals_sign) (holds_equals a) ha).0))
+cut_once-with_equals (x ∷ a) (y ∷ b) v w ha hb e =
+    let head : x ≡ y = cc in
+    let others : a ++ with_equals v ≡ b ++ with_equals w = cc in
+    let rec = cut_once-with_equals a b v w (or_parts (x == equals_sign) (holds_equals a) ha).1 (or_parts (y == equals_sign) (holds_equals b) hb).1 others in
+    (cc, rec.1)
+
+-- the text after the dashes of a canonical word
+canonical_word-same : (groups : List Group) (m : Mention) (text : Text) → canonical_word groups m ≡ dash ∷ dash ∷ text
+    → main_at groups m.group ++ with_equals m.value ≡ text
+canonical_word-same groups m text e = cc
+
+-- two mentions of groups that are what their main names resolve to, and whose main names hold no `=`, have two words
+canonical_word-cancel : (groups : List Group) (m o : Mention)
+    → resolution (names_of groups) (main_at groups m.group) ≡ Some m.group
+    → resolution (names_of groups) (main_at groups o.group) ≡ Some o.group
+    → holds_equals (main_at groups m.group) ≡ false → holds_equals (main_at groups o.group) ≡ false
+    → canonical_word groups m ≡ canonical_word groups o → m ≡ o
+canonical_word-cancel groups m o own_m own_o plain_m plain_o same =
+    let parts = cut_once-with_equals (main_at groups m.group) (main_at groups o.group) m.value o.value plain_m plain_o
+        (canonical_word-same groups m (main_at groups o.group ++ with_equals o.value) same) in
+    let place : m.group ≡ o.group = same_Some _ _ (sym own_m ∙ ap (resolution (names_of groups)) parts.0 ∙ own_o) in
+    let of_parts : ℕ → Option Text → Mention = λ group value. record { group = group; value = value } in
+    ap (λ group. of_parts group m.value) place ∙ ap (λ value. of_parts o.group value) parts.1
+
+main_name-filled : (letter word : Text) → 0 < length letter + length word → main_name (record { short = letter; long = word }) ≢ []
+main_name-filled letter [] named e = absurd (omega (arith, ap length e))
+main_name-filled letter (byte ∷ more) named e =
+    let there : (suc (length more) == 0) ≡ false = ne_eqb (suc (length more)) 0 (λ nothing. absurd (omega arith)) in
+    let filled : byte ∷ more ≡ [] = rw there at e in
+    cc
+
+-- the main name of a lawfully named group isn't empty
+main_at-filled : (groups : List Group) (i : ℕ) → AreLawfullyNamed groups → i < length (names_of groups) → main_at groups i ≢ []
+main_at-filled [] i lawful within e = absurd (omega arith)
+main_at-filled (group ∷ groups) zero lawful within e = main_name-filled group.names.short group.names.long lawful.0.named e
+main_at-filled (group ∷ groups) (suc i) lawful within e = main_at-filled groups i lawful.1 (omega arith) e
+
+nil_from_append : (a b : Text) → a ++ b ≡ [] → a ≡ []
+nil_from_append [] b e = refl
+nil_from_append (x ∷ a) b e = cc
+
+-- a sound mention's word isn't `--`
+canonical_word-no_stop : (groups : List Group) (m : Mention) → AreLawfullyNamed groups
+    → resolution (names_of groups) (main_at groups m.group) ≡ Some m.group
+    → canonical_word groups m ≢ stop_word
+canonical_word-no_stop groups m lawful own e =
+    let first = resolution-main (names_of groups) (main_at groups m.group) m.group own in
+    let at = main_name-main_place (names_of groups) first.0 m.group first.1 in
+    main_at-filled groups m.group lawful at.0 (nil_from_append (main_at groups m.group) (with_equals m.value) (canonical_word-same groups m [] e))
