@@ -368,3 +368,59 @@ canonical_word-no_stop groups m lawful own e =
     let first = resolution-main (names_of groups) (main_at groups m.group) m.group own in
     let at = main_name-main_place (names_of groups) first.0 m.group first.1 in
     main_at-filled groups m.group lawful at.0 (nil_from_append (main_at groups m.group) (with_equals m.value) (canonical_word-same groups m [] e))
+
+-- the words tell the mentions and the free words
+canonical_line-parts : (groups : List Group) (ms os : List Mention) (frees others : List Text) → AreLawfullyNamed groups
+    → AllByRecursion (λ m. resolution (names_of groups) (main_at groups m.group) ≡ Some m.group) ms
+    → AllByRecursion (λ m. resolution (names_of groups) (main_at groups m.group) ≡ Some m.group) os
+    → AllByRecursion (λ m. holds_equals (main_at groups m.group) ≡ false) ms
+    → AllByRecursion (λ m. holds_equals (main_at groups m.group) ≡ false) os
+    → map (canonical_word groups) ms ++ stop_word ∷ frees ≡ map (canonical_word groups) os ++ stop_word ∷ others
+    → (ms ≡ os) × (frees ≡ others)
+canonical_line-parts groups [] [] frees others lawful own_m own_o plain_m plain_o e = (refl, cc)
+canonical_line-parts groups [] (o ∷ os) frees others lawful own_m own_o plain_m plain_o e =
+    let first : canonical_word groups o ≡ stop_word = cc in
+    absurd (canonical_word-no_stop groups o lawful own_o.0 first)
+canonical_line-parts groups (m ∷ ms) [] frees others lawful own_m own_o plain_m plain_o e =
+    let first : canonical_word groups m ≡ stop_word = cc in
+    absurd (canonical_word-no_stop groups m lawful own_m.0 first)
+canonical_line-parts groups (m ∷ ms) (o ∷ os) frees others lawful own_m own_o plain_m plain_o e =
+    let first : canonical_word groups m ≡ canonical_word groups o = cc in
+    let after : map (canonical_word groups) ms ++ stop_word ∷ frees ≡ map (canonical_word groups) os ++ stop_word ∷ others = cc in
+    let same : m ≡ o = canonical_word-cancel groups m o own_m.0 own_o.0 plain_m.0 plain_o.0 first in
+    let rec = canonical_line-parts groups ms os frees others lawful own_m.1 own_o.1 plain_m.1 plain_o.1 after in
+    (ap (λ (h : Mention). h ∷ ms) same ∙ ap (λ (l : List Mention). o ∷ l) rec.0, rec.1)
+
+-- two sound and plain contents have equal canonical lines exactly if they are equal
+pub canonical_line-same : (groups : List Group) (c e : Content) → AreLawfullyNamed groups
+    → IsSound groups c → IsPlain groups c → IsSound groups e → IsPlain groups e
+    → (canonical_line groups c ≡ canonical_line groups e) ↔ (c ≡ e)
+canonical_line-same groups c e lawful sound_c plain_c sound_e plain_e =
+    let of_parts : List Mention → List Text → Content = λ mentions free. record { mentions = mentions; free = free } in
+    let parts = λ (same : canonical_line groups c ≡ canonical_line groups e).
+        canonical_line-parts groups c.mentions e.mentions c.free e.free lawful sound_c sound_e plain_c plain_e same in
+    (λ same. ap (λ mentions. of_parts mentions c.free) (parts same).0 ∙ ap (λ free. of_parts e.mentions free) (parts same).1, ap (canonical_line groups))
+
+-- of all sound and plain contents one alone has its canonical line
+pub IsOnlyContent-sound : (groups : List Group) (content : Content) → AreLawfullyNamed groups
+    → IsSound groups content → IsPlain groups content → IsOnlyContent groups content
+IsOnlyContent-sound groups content lawful sound plain other sound_other plain_other = canonical_line-same groups other content lawful sound_other plain_other sound plain
+
+-- what the canonical line of a line's plain content tells
+pub TellsContent-says : (options : Declared) (words : List Text) (content : Content) → AreLawfullyNamed options.groups
+    → Says options words content → IsPlain options.groups content → TellsContent options content
+TellsContent-says options words content lawful says plain =
+    let back = ReadsBackEverywhere-says options words content says plain in
+    record {
+      reads_back = back;
+      only = IsOnlyContent-sound options.groups content lawful (IsSound-says options words content says) plain;
+      its_own = λ style long_only. ap (canonical_line options.groups) (back style long_only).same;
+    }
+
+-- the main theorem
+pub CanonicalLinesTell-lawful : (options : Declared) → AreLawfullyNamed options.groups → CanonicalLinesTell options
+CanonicalLinesTell-lawful options lawful words others c e says_c says_e plain_c plain_e = (
+  canonical_line-same options.groups c e lawful (IsSound-says options words c says_c) plain_c (IsSound-says options others e says_e) plain_e,
+  ReadsBackEverywhere-says options words c says_c plain_c,
+  ReadsBackEverywhere-says options others e says_e plain_e,
+)
