@@ -1,7 +1,7 @@
 -- The laws of the canonical line.
 use Rattle.std.proofs.Common.{◌≡◌, ◌≢◌, ◌⊎◌, ◌↔◌, ℕ, zero, suc, ◌+◌, ◌<◌, ◌≤◌, ◌==◌, Bool, true, false, cond, List, [], ◌∷◌, ◌++◌, length, map, get_or, Option, Some, None, refl, sym, ap, ◌∙◌, subst, inl, inr, arith, append_assoc, append-nil, length-append}
-use Rattle.std.proofs.lemmas.Bool.{or_parts, true≢false, eq-eqb, ne_eqb}
-use Rattle.std.proofs.lemmas.List.{length-map}
+use Rattle.std.proofs.lemmas.Bool.{cases_Bool, or_cases, or_parts, or_left, or_right, true≢false, eq-eqb, ne_eqb}
+use Rattle.std.proofs.lemmas.List.{append_cancel_right, length-map}
 use Rattle.std.proofs.lemmas.List.Elements.{filter-append}
 use Rattle.std.proofs.lemmas.List.Quantifiers.{position-Some}
 use Rattle.std.proofs.lemmas.Option.{option_and_then_some, same_Some, slice_get-map, slice_get-get_or}
@@ -424,3 +424,64 @@ CanonicalLinesTell-lawful options lawful words others c e says_c says_e plain_c 
   ReadsBackEverywhere-says options words c says_c plain_c,
   ReadsBackEverywhere-says options others e says_e plain_e,
 )
+
+holds_equals-append : (a b : Text) → holds_equals a ≡ true → holds_equals (a ++ b) ≡ true
+holds_equals-append [] b h = cc
+holds_equals-append (c ∷ a) b h = elim (or_cases (c == equals_sign) (holds_equals a) h) [
+  | inl here ↦ or_left (c == equals_sign) (holds_equals (a ++ b)) here
+  | inr later ↦ or_right (c == equals_sign) (holds_equals (a ++ b)) (holds_equals-append a b later)
+]
+
+-- a name that holds no `=` can't stand, with the value of its argument, for a main name that does
+no_name-equals : (name main : Text) (argument : Argument) → holds_equals name ≡ false → holds_equals main ≡ true
+    → name ++ with_equals (attached_argument argument) ≡ main ++ with_equals (value_of argument) → ⊥
+no_name-equals name main none cut equals same =
+    true≢false (sym equals ∙ ap holds_equals (sym (append_cancel_right name main [] same)) ∙ cut)
+no_name-equals name main (attached value) cut equals same =
+    true≢false (sym equals ∙ ap holds_equals (sym (append_cancel_right name main (equals_sign ∷ value) same)) ∙ cut)
+no_name-equals name main (separate word) cut equals same =
+    true≢false (sym (holds_equals-append main (equals_sign ∷ word) equals) ∙ ap holds_equals (sym same ∙ append-nil name) ∙ cut)
+
+-- a name that begins with no dash, with its argument, begins with none
+no_dash-name : (name : Text) (argument : Option Text) (text : Text) → begins_with_dash name ≡ false
+    → name ++ with_equals argument ≡ dash ∷ text → ⊥
+no_dash-name [] None text plain same = absurd cc
+no_dash-name [] (Some argument) text plain same = let head : equals_sign ≡ dash = cc in omega arith
+no_dash-name (c ∷ name) argument text plain same =
+    let head : c ≡ dash = cc in
+    true≢false (sym (eq-eqb c dash head) ∙ plain)
+
+-- where the main name holds `=`, the canonical word begins no lawful item with just this mention
+pub HasNoItem-equals : (options : Declared) (m : Mention) → holds_equals (main_at options.groups m.group) ≡ true → HasNoItem options m
+HasNoItem-equals options m equals style long_only (free word) after others lawful just same = absurd cc
+HasNoItem-equals options m equals style long_only (long one name argument) after others lawful just same =
+    let text : name ++ with_equals (attached_argument argument) ≡ dash ∷ (main_at options.groups m.group ++ with_equals m.value) = cc in
+    no_dash-name name (attached_argument argument) _ lawful.before.1 text
+HasNoItem-equals options m equals style long_only (long two name argument) after others lawful just same =
+    let text : name ++ with_equals (attached_argument argument) ≡ main_at options.groups m.group ++ with_equals m.value = cc in
+    let mentioned : mention (grammar_of (with_setting options style long_only)) name (value_of argument) ≡ m = cc in
+    let value : m.value ≡ value_of argument = sym (ap (λ k. k.value) mentioned) in
+    no_name-equals name (main_at options.groups m.group) argument lawful.cut_once equals (text ∙ ap (λ v. main_at options.groups m.group ++ with_equals v) value)
+HasNoItem-equals options m equals style long_only (cluster names end) after others lawful just same =
+    let text : names ++ end_text end ≡ dash ∷ (main_at options.groups m.group ++ with_equals m.value) = cc in
+    true≢false (sym (ap begins_with_dash text) ∙ lawful.short_form)
+
+-- mentions are plain, or one of them has a main name that holds `=`
+plain_cases : (groups : List Group) (ms : List Mention)
+    → AllByRecursion (λ m. holds_equals (main_at groups m.group) ≡ false) ms
+    ⊎ ((m : Mention) × Contains ms m × (holds_equals (main_at groups m.group) ≡ true))
+plain_cases groups [] = inl tt
+plain_cases groups (m ∷ ms) = elim (cases_Bool (holds_equals (main_at groups m.group))) [
+  | inl equals ↦ inr (m, (0, omega arith, refl), equals)
+  | inr plain ↦ elim (plain_cases groups ms) [
+    | inl others ↦ inl (plain, others)
+    | inr found ↦ inr (found.0, (suc found.1.0, omega arith, found.1.2), found.2)
+  ]
+]
+
+-- a content that isn't plain has a mention that can't be written by its canonical word
+pub HasUnwritable-content : (options : Declared) (content : Content) → ¬ (IsPlain options.groups content) → HasUnwritable options content
+HasUnwritable-content options content not_plain = elim (plain_cases options.groups content.mentions) [
+  | inl plain ↦ absurd (not_plain plain)
+  | inr found ↦ record { m = found.0; mentioned = found.1; no_item = HasNoItem-equals options found.0 found.2 }
+]
