@@ -13,10 +13,11 @@ use Rattle.getopts.specs.Names.{Text, Names, main_name, is_alias, main_place, re
 use Rattle.getopts.specs.Options.{Group, Declared, AreLawfullyNamed, names_of, Grammar, kind_of, grammar_of}
 use Rattle.getopts.specs.Scan.{dash, equals_sign, begins_with_dash, is_dashed, holds_equals, stop_word, Argument, none, attached, separate, Dashes, one, two, End, flags, ends_in, end_text, attached_argument, argument_words, value_of, with_equals, Item, free, long, cluster, long_word, spelled, spelled_all, FitsLong, FitsEnd, IsFlag, IsLawfulEnd, IsLawfulItem, AreWellFollowed, Tail, stop, Reading, IsReading, Mention, mention, mentions, Occurrence, occurrence_at, occurrences_after, occurrences_of, free_items, free_words}
 use Rattle.getopts.specs.Matches.{found_at, matched_from, matches_of, FitsCount, KeepsCounts}
-use Rattle.getopts.specs.Canon.{Content, mentions_of, content_of, main_at, kind_at, IsPlain, IsSound, FitsKind, IsFitting, canonical_word, canonical_line, attached_value, canonical_item, canonical_reading, with_setting, IsCountKeeping, Says, IsReadBack, ReadsBackEverywhere, IsOnlyContent, IsItsOwn, TellsContent, HasNoItem, HasUnwritable, CanonicalLinesTell}
+use Rattle.getopts.specs.Canon.{Content, mentions_of, content_of, main_at, kind_at, IsPlain, IsSound, FitsKind, IsFitting, canonical_word, canonical_line, attached_value, canonical_item, canonical_reading, with_setting, IsCountKeeping, Says, ReadsBack, ReadsBackEverywhere, SaysNothingElse, IsItsOwn, IsOnlyContent, HasCanonicalLine, HasNoItem, HasUnwritable, CanonicalLinesTell}
 use Rattle.getopts.specs.declared.options.HasArg.{HasArg}
 use Rattle.getopts.specs.declared.options.HasArg.TheVariants.{Yes, No, Maybe}
 use Rattle.getopts.specs.declared.options.ParsingStyle.{ParsingStyle}
+use Rattle.getopts.proofs.ScanTurns.{IsNamed}
 
 -- a pair of empty names
 abbrev no_names : Names
@@ -128,7 +129,7 @@ IsSoundMention-item options (cluster names (ends_in option argument)) lawful =
     (IsSoundMention-mention options (option ∷ []) k.0 (value_of argument) k.1 (FitsKind-end k.0 argument k.2), tt)
 
 IsSoundMention-items : (options : Declared) (items : List Item) → AllByRecursion (IsLawfulItem (grammar_of options)) items
-    → AllByRecursion (IsSoundMention options.groups) (mentions_of (grammar_of options) items)
+    → AllByRecursion (IsSoundMention options.groups) (flat_map (mentions (grammar_of options)) items)
 IsSoundMention-items options [] lawful = tt
 IsSoundMention-items options (item ∷ items) lawful =
     AllByRecursion-append (IsSoundMention options.groups) _ _ (IsSoundMention-item options item lawful.0)
@@ -189,12 +190,12 @@ mentions-canonical options m sound =
     let place : unwrap_or (resolution (names_of options.groups) (main_at options.groups m.group)) 0 ≡ m.group = ap (λ o. unwrap_or o 0) sound.own in
     rw (place, value_of-attached_value m.value) refl
 
-mentions_of-canonical : (options : Declared) (ms : List Mention) → AllByRecursion (IsSoundMention options.groups) ms
-    → mentions_of (grammar_of options) (map (canonical_item options.groups) ms) ≡ ms
-mentions_of-canonical options [] sound = refl
-mentions_of-canonical options (m ∷ ms) sound =
-    ap (λ (here : List Mention). here ++ mentions_of (grammar_of options) (map (canonical_item options.groups) ms)) (mentions-canonical options m sound.0)
-    ∙ ap (λ (others : List Mention). m ∷ others) (mentions_of-canonical options ms sound.1)
+mentions-canonical_all : (options : Declared) (ms : List Mention) → AllByRecursion (IsSoundMention options.groups) ms
+    → flat_map (mentions (grammar_of options)) (map (canonical_item options.groups) ms) ≡ ms
+mentions-canonical_all options [] sound = refl
+mentions-canonical_all options (m ∷ ms) sound =
+    ap (λ (here : List Mention). here ++ flat_map (mentions (grammar_of options)) (map (canonical_item options.groups) ms)) (mentions-canonical options m sound.0)
+    ∙ ap (λ (others : List Mention). m ∷ others) (mentions-canonical_all options ms sound.1)
 
 free_items-canonical : (groups : List Group) (ms : List Mention) → free_items (map (canonical_item groups) ms) ≡ []
 free_items-canonical groups [] = refl
@@ -231,7 +232,7 @@ IsReading-canonical options content sound plain = record {
 content_of-canonical : (options : Declared) (content : Content) → AllByRecursion (IsSoundMention options.groups) content.mentions
     → content_of (grammar_of options) (canonical_reading options.groups content) ≡ content
 content_of-canonical options content sound =
-    rw (mentions_of-canonical options content.mentions sound, free_items-canonical options.groups content.mentions) refl
+    rw (mentions-canonical_all options content.mentions sound, free_items-canonical options.groups content.mentions) refl
 
 length-cond : {X Y : Type 0} (b : Bool) (x : X) (y : Y) (xs : List X) (ys : List Y) → length xs ≡ length ys → length (cond b (x ∷ xs) xs) ≡ length (cond b (y ∷ ys) ys)
 length-cond true x y xs ys same = ap suc same
@@ -247,7 +248,7 @@ count_at place ms = length (filter (λ m. m.group == place) ms)
 
 -- a group has as many occurrences as mentions
 length-occurrences : (place before : ℕ) (grammar : Grammar) (items : List Item)
-    → length (filter (λ o. o.group == place) (occurrences_after before grammar items)) ≡ count_at place (mentions_of grammar items)
+    → length (filter (λ o. o.group == place) (occurrences_after before grammar items)) ≡ count_at place (flat_map (mentions grammar) items)
 length-occurrences place before grammar [] = refl
 length-occurrences place before grammar (item ∷ items) =
     let here = length-filter-map (λ o. o.group == place) (occurrence_at before) (mentions grammar item) in
@@ -255,7 +256,7 @@ length-occurrences place before grammar (item ∷ items) =
     simp (filter-append, length-append, here, after)
 
 length-found_at : (place : ℕ) (grammar : Grammar) (reading : Reading)
-    → length (found_at place (occurrences_of grammar reading)) ≡ count_at place (mentions_of grammar reading.items)
+    → length (found_at place (occurrences_of grammar reading)) ≡ count_at place (mentions_of grammar reading)
 length-found_at place grammar reading = length-map _ _ ∙ length-occurrences place 0 grammar reading.items
 
 KeepsCounts-same : (groups : List Group) (place : ℕ) (os ps : List Occurrence)
@@ -267,42 +268,75 @@ KeepsCounts-same (group ∷ groups) place os ps same keeps =
 
 -- readings with equal mentions keep the counts alike
 pub KeepsCounts-mentions : (groups : List Group) (grammar other : Grammar) (r q : Reading)
-    → mentions_of grammar r.items ≡ mentions_of other q.items
+    → mentions_of grammar r ≡ mentions_of other q
     → KeepsCounts (matched_from 0 groups (occurrences_of grammar r)) → KeepsCounts (matched_from 0 groups (occurrences_of other q))
 KeepsCounts-mentions groups grammar other r q same keeps =
     KeepsCounts-same groups 0 _ _ (λ k. length-found_at k grammar r ∙ ap (λ ms. count_at k ms) same ∙ sym (length-found_at k other q)) keeps
 
--- A sound, fitting and plain content, with which a reading keeps the counts, reads back from its canonical line.
+-- A sound, fitting and plain content of a reading that keeps the counts reads back.
 ReadsBackEverywhere-content : (options : Declared) (content : Content) (grammar : Grammar) (reading : Reading)
     → AllByRecursion (IsSoundMention options.groups) content.mentions → IsPlain options.groups content
-    → mentions_of grammar reading.items ≡ content.mentions
+    → mentions_of grammar reading ≡ content.mentions
     → KeepsCounts (matched_from 0 options.groups (occurrences_of grammar reading))
     → ReadsBackEverywhere options content
 ReadsBackEverywhere-content options content grammar reading sound plain same keeps style long_only =
     let set = with_setting options style long_only in
     let back = content_of-canonical set content sound in
     record {
-      accepted = record {
+      reads = record {
         reads = IsReading-canonical set content sound plain;
         keeps = KeepsCounts-mentions options.groups grammar (grammar_of set) reading (canonical_reading options.groups content) (same ∙ sym (ap (λ c. c.mentions) back)) keeps;
       };
       same = back;
     }
 
--- the content of a line is sound
+-- a reading that keeps the counts says its content
+pub Says-reading : (options : Declared) (reading : Reading) (words : List Text) → IsCountKeeping options reading words
+    → Says options words (content_of (grammar_of options) reading)
+Says-reading options reading words reads = record { style = options.style; long_only = options.long_only; reading = reading; reads = reads; content_is = refl }
+
+-- what a line says is sound
 pub IsSound-says : (options : Declared) (words : List Text) (content : Content) → Says options words content → IsSound options.groups content
 IsSound-says options words content says =
     let set = with_setting options says.style says.long_only in
-    rw says.content_is (IsSound-reading set says.reading words says.accepted.reads)
+    rw says.content_is (IsSound-reading set says.reading words says.reads.reads)
 
--- the plain content of a line reads back from its canonical line
+-- what a line says is fitting
+pub IsFitting-says : (options : Declared) (words : List Text) (content : Content) → Says options words content → IsFitting options.groups content
+IsFitting-says options words content says =
+    let set = with_setting options says.style says.long_only in
+    rw says.content_is (IsFitting-reading set says.reading words says.reads.reads)
+
+-- what a line says reads back, where it is plain
 pub ReadsBackEverywhere-says : (options : Declared) (words : List Text) (content : Content) → Says options words content
     → IsPlain options.groups content → ReadsBackEverywhere options content
 ReadsBackEverywhere-says options words content says plain =
     let set = with_setting options says.style says.long_only in
     ReadsBackEverywhere-content options content (grammar_of set) says.reading
-    (rw says.content_is (IsSoundMention-items set says.reading.items says.accepted.reads.items)) plain
-    (sym (ap (λ c. c.mentions) says.content_is)) says.accepted.keeps
+    (rw says.content_is (IsSoundMention-items set says.reading.items says.reads.reads.items)) plain
+    (sym (ap (λ c. c.mentions) says.content_is)) says.reads.keeps
+
+-- a line has one reading at most
+abbrev pub HasOneReading : Grammar → Type 0
+HasOneReading grammar = (reading other : Reading) (words : List Text) → IsReading grammar reading words → IsReading grammar other words → reading ≡ other
+
+-- lines have one reading at most, in both styles and both modes
+abbrev pub HasOneReadingEverywhere : Declared → Type 0
+HasOneReadingEverywhere options = (style : ParsingStyle) (long_only : Bool) → HasOneReading (grammar_of (with_setting options style long_only))
+
+-- names are texts in every style and mode
+pub IsNamed-with_setting : (options : Declared) (style : ParsingStyle) (long_only : Bool) → IsNamed (grammar_of options)
+    → IsNamed (grammar_of (with_setting options style long_only))
+IsNamed-with_setting options style long_only named = record { empty = named.empty; ascii = named.ascii }
+
+-- a canonical line that reads back says nothing else
+pub SaysNothingElse-reads_back : (options : Declared) (content : Content) → HasOneReadingEverywhere options
+    → ReadsBackEverywhere options content → SaysNothingElse options content
+SaysNothingElse-reads_back options content one_reading back other says =
+    let there = back says.style says.long_only in
+    let line = canonical_line options.groups content in
+    let same : says.reading ≡ canonical_reading options.groups content = one_reading says.style says.long_only says.reading (canonical_reading options.groups content) line says.reads.reads there.reads.reads in
+    says.content_is ∙ ap (content_of (grammar_of (with_setting options says.style says.long_only))) same ∙ there.same
 
 -- a text that holds no `=` is cut off at one place only
 cut_once-with_equals : (a b : Text) (v w : Option Text) → holds_equals a ≡ false → holds_equals b ≡ false
@@ -406,24 +440,33 @@ pub IsOnlyContent-sound : (groups : List Group) (content : Content) → AreLawfu
     → IsSound groups content → IsPlain groups content → IsOnlyContent groups content
 IsOnlyContent-sound groups content lawful sound plain other sound_other plain_other = canonical_line-same groups other content lawful sound_other plain_other sound plain
 
--- what the canonical line of a line's plain content tells
-pub TellsContent-says : (options : Declared) (words : List Text) (content : Content) → AreLawfullyNamed options.groups
-    → Says options words content → IsPlain options.groups content → TellsContent options content
-TellsContent-says options words content lawful says plain =
+-- the laws of the canonical line of a plain content that a line says
+pub HasCanonicalLine-says : (options : Declared) (words : List Text) (content : Content) → AreLawfullyNamed options.groups
+    → HasOneReadingEverywhere options → Says options words content → IsPlain options.groups content → HasCanonicalLine options content
+HasCanonicalLine-says options words content lawful one_reading says plain =
     let back = ReadsBackEverywhere-says options words content says plain in
+    let nothing_else = SaysNothingElse-reads_back options content one_reading back in
+    let sound = IsSound-says options words content says in
     record {
+      sound = sound;
+      fitting = IsFitting-says options words content says;
       reads_back = back;
-      only = IsOnlyContent-sound options.groups content lawful (IsSound-says options words content says) plain;
-      its_own = λ style long_only. ap (canonical_line options.groups) (back style long_only).same;
+      says_nothing_else = nothing_else;
+      its_own = λ other says_other. ap (canonical_line options.groups) (nothing_else other says_other);
+      only = IsOnlyContent-sound options.groups content lawful sound plain;
     }
 
--- the main theorem
-pub CanonicalLinesTell-lawful : (options : Declared) → AreLawfullyNamed options.groups → CanonicalLinesTell options
-CanonicalLinesTell-lawful options lawful words others c e says_c says_e plain_c plain_e = (
-  canonical_line-same options.groups c e lawful (IsSound-says options words c says_c) plain_c (IsSound-says options others e says_e) plain_e,
-  ReadsBackEverywhere-says options words c says_c plain_c,
-  ReadsBackEverywhere-says options others e says_e plain_e,
-)
+-- the main theorem of canonical lines
+pub CanonicalLinesTell-lawful : (options : Declared) → AreLawfullyNamed options.groups → HasOneReadingEverywhere options → CanonicalLinesTell options
+CanonicalLinesTell-lawful options lawful one_reading words others content other says plain says_other plain_other =
+    let back = ReadsBackEverywhere-says options words content says plain in
+    let back_other = ReadsBackEverywhere-says options others other says_other plain_other in (
+      canonical_line-same options.groups content other lawful (IsSound-says options words content says) plain (IsSound-says options others other says_other) plain_other,
+      back,
+      back_other,
+      SaysNothingElse-reads_back options content one_reading back,
+      SaysNothingElse-reads_back options other one_reading back_other,
+    )
 
 holds_equals-append : (a b : Text) → holds_equals a ≡ true → holds_equals (a ++ b) ≡ true
 holds_equals-append [] b h = cc
@@ -483,5 +526,5 @@ plain_cases groups (m ∷ ms) = elim (cases_Bool (holds_equals (main_at groups m
 pub HasUnwritable-content : (options : Declared) (content : Content) → ¬ (IsPlain options.groups content) → HasUnwritable options content
 HasUnwritable-content options content not_plain = elim (plain_cases options.groups content.mentions) [
   | inl plain ↦ absurd (not_plain plain)
-  | inr found ↦ record { m = found.0; mentioned = found.1; no_item = HasNoItem-equals options found.0 found.2 }
+  | inr found ↦ record { unwritable = found.0; mentioned = found.1; no_item = HasNoItem-equals options found.0 found.2 }
 ]

@@ -1,5 +1,5 @@
--- The canonical line: what a reading says, written again with main names alone; what such a line tells,
--- and when there is none.
+-- The canonical line: what a line says, written again with main names alone; what such a line tells, and
+-- where there is none.
 use Rattle.std.specs.Prelude.{◌≡◌, ◌↔◌, ⊤, ℕ, Bool, false, List, [], ◌∷◌, ◌++◌, map, Option, Some, None, slice_get}
 use Rattle.std.specs.List.{AllByRecursion, Contains, flat_map}
 use Rattle.std.specs.Option.{option_map, option_map_or}
@@ -11,18 +11,18 @@ use Rattle.getopts.specs.declared.options.HasArg.{HasArg}
 use Rattle.getopts.specs.declared.options.HasArg.TheVariants.{Yes, No, Maybe}
 use Rattle.getopts.specs.declared.options.ParsingStyle.{ParsingStyle}
 
--- what a line says, whatever the positions: its mentions in order, and its free words
+-- what a reading mentions, in the order of the line: its occurrences without their positions
+abbrev pub mentions_of : Grammar → Reading → List Mention
+mentions_of grammar reading = flat_map (mentions grammar) reading.items
+
+-- what a line may say: mentions in order, and free words
 pub record Content : Type 0 where
   pub mentions : List Mention
   pub free : List Text
 
--- the mentions of items, in order
-abbrev pub mentions_of : Grammar → List Item → List Mention
-mentions_of grammar items = flat_map (mentions grammar) items
-
 -- the content of a reading
 abbrev pub content_of : Grammar → Reading → Content
-content_of grammar reading = record { mentions = mentions_of grammar reading.items; free = free_words reading }
+content_of grammar reading = record { mentions = mentions_of grammar reading; free = free_words reading }
 
 -- the main name of the group at this place; past the last group, the empty text
 abbrev pub main_at : List Group → ℕ → Text
@@ -74,7 +74,7 @@ canonical_item groups m = long two (main_at groups m.group) (attached_value m.va
 abbrev pub canonical_reading : List Group → Content → Reading
 canonical_reading groups content = record { items = map (canonical_item groups) content.mentions; tail = stop content.free }
 
--- options with the same groups in this style and mode
+-- options with the same groups, in this style and mode
 abbrev pub with_setting : Declared → ParsingStyle → Bool → Declared
 with_setting options style long_only = record options { style = style; long_only = long_only }
 
@@ -88,33 +88,43 @@ pub record Says (options : Declared) (words : List Text) (content : Content) : T
   pub style : ParsingStyle
   pub long_only : Bool
   pub reading : Reading
-  pub accepted : IsCountKeeping (with_setting options style long_only) reading words
+  pub reads : IsCountKeeping (with_setting options style long_only) reading words
   pub content_is : content ≡ content_of (grammar_of (with_setting options style long_only)) reading
 
 -- The canonical line of a content reads back: its canonical reading keeps the counts and has that content.
-pub record IsReadBack (options : Declared) (content : Content) : Type 0 where
-  pub accepted : IsCountKeeping options (canonical_reading options.groups content) (canonical_line options.groups content)
+pub record ReadsBack (options : Declared) (content : Content) : Type 0 where
+  pub reads : IsCountKeeping options (canonical_reading options.groups content) (canonical_line options.groups content)
   pub same : content_of (grammar_of options) (canonical_reading options.groups content) ≡ content
 
 -- the canonical line reads back in both styles and both modes
 abbrev pub ReadsBackEverywhere : Declared → Content → Type 0
-ReadsBackEverywhere options content = (style : ParsingStyle) (long_only : Bool) → IsReadBack (with_setting options style long_only) content
+ReadsBackEverywhere options content = (style : ParsingStyle) (long_only : Bool) → ReadsBack (with_setting options style long_only) content
 
--- of all sound and plain contents of these groups, this one alone has its canonical line
-abbrev pub IsOnlyContent : List Group → Content → Type 0
-IsOnlyContent groups content = (other : Content) → IsSound groups other → IsPlain groups other → (canonical_line groups other ≡ canonical_line groups content) ↔ (other ≡ content)
+-- in both styles and both modes the canonical line of a content says that content alone
+abbrev pub SaysNothingElse : Declared → Content → Type 0
+SaysNothingElse options content = (other : Content) → Says options (canonical_line options.groups content) other → other ≡ content
 
--- the canonical line of what a canonical line says is that line, in both styles and both modes
+-- A canonical line is its own: in both styles and both modes, the canonical line of what it says is that line.
 abbrev pub IsItsOwn : Declared → Content → Type 0
-IsItsOwn options content = (style : ParsingStyle) (long_only : Bool) → canonical_line options.groups (content_of (grammar_of (with_setting options style long_only)) (canonical_reading options.groups content)) ≡ canonical_line options.groups content
+IsItsOwn options content = (other : Content) → Says options (canonical_line options.groups content) other
+    → canonical_line options.groups other ≡ canonical_line options.groups content
 
--- what the canonical line of a sound and plain content tells
-pub record TellsContent (options : Declared) (content : Content) : Type 0 where
+-- a sound and plain content of these groups has this content's canonical line exactly if it is this content
+abbrev pub IsOnlyContent : List Group → Content → Type 0
+IsOnlyContent groups content = (other : Content) → IsSound groups other → IsPlain groups other
+    → (canonical_line groups other ≡ canonical_line groups content) ↔ (other ≡ content)
+
+-- the laws of the canonical line of a content that is plain and that some line says
+pub record HasCanonicalLine (options : Declared) (content : Content) : Type 0 where
+  pub sound : IsSound options.groups content
+  pub fitting : IsFitting options.groups content
   pub reads_back : ReadsBackEverywhere options content
-  pub only : IsOnlyContent options.groups content
+  pub says_nothing_else : SaysNothingElse options content
   pub its_own : IsItsOwn options content
+  pub only : IsOnlyContent options.groups content
 
--- in neither style nor mode does the canonical word of this mention begin a lawful item with just this mention
+-- in neither style and neither mode does the canonical word of this mention begin a lawful item with just
+-- this mention
 abbrev pub HasNoItem : Declared → Mention → Type 0
 HasNoItem options m = (style : ParsingStyle) (long_only : Bool) (item : Item) (after others : List Text)
     → IsLawfulItem (grammar_of (with_setting options style long_only)) item
@@ -122,17 +132,21 @@ HasNoItem options m = (style : ParsingStyle) (long_only : Bool) (item : Item) (a
     → spelled item after ≡ canonical_word options.groups m ∷ others
     → ⊥
 
--- some mention of the content can't be written by its canonical word
+-- some mention of a content can't be written by its canonical word
 pub record HasUnwritable (options : Declared) (content : Content) : Type 0 where
-  pub m : Mention
-  pub mentioned : Contains content.mentions m
-  pub no_item : HasNoItem options m
+  pub unwritable : Mention
+  pub mentioned : Contains content.mentions unwritable
+  pub no_item : HasNoItem options unwritable
 
--- The main theorem: let two lines say plain contents, each in a style and mode of its own. Their
--- canonical lines are equal exactly if the contents are; and in both styles and both modes each
--- canonical line reads back to its content.
+-- The main theorem of canonical lines: let two lines say contents that are plain, each line in a style and
+-- mode of its own. Then their canonical lines are equal exactly if their contents are; and in both styles
+-- and both modes each canonical line reads back to its content, and says nothing else.
 abbrev pub CanonicalLinesTell : Declared → Type 0
-CanonicalLinesTell options = (words others : List Text) (c e : Content)
-    → Says options words c → Says options others e
-    → IsPlain options.groups c → IsPlain options.groups e
-    → ((canonical_line options.groups c ≡ canonical_line options.groups e) ↔ (c ≡ e)) × ReadsBackEverywhere options c × ReadsBackEverywhere options e
+CanonicalLinesTell options = (words others : List Text) (content other : Content)
+    → Says options words content → IsPlain options.groups content
+    → Says options others other → IsPlain options.groups other
+    → ((canonical_line options.groups content ≡ canonical_line options.groups other) ↔ (content ≡ other))
+    × ReadsBackEverywhere options content
+    × ReadsBackEverywhere options other
+    × SaysNothingElse options content
+    × SaysNothingElse options other
