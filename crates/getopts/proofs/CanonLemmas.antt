@@ -1,19 +1,18 @@
 -- The laws of the canonical line.
-use Rattle.std.proofs.Common.{◌≡◌, ◌≢◌, ◌⊎◌, ◌↔◌, ℕ, zero, suc, ◌+◌, ◌<◌, ◌≤◌, ◌==◌, Bool, true, false, cond, List, [], ◌∷◌, ◌++◌, length, map, get_or, Option, Some, None, refl, sym, ap, ◌∙◌, subst, inl, inr, arith, append_assoc, append-nil, length-append}
+use Rattle.std.proofs.Common.{◌≡◌, ◌≢◌, ◌⊎◌, ◌↔◌, ℕ, zero, suc, ◌+◌, ◌<◌, ◌==◌, Bool, true, false, cond, List, [], ◌∷◌, ◌++◌, length, map, get_or, Option, Some, None, refl, sym, ap, ◌∙◌, subst, inl, inr, arith, append-nil, length-append}
 use Rattle.std.proofs.lemmas.Bool.{cases_Bool, or_cases, or_parts, or_left, or_right, true≢false, eq-eqb, ne_eqb}
 use Rattle.std.proofs.lemmas.List.{append_cancel_right, length-map}
-use Rattle.std.proofs.lemmas.List.Elements.{filter-append}
+use Rattle.std.proofs.lemmas.List.Elements.{All-contains, All-from_recursion, filter-append}
 use Rattle.std.proofs.lemmas.List.Quantifiers.{position-Some}
-use Rattle.std.proofs.lemmas.Option.{option_and_then_some, same_Some, slice_get-map, slice_get-get_or}
+use Rattle.std.proofs.lemmas.Option.{option_and_then_some, same_Some}
 use Rattle.std.proofs.lemmas.Slice.Eq.{bytes_eq-Decides}
-use Rattle.std.specs.Prelude.{⊤, slice_get}
-use Rattle.std.specs.List.{AllByRecursion, Contains, find, filter, flat_map}
-use Rattle.std.specs.Option.{option_map, option_map_or, option_and_then, option_or, unwrap_or}
+use Rattle.std.specs.List.{All, AllByRecursion, Contains, find, filter, flat_map}
+use Rattle.std.specs.Option.{option_and_then, option_or, unwrap_or}
 use Rattle.getopts.specs.Names.{Text, Names, main_name, is_alias, main_place, resolution}
 use Rattle.getopts.specs.Options.{Group, Declared, AreLawfullyNamed, names_of, Grammar, kind_of, grammar_of}
-use Rattle.getopts.specs.Scan.{dash, equals_sign, begins_with_dash, is_dashed, holds_equals, stop_word, Argument, none, attached, separate, Dashes, one, two, End, flags, ends_in, end_text, attached_argument, argument_words, value_of, with_equals, Item, free, long, cluster, long_word, spelled, spelled_all, FitsLong, FitsEnd, IsFlag, IsLawfulEnd, IsLawfulItem, AreWellFollowed, Tail, stop, Reading, IsReading, Mention, mention, mentions, Occurrence, occurrence_at, occurrences_after, occurrences_of, free_items, free_words}
-use Rattle.getopts.specs.Matches.{found_at, matched_from, matches_of, FitsCount, KeepsCounts}
-use Rattle.getopts.specs.Canon.{Content, mentions_of, content_of, main_at, kind_at, IsPlain, IsSound, FitsKind, IsFitting, canonical_word, canonical_line, attached_value, canonical_item, canonical_reading, with_setting, IsCountKeeping, Says, ReadsBack, ReadsBackEverywhere, SaysNothingElse, IsItsOwn, IsOnlyContent, HasCanonicalLine, HasNoItem, HasUnwritable, CanonicalLinesTell}
+use Rattle.getopts.specs.Scan.{dash, equals_sign, begins_with_dash, holds_equals, stop_word, Argument, none, attached, separate, one, two, flags, ends_in, end_text, attached_argument, argument_words, value_of, with_equals, Item, free, long, cluster, spelled_all, FitsLong, FitsEnd, IsFlag, IsLawfulItem, AreWellFollowed, Reading, IsReading, Mention, mention, mentions, Occurrence, occurrence_at, occurrences_after, occurrences_of, free_items}
+use Rattle.getopts.specs.Matches.{found_at, matched_from, FitsCount, KeepsCounts}
+use Rattle.getopts.specs.Canon.{Content, mentions_of, content_of, main_at, kind_at, IsPlain, IsSound, FitsKind, IsFitting, canonical_word, canonical_line, attached_value, canonical_item, canonical_reading, with_setting, IsCountKeeping, Says, ReadsBackEverywhere, SaysNothingElse, IsOnlyContent, HasCanonicalLine, HasNoItem, HasUnwritable, CanonicalLinesTell}
 use Rattle.getopts.specs.declared.options.HasArg.{HasArg}
 use Rattle.getopts.specs.declared.options.HasArg.TheVariants.{Yes, No, Maybe}
 use Rattle.getopts.specs.declared.options.ParsingStyle.{ParsingStyle}
@@ -86,8 +85,8 @@ IsSoundMention-mention : (options : Declared) (name : Text) (kind : HasArg) (val
     → IsSoundMention options.groups (mention (grammar_of options) name value)
 IsSoundMention-mention options name kind value known fits =
     option_and_then_some _ (resolution (names_of options.groups) name) kind known (λ place resolves there.
-        let same : unwrap_or (resolution (names_of options.groups) name) 0 ≡ place = ap (λ o. unwrap_or o 0) resolves in
-        rw same (record { own = resolution-main_at options.groups name place resolves; fits = (kind, there, fits) }))
+    let same : unwrap_or (resolution (names_of options.groups) name) 0 ≡ place = ap (λ o. unwrap_or o 0) resolves in
+    rw same (record { own = resolution-main_at options.groups name place resolves; fits = (kind, there, fits) }))
 
 FitsKind-long : (kind : HasArg) (argument : Argument) → FitsLong kind argument → FitsKind kind (value_of argument)
 FitsKind-long No none h = h
@@ -372,7 +371,7 @@ canonical_word-cancel : (groups : List Group) (m o : Mention)
     → canonical_word groups m ≡ canonical_word groups o → m ≡ o
 canonical_word-cancel groups m o own_m own_o plain_m plain_o same =
     let parts = cut_once-with_equals (main_at groups m.group) (main_at groups o.group) m.value o.value plain_m plain_o
-        (canonical_word-same groups m (main_at groups o.group ++ with_equals o.value) same) in
+    (canonical_word-same groups m (main_at groups o.group ++ with_equals o.value) same) in
     let place : m.group ≡ o.group = same_Some _ _ (sym own_m ∙ ap (resolution (names_of groups)) parts.0 ∙ own_o) in
     let of_parts : ℕ → Option Text → Mention = λ group value. record { group = group; value = value } in
     ap (λ group. of_parts group m.value) place ∙ ap (λ value. of_parts o.group value) parts.1
@@ -432,7 +431,7 @@ pub canonical_line-same : (groups : List Group) (c e : Content) → AreLawfullyN
 canonical_line-same groups c e lawful sound_c plain_c sound_e plain_e =
     let of_parts : List Mention → List Text → Content = λ mentions free. record { mentions = mentions; free = free } in
     let parts = λ (same : canonical_line groups c ≡ canonical_line groups e).
-        canonical_line-parts groups c.mentions e.mentions c.free e.free lawful sound_c sound_e plain_c plain_e same in
+    canonical_line-parts groups c.mentions e.mentions c.free e.free lawful sound_c sound_e plain_c plain_e same in
     (λ same. ap (λ mentions. of_parts mentions c.free) (parts same).0 ∙ ap (λ free. of_parts e.mentions free) (parts same).1, ap (canonical_line groups))
 
 -- of all sound and plain contents one alone has its canonical line
@@ -521,6 +520,13 @@ plain_cases groups (m ∷ ms) = elim (cases_Bool (holds_equals (main_at groups m
     | inr found ↦ inr (found.0, (suc found.1.0, omega arith, found.1.2), found.2)
   ]
 ]
+
+-- a content with such a mention isn't plain
+pub not_plain-contains : (groups : List Group) (content : Content) (m : Mention) → Contains content.mentions m
+    → holds_equals (main_at groups m.group) ≡ true → ¬ (IsPlain groups content)
+not_plain-contains groups content m mentioned equals plain =
+    let each : All (λ k. holds_equals (main_at groups k.group) ≡ false) content.mentions = All-from_recursion _ content.mentions plain in
+    true≢false (sym equals ∙ All-contains (λ k. holds_equals (main_at groups k.group) ≡ false) content.mentions m each mentioned)
 
 -- a content that isn't plain has a mention that can't be written by its canonical word
 pub HasUnwritable-content : (options : Declared) (content : Content) → ¬ (IsPlain options.groups content) → HasUnwritable options content
