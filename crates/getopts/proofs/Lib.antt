@@ -1,3 +1,4 @@
+pub mod CanonLemmas
 pub mod NamesLemmas
 pub mod OptionsLemmas
 pub mod ScanItems

@@ -1,0 +1,152 @@
+-- The canonical line: what a line says, written again with main names alone; what such a line tells, and
+-- where there is none.
+use Rattle.std.specs.Prelude.{◌≡◌, ◌↔◌, ⊤, ℕ, Bool, false, List, [], ◌∷◌, ◌++◌, map, Option, Some, None, slice_get}
+use Rattle.std.specs.List.{AllByRecursion, Contains, flat_map}
+use Rattle.std.specs.Option.{option_map, option_map_or}
+use Rattle.getopts.specs.Names.{Text, main_name, resolution}
+use Rattle.getopts.specs.Options.{Group, Declared, names_of, Grammar, grammar_of}
+use Rattle.getopts.specs.Scan.{holds_equals, stop_word, Argument, none, attached, two, Item, long, long_word, spelled, IsLawfulItem, stop, Reading, IsReading, Mention, mentions, free_words}
+use Rattle.getopts.specs.Matches.{matches_of, KeepsCounts}
+use Rattle.getopts.specs.declared.options.HasArg.{HasArg}
+use Rattle.getopts.specs.declared.options.HasArg.TheVariants.{Yes, No, Maybe}
+use Rattle.getopts.specs.declared.options.ParsingStyle.{ParsingStyle}
+
+-- what a reading mentions, in the order of the line: its occurrences without their positions
+abbrev pub mentions_of : Grammar → Reading → List Mention
+mentions_of grammar reading = flat_map (mentions grammar) reading.items
+
+-- what a line may say: mentions in order, and free words
+pub record Content : Type 0 where
+  pub mentions : List Mention
+  pub free : List Text
+
+-- the content of a reading
+abbrev pub content_of : Grammar → Reading → Content
+content_of grammar reading = record { mentions = mentions_of grammar reading; free = free_words reading }
+
+-- the main name of the group at this place; past the last group, the empty text
+abbrev pub main_at : List Group → ℕ → Text
+main_at groups place = option_map_or (λ group. main_name group.names) (slice_get groups place) []
+
+-- the kind of argument of the group at this place
+abbrev pub kind_at : List Group → ℕ → Option HasArg
+kind_at groups place = option_map (λ group. group.kind) (slice_get groups place)
+
+-- plain content: no mentioned group has a main name that holds `=`
+abbrev pub IsPlain : List Group → Content → Type 0
+IsPlain groups content = AllByRecursion (λ m. holds_equals (main_at groups m.group) ≡ false) content.mentions
+
+-- sound content: each mentioned group is what its own main name resolves to
+abbrev pub IsSound : List Group → Content → Type 0
+IsSound groups content = AllByRecursion (λ m. resolution (names_of groups) (main_at groups m.group) ≡ Some m.group) content.mentions
+
+-- the values that a kind may have: none for No, one for Yes, at most one for Maybe
+abbrev pub FitsKind : HasArg → Option Text → Type 0
+FitsKind No None = ⊤
+FitsKind No (Some value) = ⊥
+FitsKind Yes None = ⊥
+FitsKind Yes (Some value) = ⊤
+FitsKind Maybe None = ⊤
+FitsKind Maybe (Some value) = ⊤
+
+-- fitting content: each mentioned group is there, and has a value as its kind may
+abbrev pub IsFitting : List Group → Content → Type 0
+IsFitting groups content = AllByRecursion (λ m. (kind : HasArg) × (kind_at groups m.group ≡ Some kind) × FitsKind kind m.value) content.mentions
+
+-- the canonical word of a mention: `--main`, or `--main=value` where it has a value
+abbrev pub canonical_word : List Group → Mention → Text
+canonical_word groups m = long_word two (main_at groups m.group) m.value
+
+-- the canonical line of a content: the words of its mentions, then `--`, then its free words
+abbrev pub canonical_line : List Group → Content → List Text
+canonical_line groups content = map (canonical_word groups) content.mentions ++ stop_word ∷ content.free
+
+-- a value as an attached argument
+abbrev pub attached_value : Option Text → Argument
+attached_value None = none
+attached_value (Some value) = attached value
+
+-- the canonical item of a mention: two dashes, the main name, and the value attached
+abbrev pub canonical_item : List Group → Mention → Item
+canonical_item groups m = long two (main_at groups m.group) (attached_value m.value)
+
+-- the canonical reading of a content: the items of its mentions, and the stop with its free words
+abbrev pub canonical_reading : List Group → Content → Reading
+canonical_reading groups content = record { items = map (canonical_item groups) content.mentions; tail = stop content.free }
+
+-- options with the same groups, in this style and mode
+abbrev pub with_setting : Declared → ParsingStyle → Bool → Declared
+with_setting options style long_only = record options { style = style; long_only = long_only }
+
+-- a reading of a line that keeps the counts
+pub record IsCountKeeping (options : Declared) (reading : Reading) (words : List Text) : Type 0 where
+  pub reads : IsReading (grammar_of options) reading words
+  pub keeps : KeepsCounts (matches_of options reading).groups
+
+-- A line says a content: in some style and mode it has a reading with this content that keeps the counts.
+pub record Says (options : Declared) (words : List Text) (content : Content) : Type 0 where
+  pub style : ParsingStyle
+  pub long_only : Bool
+  pub reading : Reading
+  pub reads : IsCountKeeping (with_setting options style long_only) reading words
+  pub content_is : content ≡ content_of (grammar_of (with_setting options style long_only)) reading
+
+-- The canonical line of a content reads back: its canonical reading keeps the counts and has that content.
+pub record ReadsBack (options : Declared) (content : Content) : Type 0 where
+  pub reads : IsCountKeeping options (canonical_reading options.groups content) (canonical_line options.groups content)
+  pub same : content_of (grammar_of options) (canonical_reading options.groups content) ≡ content
+
+-- the canonical line reads back in both styles and both modes
+abbrev pub ReadsBackEverywhere : Declared → Content → Type 0
+ReadsBackEverywhere options content = (style : ParsingStyle) (long_only : Bool) → ReadsBack (with_setting options style long_only) content
+
+-- in both styles and both modes the canonical line of a content says that content alone
+abbrev pub SaysNothingElse : Declared → Content → Type 0
+SaysNothingElse options content = (other : Content) → Says options (canonical_line options.groups content) other → other ≡ content
+
+-- A canonical line is its own: in both styles and both modes, the canonical line of what it says is that line.
+abbrev pub IsItsOwn : Declared → Content → Type 0
+IsItsOwn options content = (other : Content) → Says options (canonical_line options.groups content) other
+    → canonical_line options.groups other ≡ canonical_line options.groups content
+
+-- a sound and plain content of these groups has this content's canonical line exactly if it is this content
+abbrev pub IsOnlyContent : List Group → Content → Type 0
+IsOnlyContent groups content = (other : Content) → IsSound groups other → IsPlain groups other
+    → (canonical_line groups other ≡ canonical_line groups content) ↔ (other ≡ content)
+
+-- the laws of the canonical line of a content that is plain and that some line says
+pub record HasCanonicalLine (options : Declared) (content : Content) : Type 0 where
+  pub sound : IsSound options.groups content
+  pub fitting : IsFitting options.groups content
+  pub reads_back : ReadsBackEverywhere options content
+  pub says_nothing_else : SaysNothingElse options content
+  pub its_own : IsItsOwn options content
+  pub only : IsOnlyContent options.groups content
+
+-- in neither style and neither mode does the canonical word of this mention begin a lawful item with just
+-- this mention
+abbrev pub HasNoItem : Declared → Mention → Type 0
+HasNoItem options m = (style : ParsingStyle) (long_only : Bool) (item : Item) (after others : List Text)
+    → IsLawfulItem (grammar_of (with_setting options style long_only)) item
+    → mentions (grammar_of (with_setting options style long_only)) item ≡ m ∷ []
+    → spelled item after ≡ canonical_word options.groups m ∷ others
+    → ⊥
+
+-- some mention of a content can't be written by its canonical word
+pub record HasUnwritable (options : Declared) (content : Content) : Type 0 where
+  pub unwritable : Mention
+  pub mentioned : Contains content.mentions unwritable
+  pub no_item : HasNoItem options unwritable
+
+-- The main theorem of canonical lines: let two lines say contents that are plain, each line in a style and
+-- mode of its own. Then their canonical lines are equal exactly if their contents are; and in both styles
+-- and both modes each canonical line reads back to its content, and says nothing else.
+abbrev pub CanonicalLinesTell : Declared → Type 0
+CanonicalLinesTell options = (words others : List Text) (content other : Content)
+    → Says options words content → IsPlain options.groups content
+    → Says options others other → IsPlain options.groups other
+    → ((canonical_line options.groups content ≡ canonical_line options.groups other) ↔ (content ≡ other))
+    × ReadsBackEverywhere options content
+    × ReadsBackEverywhere options other
+    × SaysNothingElse options content
+    × SaysNothingElse options other
