@@ -1,5 +1,6 @@
 pub mod CanonLemmas
 pub mod NamesLemmas
+pub mod OptLemmas
 pub mod OptionsLemmas
 pub mod ScanItems
 pub mod ScanLawProofs

@@ -1,6 +1,6 @@
 //! Reading words as items, from the first to the last.
 
-ghost use Rattle.std.specs.Prelude.{◌≡◌, ◌≢◌, ◌<◌, ◌∷◌, ◌++◌, [], ℕ, List, length, MatchOption, Some, None, true, false, IfOk, IfErr, slice_get, slice_index, encode_utf8};
+ghost use Rattle.std.specs.Prelude.{◌≡◌, ◌≢◌, ◌<◌, ◌∷◌, ◌++◌, [], ℕ, List, length, MatchOption, OnSome, Some, None, true, false, IfOk, IfErr, slice_get, slice_index, encode_utf8};
 ghost use Rattle.std.specs.Char.{IsScalar};
 ghost use Rattle.std.specs.Str.{IsCharBoundary};
 ghost use Rattle.getopts.specs.Fail.{Tells, argument_missing};
@@ -176,9 +176,10 @@ impl<'o> Scanner<'o> {
         requires named { IsLawfulScanner self.now }
         requires within { at < length text.now }
         requires boundary { IsCharBoundary text.now at }
-        ensures { let grammar = scanner_grammar self.now in let name = slice_index text.now at ∷ [] in
+        ensures option { let grammar = scanner_grammar self.now in let name = slice_index text.now at ∷ [] in
             MatchOption result (grammar.kind_of name ≡ None)
-            (λ option. (slice_index text.now at < 128) × (grammar.place_of name ≡ Some option.0) × (grammar.kind_of name ≡ Some option.1)) }
+            (λ option. (grammar.place_of name ≡ Some option.0) × (grammar.kind_of name ≡ Some option.1)) }
+        ensures ascii { OnSome result (slice_index text.now at < 128) }
     {
         if text.as_bytes()[at].is_ascii() {
             self.option(&text[at..at + 1])
