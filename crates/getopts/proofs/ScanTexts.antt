@@ -1,8 +1,8 @@
 -- Texts alone: a text in long form, cut at its first `=`.
-use Rattle.std.proofs.Common.{◌≡◌, ◌≢◌, ◌==◌, ℕ, ◌+◌, ◌<◌, ◌≤◌, Bool, true, false, List, [], ◌∷◌, ◌++◌, length, Option, Some, None, refl, sym, ap, ◌∙◌, subst, inl, inr, arith, one-add, add-one, encode_utf8}
+use Rattle.std.proofs.Common.{◌≡◌, ◌≢◌, ◌==◌, ℕ, ◌<◌, ◌≤◌, true, false, List, [], ◌∷◌, ◌++◌, length, Option, Some, None, refl, sym, ap, ◌∙◌, subst, inl, inr, arith, one-add, add-one, encode_utf8}
 use Rattle.std.proofs.lemmas.Bool.{cases_Bool, cases_lt, eqb-true, or_parts, and_parts}
 use Rattle.getopts.specs.Names.{Text}
-use Rattle.getopts.specs.Scan.{dash, equals_sign, is_dashed, begins_with_dash, holds_equals, stop_word, with_equals}
+use Rattle.getopts.specs.Scan.{equals_sign, begins_with_dash, holds_equals, with_equals}
 use Rattle.getopts.proofs.ScanTurns.{long_name, long_argument, first_char}
 use Rattle.std.specs.List.{AllByRecursion}
 use Rattle.std.specs.Char.{IsScalar}
