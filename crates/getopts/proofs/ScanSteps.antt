@@ -318,6 +318,44 @@ module _ (grammar : Grammar) (named : IsNamed grammar) (word : Text) (more : Lis
   pub turn_faults : (fault : Fault) → IsUtf8 word → turn grammar word more ≡ faults fault → IsFaultAt grammar word more fault
   turn_faults = sound_faults grammar word more (turn grammar word more) (turn_sound grammar named word more)
 
+-- The same of a word in long form, by its name and its attached argument.
+module _ (grammar : Grammar) (dashes : Dashes) (word name : Text) (argument : Option Text) (more : List Text)
+    (form : HasDashes grammar dashes word (name ++ with_equals argument)) (plain : holds_equals name ≡ false) where
+  pub named_one : (item : Item) → named_turn (grammar.kind_of name) dashes name argument more ≡ takes_one item → BeginsWith grammar (word ∷ more) item more
+  named_one = sound_one grammar word more (named_turn (grammar.kind_of name) dashes name argument more) (named_sound grammar dashes word name argument more form plain (grammar.kind_of name) refl)
+
+  pub named_two : (item : Item) → named_turn (grammar.kind_of name) dashes name argument more ≡ takes_two item
+      → (next : Text) × (others : List Text) × (more ≡ next ∷ others) × BeginsWith grammar (word ∷ more) item others
+  named_two = sound_two grammar word more (named_turn (grammar.kind_of name) dashes name argument more) (named_sound grammar dashes word name argument more form plain (grammar.kind_of name) refl)
+
+  pub named_faults : (fault : Fault) → IsUtf8 word → named_turn (grammar.kind_of name) dashes name argument more ≡ faults fault → IsFaultAt grammar word more fault
+  named_faults = sound_faults grammar word more (named_turn (grammar.kind_of name) dashes name argument more) (named_sound grammar dashes word name argument more form plain (grammar.kind_of name) refl)
+
+-- The same of a word in long form, by its text.
+module _ (grammar : Grammar) (dashes : Dashes) (word text : Text) (more : List Text) (form : HasDashes grammar dashes word text) where
+  pub long_one : (item : Item) → long_turn grammar dashes text more ≡ takes_one item → BeginsWith grammar (word ∷ more) item more
+  long_one = sound_one grammar word more (long_turn grammar dashes text more) (long_sound grammar dashes word text more form)
+
+  pub long_two : (item : Item) → long_turn grammar dashes text more ≡ takes_two item
+      → (next : Text) × (others : List Text) × (more ≡ next ∷ others) × BeginsWith grammar (word ∷ more) item others
+  long_two = sound_two grammar word more (long_turn grammar dashes text more) (long_sound grammar dashes word text more form)
+
+  pub long_faults : (fault : Fault) → IsUtf8 word → long_turn grammar dashes text more ≡ faults fault → IsFaultAt grammar word more fault
+  long_faults = sound_faults grammar word more (long_turn grammar dashes text more) (long_sound grammar dashes word text more form)
+
+-- The same of a word in short form, by its flags and the text after them.
+module _ (grammar : Grammar) (named : IsNamed grammar) (word : Text) (names : List ℕ) (text : Text) (more : List Text)
+    (form : IsShortForm grammar word (names ++ text)) (each : AllByRecursion (IsFlag grammar) names) where
+  pub cluster_one : (item : Item) → cluster_turn grammar names text more ≡ takes_one item → BeginsWith grammar (word ∷ more) item more
+  cluster_one = sound_one grammar word more (cluster_turn grammar names text more) (cluster_sound grammar named word names text more form each)
+
+  pub cluster_two : (item : Item) → cluster_turn grammar names text more ≡ takes_two item
+      → (next : Text) × (others : List Text) × (more ≡ next ∷ others) × BeginsWith grammar (word ∷ more) item others
+  cluster_two = sound_two grammar word more (cluster_turn grammar names text more) (cluster_sound grammar named word names text more form each)
+
+  pub cluster_faults : (fault : Fault) → IsUtf8 word → cluster_turn grammar names text more ≡ faults fault → IsFaultAt grammar word more fault
+  cluster_faults = sound_faults grammar word more (cluster_turn grammar names text more) (cluster_sound grammar named word names text more form each)
+
 -- Now the other way: what a line begins with settles the turn of its first word.
 
 -- the turn of a word in long form, by its name and its attached argument
