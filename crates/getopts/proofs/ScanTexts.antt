@@ -51,14 +51,6 @@ long_argument-append (c ∷ name) argument plain =
     let parts = or_parts (c == equals_sign) (holds_equals name) plain in
     long_argument-cons c (name ++ with_equals argument) parts.0 ∙ long_argument-append name argument parts.1
 
--- the name in a text begins with a dash only where the text does
-pub begins_with_dash-long_name : (text : Text) → begins_with_dash text ≡ false → begins_with_dash (long_name text) ≡ false
-begins_with_dash-long_name [] plain = refl
-begins_with_dash-long_name (c ∷ text) plain = elim (cases_Bool (c == equals_sign)) [
-  | inl here ↦ rw (eqb-true c equals_sign here) refl
-  | inr other ↦ rw (long_name-cons c text other) plain
-]
-
 -- a text that begins with a name begins with a dash only where the name does
 pub begins_with_dash-append : (name : Text) (argument : Option Text) → begins_with_dash name ≡ false → begins_with_dash (name ++ with_equals argument) ≡ false
 begins_with_dash-append [] None plain = refl
@@ -75,12 +67,7 @@ pub filled-append : {X : Type 0} (front : List X) (x : X) (more : List X) → fr
 filled-append [] x more e = cc e
 filled-append (y ∷ front) x more e = cc e
 
--- what holds of each element holds of each of a front
-pub AllByRecursion-front : {X : Type 0} (P : X → Type 0) (xs ys : List X) → AllByRecursion P (xs ++ ys) → AllByRecursion P xs
-AllByRecursion-front P [] ys all = tt
-AllByRecursion-front P (x ∷ xs) ys all = (all.0, AllByRecursion-front P xs ys all.1)
-
--- and of each of the rest
+-- what holds of each element of two lists holds of each of the second
 pub AllByRecursion-rest : {X : Type 0} (P : X → Type 0) (xs ys : List X) → AllByRecursion P (xs ++ ys) → AllByRecursion P ys
 AllByRecursion-rest P [] ys all = all
 AllByRecursion-rest P (x ∷ xs) ys all = AllByRecursion-rest P xs ys all.1
