@@ -1,14 +1,12 @@
 -- Whole lines: `read` gives the one reading of a line, or its one fault.
-use Rattle.std.proofs.Common.{◌≡◌, ℕ, ◌⊎◌, Bool, true, false, List, [], ◌∷◌, ◌++◌, drop, Option, Some, None, Result, Ok, Err, refl, sym, ap, ◌∙◌, subst, inl, inr}
-use Rattle.std.specs.Prelude.{⊤}
+use Rattle.std.proofs.Common.{◌≡◌, ◌⊎◌, List, [], ◌∷◌, ◌++◌, drop, Result, Ok, Err, refl, sym, ap, ◌∙◌, subst, inl, inr}
 use Rattle.std.specs.List.{AllByRecursion}
 use Rattle.std.specs.Str.{IsUtf8}
 use Rattle.getopts.specs.Names.{Text}
 use Rattle.getopts.specs.Options.{Grammar}
 use Rattle.getopts.specs.Fail.{Fault}
-use Rattle.getopts.specs.Scan.{is_dashed, stop_word, none, attached, separate, flags, ends_in, Item, free, long, cluster, spelled, spelled_all, IsLawfulItem, is_bare, EndsOrIsDashed, AreWellFollowed, Tail, line_end, stop, rest, tail_words, IsLawfulTail, Reading, IsReading, BeginsWith, IsFaultAt, IsScanFault}
+use Rattle.getopts.specs.Scan.{stop_word, none, attached, separate, flags, ends_in, Item, free, long, cluster, spelled, spelled_all, IsLawfulItem, EndsOrIsDashed, AreWellFollowed, Tail, line_end, stop, rest, tail_words, IsLawfulTail, Reading, IsReading, BeginsWith, IsFaultAt, IsScanFault}
 use Rattle.getopts.specs.declared.options.ParsingStyle.{ParsingStyle}
-use Rattle.getopts.specs.declared.options.ParsingStyle.TheVariants.{FloatingFrees, StopAtFirstFree}
 use Rattle.getopts.proofs.ScanTurns.{IsNamed, AreTexts, Turn, ends, takes_one, takes_two, faults, turn, free_turn, with_item, after_turn, read_both, read}
 use Rattle.getopts.proofs.ScanTexts.{AllByRecursion-rest}
 use Rattle.getopts.proofs.ScanSteps.{TakesItem, spelled_turn, begins_turn, fault_turn, fault_dashed, turn_free, turn_stop, IsSoundTurn, turn_sound}
@@ -126,7 +124,7 @@ followed-append : (items : List Item) (more : List Text) → AreWellFollowed ite
 followed-append [] more followed dashed = tt
 followed-append (item ∷ items) more followed dashed = (
   λ bare. subst EndsOrIsDashed (sym (spelled_all-append items [] more)) (ends-append (spelled_all items []) more (followed.0 bare) dashed),
-  followed-append items more followed.1 dashed
+  followed-append items more followed.1 dashed,
 )
 
 -- `read` gives a fault that a line has
@@ -179,7 +177,7 @@ reading_step grammar words item others reading begins is = record {
   spells = ap (spelled item) is.spells ∙ sym begins.spells;
   items = (begins.lawful, is.items);
   tail = is.tail;
-  followed = (λ bare. subst EndsOrIsDashed (sym is.spells) (begins.followed bare), is.followed)
+  followed = (λ bare. subst EndsOrIsDashed (sym is.spells) (begins.followed bare), is.followed);
 }
 
 -- a fault of the words after an item is a fault of the line
@@ -197,10 +195,10 @@ fault_step grammar words item others fault begins is = record {
     tail = tt;
     followed = (
       λ bare. subst EndsOrIsDashed (sym is.reads.spells) (ends-front is.before (is.word ∷ is.after) (subst EndsOrIsDashed is.words_are (begins.followed bare))),
-      is.reads.followed
-    )
+      is.reads.followed,
+    );
   };
-  fault_at = is.fault_at
+  fault_at = is.fault_at;
 }
 
 -- an item before an outcome
@@ -224,7 +222,7 @@ fault_here grammar word more fault at = record {
   items = [];
   words_are = refl;
   reads = tail_sound grammar [] line_end tt refl;
-  fault_at = at
+  fault_at = at;
 }
 
 -- the outcome of a line, by the turn of its first word
@@ -236,8 +234,8 @@ after_turn_sound grammar word more (takes_one item) after_one after_two sound on
     item_sound grammar (word ∷ more) item more after_one sound (λ texts. texts.1) one_sound
 after_turn_sound grammar word more (takes_two item) after_one after_two sound one_sound two_sound =
     item_sound grammar (word ∷ more) item sound.1 after_two sound.3
-      (λ texts. let next_texts : AreTexts (sound.0 ∷ sound.1) = subst AreTexts sound.2 texts.1 in next_texts.1)
-      (subst (λ (line : List Text). IsSoundOutcome grammar (drop 1 line) after_two) sound.2 two_sound)
+    (λ texts. let next_texts : AreTexts (sound.0 ∷ sound.1) = subst AreTexts sound.2 texts.1 in next_texts.1)
+    (subst (λ (line : List Text). IsSoundOutcome grammar (drop 1 line) after_two) sound.2 two_sound)
 after_turn_sound grammar word more (faults fault) after_one after_two sound one_sound two_sound =
     λ texts. fault_here grammar word more fault (sound texts.0)
 

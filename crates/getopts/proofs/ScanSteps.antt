@@ -1,19 +1,19 @@
 -- One word: what `turn` says of it is what the definitions say.
-use Rattle.std.proofs.Common.{◌≡◌, ◌≢◌, ◌==◌, ◌⊎◌, ℕ, ◌+◌, ◌<◌, ◌≤◌, Bool, true, false, cond, List, [], ◌∷◌, ◌++◌, length, Option, Some, None, refl, sym, ap, ◌∙◌, subst, inl, inr, arith, encode_utf8, unwrap_or, append_assoc, append-nil}
-use Rattle.std.proofs.lemmas.Bool.{cases_Bool, cases_lt, eqb-true, eq-eqb, true≢false, false≢true}
+use Rattle.std.proofs.Common.{◌≡◌, ◌≢◌, ◌==◌, ◌⊎◌, ℕ, ◌<◌, ◌≤◌, Bool, true, false, List, [], ◌∷◌, ◌++◌, length, Option, Some, None, refl, sym, ap, ◌∙◌, subst, inl, inr, arith, encode_utf8, unwrap_or, append_assoc, append-nil}
+use Rattle.std.proofs.lemmas.Bool.{cases_Bool, cases_lt, eqb-true, eq-eqb, false≢true}
 use Rattle.std.specs.List.{AllByRecursion}
 use Rattle.std.specs.Str.{IsUtf8, bytes_eq}
 use Rattle.std.proofs.lemmas.Slice.Eq.{bytes_eq-Decides}
 use Rattle.getopts.specs.Names.{Text}
 use Rattle.getopts.specs.Options.{Grammar}
 use Rattle.getopts.specs.Fail.{Fault, argument_missing, unrecognized_option, option_missing, option_duplicated, unexpected_argument}
-use Rattle.getopts.specs.Scan.{dash, equals_sign, is_dashed, begins_with_dash, holds_equals, stop_word, Argument, none, attached, separate, Dashes, one, two, End, flags, ends_in, Item, free, long, cluster, dash_text, with_equals, long_word, attached_argument, argument_words, end_text, end_words, spelled, MayStandBefore, FitsLong, FitsEnd, IsFlag, IsLawfulEnd, IsLawfulLong, IsLawfulCluster, IsLawfulItem, is_bare, EndsOrIsDashed, Tail, line_end, stop, rest, tail_words, IsLawfulTail, BeginsWith, IsLongForm, IsShortForm, HasUnknownFlag, EndsInYes, IsFaultAt}
+use Rattle.getopts.specs.Scan.{dash, is_dashed, holds_equals, stop_word, Argument, none, attached, separate, Dashes, one, two, End, flags, ends_in, Item, free, long, cluster, dash_text, with_equals, long_word, attached_argument, argument_words, end_text, end_words, spelled, MayStandBefore, FitsLong, FitsEnd, IsFlag, IsLawfulEnd, IsLawfulCluster, IsLawfulItem, is_bare, EndsOrIsDashed, Tail, stop, tail_words, IsLawfulTail, BeginsWith, IsLongForm, IsShortForm, HasUnknownFlag, EndsInYes, IsFaultAt}
 use Rattle.getopts.specs.declared.options.HasArg.{HasArg}
 use Rattle.getopts.specs.declared.options.HasArg.TheVariants.{Yes, No, Maybe}
 use Rattle.getopts.specs.declared.options.ParsingStyle.{ParsingStyle}
 use Rattle.getopts.specs.declared.options.ParsingStyle.TheVariants.{FloatingFrees, StopAtFirstFree}
-use Rattle.getopts.proofs.ScanTurns.{IsNamed, Turn, ends, takes_one, takes_two, faults, first_char, turn_with_next, named_turn, long_name, long_argument, long_turn, maybe_turn, option_turn, byte_turn, cluster_turn, item_turn, free_turn, turn}
-use Rattle.getopts.proofs.ScanTexts.{name-append-argument, holds_equals-long_name, long_name-append, long_argument-append, begins_with_dash-append, begins_with_dash-front, filled-append, AllByRecursion-append, IsUtf8-past_ascii, IsUtf8-past_asciis, BeginsWithChar, begins_with_char, encode-ascii_byte, length-encode-wide, first_char-append}
+use Rattle.getopts.proofs.ScanTurns.{IsNamed, Turn, ends, takes_one, takes_two, faults, first_char, named_turn, long_name, long_argument, long_turn, maybe_turn, option_turn, byte_turn, cluster_turn, item_turn, free_turn, turn}
+use Rattle.getopts.proofs.ScanTexts.{name-append-argument, holds_equals-long_name, long_name-append, long_argument-append, begins_with_dash-append, begins_with_dash-front, filled-append, AllByRecursion-append, IsUtf8-past_ascii, IsUtf8-past_asciis, begins_with_char, encode-ascii_byte, length-encode-wide, first_char-append}
 use Rattle.std.proofs.lemmas.Str.{length-encode, len_utf8_bounds}
 
 -- What a turn says of a line that begins with this word is so: its tail, its item or its fault.
@@ -318,6 +318,44 @@ module _ (grammar : Grammar) (named : IsNamed grammar) (word : Text) (more : Lis
   pub turn_faults : (fault : Fault) → IsUtf8 word → turn grammar word more ≡ faults fault → IsFaultAt grammar word more fault
   turn_faults = sound_faults grammar word more (turn grammar word more) (turn_sound grammar named word more)
 
+-- The same of a word in long form, by its name and its attached argument.
+module _ (grammar : Grammar) (dashes : Dashes) (word name : Text) (argument : Option Text) (more : List Text)
+    (form : HasDashes grammar dashes word (name ++ with_equals argument)) (plain : holds_equals name ≡ false) where
+  pub named_one : (item : Item) → named_turn (grammar.kind_of name) dashes name argument more ≡ takes_one item → BeginsWith grammar (word ∷ more) item more
+  named_one = sound_one grammar word more (named_turn (grammar.kind_of name) dashes name argument more) (named_sound grammar dashes word name argument more form plain (grammar.kind_of name) refl)
+
+  pub named_two : (item : Item) → named_turn (grammar.kind_of name) dashes name argument more ≡ takes_two item
+      → (next : Text) × (others : List Text) × (more ≡ next ∷ others) × BeginsWith grammar (word ∷ more) item others
+  named_two = sound_two grammar word more (named_turn (grammar.kind_of name) dashes name argument more) (named_sound grammar dashes word name argument more form plain (grammar.kind_of name) refl)
+
+  pub named_faults : (fault : Fault) → IsUtf8 word → named_turn (grammar.kind_of name) dashes name argument more ≡ faults fault → IsFaultAt grammar word more fault
+  named_faults = sound_faults grammar word more (named_turn (grammar.kind_of name) dashes name argument more) (named_sound grammar dashes word name argument more form plain (grammar.kind_of name) refl)
+
+-- The same of a word in long form, by its text.
+module _ (grammar : Grammar) (dashes : Dashes) (word text : Text) (more : List Text) (form : HasDashes grammar dashes word text) where
+  pub long_one : (item : Item) → long_turn grammar dashes text more ≡ takes_one item → BeginsWith grammar (word ∷ more) item more
+  long_one = sound_one grammar word more (long_turn grammar dashes text more) (long_sound grammar dashes word text more form)
+
+  pub long_two : (item : Item) → long_turn grammar dashes text more ≡ takes_two item
+      → (next : Text) × (others : List Text) × (more ≡ next ∷ others) × BeginsWith grammar (word ∷ more) item others
+  long_two = sound_two grammar word more (long_turn grammar dashes text more) (long_sound grammar dashes word text more form)
+
+  pub long_faults : (fault : Fault) → IsUtf8 word → long_turn grammar dashes text more ≡ faults fault → IsFaultAt grammar word more fault
+  long_faults = sound_faults grammar word more (long_turn grammar dashes text more) (long_sound grammar dashes word text more form)
+
+-- The same of a word in short form, by its flags and the text after them.
+module _ (grammar : Grammar) (named : IsNamed grammar) (word : Text) (names : List ℕ) (text : Text) (more : List Text)
+    (form : IsShortForm grammar word (names ++ text)) (each : AllByRecursion (IsFlag grammar) names) where
+  pub cluster_one : (item : Item) → cluster_turn grammar names text more ≡ takes_one item → BeginsWith grammar (word ∷ more) item more
+  cluster_one = sound_one grammar word more (cluster_turn grammar names text more) (cluster_sound grammar named word names text more form each)
+
+  pub cluster_two : (item : Item) → cluster_turn grammar names text more ≡ takes_two item
+      → (next : Text) × (others : List Text) × (more ≡ next ∷ others) × BeginsWith grammar (word ∷ more) item others
+  cluster_two = sound_two grammar word more (cluster_turn grammar names text more) (cluster_sound grammar named word names text more form each)
+
+  pub cluster_faults : (fault : Fault) → IsUtf8 word → cluster_turn grammar names text more ≡ faults fault → IsFaultAt grammar word more fault
+  cluster_faults = sound_faults grammar word more (cluster_turn grammar names text more) (cluster_sound grammar named word names text more form each)
+
 -- Now the other way: what a line begins with settles the turn of its first word.
 
 -- the turn of a word in long form, by its name and its attached argument
@@ -338,7 +376,7 @@ long_form_turn grammar word name argument more form =
       before = before_more grammar.long_only form.dashes name argument form.before;
       word_is = form.word_is;
       dashed = form.dashed;
-      no_stop = form.no_stop
+      no_stop = form.no_stop;
     }) ∙ long_turn_cut grammar form.dashes name argument more form.cut_once
 
 -- the word of a name that resolves, with its dashes and its argument, is dashed and not `--`
@@ -350,13 +388,13 @@ resolved_dashes grammar named one (c ∷ name) argument kind before resolved = r
   before = before_more grammar.long_only one (c ∷ name) argument before;
   word_is = refl;
   dashed = refl;
-  no_stop = λ e. let same : c ≡ dash = cc in false≢true (sym before.1 ∙ eq-eqb c dash same)
+  no_stop = λ e. let same : c ≡ dash = cc in false≢true (sym before.1 ∙ eq-eqb c dash same);
 }
 resolved_dashes grammar named two (c ∷ name) argument kind before resolved = record {
   before = before_more grammar.long_only two (c ∷ name) argument before;
   word_is = refl;
   dashed = refl;
-  no_stop = λ e. cc e
+  no_stop = λ e. cc e;
 }
 
 -- the turn of the word of a name that resolves
@@ -437,8 +475,11 @@ ending_taken : (grammar : Grammar) (names : List ℕ) (option : ℕ) (argument :
 ending_taken grammar names option argument more lawful No resolved fits followed = absurd fits
 ending_taken grammar names option none more lawful Yes resolved fits followed = absurd fits
 ending_taken grammar names option none more lawful Maybe resolved fits followed =
-    inl (short_turn_byte grammar (dash ∷ (names ++ option ∷ [])) names option [] more (Some Maybe) (lawful_short grammar names (ends_in option none) lawful) lawful.each resolved
-      ∙ maybe_taken names option more (followed refl), refl)
+    inl (
+      short_turn_byte grammar (dash ∷ (names ++ option ∷ [])) names option [] more (Some Maybe) (lawful_short grammar names (ends_in option none) lawful) lawful.each resolved
+          ∙ maybe_taken names option more (followed refl),
+      refl,
+    )
 ending_taken grammar names option (attached []) more lawful Yes resolved fits followed = absurd (fits refl)
 ending_taken grammar names option (attached []) more lawful Maybe resolved fits followed = absurd (fits refl)
 ending_taken grammar names option (attached (c ∷ text)) more lawful Yes resolved fits followed =
@@ -448,8 +489,12 @@ ending_taken grammar names option (attached (c ∷ text)) more lawful Maybe reso
 ending_taken grammar names option (separate next) more lawful Yes resolved fits followed =
     inr (short_turn_byte grammar (dash ∷ (names ++ option ∷ [])) names option [] (next ∷ more) (Some Yes) (lawful_short grammar names (ends_in option (separate next)) lawful) lawful.each resolved, next, refl)
 ending_taken grammar names option (separate next) more lawful Maybe resolved fits followed =
-    inr (short_turn_byte grammar (dash ∷ (names ++ option ∷ [])) names option [] (next ∷ more) (Some Maybe) (lawful_short grammar names (ends_in option (separate next)) lawful) lawful.each resolved
-      ∙ rw fits refl, next, refl)
+    inr (
+      short_turn_byte grammar (dash ∷ (names ++ option ∷ [])) names option [] (next ∷ more) (Some Maybe) (lawful_short grammar names (ends_in option (separate next)) lawful) lawful.each resolved
+          ∙ rw fits refl,
+      next,
+      refl,
+    )
 
 -- the words that a lawful item spells
 pub spelled_turn : (grammar : Grammar) → IsNamed grammar → (item : Item) (more : List Text) → IsLawfulItem grammar item
@@ -482,6 +527,7 @@ unknown_byte : (grammar : Grammar) → IsNamed grammar → (c byte : ℕ) (text 
 unknown_byte grammar named c byte text e unknown = by_byte (cases_lt byte 128) (named.ascii byte) unknown where
   alone : byte < 128 → encode_utf8 c ≡ byte ∷ []
   alone ascii = encode-ascii_byte c byte text [] (sym e ∙ sym (append-nil (encode_utf8 c))) ascii
+
   by_byte : (byte < 128) ⊎ (128 ≤ byte) → (byte < 128) ⊎ (grammar.kind_of (byte ∷ []) ≡ None) → (1 < length (encode_utf8 c)) ⊎ (grammar.kind_of (encode_utf8 c) ≡ None)
       → grammar.kind_of (byte ∷ []) ≡ None
   by_byte size (inr unresolved) known = unresolved
@@ -516,7 +562,7 @@ unknown_turn : (grammar : Grammar) → IsNamed grammar → (word name : Text) (m
 unknown_turn grammar named word name more utf8 has =
     let whole : IsUtf8 (dash ∷ (has.names ++ (name ++ has.more))) = subst IsUtf8 has.short_form.word_is utf8 in
     let from : IsUtf8 (name ++ has.more) = IsUtf8-past_asciis has.names (name ++ has.more) (flags_ascii grammar named has.names has.each)
-      (IsUtf8-past_ascii dash (has.names ++ (name ++ has.more)) (omega arith) whole) in
+    (IsUtf8-past_ascii dash (has.names ++ (name ++ has.more)) (omega arith) whole) in
     unknown_bytes_turn grammar named word has.names has.character name has.more more has.name_is from has.short_form has.each has.unknown
 
 -- a word that ends in an option of kind Yes, at the end of the line

@@ -1,8 +1,8 @@
 -- Texts alone: a text in long form, cut at its first `=`.
-use Rattle.std.proofs.Common.{◌≡◌, ◌≢◌, ◌==◌, ℕ, ◌+◌, ◌<◌, ◌≤◌, Bool, true, false, List, [], ◌∷◌, ◌++◌, length, Option, Some, None, refl, sym, ap, ◌∙◌, subst, inl, inr, arith, one-add, add-one, encode_utf8}
+use Rattle.std.proofs.Common.{◌≡◌, ◌≢◌, ◌==◌, ℕ, ◌<◌, ◌≤◌, true, false, List, [], ◌∷◌, ◌++◌, length, Option, Some, None, refl, sym, ap, ◌∙◌, subst, inl, inr, arith, one-add, add-one, encode_utf8}
 use Rattle.std.proofs.lemmas.Bool.{cases_Bool, cases_lt, eqb-true, or_parts, and_parts}
 use Rattle.getopts.specs.Names.{Text}
-use Rattle.getopts.specs.Scan.{dash, equals_sign, is_dashed, begins_with_dash, holds_equals, stop_word, with_equals}
+use Rattle.getopts.specs.Scan.{equals_sign, begins_with_dash, holds_equals, with_equals}
 use Rattle.getopts.proofs.ScanTurns.{long_name, long_argument, first_char}
 use Rattle.std.specs.List.{AllByRecursion}
 use Rattle.std.specs.Char.{IsScalar}
@@ -51,14 +51,6 @@ long_argument-append (c ∷ name) argument plain =
     let parts = or_parts (c == equals_sign) (holds_equals name) plain in
     long_argument-cons c (name ++ with_equals argument) parts.0 ∙ long_argument-append name argument parts.1
 
--- the name in a text begins with a dash only where the text does
-pub begins_with_dash-long_name : (text : Text) → begins_with_dash text ≡ false → begins_with_dash (long_name text) ≡ false
-begins_with_dash-long_name [] plain = refl
-begins_with_dash-long_name (c ∷ text) plain = elim (cases_Bool (c == equals_sign)) [
-  | inl here ↦ rw (eqb-true c equals_sign here) refl
-  | inr other ↦ rw (long_name-cons c text other) plain
-]
-
 -- a text that begins with a name begins with a dash only where the name does
 pub begins_with_dash-append : (name : Text) (argument : Option Text) → begins_with_dash name ≡ false → begins_with_dash (name ++ with_equals argument) ≡ false
 begins_with_dash-append [] None plain = refl
@@ -75,12 +67,7 @@ pub filled-append : {X : Type 0} (front : List X) (x : X) (more : List X) → fr
 filled-append [] x more e = cc e
 filled-append (y ∷ front) x more e = cc e
 
--- what holds of each element holds of each of a front
-pub AllByRecursion-front : {X : Type 0} (P : X → Type 0) (xs ys : List X) → AllByRecursion P (xs ++ ys) → AllByRecursion P xs
-AllByRecursion-front P [] ys all = tt
-AllByRecursion-front P (x ∷ xs) ys all = (all.0, AllByRecursion-front P xs ys all.1)
-
--- and of each of the rest
+-- what holds of each element of two lists holds of each of the second
 pub AllByRecursion-rest : {X : Type 0} (P : X → Type 0) (xs ys : List X) → AllByRecursion P (xs ++ ys) → AllByRecursion P ys
 AllByRecursion-rest P [] ys all = all
 AllByRecursion-rest P (x ∷ xs) ys all = AllByRecursion-rest P xs ys all.1
