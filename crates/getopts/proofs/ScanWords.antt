@@ -1,5 +1,5 @@
 -- Lemmas on single words.
-use Rattle.std.proofs.Common.{◌≡◌, ◌≢◌, ◌<◌, ◌≤◌, ◌+◌, ℕ, Bool, true, false, eqb, List, [], ◌∷◌, ◌++◌, length, get_or, slice_index, slice_range, refl, ap, ◌∙◌, sym, arith, lit<, MatchOption}
+use Rattle.std.proofs.Common.{◌≡◌, ◌≢◌, ◌<◌, ◌≤◌, ◌+◌, ℕ, Bool, true, false, eqb, List, [], ◌∷◌, ◌++◌, length, get_or, slice_index, slice_range, take, drop, drop-cons, add-one, ◌-◌, refl, ap, ◌∙◌, sym, arith, lit<, MatchOption}
 use Rattle.std.proofs.lemmas.List.{get_or_default}
 use Rattle.std.proofs.lemmas.List.Folds.{list_any_none}
 use Rattle.std.specs.Char.{is_ascii}
@@ -32,7 +32,10 @@ begins_with_dash-front (c ∷ name) more h = h
 
 -- one byte of a text, as a text
 pub slice_range-one : (text : Text) (i : ℕ) → i < length text → slice_range text i (i + 1) ≡ slice_index text i ∷ []
-slice_range-one text i within = ?
+slice_range-one text i within =
+    let span : (i + 1) - i ≡ 1 = omega arith in
+    let begins : drop i text ≡ get_or text i 0 ∷ drop (i + 1) text = rw (add-one, drop-cons text i 0) refl in
+    ap (λ n. take n (drop i text)) span ∙ ap (take 1) begins
 
 -- a text of some length isn't empty
 pub filled-length : (text : Text) → eqb (length text) 0 ≡ false → text ≢ []
