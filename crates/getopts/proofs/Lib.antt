@@ -1,7 +1,9 @@
+pub mod FailLemmas
 pub mod CanonLemmas
 pub mod NamesLemmas
 pub mod OptLemmas
 pub mod OptionsLemmas
+pub mod ScanClusters
 pub mod ScanItems
 pub mod ScanLawProofs
 pub mod ScanReadings

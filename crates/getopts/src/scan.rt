@@ -128,7 +128,7 @@ fn ending<'w>(
 
 impl<'o> Scanner<'o> {
     ghost use Rattle.std.specs.Prelude.{drop, map};
-    ghost use Rattle.getopts.specs.Line.{occurrence_view, occurrences_view, scanner_grammar, IsLawfulScanner, IsInLongForm, ReadsItem, ReadsLine};
+    ghost use Rattle.getopts.specs.Line.{occurrence_view, occurrences_view, scanner_grammar, IsLawfulScanner, IsInLongForm, ReadsItem, AddsItem, ReadsLine};
 
     /// The place and the kind of argument of the option that a name resolves to.
     fn option(&self, name: &str) -> Option<(usize, HasArg)>
@@ -186,5 +186,39 @@ impl<'o> Scanner<'o> {
         } else {
             None
         }
+    }
+
+    /// Reads a cluster, by its text after the dash and the words after its first. Adds its occurrences,
+    /// and answers how many of those words it used.
+    fn cluster<'w>(
+        &self,
+        alloc: Global,
+        text: &'w str,
+        after: &[&'w str],
+        position: usize,
+        found: &mut Vec<Occurrence<'w>>,
+    ) -> Result<usize, Fail>
+        requires named { IsLawfulScanner self.now }
+        ensures ok { IfOk result (λ used. (word : Text) → IsShortForm (scanner_grammar self.now) word text.now
+            → AddsItem (scanner_grammar self.now) word (texts after.now) position used (occurrences_view found.old.items) (occurrences_view found.new.items)) }
+        ensures err { IfErr result (λ fail. (word : Text) → IsShortForm (scanner_grammar self.now) word text.now
+            → Tells fail (IsFaultAt (scanner_grammar self.now) word (texts after.now))) }
+    {
+        'names: for at in 0..text.len() {
+            match self.option_at(text, at) {
+                None => {
+                    let name = first_character(&text[at..]);
+                    return Err(Fail::unrecognized_option(alloc, name));
+                }
+                Some((group, HasArg::No)) => found.push(Occurrence::bare(group, position))?,
+                Some((group, hasarg)) => {
+                    let name = &text[at..at + 1];
+                    let (value, used) = ending(alloc, hasarg, name, &text[at + 1..], after)?;
+                    found.push(Occurrence { group, position, value })?;
+                    return Ok(used);
+                }
+            }
+        }
+        Ok(0)
     }
 }
