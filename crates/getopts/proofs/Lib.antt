@@ -1,2 +1,11 @@
-pub mod ScanTurns
 pub mod CanonLemmas
+pub mod NamesLemmas
+pub mod OptLemmas
+pub mod OptionsLemmas
+pub mod ScanItems
+pub mod ScanLawProofs
+pub mod ScanReadings
+pub mod ScanSteps
+pub mod ScanTexts
+pub mod ScanTurns
+pub mod ScanWords

@@ -1,5 +1,5 @@
 -- The faults that a line may have, and their printed texts.
-use Rattle.std.specs.Prelude.{Option, Some, None, ◌++◌, codes}
+use Rattle.std.specs.Prelude.{Option, Some, None, ◌++◌, codes, MatchOption, ⊤}
 use Rattle.std.specs.String.{string_bytes}
 use Rattle.getopts.specs.Names.{Text}
 use Rattle.getopts.specs.declared.fail.Fail.{Fail}
@@ -30,3 +30,7 @@ fail_text (fail.OptionMissing name) = codes "Required option '" ++ (string_bytes
 fail_text (fail.OptionDuplicated name) = codes "Option '" ++ (string_bytes name ++ codes "' given more than once")
 fail_text (fail.UnexpectedArgument name) = codes "Option '" ++ (string_bytes name ++ codes "' does not take an argument")
 fail_text fail.OutOfMemory = codes "Out of memory"
+
+-- what a refusal tells meets this, unless it tells that memory was refused
+abbrev pub Tells : Fail → (Fault → Type 0) → Type 0
+Tells fail P = MatchOption (fault_of fail) ⊤ P

@@ -1,6 +1,8 @@
+pub mod Canon
+pub mod Fail
+pub mod Line
+pub mod Matches
 pub mod Names
 pub mod Options
-pub mod Fail
 pub mod Scan
-pub mod Matches
-pub mod Canon
+pub mod ScanLaws

@@ -38,7 +38,7 @@ matched_from place (group ∷ groups) occurrences = record {
   names = group.names;
   kind = group.kind;
   occurrence = group.occurrence;
-  found = found_at place occurrences
+  found = found_at place occurrences;
 } ∷ matched_from (place + 1) groups occurrences
 
 -- the matches of a reading
@@ -46,7 +46,7 @@ abbrev pub matches_of : Declared → Reading → Matched
 matches_of options reading = record {
   groups = matched_from 0 options.groups (occurrences_of (grammar_of options) reading);
   free = free_words reading;
-  trailing_start = trailing_start reading
+  trailing_start = trailing_start reading;
 }
 
 -- the number of occurrences that a group may have: exactly one, at most one, or any

@@ -3,6 +3,8 @@ use Rattle.std.specs.Prelude.{◌≢◌, ◌==◌, ℕ, ◌+◌, ◌<◌, ◌≤
 use Rattle.std.specs.List.{find, position}
 use Rattle.std.specs.Option.{option_and_then, option_or}
 use Rattle.std.specs.Str.{bytes_eq}
+use Rattle.std.specs.String.{string_bytes}
+use Rattle.getopts.specs.declared.names.Names.{Names as Held}
 
 -- a text, as its bytes
 abbrev pub Text : Type 0
@@ -30,6 +32,10 @@ is_empty text = length text == 0
 -- the main name: the long name where there is one, else the short name
 abbrev pub main_name : Names → Text
 main_name names = if is_empty names.long then names.short else names.long
+
+-- the two names as the code holds them
+abbrev pub names_view : Held → Names
+names_view held = record { short = string_bytes held.short; long = string_bytes held.long }
 
 -- whether this is the group's main name
 abbrev pub is_main : Text → Names → Bool

@@ -1,8 +1,11 @@
 -- What options hold: groups in order of definition, a parsing style and a mode.
-use Rattle.std.specs.Prelude.{◌≡◌, ℕ, Bool, List, Option, map, slice_get}
+use Rattle.std.specs.Prelude.{◌≡◌, ℕ, Bool, List, [], ◌∷◌, ◌++◌, Option, map, slice_get}
 use Rattle.std.specs.List.{AllByRecursion}
 use Rattle.std.specs.Option.{option_and_then, option_map}
-use Rattle.getopts.specs.Names.{Text, Names, IsLawfullyNamed, resolution}
+use Rattle.std.specs.String.{string_bytes}
+use Rattle.getopts.specs.Names.{Text, Names, IsLawfullyNamed, resolution, names_view}
+use Rattle.getopts.specs.declared.options.OptGroup.{OptGroup}
+use Rattle.getopts.specs.declared.options.Opt.{Opt}
 use Rattle.getopts.specs.declared.options.HasArg.{HasArg}
 use Rattle.getopts.specs.declared.options.Occur.{Occur}
 use Rattle.getopts.specs.declared.options.ParsingStyle.{ParsingStyle}
@@ -15,11 +18,39 @@ pub record Group : Type 0 where
   pub kind : HasArg
   pub occurrence : Occur
 
+-- a group as the code holds it
+abbrev pub group_view : OptGroup → Group
+group_view held = record {
+  names = names_view held.names;
+  hint = string_bytes held.hint;
+  description = string_bytes held.desc;
+  kind = held.hasarg;
+  occurrence = held.occur;
+}
+
+-- what reading asks of a group: its names, its kind and its occurrence kind
+pub record Known : Type 0 where
+  pub names : Names
+  pub kind : HasArg
+  pub occurrence : Occur
+
+-- what reading asks of a group, from the whole group
+abbrev pub known_of : Group → Known
+known_of group = record { names = group.names; kind = group.kind; occurrence = group.occurrence }
+
+-- the same as the code holds it
+abbrev pub opt_view : Opt → Known
+opt_view held = record { names = names_view held.names; kind = held.hasarg; occurrence = held.occur }
+
 -- groups in order of definition, a parsing style, and whether the mode is long-only
 pub record Declared : Type 0 where
   pub groups : List Group
   pub style : ParsingStyle
   pub long_only : Bool
+
+-- the options with one more group, the last
+abbrev pub with_group : Declared → Group → Declared
+with_group options group = record options { groups = options.groups ++ group ∷ [] }
 
 -- each group is lawfully named
 abbrev pub AreLawfullyNamed : List Group → Type 0
@@ -47,5 +78,18 @@ grammar_of options = record {
   place_of = resolution (names_of options.groups);
   kind_of = kind_of options.groups;
   style = options.style;
-  long_only = options.long_only
+  long_only = options.long_only;
+}
+
+-- the kind of argument of the option that a name resolves to, as the code holds options
+abbrev pub opt_kind_of : List Opt → Text → Option HasArg
+opt_kind_of opts name = option_and_then (λ place. option_map (λ opt. opt.hasarg) (slice_get opts place)) (resolution (map (λ opt. names_view opt.names) opts) name)
+
+-- the grammar of options as the code holds them
+abbrev pub opts_grammar : List Opt → ParsingStyle → Bool → Grammar
+opts_grammar opts style long_only = record {
+  place_of = resolution (map (λ opt. names_view opt.names) opts);
+  kind_of = opt_kind_of opts;
+  style = style;
+  long_only = long_only
 }

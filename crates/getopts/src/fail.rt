@@ -1,11 +1,23 @@
 //! The refusals of `parse`.
 
+ghost use Rattle.std.specs.Prelude.{◌≡◌, Some};
+ghost use Rattle.getopts.specs.declared.fail.Fail.TheVariants.{OutOfMemory};
+
+use std::alloc::{AllocError, AllocFailed, Global};
+use std::error::Error;
+use std::fmt;
+
 /// Why a line was refused.
-#[derive(Debug, Drop)]
+///
+/// Scan faults come first, and the first in word order is named: `ArgumentMissing`,
+/// `UnrecognizedOption` and `UnexpectedArgument`, with the name as typed. Count faults come after a
+/// whole scan, and the first group in order of definition is named: `OptionMissing` and
+/// `OptionDuplicated`, with the main name.
+#[derive(Debug, PartialEq, Eq, Drop)]
 pub enum Fail {
     /// The option needs an argument, and the line ends. Tells the name as typed.
     ArgumentMissing(String),
-    /// No option has this name. Tells the name as typed.
+    /// No option has this name. Tells the name as typed; in a cluster, the character.
     UnrecognizedOption(String),
     /// A required option isn't there. Tells its main name.
     OptionMissing(String),
@@ -13,6 +25,93 @@ pub enum Fail {
     OptionDuplicated(String),
     /// The option takes no argument, and one was attached. Tells the name as typed.
     UnexpectedArgument(String),
-    /// Memory was refused. The Rust ends the process there.
+    /// Memory was refused. The Rust ends the process there, and has no such variant.
     OutOfMemory,
+}
+
+impl fmt::Display for Fail {
+    ghost use Rattle.getopts.specs.Fail.{fail_text};
+
+    ghost output = { λ fail. Some (fail_text fail) };
+
+    fn fmt<W: fmt::Write>(&self, f: &mut fmt::Formatter<W>) -> fmt::Result {
+        match self {
+            Fail::ArgumentMissing(name) => write!(f, "Argument to option '{name}' missing"),
+            Fail::UnrecognizedOption(name) => write!(f, "Unrecognized option: '{name}'"),
+            Fail::OptionMissing(name) => write!(f, "Required option '{name}' missing"),
+            Fail::OptionDuplicated(name) => write!(f, "Option '{name}' given more than once"),
+            Fail::UnexpectedArgument(name) => {
+                write!(f, "Option '{name}' does not take an argument")
+            }
+            Fail::OutOfMemory => write!(f, "Out of memory"),
+        }
+    }
+}
+
+impl Error for Fail {}
+
+impl From<AllocError> for Fail {
+    ghost from_gives = { λ _ e. e ≡ OutOfMemory };
+
+    fn from(_error: AllocError) -> Fail {
+        Fail::OutOfMemory
+    }
+}
+
+impl<T: Drop> From<AllocFailed<T>> for Fail {
+    ghost from_gives = { λ _ e. e ≡ OutOfMemory };
+
+    fn from(_error: AllocFailed<T>) -> Fail {
+        Fail::OutOfMemory
+    }
+}
+
+// Each of these makes a fault with a copy of the name, or tells that memory was refused.
+impl Fail {
+    ghost use Rattle.getopts.specs.Fail.{Tells, argument_missing, unrecognized_option, option_missing, option_duplicated, unexpected_argument};
+
+    pub(crate) fn argument_missing(alloc: Global, name: &str) -> Fail
+        ensures { Tells result (λ fault. fault ≡ argument_missing name.now) }
+    {
+        match String::from_str(alloc, name) {
+            Ok(name) => Fail::ArgumentMissing(name),
+            Err(_) => Fail::OutOfMemory,
+        }
+    }
+
+    pub(crate) fn unrecognized_option(alloc: Global, name: &str) -> Fail
+        ensures { Tells result (λ fault. fault ≡ unrecognized_option name.now) }
+    {
+        match String::from_str(alloc, name) {
+            Ok(name) => Fail::UnrecognizedOption(name),
+            Err(_) => Fail::OutOfMemory,
+        }
+    }
+
+    pub(crate) fn option_missing(alloc: Global, name: &str) -> Fail
+        ensures { Tells result (λ fault. fault ≡ option_missing name.now) }
+    {
+        match String::from_str(alloc, name) {
+            Ok(name) => Fail::OptionMissing(name),
+            Err(_) => Fail::OutOfMemory,
+        }
+    }
+
+    pub(crate) fn option_duplicated(alloc: Global, name: &str) -> Fail
+        ensures { Tells result (λ fault. fault ≡ option_duplicated name.now) }
+    {
+        match String::from_str(alloc, name) {
+            Ok(name) => Fail::OptionDuplicated(name),
+            Err(_) => Fail::OutOfMemory,
+        }
+    }
+
+    pub(crate) fn unexpected_argument(alloc: Global, name: &str) -> Fail
+        ensures { Tells result (λ fault. fault ≡ unexpected_argument name.now) }
+    {
+        match String::from_str(alloc, name) {
+            Ok(name) => Fail::UnexpectedArgument(name),
+            Err(_) => Fail::OutOfMemory,
+        }
+    }
 }

@@ -4,6 +4,7 @@
 mod fail;
 mod names;
 mod options;
+mod scan;
 
 pub use fail::Fail;
 pub use names::names_lawful;

@@ -1,15 +1,63 @@
 //! Names of options, and the search for the group that a name resolves to.
 
-ghost use Rattle.std.specs.Prelude.{◌≡◌, ◌↔◌, IsTrue};
+ghost use Rattle.std.specs.Prelude.{◌≡◌, ◌↔◌, IsTrue, map, IfOk};
 ghost use Rattle.getopts.specs.Names.{AreLawful};
+
+use std::alloc::{AllocError, Global};
 
 /// Whether an option group may have these two names.
 ///
 /// The short name has at most one byte, the long name has none or at least two, and one of them is
 /// there. Lengths are bytes, so a long name may be one character of several bytes. This is the test
-/// for the condition of the calls that add a group.
+/// for the condition of the calls that add a group. The Rust has no such call: it panics where a name
+/// is too long or too short, and in `parse` where both are empty.
+///
+/// `names_lawful("o", "output")` is true, `names_lawful("", "o")` is false.
 pub fn names_lawful(short: &str, long: &str) -> bool
     ensures { IsTrue result ↔ AreLawful short.now long.now }
 {
     short.len() <= 1 && long.len() != 1 && !(short.is_empty() && long.is_empty())
+}
+
+/// The two names of a group, either of which may be empty.
+#[derive(Debug, Drop)]
+pub(crate) struct Names {
+    pub short: String,
+    pub long: String,
+}
+
+impl Names {
+    ghost use Rattle.getopts.specs.Names.{main_name, names_view, is_main, is_alias};
+
+    pub(crate) fn copied(alloc: Global, short: &str, long: &str) -> Result<Names, AllocError>
+        ensures { IfOk result (λ names. names_view names ≡ record { short = short.now; long = long.now }) }
+    {
+        Ok(Names {
+            short: String::from_str(alloc, short)?,
+            long: String::from_str(alloc, long)?,
+        })
+    }
+
+    /// The main name: the long name where there is one, else the short name.
+    pub(crate) fn main(&self) -> &str
+        ensures { result.now ≡ main_name (names_view self.now) }
+    {
+        if self.long.is_empty() {
+            self.short.as_str()
+        } else {
+            self.long.as_str()
+        }
+    }
+
+    pub(crate) fn is_main(&self, name: &str) -> bool
+        ensures { result ≡ is_main name.now (names_view self.now) }
+    {
+        self.main() == name
+    }
+
+    pub(crate) fn is_alias(&self, name: &str) -> bool
+        ensures { result ≡ is_alias name.now (names_view self.now) }
+    {
+        !self.long.is_empty() && !self.short.is_empty() && self.short.as_str() == name
+    }
 }

@@ -1,0 +1,57 @@
+-- The item that a word in long form begins, by its name, its kind and its argument.
+use Rattle.std.proofs.Common.{◌≡◌, ℕ, ◌≤◌, Bool, true, false, List, [], ◌∷◌, ◌++◌, length, drop, Option, Some, None, refl, ap, ◌∙◌, sym, subst, append_assoc, zero-le, slice_get, arith, Bor}
+use Rattle.std.specs.Prelude.{unwrap_or}
+use Rattle.getopts.specs.Names.{Text}
+use Rattle.getopts.specs.Options.{Grammar}
+use Rattle.getopts.specs.Scan.{Argument, none, attached, separate, Dashes, one, two, long, with_equals, attached_argument, argument_words, value_of, FitsLong, holds_equals, begins_with_dash, MayStandBefore, dash_text, long_word, Occurrence, mention}
+use Rattle.getopts.specs.Line.{texts, IsInLongForm, ReadsItem}
+use Rattle.getopts.specs.declared.options.HasArg.{HasArg}
+use Rattle.getopts.proofs.ScanWords.{begins_with_dash-front}
+
+-- what may stand before a text may stand before the name that it begins with
+pub MayStandBefore-front : (long_only : Bool) (dashes : Dashes) (name more : Text) → MayStandBefore long_only dashes (name ++ more) → MayStandBefore long_only dashes name
+MayStandBefore-front long_only one name more h = (h.0, begins_with_dash-front name more h.1)
+MayStandBefore-front long_only two name more h = h
+
+-- a name and an argument that its kind may have make an item in long form
+pub ReadsItem-long : (grammar : Grammar) (word text name : Text) (argument : Argument) (kind : HasArg) (place : ℕ) (after : List Text) (position used : ℕ) →
+    IsInLongForm grammar word text → text ≡ name ++ with_equals (attached_argument argument) → holds_equals name ≡ false →
+    grammar.kind_of name ≡ Some kind → grammar.place_of name ≡ Some place → FitsLong kind argument →
+    used ≤ length after → after ≡ argument_words argument (drop used after) →
+    ReadsItem grammar word after position used (record { group = place; value = value_of argument; position = position } ∷ [])
+ReadsItem-long grammar word text name argument kind place after position used form text_is cut_once kind_is place_is fits within after_is = record {
+  item = long form.dashes name argument;
+  within = within;
+  begins = record {
+    spells = ap (λ w. w ∷ after) (form.word_is ∙ ap (λ t. dash_text form.dashes ++ t) text_is) ∙ ap (λ words. long_word form.dashes name (attached_argument argument) ∷ words) after_is;
+    lawful = record {
+      before = MayStandBefore-front grammar.long_only form.dashes name (with_equals (attached_argument argument)) (subst (λ t. MayStandBefore grammar.long_only form.dashes t) text_is form.before);
+      cut_once = cut_once;
+      resolves = (kind, kind_is, fits);
+    };
+    followed = λ bare. cc;
+  };
+  found = rw place_is refl;
+}
+
+-- an attached argument, where there is one
+abbrev pub attached_or_none : Option Text → Argument
+attached_or_none None = none
+attached_or_none (Some argument) = attached argument
+
+-- a name in long form that uses no further word
+pub ReadsItem-attached : (grammar : Grammar) (word text name : Text) (value : Option Text) (kind : HasArg) (place : ℕ) (after : List Text) (position : ℕ) →
+    IsInLongForm grammar word text → text ≡ name ++ with_equals value → holds_equals name ≡ false →
+    grammar.kind_of name ≡ Some kind → grammar.place_of name ≡ Some place → FitsLong kind (attached_or_none value) →
+    ReadsItem grammar word after position 0 (record { group = place; value = value; position = position } ∷ [])
+ReadsItem-attached grammar word text name None kind place after position form text_is cut_once kind_is place_is fits =
+    ReadsItem-long grammar word text name none kind place after position 0 form text_is cut_once kind_is place_is fits zero-le refl
+ReadsItem-attached grammar word text name (Some argument) kind place after position form text_is cut_once kind_is place_is fits =
+    ReadsItem-long grammar word text name (attached argument) kind place after position 0 form text_is cut_once kind_is place_is fits zero-le refl
+
+-- the first word of a list of borrowed words, and the others
+pub texts-first : (words : List (Bor Text)) (word : Bor Text) → slice_get words 0 ≡ Some word → (1 ≤ length (texts words)) × (texts words ≡ word.now ∷ drop 1 (texts words))
+texts-first [] word h = cc
+texts-first (x ∷ words) word h =
+    let same : x ≡ word = cc in
+    (omega arith, ap (λ (y : Bor Text). y.now ∷ texts words) same)

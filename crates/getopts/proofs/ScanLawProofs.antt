@@ -1,0 +1,450 @@
+-- The laws of readings, proved of every grammar.
+use Rattle.std.proofs.Common.{◌≡◌, ◌≢◌, ◌==◌, ℕ, zero, suc, ◌+◌, ◌<◌, ◌≤◌, Bool, true, false, cond, List, [], ◌∷◌, ◌++◌, length, map, drop, get_or, Some, None, refl, ap, ◌∙◌, subst, arith}
+use Rattle.std.specs.List.{AllByRecursion, flat_map}
+use Rattle.std.proofs.lemmas.List.{append-nil, append_assoc, length-append}
+use Rattle.std.proofs.lemmas.Grind.{flat_map-append}
+use Rattle.getopts.specs.Names.{Text}
+use Rattle.getopts.specs.Options.{Group, Grammar}
+use Rattle.getopts.specs.Scan.{dash, is_dashed, begins_with_dash, Argument, none, attached, separate, Dashes, one, two, End, flags, ends_in, Item, free, long, cluster, dash_text, value_of, end_text, spelled, spelled_all, MayStandBefore, FitsLong, FitsEnd, IsLawfulEnd, IsLawfulLong, IsLawfulCluster, IsLawfulItem, is_bare, EndsOrIsDashed, AreWellFollowed, Tail, line_end, stop, rest, tail_words, Reading, IsReading, Mention, mention, mentions, Occurrence, occurrence_at, occurrences_after, occurrences_of, free_items, tail_frees, free_words, trailing_after}
+use Rattle.getopts.specs.Matches.{Found, found_at, matched_from}
+use Rattle.getopts.specs.ScanLaws.{ReadsAlike, ReadsAlikeButForPositions, MayStandFor, LongAttachedOrSeparate, ShortAttachedOrSeparate, ClusterSplits, OneDashOrTwo, is_last_bare, joined_reading, HasContentOfBoth, LinesCompose, IsAfterStop, TrailingStartIsAfterStop, IsSubsequence, empty, kept, left_out, FreeWordsAreSubsequence, NeverDecrease, PositionsAreInOrder, HavePositionsInOrder}
+use Rattle.getopts.specs.declared.options.HasArg.TheVariants.{Yes}
+
+-- what holds of each element of two lists, and of both joined
+AllByRecursion-append : {X : Type 0} (P : X → Type 0) (xs ys : List X) → AllByRecursion P xs → AllByRecursion P ys → AllByRecursion P (xs ++ ys)
+AllByRecursion-append P [] ys left right = right
+AllByRecursion-append P (x ∷ xs) ys left right = (left.0, AllByRecursion-append P xs ys left.1 right)
+
+AllByRecursion-left : {X : Type 0} (P : X → Type 0) (xs ys : List X) → AllByRecursion P (xs ++ ys) → AllByRecursion P xs
+AllByRecursion-left P [] ys each = tt
+AllByRecursion-left P (x ∷ xs) ys each = (each.0, AllByRecursion-left P xs ys each.1)
+
+AllByRecursion-right : {X : Type 0} (P : X → Type 0) (xs ys : List X) → AllByRecursion P (xs ++ ys) → AllByRecursion P ys
+AllByRecursion-right P [] ys each = each
+AllByRecursion-right P (x ∷ xs) ys each = AllByRecursion-right P xs ys each.1
+
+-- what is left of joined lists without the first
+drop-append : {X : Type 0} (xs ys : List X) → drop (length xs) (xs ++ ys) ≡ ys
+drop-append [] ys = refl
+drop-append (x ∷ xs) ys = drop-append xs ys
+
+-- the first word of an item is the same whatever follows it
+EndsOrIsDashed-spelled : (item : Item) (words others : List Text) → EndsOrIsDashed (spelled item words) → EndsOrIsDashed (spelled item others)
+EndsOrIsDashed-spelled (free word) words others begins = begins
+EndsOrIsDashed-spelled (long dashes name argument) words others begins = begins
+EndsOrIsDashed-spelled (cluster names end) words others begins = begins
+
+-- only ordinary mode has bare clusters
+ordinary_from_bare : (grammar : Grammar) (item : Item) → IsLawfulItem grammar item → is_bare item ≡ true → grammar.long_only ≡ false
+ordinary_from_bare grammar (free word) lawful bare = cc bare
+ordinary_from_bare grammar (long dashes name argument) lawful bare = cc bare
+ordinary_from_bare grammar (cluster names end) lawful bare = lawful.ordinary
+
+-- in ordinary mode a word in long form is dashed
+is_dashed-long : (grammar : Grammar) (dashes : Dashes) (name text : Text) → MayStandBefore grammar.long_only dashes name → grammar.long_only ≡ false
+    → is_dashed (dash_text dashes ++ text) ≡ true
+is_dashed-long grammar one name text before ordinary = cc (before.0, ordinary)
+is_dashed-long grammar two name text before ordinary = refl
+
+-- a cluster whose end is lawful has a text after its dash
+filled_from_lawful : (grammar : Grammar) (names : List ℕ) (end : End) → IsLawfulEnd grammar names end → names ++ end_text end ≢ []
+filled_from_lawful grammar [] flags lawful nil = lawful refl
+filled_from_lawful grammar [] (ends_in option argument) lawful nil = cc nil
+filled_from_lawful grammar (name ∷ names) end lawful nil = cc nil
+
+-- `-` and a text that isn't empty are a dashed word
+is_dashed-cons : (text : Text) → text ≢ [] → is_dashed (dash ∷ text) ≡ true
+is_dashed-cons [] filled = absurd (filled refl)
+is_dashed-cons (byte ∷ text) filled = refl
+
+-- a lawful cluster's word is dashed
+is_dashed-cluster : (grammar : Grammar) (names : List ℕ) (end : End) → IsLawfulCluster grammar names end → is_dashed (dash ∷ (names ++ end_text end)) ≡ true
+is_dashed-cluster grammar names end lawful = is_dashed-cons (names ++ end_text end) (filled_from_lawful grammar names end lawful.last)
+
+-- What lets new items stand where old ones stood, before these words: they are lawful and well followed
+-- where the old ones are, and begin with a dashed word in ordinary mode.
+record FitInPlace (grammar : Grammar) (old new : List Item) (more : List Text) : Type 0 where
+  lawful : AllByRecursion (IsLawfulItem grammar) old → AllByRecursion (IsLawfulItem grammar) new
+  dashed : AllByRecursion (IsLawfulItem grammar) new → grammar.long_only ≡ false → EndsOrIsDashed (spelled_all new more)
+  followed : AreWellFollowed old more → AreWellFollowed new more
+
+-- items in front begin with a dashed word before the new ones too
+EndsOrIsDashed-in_place : (front old new : List Item) (more : List Text) → EndsOrIsDashed (spelled_all new more)
+    → EndsOrIsDashed (spelled_all (front ++ old) more)
+    → EndsOrIsDashed (spelled_all (front ++ new) more)
+EndsOrIsDashed-in_place [] old new more dashed begins = dashed
+EndsOrIsDashed-in_place (item ∷ front) old new more dashed begins = EndsOrIsDashed-spelled item _ _ begins
+
+-- items in front are well followed by the new ones too
+AreWellFollowed-in_place : (grammar : Grammar) (front old new : List Item) (more : List Text) → AllByRecursion (IsLawfulItem grammar) front
+    → (grammar.long_only ≡ false → EndsOrIsDashed (spelled_all new more))
+    → (AreWellFollowed old more → AreWellFollowed new more)
+    → AreWellFollowed (front ++ old) more
+    → AreWellFollowed (front ++ new) more
+AreWellFollowed-in_place grammar [] old new more lawful dashed followed before = followed before
+AreWellFollowed-in_place grammar (item ∷ front) old new more lawful dashed followed before = (
+  λ bare. EndsOrIsDashed-in_place front old new more (dashed (ordinary_from_bare grammar item lawful.0 bare)) (before.0 bare),
+  AreWellFollowed-in_place grammar front old new more lawful.1 dashed followed before.1,
+)
+
+-- with new items that fit in place of old ones a reading stays a reading, of the words that it spells
+IsReading-in_place : (grammar : Grammar) (front old new : List Item) (tail : Tail) (words : List Text) → FitInPlace grammar old new (tail_words tail)
+    → IsReading grammar (record { items = front ++ old; tail = tail }) words
+    → IsReading grammar (record { items = front ++ new; tail = tail }) (spelled_all (front ++ new) (tail_words tail))
+IsReading-in_place grammar front old new tail words fit reads =
+    let ahead : AllByRecursion (IsLawfulItem grammar) front = AllByRecursion-left (IsLawfulItem grammar) front old reads.items in
+    let lawful : AllByRecursion (IsLawfulItem grammar) new = fit.lawful (AllByRecursion-right (IsLawfulItem grammar) front old reads.items) in
+    record {
+      spells = refl;
+      items = AllByRecursion-append (IsLawfulItem grammar) front new ahead lawful;
+      tail = reads.tail;
+      followed = AreWellFollowed-in_place grammar front old new (tail_words tail) ahead (fit.dashed lawful) fit.followed reads.followed;
+    }
+
+-- items in front leave the same occurrences where the new items have those of the old ones
+occurrences_after-in_place : (grammar : Grammar) (front old new : List Item) → ((before : ℕ) → occurrences_after before grammar new ≡ occurrences_after before grammar old)
+    → (before : ℕ) → occurrences_after before grammar (front ++ new) ≡ occurrences_after before grammar (front ++ old)
+occurrences_after-in_place grammar [] old new same before = same before
+occurrences_after-in_place grammar (item ∷ front) old new same before =
+    ap (λ later. map (occurrence_at before) (mentions grammar item) ++ later) (occurrences_after-in_place grammar front old new same (before + 1))
+
+-- the free items of two lists
+free_items-append : (items others : List Item) → free_items (items ++ others) ≡ free_items items ++ free_items others
+free_items-append [] others = refl
+free_items-append (free word ∷ items) others = ap (λ words. word ∷ words) (free_items-append items others)
+free_items-append (long dashes name argument ∷ items) others = free_items-append items others
+free_items-append (cluster names end ∷ items) others = free_items-append items others
+
+-- items in front leave the same free words where the new items have those of the old ones
+free_items-in_place : (front old new : List Item) → free_items new ≡ free_items old → free_items (front ++ new) ≡ free_items (front ++ old)
+free_items-in_place front old new same = rw (free_items-append front new, same, ← free_items-append front old)
+
+-- new items that fit, with the same occurrences and free words, read alike
+ReadsAlike-in_place : (grammar : Grammar) (front old new : List Item) (tail : Tail) (words : List Text) → FitInPlace grammar old new (tail_words tail)
+    → ((before : ℕ) → occurrences_after before grammar new ≡ occurrences_after before grammar old)
+    → free_items new ≡ free_items old
+    → IsReading grammar (record { items = front ++ old; tail = tail }) words
+    → ReadsAlike grammar (record { items = front ++ old; tail = tail }) (record { items = front ++ new; tail = tail })
+ReadsAlike-in_place grammar front old new tail words fit same same_free reads =
+    let same_words : free_items (front ++ new) ≡ free_items (front ++ old) = free_items-in_place front old new same_free in
+    record {
+      reads = IsReading-in_place grammar front old new tail words fit reads;
+      occurrences = occurrences_after-in_place grammar front old new same 0;
+      free = ap (λ frees. frees ++ tail_frees tail) same_words;
+      trailing = ap (λ frees. trailing_after (length frees) tail) same_words;
+    }
+
+-- new items that fit, with the same mentions and free words, read alike but for positions
+ReadsAlikeButForPositions-in_place : (grammar : Grammar) (front old new : List Item) (tail : Tail) (words : List Text) → FitInPlace grammar old new (tail_words tail)
+    → flat_map (mentions grammar) new ≡ flat_map (mentions grammar) old
+    → free_items new ≡ free_items old
+    → IsReading grammar (record { items = front ++ old; tail = tail }) words
+    → ReadsAlikeButForPositions grammar (record { items = front ++ old; tail = tail }) (record { items = front ++ new; tail = tail })
+ReadsAlikeButForPositions-in_place grammar front old new tail words fit same same_free reads =
+    let same_words : free_items (front ++ new) ≡ free_items (front ++ old) = free_items-in_place front old new same_free in
+    record {
+      reads = IsReading-in_place grammar front old new tail words fit reads;
+      mentions = rw (flat_map-append (mentions grammar) front new, same, ← flat_map-append (mentions grammar) front old) refl;
+      free = ap (λ frees. frees ++ tail_frees tail) same_words;
+      trailing = ap (λ frees. trailing_after (length frees) tail) same_words;
+    }
+
+-- a long item may stand for one with the same name and value, where it is lawful
+MayStandFor-long : (grammar : Grammar) (dashes other : Dashes) (name : Text) (argument new_argument : Argument) → value_of new_argument ≡ value_of argument
+    → (IsLawfulLong grammar dashes name argument → IsLawfulLong grammar other name new_argument)
+    → MayStandFor ReadsAlike grammar (long other name new_argument ∷ []) (long dashes name argument)
+MayStandFor-long grammar dashes other name argument new_argument same_value lawful front back tail words reads =
+    ReadsAlike-in_place grammar front (long dashes name argument ∷ back) (long other name new_argument ∷ back) tail words fit same refl reads
+  where
+    fit : FitInPlace grammar (long dashes name argument ∷ back) (long other name new_argument ∷ back) (tail_words tail)
+    fit = record {
+      lawful = λ each. (lawful each.0, each.1);
+      dashed = λ each ordinary. is_dashed-long grammar other name _ each.0.before ordinary;
+      followed = λ each. (λ bare. cc bare, each.1);
+    }
+
+    same : (before : ℕ) → occurrences_after before grammar (long other name new_argument ∷ back) ≡ occurrences_after before grammar (long dashes name argument ∷ back)
+    same before = ap (λ value. occurrence_at before (mention grammar name value) ∷ occurrences_after (before + 1) grammar back) same_value
+
+-- a lawful long item of kind Yes stays lawful with another argument that Yes may have
+IsLawfulLong-yes : (grammar : Grammar) (dashes : Dashes) (name : Text) (argument new_argument : Argument) → grammar.kind_of name ≡ Some Yes
+    → FitsLong Yes new_argument
+    → IsLawfulLong grammar dashes name argument
+    → IsLawfulLong grammar dashes name new_argument
+IsLawfulLong-yes grammar dashes name argument new_argument kind fits lawful = record {
+  before = lawful.before;
+  cut_once = lawful.cut_once;
+  resolves = (Yes, kind, fits);
+}
+
+-- a long argument attached or separate
+pub LongAttachedOrSeparate_lem : (grammar : Grammar) → LongAttachedOrSeparate grammar
+LongAttachedOrSeparate_lem grammar = record {
+  to_separate = λ dashes name argument kind.
+      MayStandFor-long grammar dashes dashes name (attached argument) (separate argument) refl (IsLawfulLong-yes grammar dashes name (attached argument) (separate argument) kind tt);
+  to_attached = λ dashes name argument kind.
+      MayStandFor-long grammar dashes dashes name (separate argument) (attached argument) refl (IsLawfulLong-yes grammar dashes name (separate argument) (attached argument) kind tt);
+}
+
+-- in long-only mode either dashes may stand before a name that doesn't begin with `-`
+MayStandBefore-long_only : (long_only : Bool) (dashes : Dashes) (name : Text) → long_only ≡ true → begins_with_dash name ≡ false → MayStandBefore long_only dashes name
+MayStandBefore-long_only long_only one name only plain = (only, plain)
+MayStandBefore-long_only long_only two name only plain = tt
+
+-- one dash or two
+pub OneDashOrTwo_lem : (grammar : Grammar) → OneDashOrTwo grammar
+OneDashOrTwo_lem grammar = record {
+  other_dashes = λ dashes other name argument only plain. MayStandFor-long grammar dashes other name argument argument refl (λ lawful. record {
+    before = MayStandBefore-long_only grammar.long_only other name only plain;
+    cut_once = lawful.cut_once;
+    resolves = lawful.resolves;
+  });
+}
+
+-- an argument doesn't change how a cluster begins after its dash
+begins_with_dash-argument : (names : List ℕ) (option : ℕ) (text other : Text) → begins_with_dash (names ++ option ∷ text) ≡ begins_with_dash (names ++ option ∷ other)
+begins_with_dash-argument [] option text other = refl
+begins_with_dash-argument (name ∷ names) option text other = refl
+
+-- a cluster that ends in an option of kind Yes may stand for one with the same value
+MayStandFor-cluster : (grammar : Grammar) (names : List ℕ) (option : ℕ) (argument new_argument : Argument) → value_of new_argument ≡ value_of argument
+    → grammar.kind_of (option ∷ []) ≡ Some Yes
+    → FitsEnd Yes new_argument
+    → is_bare (cluster names (ends_in option new_argument)) ≡ false
+    → MayStandFor ReadsAlike grammar (cluster names (ends_in option new_argument) ∷ []) (cluster names (ends_in option argument))
+MayStandFor-cluster grammar names option argument new_argument same_value kind fits filled front back tail words reads =
+    ReadsAlike-in_place grammar front (cluster names (ends_in option argument) ∷ back) (cluster names (ends_in option new_argument) ∷ back) tail words fit same refl reads
+  where
+    fit : FitInPlace grammar (cluster names (ends_in option argument) ∷ back) (cluster names (ends_in option new_argument) ∷ back) (tail_words tail)
+    fit = record {
+      lawful = λ each. (
+        record {
+          ordinary = each.0.ordinary;
+          short_form = begins_with_dash-argument names option _ _ ∙ each.0.short_form;
+          each = each.0.each;
+          last = (Yes, kind, fits);
+        },
+        each.1,
+      );
+      dashed = λ each ordinary. is_dashed-cluster grammar names (ends_in option new_argument) each.0;
+      followed = λ each. (λ bare. cc (bare, filled), each.1);
+    }
+
+    same : (before : ℕ) → occurrences_after before grammar (cluster names (ends_in option new_argument) ∷ back) ≡ occurrences_after before grammar (cluster names (ends_in option argument) ∷ back)
+    same before = ap (λ value. map (occurrence_at before) (map (λ name. mention grammar (name ∷ []) None) names ++ mention grammar (option ∷ []) value ∷ []) ++ occurrences_after (before + 1) grammar back) same_value
+
+-- a short argument attached or separate
+pub ShortAttachedOrSeparate_lem : (grammar : Grammar) → ShortAttachedOrSeparate grammar
+ShortAttachedOrSeparate_lem grammar = record {
+  to_separate = λ names option argument kind. MayStandFor-cluster grammar names option (attached argument) (separate argument) refl kind tt refl;
+  to_attached = λ names option argument kind filled. MayStandFor-cluster grammar names option (separate argument) (attached argument) refl kind filled refl;
+}
+
+-- a cluster whose rest is bare is bare
+is_bare-rest : (flag : ℕ) (names : List ℕ) (end : End) → is_bare (cluster names end) ≡ true → is_bare (cluster (flag ∷ names) end) ≡ true
+is_bare-rest flag names flags bare = bare
+is_bare-rest flag names (ends_in option none) bare = bare
+is_bare-rest flag names (ends_in option (attached argument)) bare = bare
+is_bare-rest flag names (ends_in option (separate word)) bare = bare
+
+-- the rest of a cluster ends lawfully, where it has a text
+IsLawfulEnd-rest : (grammar : Grammar) (flag : ℕ) (names : List ℕ) (end : End) → names ++ end_text end ≢ [] → IsLawfulEnd grammar (flag ∷ names) end → IsLawfulEnd grammar names end
+IsLawfulEnd-rest grammar flag names flags filled lawful = λ nil. filled (append-nil names ∙ nil)
+IsLawfulEnd-rest grammar flag names (ends_in option argument) filled lawful = lawful
+
+-- a cluster may stand split after its first flag
+MayStandFor-split : (grammar : Grammar) (flag : ℕ) (names : List ℕ) (end : End) → names ++ end_text end ≢ []
+    → begins_with_dash (names ++ end_text end) ≡ false
+    → MayStandFor ReadsAlikeButForPositions grammar (cluster (flag ∷ []) flags ∷ cluster names end ∷ []) (cluster (flag ∷ names) end)
+MayStandFor-split grammar flag names end filled plain front back tail words reads =
+    ReadsAlikeButForPositions-in_place grammar front (cluster (flag ∷ names) end ∷ back) (cluster (flag ∷ []) flags ∷ cluster names end ∷ back) tail words fit refl refl reads
+  where
+    fit : FitInPlace grammar (cluster (flag ∷ names) end ∷ back) (cluster (flag ∷ []) flags ∷ cluster names end ∷ back) (tail_words tail)
+    fit = record {
+      lawful = λ each. (
+        record {
+          ordinary = each.0.ordinary;
+          short_form = each.0.short_form;
+          each = (each.0.each.0, tt);
+          last = λ nil. cc nil;
+        },
+        (
+          record {
+            ordinary = each.0.ordinary;
+            short_form = plain;
+            each = each.0.each.1;
+            last = IsLawfulEnd-rest grammar flag names end filled each.0.last;
+          },
+          each.1,
+        ),
+      );
+      dashed = λ each ordinary. refl;
+      followed = λ each. (λ bare. cc bare, (λ bare. each.0 (is_bare-rest flag names end bare), each.1));
+    }
+
+-- a cluster splits
+pub ClusterSplits_lem : (grammar : Grammar) → ClusterSplits grammar
+ClusterSplits_lem grammar = record { after_flag = MayStandFor-split grammar }
+
+-- the words of an item, before two lists of words
+spelled-append : (item : Item) (words more : List Text) → spelled item (words ++ more) ≡ spelled item words ++ more
+spelled-append (free word) words more = refl
+spelled-append (long dashes name none) words more = refl
+spelled-append (long dashes name (attached argument)) words more = refl
+spelled-append (long dashes name (separate word)) words more = refl
+spelled-append (cluster names flags) words more = refl
+spelled-append (cluster names (ends_in option none)) words more = refl
+spelled-append (cluster names (ends_in option (attached argument))) words more = refl
+spelled-append (cluster names (ends_in option (separate word))) words more = refl
+
+-- the words of items, before two lists of words
+spelled_all-before_both : (items : List Item) (words more : List Text) → spelled_all items (words ++ more) ≡ spelled_all items words ++ more
+spelled_all-before_both [] words more = refl
+spelled_all-before_both (item ∷ items) words more = ap (spelled item) (spelled_all-before_both items words more) ∙ spelled-append item (spelled_all items words) more
+
+-- the words of two lists of items
+spelled_all-append : (items others : List Item) (more : List Text) → spelled_all (items ++ others) more ≡ spelled_all items (spelled_all others more)
+spelled_all-append [] others more = refl
+spelled_all-append (item ∷ items) others more = ap (spelled item) (spelled_all-append items others more)
+
+-- bare clusters stay followed as they may be where others stand after the last item, which isn't bare
+AreWellFollowed-append : (items others : List Item) (more : List Text) → is_last_bare items ≡ false → AreWellFollowed items [] → AreWellFollowed others more → AreWellFollowed (items ++ others) more
+AreWellFollowed-append [] others more last before after = after
+AreWellFollowed-append (item ∷ []) others more last before after = (λ bare. cc (last, bare), after)
+AreWellFollowed-append (item ∷ next ∷ items) others more last before after =
+    (λ bare. EndsOrIsDashed-spelled next _ _ (before.0 bare), AreWellFollowed-append (next ∷ items) others more last before.1 after)
+
+-- a line read to its end by these items, and the items and the tail of another, are read together
+IsReading-joined : (grammar : Grammar) (items : List Item) (second : Reading) (words more : List Text) → IsReading grammar (record { items = items; tail = line_end }) words → is_last_bare items ≡ false → IsReading grammar second more → IsReading grammar (record { items = items ++ second.items; tail = second.tail }) (words ++ more)
+IsReading-joined grammar items second words more reads last after = record {
+  spells = spelled_all-append items second.items (tail_words second.tail) ∙ (ap (spelled_all items) after.spells ∙ (spelled_all-before_both items [] more ∙ ap (λ front. front ++ more) reads.spells));
+  items = AllByRecursion-append (IsLawfulItem grammar) items second.items reads.items after.items;
+  tail = after.tail;
+  followed = AreWellFollowed-append items second.items (tail_words second.tail) last reads.followed after.followed;
+}
+
+-- two readings joined have the content of both
+HasContentOfBoth-joined : (grammar : Grammar) (first second : Reading) → first.tail ≡ line_end → HasContentOfBoth grammar first second (joined_reading first second)
+HasContentOfBoth-joined grammar first second ends = record {
+  mentions = flat_map-append (mentions grammar) first.items second.items;
+  free = rw (free_items-append first.items second.items, ends, append-nil (free_items first.items), append_assoc (free_items first.items) (free_items second.items) (tail_frees second.tail)) refl;
+}
+
+-- a first line read to its end, and the items and the tail of a second, are read together
+IsReading-joined_reading : (grammar : Grammar) (first second : Reading) (words more : List Text) → IsReading grammar first words
+    → first.tail ≡ line_end
+    → is_last_bare first.items ≡ false
+    → IsReading grammar second more
+    → IsReading grammar (joined_reading first second) (words ++ more)
+IsReading-joined_reading grammar first second words more reads ends last after =
+    IsReading-joined grammar first.items second words more (subst (λ tail. IsReading grammar (record { items = first.items; tail = tail }) words) ends reads) last after
+
+-- lines compose, where a line has one reading at most
+pub LinesCompose_lem : (grammar : Grammar) → ((reading other : Reading) (words : List Text) → IsReading grammar reading words → IsReading grammar other words → reading ≡ other) → LinesCompose grammar
+LinesCompose_lem grammar only = record {
+  joined = IsReading-joined_reading grammar;
+  content = λ first second whole words more reads ends last after reads_whole. subst (HasContentOfBoth grammar first second)
+      (only (joined_reading first second) whole (words ++ more) (IsReading-joined_reading grammar first second words more reads ends last after) reads_whole)
+      (HasContentOfBoth-joined grammar first second ends);
+}
+
+-- the trailing start of a tail after so many free words
+IsAfterStop-tail : (frees : List Text) (items : List Item) (tail : Tail) (start : ℕ) → free_items items ≡ frees → trailing_after (length frees) tail ≡ Some start → IsAfterStop (record { items = items; tail = tail }) start
+IsAfterStop-tail frees items line_end start are at = cc at
+IsAfterStop-tail frees items (rest words) start are at = cc at
+IsAfterStop-tail frees items (stop []) start are at = cc at
+IsAfterStop-tail frees items (stop (word ∷ words)) start are at =
+    let here : length frees ≡ start = cc at in
+    record {
+      below = rw (are, ← here) (omega (arith, length-append frees (word ∷ words)));
+      words = word ∷ words;
+      tail_is = refl;
+      free_from = rw (are, ← here) (drop-append frees (word ∷ words));
+    }
+
+-- the trailing start is after the stop
+pub TrailingStartIsAfterStop_lem : (grammar : Grammar) → TrailingStartIsAfterStop grammar
+TrailingStartIsAfterStop_lem grammar = record {
+  after_stop = λ reading words start reads at. IsAfterStop-tail (free_items reading.items) reading.items reading.tail start refl at;
+}
+
+-- each word is among the words
+IsSubsequence-refl : (words : List Text) → IsSubsequence words words
+IsSubsequence-refl [] = empty
+IsSubsequence-refl (word ∷ words) = kept word (IsSubsequence-refl words)
+
+-- the free words of a tail are among its words
+IsSubsequence-tail : (tail : Tail) → IsSubsequence (tail_frees tail) (tail_words tail)
+IsSubsequence-tail line_end = empty
+IsSubsequence-tail (stop words) = left_out _ (IsSubsequence-refl words)
+IsSubsequence-tail (rest words) = IsSubsequence-refl words
+
+-- the free words of items and a tail are among their words
+IsSubsequence-items : (items : List Item) (tail : Tail) → IsSubsequence (free_items items ++ tail_frees tail) (spelled_all items (tail_words tail))
+IsSubsequence-items [] tail = IsSubsequence-tail tail
+IsSubsequence-items (free word ∷ items) tail = kept word (IsSubsequence-items items tail)
+IsSubsequence-items (long dashes name none ∷ items) tail = left_out _ (IsSubsequence-items items tail)
+IsSubsequence-items (long dashes name (attached argument) ∷ items) tail = left_out _ (IsSubsequence-items items tail)
+IsSubsequence-items (long dashes name (separate word) ∷ items) tail = left_out _ (left_out _ (IsSubsequence-items items tail))
+IsSubsequence-items (cluster names flags ∷ items) tail = left_out _ (IsSubsequence-items items tail)
+IsSubsequence-items (cluster names (ends_in option none) ∷ items) tail = left_out _ (IsSubsequence-items items tail)
+IsSubsequence-items (cluster names (ends_in option (attached argument)) ∷ items) tail = left_out _ (IsSubsequence-items items tail)
+IsSubsequence-items (cluster names (ends_in option (separate word)) ∷ items) tail = left_out _ (left_out _ (IsSubsequence-items items tail))
+
+-- free words are a subsequence of the words
+pub FreeWordsAreSubsequence_lem : (grammar : Grammar) → FreeWordsAreSubsequence grammar
+FreeWordsAreSubsequence_lem grammar = record {
+  subsequence = λ reading words reads. subst (IsSubsequence (free_words reading)) reads.spells (IsSubsequence-items reading.items reading.tail);
+}
+
+-- the positions are at least this one, and never decrease
+abbrev RiseFrom : ℕ → List Found → Type 0
+RiseFrom low [] = Unit {0}
+RiseFrom low (found ∷ founds) = (low ≤ found.position) × RiseFrom found.position founds
+
+-- so they do from a lower one
+RiseFrom-lower : (low high : ℕ) (founds : List Found) → low ≤ high → RiseFrom high founds → RiseFrom low founds
+RiseFrom-lower low high [] below rise = tt
+RiseFrom-lower low high (found ∷ founds) below rise = (omega (arith, rise.0), rise.1)
+
+-- each is at least the lowest
+RiseFrom-get_or : (low : ℕ) (founds : List Found) → RiseFrom low founds → (index : ℕ) (default : Found) → index < length founds → low ≤ (get_or founds index default).position
+RiseFrom-get_or low [] rise index default in_range = absurd (omega arith)
+RiseFrom-get_or low (found ∷ founds) rise zero default in_range = rise.0
+RiseFrom-get_or low (found ∷ founds) rise (suc index) default in_range =
+    let step : found.position ≤ (get_or founds index default).position = RiseFrom-get_or found.position founds rise.1 index default (omega arith) in
+    omega (arith, rise.0, step)
+
+-- positions that rise never decrease
+NeverDecrease-from_rise : (low : ℕ) (founds : List Found) → RiseFrom low founds → NeverDecrease founds
+NeverDecrease-from_rise low [] rise i j default ordered in_range = absurd (omega arith)
+NeverDecrease-from_rise low (found ∷ founds) rise zero zero default ordered in_range = omega arith
+NeverDecrease-from_rise low (found ∷ founds) rise zero (suc j) default ordered in_range = RiseFrom-get_or found.position founds rise.1 j default (omega arith)
+NeverDecrease-from_rise low (found ∷ founds) rise (suc i) zero default ordered in_range = absurd (omega arith)
+NeverDecrease-from_rise low (found ∷ founds) rise (suc i) (suc j) default ordered in_range = NeverDecrease-from_rise found.position founds rise.1 i j default (omega arith) (omega arith)
+
+-- they still rise where an occurrence at the lowest position stands before them, or is left out
+RiseFrom-more : (here : Bool) (first : Occurrence) (later : List Occurrence) → RiseFrom first.position (map (λ o. record { position = o.position; value = o.value }) later) → RiseFrom first.position (map (λ o. record { position = o.position; value = o.value }) (cond here (first ∷ later) later))
+RiseFrom-more true first later rise = (omega arith, rise)
+RiseFrom-more false first later rise = rise
+
+-- the occurrences of one item rise from its position, where the later ones do
+RiseFrom-item : (place position : ℕ) (told : List Mention) (later : List Occurrence) → RiseFrom position (found_at place later) → RiseFrom position (found_at place (map (occurrence_at position) told ++ later))
+RiseFrom-item place position [] later rise = rise
+RiseFrom-item place position (first ∷ told) later rise = RiseFrom-more (first.group == place) (occurrence_at position first) _ (RiseFrom-item place position told later rise)
+
+-- the occurrences of items rise from the first position
+RiseFrom-items : (grammar : Grammar) (place before : ℕ) (items : List Item) → RiseFrom before (found_at place (occurrences_after before grammar items))
+RiseFrom-items grammar place before [] = tt
+RiseFrom-items grammar place before (item ∷ items) = RiseFrom-item place before (mentions grammar item) (occurrences_after (before + 1) grammar items) (RiseFrom-lower before (before + 1) _ (omega arith) (RiseFrom-items grammar place (before + 1) items))
+
+-- positions in order
+pub PositionsAreInOrder_lem : (grammar : Grammar) → PositionsAreInOrder grammar
+PositionsAreInOrder_lem grammar = record {
+  of_group = λ reading words place reads. NeverDecrease-from_rise 0 _ (RiseFrom-items grammar place 0 reading.items);
+}
+
+-- positions in order, of the groups that matches of a reading hold
+pub HavePositionsInOrder-matched_from : (grammar : Grammar) (reading : Reading) (place : ℕ) (groups : List Group) → HavePositionsInOrder (matched_from place groups (occurrences_of grammar reading))
+HavePositionsInOrder-matched_from grammar reading place [] = tt
+HavePositionsInOrder-matched_from grammar reading place (group ∷ groups) = (NeverDecrease-from_rise 0 _ (RiseFrom-items grammar place 0 reading.items), HavePositionsInOrder-matched_from grammar reading (place + 1) groups)

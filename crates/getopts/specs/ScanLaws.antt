@@ -1,0 +1,152 @@
+-- Laws of readings: which items may stand for others, how lines compose, and what free words, the
+-- trailing start and positions keep to. Each is about every reading of every line.
+use Rattle.std.specs.Prelude.{◌≡◌, ◌≢◌, ℕ, ◌<◌, Bool, false, true, List, [], ◌∷◌, ◌++◌, length, drop, Some}
+use Rattle.std.specs.List.{AllByRecursion, flat_map}
+use Rattle.std.specs.List.Sorted.{IsNonDecreasingBy}
+use Rattle.getopts.specs.Names.{Text}
+use Rattle.getopts.specs.Options.{Grammar}
+use Rattle.getopts.specs.Scan.{begins_with_dash, Argument, attached, separate, Dashes, End, flags, ends_in, Item, long, cluster, end_text, spelled_all, is_bare, Tail, line_end, stop, tail_words, Reading, IsReading, Mention, mentions, occurrences_of, free_words, trailing_start}
+use Rattle.getopts.specs.Matches.{Found, found_at, MatchedGroup}
+use Rattle.getopts.specs.declared.options.HasArg.TheVariants.{Yes}
+
+-- what a reading mentions, in the order of the line: its occurrences without their positions
+abbrev pub mentions_of : Grammar → Reading → List Mention
+mentions_of grammar reading = flat_map (mentions grammar) reading.items
+
+-- the words that a reading spells
+abbrev pub words_of : Reading → List Text
+words_of reading = spelled_all reading.items (tail_words reading.tail)
+
+-- the reading of items in three parts, and a tail
+abbrev pub reading_of : List Item → List Item → List Item → Tail → Reading
+reading_of front middle back tail = record { items = front ++ (middle ++ back); tail = tail }
+
+-- The new reading is one of the words that it spells, and has the old one's occurrences, positions too,
+-- free words and trailing start.
+pub record ReadsAlike (grammar : Grammar) (old new : Reading) : Type 0 where
+  pub reads : IsReading grammar new (words_of new)
+  pub occurrences : occurrences_of grammar new ≡ occurrences_of grammar old
+  pub free : free_words new ≡ free_words old
+  pub trailing : trailing_start new ≡ trailing_start old
+
+-- The new reading is one of the words that it spells, and has the old one's mentions, free words and
+-- trailing start: positions alone may differ.
+pub record ReadsAlikeButForPositions (grammar : Grammar) (old new : Reading) : Type 0 where
+  pub reads : IsReading grammar new (words_of new)
+  pub mentions : mentions_of grammar new ≡ mentions_of grammar old
+  pub free : free_words new ≡ free_words old
+  pub trailing : trailing_start new ≡ trailing_start old
+
+-- wherever the item stands in a reading of a line, the reading with the others in its place is alike
+abbrev pub MayStandFor : (Grammar → Reading → Reading → Type 0) → Grammar → List Item → Item → Type 0
+MayStandFor Alike grammar others item = (front back : List Item) (tail : Tail) (words : List Text)
+    → IsReading grammar (reading_of front (item ∷ []) back tail) words
+    → Alike grammar (reading_of front (item ∷ []) back tail) (reading_of front others back tail)
+
+-- A long argument attached or separate: `--name=argument` and `--name`, `argument` read alike, where
+-- the name's kind is Yes.
+pub record LongAttachedOrSeparate (grammar : Grammar) : Type 0 where
+  pub to_separate : (dashes : Dashes) (name argument : Text)
+      → grammar.kind_of name ≡ Some Yes
+      → MayStandFor ReadsAlike grammar (long dashes name (separate argument) ∷ []) (long dashes name (attached argument))
+  pub to_attached : (dashes : Dashes) (name argument : Text)
+      → grammar.kind_of name ≡ Some Yes
+      → MayStandFor ReadsAlike grammar (long dashes name (attached argument) ∷ []) (long dashes name (separate argument))
+
+-- A short argument attached or separate: `-xargument` and `-x`, `argument` read alike, also after flags,
+-- where the kind of `x` is Yes and the argument isn't empty.
+pub record ShortAttachedOrSeparate (grammar : Grammar) : Type 0 where
+  pub to_separate : (names : List ℕ) (option : ℕ) (argument : Text)
+      → grammar.kind_of (option ∷ []) ≡ Some Yes
+      → MayStandFor ReadsAlike grammar (cluster names (ends_in option (separate argument)) ∷ []) (cluster names (ends_in option (attached argument)))
+  pub to_attached : (names : List ℕ) (option : ℕ) (argument : Text)
+      → grammar.kind_of (option ∷ []) ≡ Some Yes
+      → argument ≢ []
+      → MayStandFor ReadsAlike grammar (cluster names (ends_in option (attached argument)) ∷ []) (cluster names (ends_in option (separate argument)))
+
+-- A cluster splits: `-xs` and `-x`, `-s` read alike but for positions, where `x` is a flag and `s` isn't
+-- empty and doesn't begin with `-`.
+pub record ClusterSplits (grammar : Grammar) : Type 0 where
+  pub after_flag : (flag : ℕ) (names : List ℕ) (end : End)
+      → names ++ end_text end ≢ []
+      → begins_with_dash (names ++ end_text end) ≡ false
+      → MayStandFor ReadsAlikeButForPositions grammar (cluster (flag ∷ []) flags ∷ cluster names end ∷ []) (cluster (flag ∷ names) end)
+
+-- One dash or two: in long-only mode `-name` and `--name` read alike, where the name doesn't begin with `-`.
+pub record OneDashOrTwo (grammar : Grammar) : Type 0 where
+  pub other_dashes : (dashes other : Dashes) (name : Text) (argument : Argument)
+      → grammar.long_only ≡ true
+      → begins_with_dash name ≡ false
+      → MayStandFor ReadsAlike grammar (long other name argument ∷ []) (long dashes name argument)
+
+-- whether the last item is a bare cluster
+abbrev pub is_last_bare : List Item → Bool
+is_last_bare [] = false
+is_last_bare (item ∷ []) = is_bare item
+is_last_bare (item ∷ next ∷ items) = is_last_bare (next ∷ items)
+
+-- the items of two readings one after the other, and the second's tail
+abbrev pub joined_reading : Reading → Reading → Reading
+joined_reading first second = record { items = first.items ++ second.items; tail = second.tail }
+
+-- the mentions and the free words of the whole are those of the first and then those of the second
+pub record HasContentOfBoth (grammar : Grammar) (first second whole : Reading) : Type 0 where
+  pub mentions : mentions_of grammar whole ≡ mentions_of grammar first ++ mentions_of grammar second
+  pub free : free_words whole ≡ free_words first ++ free_words second
+
+-- Lines compose, in both styles: where a first line is read to its end by items of which the last isn't a
+-- bare cluster, and a second line has a reading, the readings joined are one of the lines joined, and each
+-- reading of these has the content of both.
+pub record LinesCompose (grammar : Grammar) : Type 0 where
+  pub joined : (first second : Reading) (words more : List Text)
+      → IsReading grammar first words
+      → first.tail ≡ line_end
+      → is_last_bare first.items ≡ false
+      → IsReading grammar second more
+      → IsReading grammar (joined_reading first second) (words ++ more)
+  pub content : (first second whole : Reading) (words more : List Text)
+      → IsReading grammar first words
+      → first.tail ≡ line_end
+      → is_last_bare first.items ≡ false
+      → IsReading grammar second more
+      → IsReading grammar whole (words ++ more)
+      → HasContentOfBoth grammar first second whole
+
+-- a place among the free words, from which on they are the words after the stop
+pub record IsAfterStop (reading : Reading) (start : ℕ) : Type 0 where
+  pub below : start < length (free_words reading)
+  pub words : List Text
+  pub tail_is : reading.tail ≡ stop words
+  pub free_from : drop start (free_words reading) ≡ words
+
+-- The trailing start: where there is one, it is a place among the free words, and these are from there on
+-- the words after the stop.
+pub record TrailingStartIsAfterStop (grammar : Grammar) : Type 0 where
+  pub after_stop : (reading : Reading) (words : List Text) (start : ℕ)
+      → IsReading grammar reading words
+      → trailing_start reading ≡ Some start
+      → IsAfterStop reading start
+
+-- the texts are the words with some left out, in the same order
+pub data IsSubsequence : List Text → List Text → Type 0 where
+  empty : IsSubsequence [] []
+  kept : {texts words : List Text} (word : Text) → IsSubsequence texts words → IsSubsequence (word ∷ texts) (word ∷ words)
+  left_out : {texts words : List Text} (word : Text) → IsSubsequence texts words → IsSubsequence texts (word ∷ words)
+
+-- Free words are a subsequence of the words.
+pub record FreeWordsAreSubsequence (grammar : Grammar) : Type 0 where
+  pub subsequence : (reading : Reading) (words : List Text) → IsReading grammar reading words → IsSubsequence (free_words reading) words
+
+-- the positions of a group's occurrences never decrease
+abbrev pub NeverDecrease : List Found → Type 0
+NeverDecrease founds = IsNonDecreasingBy (λ found. found.position) founds
+
+-- Positions in order: those of each group's occurrences never decrease.
+pub record PositionsAreInOrder (grammar : Grammar) : Type 0 where
+  pub of_group : (reading : Reading) (words : List Text) (place : ℕ)
+      → IsReading grammar reading words
+      → NeverDecrease (found_at place (occurrences_of grammar reading))
+
+-- each group that matches hold has its positions in order
+abbrev pub HavePositionsInOrder : List MatchedGroup → Type 0
+HavePositionsInOrder groups = AllByRecursion (λ group. NeverDecrease group.found) groups

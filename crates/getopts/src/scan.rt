@@ -1,0 +1,190 @@
+//! Reading words as items, from the first to the last.
+
+ghost use Rattle.std.specs.Prelude.{◌≡◌, ◌≢◌, ◌<◌, ◌∷◌, ◌++◌, [], ℕ, List, length, MatchOption, OnSome, Some, None, true, false, IfOk, IfErr, slice_get, slice_index, encode_utf8};
+ghost use Rattle.std.specs.Char.{IsScalar};
+ghost use Rattle.std.specs.Str.{IsCharBoundary};
+ghost use Rattle.getopts.specs.Fail.{Tells, argument_missing};
+ghost use Rattle.getopts.specs.Line.{texts, IsEnding};
+ghost use Rattle.std.specs.Option.{option_copied};
+ghost use Rattle.getopts.specs.Names.{Text};
+ghost use Rattle.getopts.specs.Scan.{dash, is_dashed, holds_equals, with_equals, IsFaultAt, IsShortForm, IsScanFault, Occurrence as Found};
+
+use crate::fail::Fail;
+use crate::options::{HasArg, Opt, ParsingStyle, resolve};
+use std::alloc::Global;
+
+/// One option that the words give: the place of its group, the position of its item, and its value.
+#[derive(Clone, Copy, Debug)]
+pub(crate) struct Occurrence<'w> {
+    pub group: usize,
+    pub position: usize,
+    pub value: Option<&'w str>,
+}
+
+impl<'w> Occurrence<'w> {
+    ghost use Rattle.getopts.specs.Line.{occurrence_view};
+
+    /// An occurrence without a value.
+    fn bare(group: usize, position: usize) -> Occurrence<'w>
+        ensures { occurrence_view result ≡ record { group = group; value = None; position = position } }
+    {
+        Occurrence { group, position, value: None }
+    }
+
+    /// An occurrence with a value.
+    fn with_value(group: usize, position: usize, value: &'w str) -> Occurrence<'w>
+        ensures { occurrence_view result ≡ record { group = group; value = Some value.now; position = position } }
+    {
+        Occurrence { group, position, value: Some(value) }
+    }
+}
+
+/// What a line gives, borrowed from its words.
+#[derive(Debug, Drop)]
+pub(crate) struct Line<'w> {
+    pub occurrences: Vec<Occurrence<'w>>,
+    pub free: Vec<&'w str>,
+    pub trailing_start: Option<usize>,
+}
+
+/// The options by which words are read.
+#[derive(Clone, Copy, Debug)]
+pub(crate) struct Scanner<'o> {
+    pub opts: &'o [Opt],
+    pub style: ParsingStyle,
+    pub long_only: bool,
+}
+
+/// The text after the first dash of a dashed word.
+fn dashed_text(word: &str) -> Option<&str>
+    ensures { MatchOption result (is_dashed word.now ≡ false)
+        (λ text. (is_dashed word.now ≡ true) × (word.now ≡ dash ∷ text.now) × (text.now ≢ [])) }
+{
+    let text = word.strip_prefix('-')?;
+    if text.is_empty() { None } else { Some(text) }
+}
+
+/// The name of a text in long form, and its attached argument.
+fn name_and_argument(text: &str) -> (&str, Option<&str>)
+    ensures name { holds_equals result.0.now ≡ false }
+    ensures text { text.now ≡ result.0.now ++ with_equals (option_copied result.1) }
+{
+    match text.split_once('=') {
+        Some((name, argument)) => (name, Some(argument)),
+        None => (text, None),
+    }
+}
+
+/// Whether a word is dashed: it begins with `-` and goes on.
+fn is_dashed(word: &str) -> bool
+    ensures { result ≡ is_dashed word.now }
+{
+    dashed_text(word).is_some()
+}
+
+/// The first character of a text, as a text.
+fn first_character(text: &str) -> &str
+    requires { text.now ≢ [] }
+    ensures { (character : ℕ) × (more : Text) × IsScalar character × (result.now ≡ encode_utf8 character)
+        × (text.now ≡ result.now ++ more) }
+{
+    match text.chars().next() {
+        Some(character) => &text[..character.len_utf8()],
+        None => text,
+    }
+}
+
+/// The value of an option of kind Yes or Maybe in a cluster, by the rest of its word and the words
+/// after that, and how many of those it uses.
+fn ending<'w>(
+    alloc: Global,
+    hasarg: HasArg,
+    name: &str,
+    rest: &'w str,
+    after: &[&'w str],
+) -> Result<(Option<&'w str>, usize), Fail>
+    requires { hasarg ≢ HasArg.No }
+    ensures ok { IfOk result (λ found. IsEnding hasarg rest.now (texts after.now) (option_copied found.0) found.1) }
+    ensures err { IfErr result (λ fail. Tells fail (λ fault. (fault ≡ argument_missing name.now)
+        × (hasarg ≡ HasArg.Yes) × (rest.now ≡ []) × (texts after.now ≡ []))) }
+{
+    if !rest.is_empty() {
+        return Ok((Some(rest), 0));
+    }
+    match (hasarg, after.first().copied()) {
+        (HasArg::Yes, Some(word)) => Ok((Some(word), 1)),
+        (HasArg::Yes, None) => Err(Fail::argument_missing(alloc, name)),
+        (HasArg::Maybe, Some(word)) => {
+            if is_dashed(word) {
+                Ok((None, 0))
+            } else {
+                Ok((Some(word), 1))
+            }
+        }
+        (HasArg::Maybe, None) => Ok((None, 0)),
+        (HasArg::No, _) => unreachable!(),
+    }
+}
+
+impl<'o> Scanner<'o> {
+    ghost use Rattle.std.specs.Prelude.{drop, map};
+    ghost use Rattle.getopts.specs.Line.{occurrence_view, occurrences_view, scanner_grammar, IsLawfulScanner, IsInLongForm, ReadsItem, ReadsLine};
+
+    /// The place and the kind of argument of the option that a name resolves to.
+    fn option(&self, name: &str) -> Option<(usize, HasArg)>
+        ensures { let grammar = scanner_grammar self.now in MatchOption result (grammar.kind_of name.now ≡ None)
+            (λ option. (grammar.place_of name.now ≡ Some option.0) × (grammar.kind_of name.now ≡ Some option.1)) }
+    {
+        let place = resolve(self.opts, name)?;
+        let opt = self.opts.get(place)?;
+        Some((place, opt.hasarg))
+    }
+
+    /// Reads an item in long form, by its text after the dashes and the words after its first. Answers
+    /// its occurrence, and how many of those words it used.
+    fn long<'w>(
+        &self,
+        alloc: Global,
+        text: &'w str,
+        after: &[&'w str],
+        position: usize,
+    ) -> Result<(Occurrence<'w>, usize), Fail>
+        ensures ok { IfOk result (λ found. (word : Text) → IsInLongForm (scanner_grammar self.now) word text.now
+            → ReadsItem (scanner_grammar self.now) word (texts after.now) position found.1 (occurrence_view found.0 ∷ [])) }
+        ensures err { IfErr result (λ fail. (word : Text) → IsInLongForm (scanner_grammar self.now) word text.now
+            → Tells fail (IsFaultAt (scanner_grammar self.now) word (texts after.now))) }
+    {
+        let (name, argument) = name_and_argument(text);
+        let Some((group, hasarg)) = self.option(name) else {
+            return Err(Fail::unrecognized_option(alloc, name));
+        };
+        match (hasarg, argument) {
+            (HasArg::No, None) => Ok((Occurrence::bare(group, position), 0)),
+            (HasArg::No, Some(_)) => Err(Fail::unexpected_argument(alloc, name)),
+            (HasArg::Yes, None) => match after.first().copied() {
+                Some(word) => Ok((Occurrence::with_value(group, position, word), 1)),
+                None => Err(Fail::argument_missing(alloc, name)),
+            },
+            (HasArg::Yes, Some(value)) => Ok((Occurrence::with_value(group, position, value), 0)),
+            (HasArg::Maybe, None) => Ok((Occurrence::bare(group, position), 0)),
+            (HasArg::Maybe, Some(value)) => Ok((Occurrence::with_value(group, position, value), 0)),
+        }
+    }
+
+    /// The option that the byte at a place in a cluster names; only names of one byte resolve there.
+    fn option_at(&self, text: &str, at: usize) -> Option<(usize, HasArg)>
+        requires named { IsLawfulScanner self.now }
+        requires within { at < length text.now }
+        requires boundary { IsCharBoundary text.now at }
+        ensures option { let grammar = scanner_grammar self.now in let name = slice_index text.now at ∷ [] in
+            MatchOption result (grammar.kind_of name ≡ None)
+            (λ option. (grammar.place_of name ≡ Some option.0) × (grammar.kind_of name ≡ Some option.1)) }
+        ensures ascii { OnSome result (slice_index text.now at < 128) }
+    {
+        if text.as_bytes()[at].is_ascii() {
+            self.option(&text[at..at + 1])
+        } else {
+            None
+        }
+    }
+}
