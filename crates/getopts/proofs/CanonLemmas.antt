@@ -1,82 +1,49 @@
 -- The laws of the canonical line.
-use Rattle.std.proofs.Common.{◌≡◌, ◌≢◌, ◌⊎◌, ◌↔◌, ℕ, zero, suc, ◌+◌, ◌<◌, ◌==◌, Bool, true, false, cond, List, [], ◌∷◌, ◌++◌, length, map, get_or, Option, Some, None, refl, sym, ap, ◌∙◌, subst, inl, inr, arith, append-nil}
-use Rattle.std.proofs.lemmas.Bool.{cases_Bool, or_cases, or_parts, or_left, or_right, true≢false, eq-eqb, ne_eqb}
+use Rattle.std.proofs.Common.{◌≡◌, ◌≢◌, ◌⊎◌, ◌↔◌, ℕ, zero, suc, ◌+◌, ◌<◌, ◌==◌, Bool, true, false, cond, List, [], ◌∷◌, ◌++◌, length, map, Option, Some, None, refl, sym, ap, ◌∙◌, subst, inl, inr, arith, append-nil}
+use Rattle.std.proofs.lemmas.Bool.{cases_Bool, or_cases, or_left, or_right, true≢false}
 use Rattle.std.proofs.lemmas.List.{append_cancel_right, length-map, map-append}
 use Rattle.std.proofs.lemmas.List.Elements.{All-contains, All-from_recursion}
-use Rattle.std.proofs.lemmas.List.Quantifiers.{position-Some}
-use Rattle.std.proofs.lemmas.Option.{option_and_then_some, same_Some}
-use Rattle.std.proofs.lemmas.Slice.Eq.{bytes_eq-Decides}
-use Rattle.std.specs.List.{AllByRecursion, Contains, find, filter, flat_map}
-use Rattle.std.specs.Option.{option_and_then, option_or, unwrap_or}
-use Rattle.getopts.specs.Names.{Text, Names, main_name, is_alias, main_place, resolution}
+use Rattle.std.proofs.lemmas.Option.{none-some, option_and_then_some, same_Some, slice_get-get_or}
+use Rattle.std.specs.Prelude.{slice_get}
+use Rattle.std.specs.List.{AllByRecursion, Contains, filter, flat_map}
+use Rattle.std.specs.Option.{option_and_then, unwrap_or}
+use Rattle.getopts.specs.Names.{Text, Names, IsLawfullyNamed, main_name, resolution}
 use Rattle.getopts.specs.Options.{Group, Declared, AreLawfullyNamed, names_of, Grammar, kind_of, grammar_of}
 use Rattle.getopts.specs.Scan.{dash, equals_sign, begins_with_dash, holds_equals, stop_word, Argument, none, attached, separate, one, two, flags, ends_in, end_text, attached_argument, argument_words, value_of, with_equals, Item, free, long, cluster, spelled_all, FitsLong, FitsEnd, IsFlag, IsLawfulItem, AreWellFollowed, Reading, IsReading, Mention, mention, mentions, Occurrence, occurrence_at, occurrences_after, occurrences_of, free_items}
+use Rattle.getopts.specs.ScanLaws.{mentions_of}
 use Rattle.getopts.specs.Matches.{found_at, matched_from, FitsCount, KeepsCounts}
-use Rattle.getopts.specs.Canon.{mention_of, mentions_of, Content, content_of, main_at, kind_at, HasPlainMain, AnswersMain, FitsKind, FitsGroup, IsPlain, IsSound, IsFitting, canonical_word, canonical_line, attached_value, canonical_item, canonical_reading, with_setting, IsCountKeeping, Says, ReadsBackEverywhere, SaysNothingElse, IsOnlyContent, HasCanonicalLine, HasNoItem, HasUnwritable, CanonicalLinesTell}
+use Rattle.getopts.specs.Canon.{mention_of, Content, content_of, main_at, kind_at, HasPlainMain, AnswersMain, FitsKind, FitsGroup, IsPlain, IsSound, IsFitting, canonical_word, canonical_line, attached_value, canonical_item, canonical_reading, with_setting, IsCountKeeping, Says, ReadsBackEverywhere, SaysNothingElse, IsOnlyContent, HasCanonicalLine, HasNoItem, HasUnwritable, CanonicalLinesTell}
 use Rattle.getopts.specs.declared.options.HasArg.{HasArg}
 use Rattle.getopts.specs.declared.options.HasArg.TheVariants.{Yes, No, Maybe}
 use Rattle.getopts.specs.declared.options.ParsingStyle.{ParsingStyle}
-use Rattle.getopts.proofs.ScanTurns.{IsNamed}
+use Rattle.getopts.proofs.NamesLemmas.{AllByRecursion-map, resolution-main_name, resolution-nil, resolution_within}
+use Rattle.getopts.proofs.ScanReadings.{only_reading}
+use Rattle.getopts.proofs.ScanTexts.{AllByRecursion-append, begins_with_dash-append, long_argument-append, long_name-append}
+use Rattle.getopts.proofs.ScanTurns.{IsNamed, long_argument, long_name}
 
--- two empty names
-abbrev no_names : Names
-no_names = record { short = []; long = [] }
-
--- the first value, or the second where there is no first
-option_or-Some : {A : Type 0} (o p : Option A) (x : A) → option_or o p ≡ Some x → (o ≡ Some x) ⊎ (p ≡ Some x)
-option_or-Some None p x is = inr is
-option_or-Some (Some y) p x is = inl is
-
--- what a name resolves to is the first place of some main name
-resolution-asked : (groups : List Names) (name : Text) (place : ℕ) → resolution groups name ≡ Some place
-    → (asked : Text) × (main_place groups asked ≡ Some place)
-resolution-asked groups name place resolves = elim (option_or-Some (main_place groups name) _ place resolves) [
-  | inl same ↦ (name, same)
-  | inr aliased ↦ option_and_then_some _ (find (is_alias name) groups) place aliased (λ declarer found there. (main_name declarer, there))
-]
-
--- the first place of a main name is within the groups, and its group has that main name
-main_place-Some : (groups : List Names) (asked : Text) (place : ℕ) → main_place groups asked ≡ Some place
-    → (place < length groups) × (main_name (get_or groups place no_names) ≡ asked)
-main_place-Some groups asked place first =
-    let at = position-Some _ groups place no_names first in
-    (at.0, (bytes_eq-Decides (main_name (get_or groups place no_names)) asked).0 at.1)
-
--- a main name resolves to its first place
-resolution-main : (groups : List Names) (asked : Text) (place : ℕ) → main_place groups asked ≡ Some place → resolution groups asked ≡ Some place
-resolution-main groups asked place first = rw first refl
-
-main_at-get_or : (groups : List Group) (place : ℕ) → main_at groups place ≡ main_name (get_or (names_of groups) place no_names)
-main_at-get_or [] place = refl
-main_at-get_or (group ∷ groups) zero = refl
-main_at-get_or (group ∷ groups) (suc place) = main_at-get_or groups place
+-- the main name at a place, where a group is there
+main_at-Some : (groups : List Group) (place : ℕ) (names : Names) → slice_get (names_of groups) place ≡ Some names → main_at groups place ≡ main_name names
+main_at-Some [] place names there = cc there
+main_at-Some (group ∷ groups) zero names there = ap main_name (same_Some group.names names there)
+main_at-Some (group ∷ groups) (suc place) names there = main_at-Some groups place names there
 
 -- the group that a name resolves to is what its own main name resolves to
 pub AnswersMain-resolution : (groups : List Group) (name : Text) (place : ℕ) → resolution (names_of groups) name ≡ Some place → AnswersMain groups place
 AnswersMain-resolution groups name place resolves =
-    let first = resolution-asked (names_of groups) name place resolves in
-    let at = main_place-Some (names_of groups) first.0 place first.1 in
-    let same : main_at groups place ≡ first.0 = main_at-get_or groups place ∙ at.1 in
-    rw same (resolution-main (names_of groups) first.0 place first.1)
+    let within = resolution_within (names_of groups) name place resolves in
+    let there = slice_get-get_or (names_of groups) place (record { short = []; long = [] }) within in
+    rw (main_at-Some groups place _ there) (resolution-main_name (names_of groups) name place _ resolves there)
 
--- such a group is there
-within-AnswersMain : (groups : List Group) (place : ℕ) → AnswersMain groups place → place < length (names_of groups)
-within-AnswersMain groups place own =
-    let first = resolution-asked (names_of groups) (main_at groups place) place own in
-    (main_place-Some (names_of groups) first.0 place first.1).0
+-- the main name of such a group isn't empty
+main_at-filled : (groups : List Group) (place : ℕ) → AreLawfullyNamed groups → AnswersMain groups place → main_at groups place ≢ []
+main_at-filled groups place lawful own empty =
+    let no_name = resolution-nil (names_of groups) (AllByRecursion-map IsLawfullyNamed (λ group. group.names) groups lawful) in
+    none-some place (sym no_name ∙ (rw empty at own))
 
--- what holds of each element of two lists, what follows from it, and what holds of each value of a function
-AllByRecursion-append : {X : Type 0} (P : X → Type 0) (xs ys : List X) → AllByRecursion P xs → AllByRecursion P ys → AllByRecursion P (xs ++ ys)
-AllByRecursion-append P [] ys here after = after
-AllByRecursion-append P (x ∷ xs) ys here after = (here.0, AllByRecursion-append P xs ys here.1 after)
-
+-- what follows from what holds of each element holds of each
 AllByRecursion-weaker : {X : Type 0} (P Q : X → Type 0) → ((x : X) → P x → Q x) → (xs : List X) → AllByRecursion P xs → AllByRecursion Q xs
 AllByRecursion-weaker P Q follows [] each = each
 AllByRecursion-weaker P Q follows (x ∷ xs) each = (follows x each.0, AllByRecursion-weaker P Q follows xs each.1)
-
-AllByRecursion-map : {X Y : Type 0} (P : X → Type 0) (Q : Y → Type 0) (f : X → Y) → ((x : X) → P x → Q (f x)) → (xs : List X) → AllByRecursion P xs → AllByRecursion Q (map f xs)
-AllByRecursion-map P Q f follows [] each = each
-AllByRecursion-map P Q f follows (x ∷ xs) each = (follows x each.0, AllByRecursion-map P Q f follows xs each.1)
 
 -- a mention as a lawful item may have it
 record IsGood (groups : List Group) (m : Mention) : Type 0 where
@@ -117,8 +84,8 @@ FitsKind-end Maybe (separate word) fits = tt
 IsGood-flags : (options : Declared) (names : List ℕ) → AllByRecursion (IsFlag (grammar_of options)) names
     → AllByRecursion (IsGood options.groups) (map (λ name. mention (grammar_of options) (name ∷ []) None) names)
 IsGood-flags options names each =
-    AllByRecursion-map (IsFlag (grammar_of options)) (IsGood options.groups) _
-    (λ name flag. IsGood-mention options (name ∷ []) No None flag tt) names each
+    AllByRecursion-map (IsGood options.groups) (λ name. mention (grammar_of options) (name ∷ []) None) names
+    (AllByRecursion-weaker (IsFlag (grammar_of options)) _ (λ name flag. IsGood-mention options (name ∷ []) No None flag tt) names each)
 
 IsGood-item : (options : Declared) (item : Item) → IsLawfulItem (grammar_of options) item → AllByRecursion (IsGood options.groups) (mentions (grammar_of options) item)
 IsGood-item options (free word) lawful = tt
@@ -312,47 +279,27 @@ ReadsBackEverywhere-says options words content says plain style long_only =
       same = back;
     }
 
--- a line has one reading at most
-abbrev pub HasOneReading : Grammar → Type 0
-HasOneReading grammar = (reading other : Reading) (words : List Text) → IsReading grammar reading words → IsReading grammar other words → reading ≡ other
-
--- in both styles and both modes
-abbrev pub HasOneReadingEverywhere : Declared → Type 0
-HasOneReadingEverywhere options = (style : ParsingStyle) (long_only : Bool) → HasOneReading (grammar_of (with_setting options style long_only))
-
 -- names are texts in both styles and both modes
-pub IsNamed-with_setting : (options : Declared) (style : ParsingStyle) (long_only : Bool) → IsNamed (grammar_of options)
+IsNamed-with_setting : (options : Declared) (style : ParsingStyle) (long_only : Bool) → IsNamed (grammar_of options)
     → IsNamed (grammar_of (with_setting options style long_only))
 IsNamed-with_setting options style long_only named = record { empty = named.empty; ascii = named.ascii }
 
--- a canonical line that reads back says nothing else
-pub SaysNothingElse-reads_back : (options : Declared) (content : Content) → HasOneReadingEverywhere options
+-- a canonical line that reads back says nothing else, since a line has one reading at most
+pub SaysNothingElse-reads_back : (options : Declared) (content : Content) → IsNamed (grammar_of options)
     → ReadsBackEverywhere options content → SaysNothingElse options content
-SaysNothingElse-reads_back options content one_reading back other says =
+SaysNothingElse-reads_back options content named back other says =
     let there = back says.style says.long_only in
-    let same : says.reading ≡ canonical_reading options.groups content = one_reading says.style says.long_only says.reading _ (canonical_line options.groups content) says.reads.reads there.reads.reads in
-    says.content_is ∙ ap (content_of (grammar_of (with_setting options says.style says.long_only))) same ∙ there.same
+    let set = grammar_of (with_setting options says.style says.long_only) in
+    let same = only_reading set (IsNamed-with_setting options says.style says.long_only named) (canonical_line options.groups content) says.reading _ says.reads.reads there.reads.reads in
+    says.content_is ∙ ap (content_of set) same ∙ there.same
 
 -- a text that holds no `=` is cut off at one place only
 cut_once-with_equals : (a b : Text) (v w : Option Text) → holds_equals a ≡ false → holds_equals b ≡ false
     → a ++ with_equals v ≡ b ++ with_equals w → (a ≡ b) × (v ≡ w)
-cut_once-with_equals [] [] None None none_a none_b same = (refl, refl)
-cut_once-with_equals [] [] None (Some w) none_a none_b same = cc
-cut_once-with_equals [] [] (Some v) None none_a none_b same = cc
-cut_once-with_equals [] [] (Some v) (Some w) none_a none_b same = (refl, cc)
-cut_once-with_equals [] (y ∷ b) None w none_a none_b same = cc
-cut_once-with_equals [] (y ∷ b) (Some v) w none_a none_b same =
-    let head : y ≡ equals_sign = cc in
-    absurd (true≢false (sym (eq-eqb y equals_sign head) ∙ (or_parts (y == equals_sign) (holds_equals b) none_b).0))
-cut_once-with_equals (x ∷ a) [] v None none_a none_b same = cc
-cut_once-with_equals (x ∷ a) [] v (Some w) none_a none_b same =
-    let head : x ≡ equals_sign = cc in
-    absurd (true≢false (sym (eq-eqb x equals_sign head) ∙ (or_parts (x == equals_sign) (holds_equals a) none_a).0))
-cut_once-with_equals (x ∷ a) (y ∷ b) v w none_a none_b same =
-    let head : x ≡ y = cc in
-    let others : a ++ with_equals v ≡ b ++ with_equals w = cc in
-    let parts = cut_once-with_equals a b v w (or_parts (x == equals_sign) (holds_equals a) none_a).1 (or_parts (y == equals_sign) (holds_equals b) none_b).1 others in
-    (cc, parts.1)
+cut_once-with_equals a b v w none_a none_b same = (
+  sym (long_name-append a v none_a) ∙ ap long_name same ∙ long_name-append b w none_b,
+  sym (long_argument-append a v none_a) ∙ ap long_argument same ∙ long_argument-append b w none_b,
+)
 
 -- the text after the dashes of a canonical word
 canonical_word-text : (groups : List Group) (m : Mention) (text : Text) → canonical_word groups m ≡ dash ∷ dash ∷ text
@@ -370,28 +317,12 @@ canonical_word-cancel groups m o own own_other plain plain_other same =
     let mention_with : ℕ → Option Text → Mention = λ group value. record { group = group; value = value } in
     ap (λ group. mention_with group m.value) place ∙ ap (mention_with o.group) parts.1
 
--- the main name of lawful names isn't empty
-main_name-filled : (letter word : Text) → 0 < length letter + length word → main_name (record { short = letter; long = word }) ≢ []
-main_name-filled letter [] named empty = absurd (omega (arith, ap length empty))
-main_name-filled letter (byte ∷ more) named empty =
-    let there : (suc (length more) == 0) ≡ false = ne_eqb (suc (length more)) 0 (λ nothing. absurd (omega arith)) in
-    let filled : byte ∷ more ≡ [] = rw there at empty in
-    cc
-
-main_at-filled : (groups : List Group) (place : ℕ) → AreLawfullyNamed groups → place < length (names_of groups) → main_at groups place ≢ []
-main_at-filled [] place lawful within empty = absurd (omega arith)
-main_at-filled (group ∷ groups) zero lawful within empty = main_name-filled group.names.short group.names.long lawful.0.named empty
-main_at-filled (group ∷ groups) (suc place) lawful within empty = main_at-filled groups place lawful.1 (omega arith) empty
-
-nil_from_append : (a b : Text) → a ++ b ≡ [] → a ≡ []
-nil_from_append [] b empty = refl
-nil_from_append (x ∷ a) b empty = cc
-
 -- `--` is the word of no mention
-canonical_word-no_stop : (groups : List Group) (m : Mention) → AreLawfullyNamed groups → AnswersMain groups m.group → canonical_word groups m ≢ stop_word
-canonical_word-no_stop groups m lawful own same =
-    main_at-filled groups m.group lawful (within-AnswersMain groups m.group own)
-    (nil_from_append (main_at groups m.group) (with_equals m.value) (canonical_word-text groups m [] same))
+canonical_word-no_stop : (groups : List Group) (m : Mention) → AreLawfullyNamed groups → AnswersMain groups m.group → HasPlainMain groups m.group
+    → canonical_word groups m ≢ stop_word
+canonical_word-no_stop groups m lawful own plain same =
+    let parts = cut_once-with_equals (main_at groups m.group) [] m.value None plain refl (canonical_word-text groups m [] same) in
+    main_at-filled groups m.group lawful own parts.0
 
 -- the line tells the mentions and the free words
 canonical_line-parts : (groups : List Group) (ms os : List Mention) (frees others : List Text) → AreLawfullyNamed groups
@@ -402,10 +333,10 @@ canonical_line-parts : (groups : List Group) (ms os : List Mention) (frees other
 canonical_line-parts groups [] [] frees others lawful own own_other plain plain_other same = (refl, cc)
 canonical_line-parts groups [] (o ∷ os) frees others lawful own own_other plain plain_other same =
     let first : canonical_word groups o ≡ stop_word = cc in
-    absurd (canonical_word-no_stop groups o lawful own_other.0 first)
+    absurd (canonical_word-no_stop groups o lawful own_other.0 plain_other.0 first)
 canonical_line-parts groups (m ∷ ms) [] frees others lawful own own_other plain plain_other same =
     let first : canonical_word groups m ≡ stop_word = cc in
-    absurd (canonical_word-no_stop groups m lawful own.0 first)
+    absurd (canonical_word-no_stop groups m lawful own.0 plain.0 first)
 canonical_line-parts groups (m ∷ ms) (o ∷ os) frees others lawful own own_other plain plain_other same =
     let first : canonical_word groups m ≡ canonical_word groups o = cc in
     let after : map (canonical_word groups) ms ++ stop_word ∷ frees ≡ map (canonical_word groups) os ++ stop_word ∷ others = cc in
@@ -430,12 +361,12 @@ pub IsOnlyContent-sound : (groups : List Group) (content : Content) → AreLawfu
 IsOnlyContent-sound groups content lawful sound plain other sound_other plain_other = canonical_line-same groups other content lawful sound_other plain_other sound plain
 
 -- the laws of the canonical line of a plain content that a line says
-pub HasCanonicalLine-says : (options : Declared) (words : List Text) (content : Content) → AreLawfullyNamed options.groups → HasOneReadingEverywhere options
+pub HasCanonicalLine-says : (options : Declared) (words : List Text) (content : Content) → AreLawfullyNamed options.groups → IsNamed (grammar_of options)
     → Says options words content → IsPlain options.groups content → HasCanonicalLine options content
-HasCanonicalLine-says options words content lawful one_reading says plain =
+HasCanonicalLine-says options words content lawful named says plain =
     let sound = IsSound-says options words content says in
     let back = ReadsBackEverywhere-says options words content says plain in
-    let nothing_else = SaysNothingElse-reads_back options content one_reading back in
+    let nothing_else = SaysNothingElse-reads_back options content named back in
     record {
       sound = sound;
       fitting = IsFitting-says options words content says;
@@ -446,8 +377,8 @@ HasCanonicalLine-says options words content lawful one_reading says plain =
     }
 
 -- the main theorem of canonical lines
-pub CanonicalLinesTell-lawful : (options : Declared) → AreLawfullyNamed options.groups → HasOneReadingEverywhere options → CanonicalLinesTell options
-CanonicalLinesTell-lawful options lawful one_reading words others content other says plain says_other plain_other =
+pub CanonicalLinesTell-lawful : (options : Declared) → AreLawfullyNamed options.groups → IsNamed (grammar_of options) → CanonicalLinesTell options
+CanonicalLinesTell-lawful options lawful named words others content other says plain says_other plain_other =
     let sound = IsSound-says options words content says in
     let sound_other = IsSound-says options others other says_other in
     let back = ReadsBackEverywhere-says options words content says plain in
@@ -455,8 +386,8 @@ CanonicalLinesTell-lawful options lawful one_reading words others content other 
       canonical_line-same options.groups content other lawful sound plain sound_other plain_other,
       back,
       back_other,
-      SaysNothingElse-reads_back options content one_reading back,
-      SaysNothingElse-reads_back options other one_reading back_other,
+      SaysNothingElse-reads_back options content named back,
+      SaysNothingElse-reads_back options other named back_other,
     )
 
 -- a text whose front holds `=` holds it
@@ -477,21 +408,12 @@ no_name-equals name main (attached value) cut_once holds same =
 no_name-equals name main (separate word) cut_once holds same =
     true≢false (sym (holds_equals-append main (equals_sign ∷ word) holds) ∙ ap holds_equals (sym same ∙ append-nil name) ∙ cut_once)
 
--- a name that begins with no dash, with an argument, begins with none
-no_dash-name : (name : Text) (argument : Option Text) (text : Text) → begins_with_dash name ≡ false
-    → name ++ with_equals argument ≡ dash ∷ text → ⊥
-no_dash-name [] None text other same = absurd cc
-no_dash-name [] (Some argument) text other same = let head : equals_sign ≡ dash = cc in omega arith
-no_dash-name (c ∷ name) argument text other same =
-    let head : c ≡ dash = cc in
-    true≢false (sym (eq-eqb c dash head) ∙ other)
-
 -- the canonical word begins no lawful item with just its mention, where the main name holds `=`
 pub HasNoItem-equals : (options : Declared) (m : Mention) → holds_equals (main_at options.groups m.group) ≡ true → HasNoItem options m
 HasNoItem-equals options m holds style long_only (free word) after others lawful just same = absurd cc
 HasNoItem-equals options m holds style long_only (long one name argument) after others lawful just same =
     let text : name ++ with_equals (attached_argument argument) ≡ dash ∷ (main_at options.groups m.group ++ with_equals m.value) = cc in
-    no_dash-name name (attached_argument argument) _ lawful.before.1 text
+    true≢false (sym (ap begins_with_dash text) ∙ begins_with_dash-append name (attached_argument argument) lawful.before.1)
 HasNoItem-equals options m holds style long_only (long two name argument) after others lawful just same =
     let text : name ++ with_equals (attached_argument argument) ≡ main_at options.groups m.group ++ with_equals m.value = cc in
     let mentioned : mention (grammar_of (with_setting options style long_only)) name (value_of argument) ≡ m = cc in

@@ -1,11 +1,12 @@
 -- The canonical line: what a line says, written again with main names alone; what such a line tells, and
 -- where there is none.
 use Rattle.std.specs.Prelude.{◌≡◌, ◌↔◌, ⊤, ℕ, Bool, false, List, [], ◌∷◌, ◌++◌, map, Option, Some, None, slice_get}
-use Rattle.std.specs.List.{AllByRecursion, Contains, flat_map}
+use Rattle.std.specs.List.{AllByRecursion, Contains}
 use Rattle.std.specs.Option.{option_map, option_map_or}
 use Rattle.getopts.specs.Names.{Text, main_name, resolution}
 use Rattle.getopts.specs.Options.{Group, Declared, names_of, Grammar, grammar_of}
 use Rattle.getopts.specs.Scan.{holds_equals, stop_word, Argument, none, attached, two, Item, long, long_word, spelled, IsLawfulItem, stop, Reading, IsReading, Mention, mentions, Occurrence, free_words}
+use Rattle.getopts.specs.ScanLaws.{mentions_of}
 use Rattle.getopts.specs.Matches.{matches_of, KeepsCounts}
 use Rattle.getopts.specs.declared.options.HasArg.{HasArg}
 use Rattle.getopts.specs.declared.options.HasArg.TheVariants.{Yes, No, Maybe}
@@ -14,10 +15,6 @@ use Rattle.getopts.specs.declared.options.ParsingStyle.{ParsingStyle}
 -- an occurrence without its position
 abbrev pub mention_of : Occurrence → Mention
 mention_of occurrence = record { group = occurrence.group; value = occurrence.value }
-
--- what a reading mentions, in the order of the line: its occurrences without their positions
-abbrev pub mentions_of : Grammar → Reading → List Mention
-mentions_of grammar reading = flat_map (mentions grammar) reading.items
 
 -- what a line may say: mentions in order, and free words
 pub record Content : Type 0 where
