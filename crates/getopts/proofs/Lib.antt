@@ -5,6 +5,7 @@ pub mod OptLemmas
 pub mod OptionsLemmas
 pub mod ScanClusters
 pub mod ScanItems
+pub mod ScanLoop
 pub mod ScanLawProofs
 pub mod ScanReadings
 pub mod ScanSteps

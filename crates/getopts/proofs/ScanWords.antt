@@ -7,7 +7,9 @@ use Rattle.std.proofs.lemmas.Bool.Decides.{Decides-eqb, nat_tests}
 use Rattle.getopts.specs.declared.options.HasArg.{HasArg}
 use Rattle.getopts.specs.declared.options.HasArg.TheVariants.{Yes, No, Maybe}
 use Rattle.getopts.specs.Names.{Text}
-use Rattle.getopts.specs.Scan.{dash, equals_sign, is_dashed, begins_with_dash, holds_equals, attached, FitsEnd}
+use Rattle.getopts.specs.Scan.{dash, equals_sign, is_dashed, begins_with_dash, holds_equals, attached, FitsEnd, one, two, IsShortForm}
+use Rattle.getopts.specs.Options.{Grammar}
+use Rattle.getopts.specs.Line.{IsInLongForm}
 
 -- a word that doesn't begin with `-` isn't dashed
 pub is_dashed-other : (word : Text) → ((rest : Text) → word ≢ dash ∷ rest) → is_dashed word ≡ false
@@ -58,3 +60,45 @@ ascii_below byte h = grind (arith, nat_tests)
 
 pub wide_above : (byte : ℕ) → is_ascii byte ≡ false → 128 ≤ byte
 wide_above byte h = grind (arith, nat_tests)
+
+-- a text that is no dash and a rest doesn't begin with one
+pub begins_with_dash-other : (text : Text) → ((more : Text) → text ≢ dash ∷ more) → begins_with_dash text ≡ false
+begins_with_dash-other [] h = refl
+begins_with_dash-other (c ∷ text) h = other (eqb c dash) (λ e. h text (ap (λ x. x ∷ text) ((Decides-eqb c dash).0 e))) where
+    other : (b : Bool) → b ≢ true → b ≡ false
+    other true no_dash = absurd (no_dash refl)
+    other false no_dash = refl
+
+-- `-` and a text that isn't empty is a dashed word
+pub is_dashed-text : (text : Text) → text ≢ [] → is_dashed (dash ∷ text) ≡ true
+is_dashed-text [] filled = absurd (filled refl)
+is_dashed-text (c ∷ text) filled = refl
+
+-- two dashes and a text that isn't empty are a word in long form
+pub IsInLongForm-two : (grammar : Grammar) (text long : Text) → text ≡ dash ∷ long → text ≢ dash ∷ [] → IsInLongForm grammar (dash ∷ text) long
+IsInLongForm-two grammar text long text_is no_stop = record {
+  dashes = two;
+  before = tt;
+  word_is = ap (λ t. dash ∷ t) text_is;
+  dashed = ap (λ t. is_dashed (dash ∷ t)) text_is;
+  no_stop = λ e. no_stop (cc);
+}
+
+-- in long-only mode one dash and a text that doesn't begin with one are a word in long form
+pub IsInLongForm-one : (grammar : Grammar) (text : Text) → grammar.long_only ≡ true → text ≢ [] → ((more : Text) → text ≢ dash ∷ more) → IsInLongForm grammar (dash ∷ text) text
+IsInLongForm-one grammar text long_only filled other = record {
+  dashes = one;
+  before = (long_only, begins_with_dash-other text other);
+  word_is = refl;
+  dashed = is_dashed-text text filled;
+  no_stop = λ e. other [] (cc);
+}
+
+-- in ordinary mode they are a word in short form
+pub IsShortForm-text : (grammar : Grammar) (text : Text) → grammar.long_only ≡ false → text ≢ [] → ((more : Text) → text ≢ dash ∷ more) → IsShortForm grammar (dash ∷ text) text
+IsShortForm-text grammar text ordinary filled other = record {
+  ordinary = ordinary;
+  word_is = refl;
+  filled = filled;
+  second = begins_with_dash-other text other;
+}

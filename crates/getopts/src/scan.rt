@@ -221,4 +221,79 @@ impl<'o> Scanner<'o> {
         }
         Ok(0)
     }
+
+    /// The text after the dashes of a word in long form, by its text after the first dash.
+    fn long_text<'w>(&self, text: &'w str) -> Option<&'w str>
+        requires filled { text.now ≢ [] }
+        requires no_stop { text.now ≢ dash ∷ [] }
+        ensures { MatchOption result (IsShortForm (scanner_grammar self.now) (dash ∷ text.now) text.now)
+            (λ long. IsInLongForm (scanner_grammar self.now) (dash ∷ text.now) long.now) }
+    {
+        match text.strip_prefix('-') {
+            Some(long) => Some(long),
+            None if self.long_only => Some(text),
+            None => None,
+        }
+    }
+
+    /// Reads the item that a dashed word other than `--` begins, by its text after the first dash and
+    /// the words after it. Adds its occurrences, and answers how many of those words it used.
+    fn item<'w>(
+        &self,
+        alloc: Global,
+        text: &'w str,
+        after: &[&'w str],
+        position: usize,
+        found: &mut Vec<Occurrence<'w>>,
+    ) -> Result<usize, Fail>
+        requires named { IsLawfulScanner self.now }
+        requires filled { text.now ≢ [] }
+        requires no_stop { text.now ≢ dash ∷ [] }
+        ensures ok { IfOk result (λ used. AddsItem (scanner_grammar self.now) (dash ∷ text.now) (texts after.now) position used (occurrences_view found.old.items) (occurrences_view found.new.items)) }
+        ensures err { IfErr result (λ fail. Tells fail (IsFaultAt (scanner_grammar self.now) (dash ∷ text.now) (texts after.now))) }
+    {
+        let Some(long) = self.long_text(text) else {
+            return self.cluster(alloc, text, after, position, found);
+        };
+        let (occurrence, used) = self.long(alloc, long, after, position)?;
+        found.push(occurrence)?;
+        Ok(used)
+    }
+
+    /// Reads a line: its items, and what follows the stop or the first free word.
+    pub(crate) fn scan<'w>(&self, alloc: Global, words: &[&'w str]) -> Result<Line<'w>, Fail>
+        requires named { IsLawfulScanner self.now }
+        ensures ok { IfOk result (λ line. ReadsLine (scanner_grammar self.now) (texts words.now) line) }
+        ensures err { IfErr result (λ fail. Tells fail (IsScanFault (scanner_grammar self.now) (texts words.now))) }
+    {
+        let mut occurrences = Vec::new(alloc);
+        let mut free = Vec::new(alloc);
+        let mut at = 0;
+        let mut position = 0;
+        'items: while at < words.len() {
+            let word = words[at];
+            let after = &words[at + 1..];
+            match dashed_text(word) {
+                None if self.style == ParsingStyle::StopAtFirstFree => {
+                    free.extend_from_slice(&words[at..])?;
+                    return Ok(Line { occurrences, free, trailing_start: None });
+                }
+                None => {
+                    free.push(word)?;
+                    at += 1;
+                }
+                Some("-") => {
+                    let start = free.len();
+                    free.extend_from_slice(after)?;
+                    let trailing_start = if after.is_empty() { None } else { Some(start) };
+                    return Ok(Line { occurrences, free, trailing_start });
+                }
+                Some(text) => {
+                    at += 1 + self.item(alloc, text, after, position, &mut occurrences)?;
+                }
+            }
+            position += 1;
+        }
+        Ok(Line { occurrences, free, trailing_start: None })
+    }
 }
