@@ -1,0 +1,240 @@
+-- Breakings of a line's words: filling rows from the left gives the one tight breaking, and no fitting breaking has fewer runs.
+use Rattle.std.proofs.Common.{◌≡◌, ◌≢◌, ℕ, suc, zero, ◌+◌, ◌-◌, ◌<◌, ◌≤◌, Bool, true, false, cond, List, [], ◌∷◌, ◌++◌, length, take, map, sym, refl, ap, ◌∙◌, subst, inl, inr, ⊎_elim, append_assoc, append-nil, arith, rules, length-append}
+use Rattle.std.specs.Prelude.{nat_le, ◌⊎◌, sum_by, All}
+use Rattle.std.specs.List.{flat_map}
+use Rattle.std.proofs.lemmas.Bool.{leb-true, le-leb}
+use Rattle.std.proofs.lemmas.Bool.Decides.{nat_tests, leb_tells}
+use Rattle.std.proofs.lemmas.List.Elements.{All-nil, All-cons, All-head, All-tail}
+use Rattle.std.proofs.lemmas.List.Sums.{sum_by-append}
+use Rattle.getopts.specs.Wrap.{Word, Run, width_of, columns_of, FitsIn, IsFittingBreaking, NoneTakesMore, IsTightBreaking, IsFewestBreaking, HasOneTightBreaking}
+
+-- ---- filling one row after the other
+
+-- whether the word still fits in the row after the run
+abbrev pub takes : ℕ → Run → Word → Bool
+takes limit run word = nat_le (columns_of (run ++ word ∷ [])) limit
+
+-- the runs that come of a row begun with the run, and the words after it
+abbrev pub filled : ℕ → Run → List Word → List Run
+filled limit run [] = run ∷ []
+filled limit run (word ∷ words) = cond (takes limit run word) (filled limit (run ++ word ∷ []) words) (run ∷ filled limit (word ∷ []) words)
+
+-- the words, broken by filling row after row
+abbrev pub broken : ℕ → List Word → List Run
+broken limit [] = []
+broken limit (word ∷ words) = filled limit (word ∷ []) words
+
+-- one more word: it is taken, or begins a row
+filled-cases : (P : List Run → Type 0) (limit : ℕ) (run : Run) (word : Word) (words : List Word) → (takes limit run word ≡ true → P (filled limit (run ++ word ∷ []) words)) → (takes limit run word ≡ false → P (run ∷ filled limit (word ∷ []) words)) → P (filled limit run (word ∷ words))
+filled-cases P limit run word words taken refused = by_answer (takes limit run word) refl
+  where
+    by_answer : (answer : Bool) → takes limit run word ≡ answer → P (cond answer (filled limit (run ++ word ∷ []) words) (run ∷ filled limit (word ∷ []) words))
+    by_answer true e = taken e
+    by_answer false e = refused e
+
+pub filled-taken : (limit : ℕ) (run : Run) (word : Word) (words : List Word) → takes limit run word ≡ true → filled limit run (word ∷ words) ≡ filled limit (run ++ word ∷ []) words
+filled-taken limit run word words e = ap (λ answer. cond answer (filled limit (run ++ word ∷ []) words) (run ∷ filled limit (word ∷ []) words)) e
+
+pub filled-refused : (limit : ℕ) (run : Run) (word : Word) (words : List Word) → takes limit run word ≡ false → filled limit run (word ∷ words) ≡ run ∷ filled limit (word ∷ []) words
+filled-refused limit run word words e = ap (λ answer. cond answer (filled limit (run ++ word ∷ []) words) (run ∷ filled limit (word ∷ []) words)) e
+
+-- ---- a run inside a fitting run fits
+
+columns_of-inside : (front run back : Run) → columns_of run ≤ columns_of (front ++ (run ++ back))
+columns_of-inside front run back = omega (arith, sum_by-append width_of front (run ++ back), sum_by-append width_of run back, length-append front (run ++ back), length-append run back)
+
+-- a word that follows some words in a fitting run is taken
+takes-inside : (limit : ℕ) (front run : Run) (word : Word) (back : Run) → 0 < length run → FitsIn limit (front ++ (run ++ word ∷ back)) → takes limit run word ≡ true
+takes-inside limit front run word back some fits =
+    ⊎_elim
+    (λ (one : length (front ++ (run ++ word ∷ back)) ≡ 1). absurd (omega (arith, length-append front (run ++ word ∷ back), length-append run (word ∷ back))))
+    (λ (within : columns_of (front ++ (run ++ word ∷ back)) ≤ limit).
+    let regrouped : columns_of (front ++ ((run ++ word ∷ []) ++ back)) ≤ limit = subst (λ (inner : Run). columns_of (front ++ inner) ≤ limit) (sym (append_assoc run (word ∷ []) back)) within in
+    le-leb _ _ (omega (arith, columns_of-inside front (run ++ word ∷ []) back)))
+    fits
+
+-- what a run doesn't take doesn't fit behind it, and what it takes does
+fits-taken : (limit : ℕ) (run : Run) (word : Word) → takes limit run word ≡ true → FitsIn limit (run ++ word ∷ [])
+fits-taken limit run word e = inr (leb-true _ _ e)
+
+too_long : (limit : ℕ) (run : Run) (word : Word) → 0 < length run → takes limit run word ≡ false → ¬ FitsIn limit (run ++ word ∷ [])
+too_long limit run word some e fits =
+    ⊎_elim
+    (λ (one : length (run ++ word ∷ []) ≡ 1). omega (arith, length-append run (word ∷ [])))
+    (λ (within : columns_of (run ++ word ∷ []) ≤ limit). let taken = le-leb _ _ within in cc)
+    fits
+
+-- ---- of two cuts of one list, one lies within the other
+
+Within : {X : Type 0} (xs ys us vs : List X) → Type 0
+Within {X} xs ys us vs = (middle : List X) × (us ≡ xs ++ middle) × (ys ≡ middle ++ vs)
+
+cuts : {X : Type 0} (xs ys us vs : List X) → xs ++ ys ≡ us ++ vs → Within xs ys us vs ⊎ Within us vs xs ys
+unfolding Within
+cuts [] ys us vs e = inl (us, refl, e)
+cuts (x ∷ xs) ys [] vs e = inr (x ∷ xs, refl, sym e)
+cuts (x ∷ xs) ys (u ∷ us) vs e =
+    let heads : x ≡ u = cc in
+    let tails : xs ++ ys ≡ us ++ vs = cc in
+    ⊎_elim
+    (λ (w : Within xs ys us vs). inl (w.0, (let longer = w.1 in cc), w.2))
+    (λ (w : Within us vs xs ys). inr (w.0, (let longer = w.1 in cc), w.2))
+    (cuts xs ys us vs tails)
+
+-- ---- filling gives a tight breaking
+
+BeginsWith : Run → List Run → Type 0
+BeginsWith run runs = (more : Run) × (others : List Run) × (runs ≡ (run ++ more) ∷ others)
+
+-- the first of the runs goes on from the run
+filled-first : (limit : ℕ) (run : Run) (words : List Word) → BeginsWith run (filled limit run words)
+unfolding BeginsWith
+filled-first limit run [] = ([], [], ap (λ (first : Run). first ∷ []) (sym (append-nil run)))
+filled-first limit run (word ∷ words) =
+    filled-cases (BeginsWith run) limit run word words
+    (λ _. let first = filled-first limit (run ++ word ∷ []) words in (word ∷ first.0, first.1, rw append_assoc at first.2))
+    (λ _. ([], filled limit (word ∷ []) words, ap (λ (first : Run). first ∷ filled limit (word ∷ []) words) (sym (append-nil run))))
+
+filled-joined : (limit : ℕ) (run : Run) (words : List Word) → flat_map (λ run. run) (filled limit run words) ≡ run ++ words
+filled-joined limit run [] = refl
+filled-joined limit run (word ∷ words) =
+    filled-cases (λ runs. flat_map (λ run. run) runs ≡ run ++ word ∷ words) limit run word words
+    (λ _. filled-joined limit (run ++ word ∷ []) words ∙ append_assoc run (word ∷ []) words)
+    (λ _. ap (λ (rest : List Word). run ++ rest) (filled-joined limit (word ∷ []) words))
+
+filled-nonempty : (limit : ℕ) (run : Run) (words : List Word) → 0 < length run → All (λ run. 0 < length run) (filled limit run words)
+filled-nonempty limit run [] some = All-cons (λ run. 0 < length run) run [] some (All-nil (λ run. 0 < length run))
+filled-nonempty limit run (word ∷ words) some =
+    filled-cases (All (λ run. 0 < length run)) limit run word words
+    (λ _. filled-nonempty limit (run ++ word ∷ []) words (omega (arith, length-append run (word ∷ []))))
+    (λ _. All-cons (λ run. 0 < length run) run _ some (filled-nonempty limit (word ∷ []) words (omega arith)))
+
+filled-fits : (limit : ℕ) (run : Run) (words : List Word) → FitsIn limit run → All (FitsIn limit) (filled limit run words)
+filled-fits limit run [] fits = All-cons (FitsIn limit) run [] fits (All-nil (FitsIn limit))
+filled-fits limit run (word ∷ words) fits =
+    filled-cases (All (FitsIn limit)) limit run word words
+    (λ e. filled-fits limit (run ++ word ∷ []) words (fits-taken limit run word e))
+    (λ _. All-cons (FitsIn limit) run _ fits (filled-fits limit (word ∷ []) words (inl refl)))
+
+-- a run that can't take a word stands tightly before runs that begin with it
+tight-cons : (limit : ℕ) (run : Run) (word : Word) (runs : List Run) → ¬ FitsIn limit (run ++ word ∷ []) → BeginsWith (word ∷ []) runs → NoneTakesMore limit runs → NoneTakesMore limit (run ∷ runs)
+unfolding BeginsWith
+tight-cons limit run word runs long first tight =
+    let as_cons = first.2 in
+    subst (λ (runs : List Run). NoneTakesMore limit (run ∷ runs)) (sym as_cons) (long, subst (NoneTakesMore limit) as_cons tight)
+
+filled-tight : (limit : ℕ) (run : Run) (words : List Word) → 0 < length run → NoneTakesMore limit (filled limit run words)
+filled-tight limit run [] some = tt
+filled-tight limit run (word ∷ words) some =
+    filled-cases (NoneTakesMore limit) limit run word words
+    (λ _. filled-tight limit (run ++ word ∷ []) words (omega (arith, length-append run (word ∷ []))))
+    (λ e. tight-cons limit run word _ (too_long limit run word some e) (filled-first limit (word ∷ []) words) (filled-tight limit (word ∷ []) words (omega arith)))
+
+pub broken-tight : (limit : ℕ) (words : List Word) → IsTightBreaking limit words (broken limit words)
+broken-tight limit [] = record { fitting = record { joined = refl; nonempty = All-nil (λ run. 0 < length run); fits = All-nil (FitsIn limit) }; tight = tt }
+broken-tight limit (word ∷ words) = record {
+    fitting = record {
+      joined = filled-joined limit (word ∷ []) words;
+      nonempty = filled-nonempty limit (word ∷ []) words (omega arith);
+      fits = filled-fits limit (word ∷ []) words (inl refl);
+    };
+    tight = filled-tight limit (word ∷ []) words (omega arith);
+  }
+
+-- ---- it is the only one
+
+not_taken : (limit : ℕ) (run : Run) (word : Word) → ¬ FitsIn limit (run ++ word ∷ []) → takes limit run word ≡ false
+not_taken limit run word long = by_answer (takes limit run word) refl
+  where
+    by_answer : (answer : Bool) → takes limit run word ≡ answer → takes limit run word ≡ false
+    by_answer true e = absurd (long (fits-taken limit run word e))
+    by_answer false e = e
+
+-- a tight breaking whose first run begins with the run is what filling from that run gives
+filled-only : (limit : ℕ) (runs : List Run) (run more : Run) → 0 < length run → All (λ run. 0 < length run) runs → All (FitsIn limit) ((run ++ more) ∷ runs) → NoneTakesMore limit ((run ++ more) ∷ runs) → filled limit run (more ++ flat_map (λ run. run) runs) ≡ (run ++ more) ∷ runs
+filled-only limit runs run (word ∷ more) some nonempty fits tight =
+    let regrouped : (run ++ word ∷ []) ++ more ≡ run ++ word ∷ more = append_assoc run (word ∷ []) more in
+    let taken = takes-inside limit [] run word more some (All-head (FitsIn limit) (run ++ word ∷ more) runs fits) in
+    let longer : 0 < length (run ++ word ∷ []) = omega (arith, length-append run (word ∷ [])) in
+    filled-taken limit run word (more ++ flat_map (λ run. run) runs) taken
+    ∙ filled-only limit runs (run ++ word ∷ []) more longer nonempty (subst (λ (first : Run). All (FitsIn limit) (first ∷ runs)) (sym regrouped) fits) (subst (λ (first : Run). NoneTakesMore limit (first ∷ runs)) (sym regrouped) tight)
+    ∙ ap (λ (first : Run). first ∷ runs) regrouped
+filled-only limit [] run [] some nonempty fits tight = ap (λ (first : Run). first ∷ []) (sym (append-nil run))
+filled-only limit ([] ∷ runs) run [] some nonempty fits tight = absurd (omega (arith, All-head (λ run. 0 < length run) [] runs nonempty))
+filled-only limit ((word ∷ next) ∷ runs) run [] some nonempty fits tight =
+    let refused = not_taken limit run word (subst (λ (first : Run). ¬ FitsIn limit (first ++ word ∷ [])) (append-nil run) tight.0) in
+    filled-refused limit run word (next ++ flat_map (λ run. run) runs) refused
+    ∙ ap (λ (rest : List Run). run ∷ rest) (filled-only limit runs (word ∷ []) next (omega arith) (All-tail (λ run. 0 < length run) (word ∷ next) runs nonempty) (All-tail (FitsIn limit) (run ++ []) ((word ∷ next) ∷ runs) fits) tight.1)
+    ∙ ap (λ (first : Run). first ∷ (word ∷ next) ∷ runs) (sym (append-nil run))
+
+-- every tight breaking is the one that filling gives
+pub broken-only : (limit : ℕ) (words : List Word) (others : List Run) → IsTightBreaking limit words others → others ≡ broken limit words
+broken-only limit words [] tight = ap (broken limit) tight.fitting.joined
+broken-only limit words ([] ∷ runs) tight = absurd (omega (arith, All-head (λ run. 0 < length run) [] runs tight.fitting.nonempty))
+broken-only limit words ((word ∷ more) ∷ runs) tight =
+    sym (filled-only limit runs (word ∷ []) more (omega arith) (All-tail (λ run. 0 < length run) (word ∷ more) runs tight.fitting.nonempty) tight.fitting.fits tight.tight)
+    ∙ ap (broken limit) tight.fitting.joined
+
+pub has_one_tight_breaking : (limit : ℕ) (words : List Word) → HasOneTightBreaking limit words
+has_one_tight_breaking limit words = record { runs = broken limit words; is_tight = broken-tight limit words; only = broken-only limit words }
+
+-- ---- no fitting breaking has fewer runs
+
+-- words that follow a run inside a fitting run are all taken
+filled-through : (limit : ℕ) (front run more : Run) (words : List Word) → 0 < length run → FitsIn limit (front ++ (run ++ more)) → filled limit run (more ++ words) ≡ filled limit (run ++ more) words
+filled-through limit front run [] words some fits = ap (λ (run : Run). filled limit run words) (sym (append-nil run))
+filled-through limit front run (word ∷ more) words some fits =
+    let regrouped : (run ++ word ∷ []) ++ more ≡ run ++ word ∷ more = append_assoc run (word ∷ []) more in
+    let longer : 0 < length (run ++ word ∷ []) = omega (arith, length-append run (word ∷ [])) in
+    filled-taken limit run word (more ++ words) (takes-inside limit front run word more some fits)
+    ∙ filled-through limit front (run ++ word ∷ []) more words longer (subst (λ (inner : Run). FitsIn limit (front ++ inner)) (sym regrouped) fits)
+    ∙ ap (λ (run : Run). filled limit run words) regrouped
+
+-- the runs after the first break what is left of the words
+fitting-tail : (limit : ℕ) (words rest : List Word) (other : Run) (others : List Run) → IsFittingBreaking limit words (other ∷ others) → flat_map (λ run. run) others ≡ rest → IsFittingBreaking limit rest others
+fitting-tail limit words rest other others fitting joined = record {
+    joined = joined;
+    nonempty = All-tail (λ run. 0 < length run) other others fitting.nonempty;
+    fits = All-tail (FitsIn limit) other others fitting.fits;
+  }
+
+-- filling from a run takes at most one row more than any breaking of the words after it, also where that begins earlier
+AheadAfter : ℕ → List Run → Type 0
+AheadAfter limit others = (front : List Word) (run : Run) (words : List Word) → 0 < length run → IsFittingBreaking limit (front ++ words) others → length (filled limit run words) ≤ 1 + length others
+
+-- filling from a run takes no more rows than any breaking of the run and the words after it, also where that begins earlier
+AheadFrom : ℕ → List Run → Type 0
+AheadFrom limit others = (front : List Word) (run : Run) (words : List Word) → 0 < length run → IsFittingBreaking limit (front ++ (run ++ words)) others → length (filled limit run words) ≤ length others
+
+after_from : (limit : ℕ) (others : List Run) → AheadFrom limit others → AheadAfter limit others
+unfolding AheadAfter AheadFrom
+after_from limit others ahead front run [] some fitting = omega arith
+after_from limit others ahead front run (word ∷ words) some fitting =
+    filled-cases (λ runs. length runs ≤ 1 + length others) limit run word words
+    (λ _. after_from limit others ahead (front ++ word ∷ []) (run ++ word ∷ []) words (omega (arith, length-append run (word ∷ []))) (subst (λ (covered : List Word). IsFittingBreaking limit covered others) (sym (append_assoc front (word ∷ []) words)) fitting))
+    (λ _. omega (arith, ahead front (word ∷ []) words (omega arith) fitting))
+
+from_after : (limit : ℕ) (other : Run) (others : List Run) → AheadAfter limit others → AheadFrom limit (other ∷ others)
+unfolding AheadAfter AheadFrom Within
+from_after limit other others ahead front run words some fitting =
+    ⊎_elim
+    (λ (w : Within other (flat_map (λ run. run) others) (front ++ run) words). omega (arith, ahead w.0 run words some (fitting-tail limit _ (w.0 ++ words) other others fitting w.2)))
+    (λ (w : Within (front ++ run) words other (flat_map (λ run. run) others)).
+    let inside : FitsIn limit (front ++ (run ++ w.0)) = subst (FitsIn limit) (w.1 ∙ append_assoc front run w.0) (All-head (FitsIn limit) other others fitting.fits) in
+    let through : filled limit run words ≡ filled limit (run ++ w.0) (flat_map (λ run. run) others) = ap (filled limit run) w.2 ∙ filled-through limit front run w.0 (flat_map (λ run. run) others) some inside in
+    let fewer = ahead [] (run ++ w.0) (flat_map (λ run. run) others) (omega (arith, length-append run w.0)) (fitting-tail limit _ _ other others fitting refl) in
+    omega (arith, ap length through, fewer))
+    (cuts other (flat_map (λ run. run) others) (front ++ run) words (fitting.joined ∙ sym (append_assoc front run words)))
+
+ahead_from : (limit : ℕ) (others : List Run) → AheadFrom limit others
+unfolding AheadFrom
+ahead_from limit [] front run words some fitting = absurd (omega (arith, ap length fitting.joined, length-append front (run ++ words), length-append run words))
+ahead_from limit (other ∷ others) front run words some fitting = from_after limit other others (after_from limit others (ahead_from limit others)) front run words some fitting
+
+pub broken-fewest : (limit : ℕ) (words : List Word) (others : List Run) → IsFittingBreaking limit words others → length (broken limit words) ≤ length others
+unfolding AheadFrom
+broken-fewest limit [] others fitting = omega arith
+broken-fewest limit (word ∷ words) others fitting = ahead_from limit others [] (word ∷ []) words (omega arith) fitting
+
+pub broken-is_fewest : (limit : ℕ) (words : List Word) → IsFewestBreaking limit words (broken limit words)
+broken-is_fewest limit words = record { fitting = (broken-tight limit words).fitting; fewest = broken-fewest limit words }
