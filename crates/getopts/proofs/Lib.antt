@@ -1,1 +1,2 @@
 pub mod WrapLemmas
+pub mod WrapWords
