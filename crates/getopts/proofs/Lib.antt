@@ -1,2 +1,3 @@
 pub mod WrapLemmas
 pub mod WrapWords
+pub mod WrapRows

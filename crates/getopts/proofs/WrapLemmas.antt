@@ -237,4 +237,4 @@ broken-fewest limit [] others fitting = omega arith
 broken-fewest limit (word ∷ words) others fitting = ahead_from limit others [] (word ∷ []) words (omega arith) fitting
 
 pub broken-is_fewest : (limit : ℕ) (words : List Word) → IsFewestBreaking limit words (broken limit words)
-broken-is_fewest limit words = record { fitting = (broken-tight limit words).fitting; fewest = broken-fewest limit words }
+broken-is_fewest limit words = record { tight = broken-tight limit words; fewest = broken-fewest limit words }

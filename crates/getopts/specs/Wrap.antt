@@ -4,11 +4,13 @@ use Rattle.std.specs.List.{AllZip, flat_map, join_with_byte, slice_split}
 use Rattle.std.specs.Char.{is_whitespace}
 use Rattle.unicode_width.specs.Width.{str_width}
 
+-- ---- words and runs
+
 -- a word, by its bytes
 abbrev pub Word : Type 0
 Word = List ℕ
 
--- some words that stand in one row
+-- words that stand in one row
 abbrev pub Run : Type 0
 Run = List Word
 
@@ -20,11 +22,17 @@ width_of word = str_width false (chars word)
 abbrev pub columns_of : Run → ℕ
 columns_of run = sum_by width_of run + (length run - 1)
 
--- a run fits a limit where it is one word, or its columns are at most the limit
+-- a run as the text of a row: its words, joined by one space
+abbrev pub text_of : Run → List ℕ
+text_of run = join_with_byte 32 run
+
+-- ---- breakings
+
+-- a run fits where it is one word, or its columns are at most the limit
 abbrev pub FitsIn : ℕ → Run → Type 0
 FitsIn limit run = (length run ≡ 1) ⊎ (columns_of run ≤ limit)
 
--- the runs fit, none is empty, and one after the other they are the words
+-- the words are cut into runs: none is empty, and each fits
 pub record IsFittingBreaking (limit : ℕ) (words : List Word) (runs : List Run) : Type 0 where
   pub joined : flat_map (λ run. run) runs ≡ words
   pub nonempty : All (λ run. 0 < length run) runs
@@ -36,40 +44,46 @@ NoneTakesMore limit [] = Unit {0}
 NoneTakesMore limit (run ∷ []) = Unit {0}
 NoneTakesMore limit (run ∷ next ∷ more) = (¬ FitsIn limit (run ++ take 1 next)) × NoneTakesMore limit (next ∷ more)
 
--- a fitting breaking in which no run could take in the word that follows it
+-- a fitting breaking in which no run could take in the word that comes next
 pub record IsTightBreaking (limit : ℕ) (words : List Word) (runs : List Run) : Type 0 where
   pub fitting : IsFittingBreaking limit words runs
   pub tight : NoneTakesMore limit runs
 
--- a fitting breaking, and no fitting breaking of these words has fewer runs
+-- a tight breaking, and no fitting breaking of the same words has fewer runs
 pub record IsFewestBreaking (limit : ℕ) (words : List Word) (runs : List Run) : Type 0 where
-  pub fitting : IsFittingBreaking limit words runs
+  pub tight : IsTightBreaking limit words runs
   pub fewest : (others : List Run) → IsFittingBreaking limit words others → length runs ≤ length others
 
--- the words can be broken tightly in one way, and in no other
+-- the words have a tight breaking, and no other
 pub record HasOneTightBreaking (limit : ℕ) (words : List Word) : Type 0 where
   pub runs : List Run
   pub is_tight : IsTightBreaking limit words runs
   pub only : (others : List Run) → IsTightBreaking limit words others → others ≡ runs
 
--- the lines of a description, which ends each but the last by U+000A
+-- ---- descriptions
+
+-- the lines of a description, which is cut at U+000A
 abbrev pub lines_of : List ℕ → List (List ℕ)
 lines_of desc = slice_split (λ byte. byte == 10) desc
 
--- the words of a line: what stands between two characters of white space, or before the first or after the last, where that is not empty
+-- the words of a line, which is cut at each character of white space: the pieces that are not empty
 abbrev pub words_of : List ℕ → List Word
-words_of line = map encode_utf8_all (filter (λ part. nat_lt 0 (length part)) (slice_split is_whitespace (chars line)))
+words_of line = map encode_utf8_all (filter (λ piece. nat_lt 0 (length piece)) (slice_split is_whitespace (chars line)))
 
--- a run as a row's text: its words, joined by one space
-abbrev pub text_of : Run → List ℕ
-text_of run = join_with_byte 32 run
+-- the words of each line of a description
+abbrev pub words_of_lines : List ℕ → List (List Word)
+words_of_lines desc = map words_of (lines_of desc)
 
--- the rows are the runs of the description's lines, in order, each line's words broken as said
+-- the rows are the texts of the runs of each line in turn, where `Breaks` says how a line's words are broken into runs
 pub record IsBrokenBy (Breaks : List Word → List Run → Type 0) (desc : List ℕ) (rows : List (List ℕ)) : Type 0 where
   pub breakings : List (List Run)
-  pub of_each_line : AllZip Breaks (map words_of (lines_of desc)) breakings
+  pub each_line : AllZip Breaks (words_of_lines desc) breakings
   pub texts : rows ≡ map text_of (flat_map (λ runs. runs) breakings)
 
--- the rows of a description: the runs of each line's tight breaking
+-- the rows of a description for a limit: those of each line's tight breaking
 abbrev pub IsDescriptionRows : ℕ → List ℕ → List (List ℕ) → Type 0
 IsDescriptionRows limit desc rows = IsBrokenBy (IsTightBreaking limit) desc rows
+
+-- the rows that a line adds are the texts of the runs of its tight breaking
+abbrev pub AddsLine : ℕ → List ℕ → List (List ℕ) → List (List ℕ) → Type 0
+AddsLine limit line old new = (runs : List Run) × IsTightBreaking limit (words_of line) runs × (new ≡ old ++ map text_of runs)
