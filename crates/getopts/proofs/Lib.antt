@@ -1,3 +1,4 @@
 pub mod WrapLemmas
 pub mod WrapWords
 pub mod WrapRows
+pub mod WrapLines

@@ -2,7 +2,6 @@ use Rattle.std.proofs.Common.{ℕ, ◌≡◌, ◌+◌, ◌≤◌, ◌<◌, List,
 use Rattle.std.specs.Str.{IsUtf8}
 use Rattle.std.specs.Str.Iter.{split_whitespace_rest}
 use Rattle.std.proofs.lemmas.List.{map-append}
-use Rattle.std.proofs.lemmas.Str.{encode_ascii}
 use Rattle.getopts.specs.Wrap.{width_of, words_of}
 use Rattle.getopts.proofs.WrapWords.{words_of-none, words_of-step}
 use Rattle.getopts.proofs.WrapRows.{RowsSoFar, adds_none, rows_begin, rows_take, rows_end, rows_finish}
@@ -36,7 +35,7 @@ loop-word-preserved c =
       then-columns-lim+then-width-lim+in_ok-push w ↦
         rw w.rows-is
         (rows_take so_far c.in-Some-word.word.now _ c.width-width.result _ _ next width_is (omega arith)
-        (c.in_ok-push_str.ensures.bytes ∙ ap (λ (row : List ℕ). row ++ c.in-Some-word.word.now) (ap string_bytes w.row-is ∙ w.in_ok-push.ensures.bytes ∙ ap (λ (space : List ℕ). string_bytes c.loop-word.row ++ space) (encode_ascii 32 (lit< tt))))
+        (c.in_ok-push_str.ensures.bytes ∙ ap (λ (row : List ℕ). row ++ c.in-Some-word.word.now) (ap string_bytes w.row-is ∙ w.in_ok-push.ensures.bytes ∙ ap (λ (space : List ℕ). string_bytes c.loop-word.row ++ space) (w.push.ensures.ascii (lit< tt))))
         w.columns-is)
     | else-columns-lim+in_ok-push-2 w ↦
         let long : c.args.lim < c.loop-word.columns + (1 + c.width-width.result) =
