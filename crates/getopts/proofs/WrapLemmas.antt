@@ -133,13 +133,13 @@ filled-tight limit run (word ∷ words) some =
 pub broken-tight : (limit : ℕ) (words : List Word) → IsTightBreaking limit words (broken limit words)
 broken-tight limit [] = record { fitting = record { joined = refl; nonempty = All-nil (λ run. 0 < length run); fits = All-nil (FitsIn limit) }; tight = tt }
 broken-tight limit (word ∷ words) = record {
-    fitting = record {
-      joined = filled-joined limit (word ∷ []) words;
-      nonempty = filled-nonempty limit (word ∷ []) words (omega arith);
-      fits = filled-fits limit (word ∷ []) words (inl refl);
-    };
-    tight = filled-tight limit (word ∷ []) words (omega arith);
-  }
+  fitting = record {
+    joined = filled-joined limit (word ∷ []) words;
+    nonempty = filled-nonempty limit (word ∷ []) words (omega arith);
+    fits = filled-fits limit (word ∷ []) words (inl refl);
+  };
+  tight = filled-tight limit (word ∷ []) words (omega arith);
+}
 
 -- ---- it is the only one
 
@@ -193,10 +193,10 @@ filled-through limit front run (word ∷ more) words some fits =
 -- the runs after the first break what is left of the words
 fitting-tail : (limit : ℕ) (words rest : List Word) (other : Run) (others : List Run) → IsFittingBreaking limit words (other ∷ others) → flat_map (λ run. run) others ≡ rest → IsFittingBreaking limit rest others
 fitting-tail limit words rest other others fitting joined = record {
-    joined = joined;
-    nonempty = All-tail (λ run. 0 < length run) other others fitting.nonempty;
-    fits = All-tail (FitsIn limit) other others fitting.fits;
-  }
+  joined = joined;
+  nonempty = All-tail (λ run. 0 < length run) other others fitting.nonempty;
+  fits = All-tail (FitsIn limit) other others fitting.fits;
+}
 
 -- filling from a run takes at most one row more than any breaking of the words after it, also where that begins earlier
 AheadAfter : ℕ → List Run → Type 0

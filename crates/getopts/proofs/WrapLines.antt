@@ -39,22 +39,22 @@ lines_begin limit rows none = record { breakings = []; each_line = tt; texts = n
 
 pub lines_add : (limit : ℕ) (lines rows : List (List ℕ)) (line : List ℕ) (new_rows : List (List ℕ)) → LinesSoFar limit lines rows → AddsLine limit line rows new_rows → LinesSoFar limit (lines ++ line ∷ []) new_rows
 lines_add limit lines rows line new_rows so_far adds = record {
-    breakings = so_far.breakings ++ adds.0 ∷ [];
-    each_line = subst (λ (words : List (List Word)). AllZip (IsTightBreaking limit) words (so_far.breakings ++ adds.0 ∷ [])) (sym (map-append words_of lines (line ∷ []))) (all_zip_push (IsTightBreaking limit) (map words_of lines) so_far.breakings (words_of line) adds.0 so_far.each_line adds.1);
-    texts =
+  breakings = so_far.breakings ++ adds.0 ∷ [];
+  each_line = subst (λ (words : List (List Word)). AllZip (IsTightBreaking limit) words (so_far.breakings ++ adds.0 ∷ [])) (sym (map-append words_of lines (line ∷ []))) (all_zip_push (IsTightBreaking limit) (map words_of lines) so_far.breakings (words_of line) adds.0 so_far.each_line adds.1);
+  texts =
       adds.2
       ∙ ap (λ (old : List (List ℕ)). old ++ map text_of adds.0) so_far.texts
       ∙ sym (map-append text_of (flat_map (λ runs. runs) so_far.breakings) adds.0)
       ∙ ap (map text_of) (sym (flat_map-append (λ runs. runs) so_far.breakings (adds.0 ∷ []) ∙ ap (λ (last : List Run). flat_map (λ runs. runs) so_far.breakings ++ last) (append-nil adds.0)));
-  }
+}
 
 -- with the last line done, these are the description's rows
 pub lines_end : (limit : ℕ) (desc : List ℕ) (lines rows : List (List ℕ)) → LinesSoFar limit lines rows → map words_of lines ≡ words_of_lines desc → IsDescriptionRows limit desc rows
 lines_end limit desc lines rows so_far all = record {
-    breakings = so_far.breakings;
-    each_line = subst (λ (words : List (List Word)). AllZip (IsTightBreaking limit) words so_far.breakings) all so_far.each_line;
-    texts = so_far.texts;
-  }
+  breakings = so_far.breakings;
+  each_line = subst (λ (words : List (List Word)). AllZip (IsTightBreaking limit) words so_far.breakings) all so_far.each_line;
+  texts = so_far.texts;
+}
 
 -- a description has one list of rows for a limit
 pub rows_only : (limit : ℕ) (desc : List ℕ) (rows others : List (List ℕ)) → IsDescriptionRows limit desc rows → IsDescriptionRows limit desc others → others ≡ rows
@@ -69,7 +69,7 @@ rows_exactly limit desc rows others are_rows = (rows_only limit desc rows others
 -- each line of them has as few rows as any fitting breaking
 pub rows_fewest : (limit : ℕ) (desc : List ℕ) (rows : List (List ℕ)) → IsDescriptionRows limit desc rows → IsBrokenBy (IsFewestBreaking limit) desc rows
 rows_fewest limit desc rows are_rows = record {
-    breakings = are_rows.breakings;
-    each_line = all_zip_weaker (IsTightBreaking limit) (IsFewestBreaking limit) (λ words runs tight. subst (IsFewestBreaking limit words) (sym (broken-only limit words runs tight)) (broken-is_fewest limit words)) (words_of_lines desc) are_rows.breakings are_rows.each_line;
-    texts = are_rows.texts;
-  }
+  breakings = are_rows.breakings;
+  each_line = all_zip_weaker (IsTightBreaking limit) (IsFewestBreaking limit) (λ words runs tight. subst (IsFewestBreaking limit words) (sym (broken-only limit words runs tight)) (broken-is_fewest limit words)) (words_of_lines desc) are_rows.breakings are_rows.each_line;
+  texts = are_rows.texts;
+}

@@ -38,58 +38,59 @@ adds_none limit line rows none = ([], subst (λ (words : List Word). IsTightBrea
 -- the first word begins a row
 pub rows_begin : (limit : ℕ) (line : List ℕ) (rows : List (List ℕ)) (row word : List ℕ) (columns : ℕ) (rest : List ℕ) → IsUtf8 rest × (words_of line ≡ word ∷ words_of rest) → row ≡ word → columns ≡ width_of word → RowsSoFar limit line rows rows row columns rest
 rows_begin limit line rows row word columns rest next row_is columns_are = record {
-    run = word ∷ [];
-    begun = omega arith;
-    row_is = row_is;
-    columns_are = omega (arith, sum_by-cons width_of word []);
-    utf8 = next.0;
-    to_come = ap (λ (words : List Word). rows ++ map text_of (broken limit words)) (sym next.1);
-  }
+  run = word ∷ [];
+  begun = omega arith;
+  row_is = row_is;
+  columns_are = omega (arith, sum_by-cons width_of word []);
+  utf8 = next.0;
+  to_come = ap (λ (words : List Word). rows ++ map text_of (broken limit words)) (sym next.1);
+}
 
 module _ {limit : ℕ} {line : List ℕ} {before rows : List (List ℕ)} {row : List ℕ} {columns : ℕ} {rest : List ℕ} (so_far : RowsSoFar limit line before rows row columns rest) where
   -- a word that fits joins the row in hand
   pub rows_take : (word after : List ℕ) (width : ℕ) (new_row : List ℕ) (new_columns : ℕ) → IsUtf8 after × (words_of rest ≡ word ∷ words_of after) → width ≡ width_of word → columns + (1 + width) ≤ limit → new_row ≡ (row ++ 32 ∷ []) ++ word → new_columns ≡ columns + (1 + width) → RowsSoFar limit line before rows new_row new_columns after
   rows_take word after width new_row new_columns next width_is fits new_row_is new_columns_are =
-    let run = so_far.run in
-    let begun = so_far.begun in
-    let pushed = columns_of-push run word begun in
-    let taken : takes limit run word ≡ true = le-leb _ _ (omega (arith, so_far.columns_are)) in
-    record {
-      run = run ++ word ∷ [];
-      begun = omega (arith, length-append run (word ∷ []));
-      row_is = new_row_is ∙ ap (λ (row : List ℕ). (row ++ 32 ∷ []) ++ word) so_far.row_is ∙ sym (text_of-push run word begun);
-      columns_are = omega (arith, so_far.columns_are);
-      utf8 = next.0;
-      to_come =
-        ap (λ (runs : List Run). rows ++ map text_of runs) (sym (ap (filled limit run) next.1 ∙ filled-taken limit run word (words_of after) taken))
-        ∙ so_far.to_come;
-    }
+      let run = so_far.run in
+      let begun = so_far.begun in
+      let pushed = columns_of-push run word begun in
+      let taken : takes limit run word ≡ true = le-leb _ _ (omega (arith, so_far.columns_are)) in
+      record {
+        run = run ++ word ∷ [];
+        begun = omega (arith, length-append run (word ∷ []));
+        row_is = new_row_is ∙ ap (λ (row : List ℕ). (row ++ 32 ∷ []) ++ word) so_far.row_is ∙ sym (text_of-push run word begun);
+        columns_are = omega (arith, so_far.columns_are);
+        utf8 = next.0;
+        to_come =
+            ap (λ (runs : List Run). rows ++ map text_of runs) (sym (ap (filled limit run) next.1 ∙ filled-taken limit run word (words_of after) taken))
+            ∙ so_far.to_come;
+      }
 
   -- a word that doesn't fit ends the row in hand and begins one
   pub rows_end : (word after : List ℕ) (width : ℕ) (new_rows : List (List ℕ)) (new_row : List ℕ) (new_columns : ℕ) → IsUtf8 after × (words_of rest ≡ word ∷ words_of after) → width ≡ width_of word → limit < columns + (1 + width) → new_rows ≡ rows ++ row ∷ [] → new_row ≡ word → new_columns ≡ width → RowsSoFar limit line before new_rows new_row new_columns after
   rows_end word after width new_rows new_row new_columns next width_is long new_rows_are new_row_is new_columns_are =
-    let run = so_far.run in
-    let pushed = columns_of-push run word so_far.begun in
-    let refused : takes limit run word ≡ false = lt-leb limit (columns_of (run ++ word ∷ [])) (omega (arith, so_far.columns_are)) in
-    record {
-      run = word ∷ [];
-      begun = omega arith;
-      row_is = new_row_is;
-      columns_are = omega (arith, sum_by-cons width_of word []);
-      utf8 = next.0;
-      to_come =
-        ap (λ (rows : List (List ℕ)). rows ++ map text_of (filled limit (word ∷ []) (words_of after))) (new_rows_are ∙ ap (λ (row : List ℕ). rows ++ row ∷ []) so_far.row_is)
-        ∙ append_assoc rows (text_of run ∷ []) (map text_of (filled limit (word ∷ []) (words_of after)))
-        ∙ ap (λ (runs : List Run). rows ++ map text_of runs) (sym (ap (filled limit run) next.1 ∙ filled-refused limit run word (words_of after) refused))
-        ∙ so_far.to_come;
-    }
+      let run = so_far.run in
+      let pushed = columns_of-push run word so_far.begun in
+      let refused : takes limit run word ≡ false = lt-leb limit (columns_of (run ++ word ∷ [])) (omega (arith, so_far.columns_are)) in
+      record {
+        run = word ∷ [];
+        begun = omega arith;
+        row_is = new_row_is;
+        columns_are = omega (arith, sum_by-cons width_of word []);
+        utf8 = next.0;
+        to_come =
+            ap (λ (rows : List (List ℕ)). rows ++ map text_of (filled limit (word ∷ []) (words_of after))) (new_rows_are ∙ ap (λ (row : List ℕ). rows ++ row ∷ []) so_far.row_is)
+            ∙ append_assoc rows (text_of run ∷ []) (map text_of (filled limit (word ∷ []) (words_of after)))
+            ∙ ap (λ (runs : List Run). rows ++ map text_of runs) (sym (ap (filled limit run) next.1 ∙ filled-refused limit run word (words_of after) refused))
+            ∙ so_far.to_come;
+      }
 
   -- with no word left, the row in hand is the last
   pub rows_finish : (new_rows : List (List ℕ)) → words_of rest ≡ [] → new_rows ≡ rows ++ row ∷ [] → AddsLine limit line before new_rows
-  rows_finish new_rows none new_rows_are =
-    (broken limit (words_of line),
+  rows_finish new_rows none new_rows_are = (
+    broken limit (words_of line),
     broken-tight limit (words_of line),
     new_rows_are
-    ∙ ap (λ (row : List ℕ). rows ++ row ∷ []) so_far.row_is
-    ∙ ap (λ (words : List Word). rows ++ map text_of (filled limit so_far.run words)) (sym none)
-    ∙ so_far.to_come)
+        ∙ ap (λ (row : List ℕ). rows ++ row ∷ []) so_far.row_is
+        ∙ ap (λ (words : List Word). rows ++ map text_of (filled limit so_far.run words)) (sym none)
+        ∙ so_far.to_come,
+  )

@@ -88,7 +88,7 @@ words_of-next bs gap word rest utf8 split some blank solid next =
     let characters : chars bs ≡ blank.0 ++ (solid.0 ++ chars rest) = after_gap.1 ∙ ap (λ (cs : List ℕ). blank.0 ++ cs) after_word.1 in
     let has_some : 0 < length solid.0 = some_chars solid.0 (subst (λ (word : List ℕ). 0 < length word) (sym solid.1) some) in
     let parts : parts_by is_whitespace (chars bs) ≡ solid.0 ∷ parts_by is_whitespace (chars rest) =
-      ap (parts_by is_whitespace) characters ∙ parts_by-gap is_whitespace blank.0 (solid.0 ++ chars rest) blank.2 ∙ parts_by-next solid.0 rest next.0 after_word.0 has_some solid.2 next.1 in
+    ap (parts_by is_whitespace) characters ∙ parts_by-gap is_whitespace blank.0 (solid.0 ++ chars rest) blank.2 ∙ parts_by-next solid.0 rest next.0 after_word.0 has_some solid.2 next.1 in
     (after_word.0, ap (map encode_utf8_all) parts ∙ ap (λ (word : List ℕ). word ∷ words_of rest) solid.1)
 
 -- the same, of the iterator's own word

@@ -27,7 +27,12 @@ pub fn each_split_within(alloc: Global, desc: &str, lim: usize) -> Result<Vec<St
 }
 
 // Adds the rows of one line. Where memory fails, the contract says nothing of `rows`.
-fn push_line(rows: &mut Vec<String>, alloc: Global, line: &str, lim: usize) -> Result<(), AllocError>
+fn push_line(
+    rows: &mut Vec<String>,
+    alloc: Global,
+    line: &str,
+    lim: usize,
+) -> Result<(), AllocError>
     ensures { OnOk result (AddsLine lim line.now (map string_bytes rows.old.items) (map string_bytes rows.new.items)) }
 {
     let mut words = line.split_whitespace();
@@ -51,3 +56,6 @@ fn push_line(rows: &mut Vec<String>, alloc: Global, line: &str, lim: usize) -> R
     rows.push(row)?;
     Ok(())
 }
+
+#[cfg(test)]
+mod tests;

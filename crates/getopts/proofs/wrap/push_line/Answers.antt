@@ -32,21 +32,21 @@ loop-word-preserved c =
     let so_far = c.loop-word.invariant in
     let width_is = c.width-width.ensures.value in
     elim c.if-columns-lim.branch [
-      then-columns-lim+then-width-lim+in_ok-push w ↦
-        rw w.rows-is
-        (rows_take so_far c.in-Some-word.word.now _ c.width-width.result _ _ next width_is (omega arith)
-        (c.in_ok-push_str.ensures.bytes ∙ ap (λ (row : List ℕ). row ++ c.in-Some-word.word.now) (ap string_bytes w.row-is ∙ w.in_ok-push.ensures.bytes ∙ ap (λ (space : List ℕ). string_bytes c.loop-word.row ++ space) (w.push.ensures.ascii (lit< tt))))
-        w.columns-is)
-    | else-columns-lim+in_ok-push-2 w ↦
-        let long : c.args.lim < c.loop-word.columns + (1 + c.width-width.result) =
+      | then-columns-lim+then-width-lim+in_ok-push w ↦
+          rw w.rows-is
+          (rows_take so_far c.in-Some-word.word.now _ c.width-width.result _ _ next width_is (omega arith)
+          (c.in_ok-push_str.ensures.bytes ∙ ap (λ (row : List ℕ). row ++ c.in-Some-word.word.now) (ap string_bytes w.row-is ∙ w.in_ok-push.ensures.bytes ∙ ap (λ (space : List ℕ). string_bytes c.loop-word.row ++ space) (w.push.ensures.ascii (lit< tt))))
+          w.columns-is)
+      | else-columns-lim+in_ok-push-2 w ↦
+          let long : c.args.lim < c.loop-word.columns + (1 + c.width-width.result) =
           elim w.else-columns-lim.branch [
-            else-columns-lim-via-then-columns-lim+else-width-lim narrow ↦ omega arith
-          | else-columns-lim-via-else-columns-lim full ↦ omega arith
+            | else-columns-lim-via-then-columns-lim+else-width-lim narrow ↦ omega arith
+            | else-columns-lim-via-else-columns-lim full ↦ omega arith
           ] in
-        rows_end so_far c.in-Some-word.word.now _ c.width-width.result _ _ _ next width_is long
-        (ap (λ rows. map string_bytes rows.items) w.rows-is ∙ ap (map string_bytes) w.in_ok-push-2.ensures.items ∙ map-append string_bytes c.loop-word.rows.items (c.loop-word.row ∷ []))
-        (c.in_ok-push_str.ensures.bytes ∙ ap (λ (row : List ℕ). row ++ c.in-Some-word.word.now) (ap string_bytes w.row-is ∙ w.new-row.ensures.bytes))
-        w.columns-is
+          rows_end so_far c.in-Some-word.word.now _ c.width-width.result _ _ _ next width_is long
+          (ap (λ rows. map string_bytes rows.items) w.rows-is ∙ ap (map string_bytes) w.in_ok-push-2.ensures.items ∙ map-append string_bytes c.loop-word.rows.items (c.loop-word.row ∷ []))
+          (c.in_ok-push_str.ensures.bytes ∙ ap (λ (row : List ℕ). row ++ c.in-Some-word.word.now) (ap string_bytes w.row-is ∙ w.new-row.ensures.bytes))
+          w.columns-is
     ]
 
 -- no word is left
