@@ -1,9 +1,8 @@
 -- Breakings of a line's words: filling rows from the left gives the one tight breaking, and no fitting breaking has fewer runs.
-use Rattle.std.proofs.Common.{◌≡◌, ◌≢◌, ℕ, suc, zero, ◌+◌, ◌-◌, ◌<◌, ◌≤◌, Bool, true, false, cond, List, [], ◌∷◌, ◌++◌, length, take, map, sym, refl, ap, ◌∙◌, subst, inl, inr, ⊎_elim, append_assoc, append-nil, arith, rules, length-append}
-use Rattle.std.specs.Prelude.{nat_le, ◌⊎◌, sum_by, All}
+use Rattle.std.proofs.Common.{◌≡◌, ℕ, ◌+◌, ◌<◌, ◌≤◌, Bool, true, false, cond, List, [], ◌∷◌, ◌++◌, length, sym, refl, ap, ◌∙◌, subst, inl, inr, ⊎_elim, append_assoc, append-nil, arith, length-append}
+use Rattle.std.specs.Prelude.{nat_le, ◌⊎◌, All}
 use Rattle.std.specs.List.{flat_map}
 use Rattle.std.proofs.lemmas.Bool.{leb-true, le-leb}
-use Rattle.std.proofs.lemmas.Bool.Decides.{nat_tests, leb_tells}
 use Rattle.std.proofs.lemmas.List.Elements.{All-nil, All-cons, All-head, All-tail}
 use Rattle.std.proofs.lemmas.List.Sums.{sum_by-append}
 use Rattle.getopts.specs.Wrap.{Word, Run, width_of, columns_of, FitsIn, IsFittingBreaking, NoneTakesMore, IsTightBreaking, IsFewestBreaking, HasOneTightBreaking}
@@ -43,26 +42,40 @@ filled-refused limit run word words e = ap (λ answer. cond answer (filled limit
 columns_of-inside : (front run back : Run) → columns_of run ≤ columns_of (front ++ (run ++ back))
 columns_of-inside front run back = omega (arith, sum_by-append width_of front (run ++ back), sum_by-append width_of run back, length-append front (run ++ back), length-append run back)
 
+pub FitsIn-inside : (limit : ℕ) (front run back : Run) → 0 < length run → FitsIn limit (front ++ (run ++ back)) → FitsIn limit run
+FitsIn-inside limit front run back has_word fits =
+    ⊎_elim
+    (λ (one : length (front ++ (run ++ back)) ≡ 1). let alone : length run ≡ 1 = omega (arith, length-append front (run ++ back), length-append run back) in inl alone)
+    (λ (within : columns_of (front ++ (run ++ back)) ≤ limit). let narrower : columns_of run ≤ limit = omega (arith, columns_of-inside front run back) in inr narrower)
+    fits
+
+-- ---- a word is taken exactly where the run fits with it
+
+FitsIn-taken : (limit : ℕ) (run : Run) (word : Word) → takes limit run word ≡ true → FitsIn limit (run ++ word ∷ [])
+FitsIn-taken limit run word taken = inr (leb-true _ _ taken)
+
+taken_where_fits : (limit : ℕ) (run : Run) (word : Word) → 0 < length run → FitsIn limit (run ++ word ∷ []) → takes limit run word ≡ true
+taken_where_fits limit run word has_word fits =
+    ⊎_elim
+    (λ (one : length (run ++ word ∷ []) ≡ 1). absurd (omega (arith, length-append run (word ∷ []))))
+    (λ (within : columns_of (run ++ word ∷ []) ≤ limit). le-leb _ _ within)
+    fits
+
+refused_too_long : (limit : ℕ) (run : Run) (word : Word) → 0 < length run → takes limit run word ≡ false → ¬ FitsIn limit (run ++ word ∷ [])
+refused_too_long limit run word has_word refused fits = let taken = taken_where_fits limit run word has_word fits in cc
+
+too_long_refused : (limit : ℕ) (run : Run) (word : Word) → ¬ FitsIn limit (run ++ word ∷ []) → takes limit run word ≡ false
+too_long_refused limit run word too_long = by_answer (takes limit run word) refl
+  where
+    by_answer : (answer : Bool) → takes limit run word ≡ answer → takes limit run word ≡ false
+    by_answer true taken = absurd (too_long (FitsIn-taken limit run word taken))
+    by_answer false refused = refused
+
 -- a word that follows some words in a fitting run is taken
-takes-inside : (limit : ℕ) (front run : Run) (word : Word) (back : Run) → 0 < length run → FitsIn limit (front ++ (run ++ word ∷ back)) → takes limit run word ≡ true
-takes-inside limit front run word back some fits =
-    ⊎_elim
-    (λ (one : length (front ++ (run ++ word ∷ back)) ≡ 1). absurd (omega (arith, length-append front (run ++ word ∷ back), length-append run (word ∷ back))))
-    (λ (within : columns_of (front ++ (run ++ word ∷ back)) ≤ limit).
-    let regrouped : columns_of (front ++ ((run ++ word ∷ []) ++ back)) ≤ limit = subst (λ (inner : Run). columns_of (front ++ inner) ≤ limit) (sym (append_assoc run (word ∷ []) back)) within in
-    le-leb _ _ (omega (arith, columns_of-inside front (run ++ word ∷ []) back)))
-    fits
-
--- what a run doesn't take doesn't fit behind it, and what it takes does
-fits-taken : (limit : ℕ) (run : Run) (word : Word) → takes limit run word ≡ true → FitsIn limit (run ++ word ∷ [])
-fits-taken limit run word e = inr (leb-true _ _ e)
-
-too_long : (limit : ℕ) (run : Run) (word : Word) → 0 < length run → takes limit run word ≡ false → ¬ FitsIn limit (run ++ word ∷ [])
-too_long limit run word some e fits =
-    ⊎_elim
-    (λ (one : length (run ++ word ∷ []) ≡ 1). omega (arith, length-append run (word ∷ [])))
-    (λ (within : columns_of (run ++ word ∷ []) ≤ limit). let taken = le-leb _ _ within in cc)
-    fits
+taken-inside : (limit : ℕ) (front run : Run) (word : Word) (back : Run) → 0 < length run → FitsIn limit (front ++ (run ++ word ∷ back)) → takes limit run word ≡ true
+taken-inside limit front run word back has_word fits =
+    let regrouped : FitsIn limit (front ++ ((run ++ word ∷ []) ++ back)) = subst (λ (inner : Run). FitsIn limit (front ++ inner)) (sym (append_assoc run (word ∷ []) back)) fits in
+    taken_where_fits limit run word has_word (FitsIn-inside limit front (run ++ word ∷ []) back (omega (arith, length-append run (word ∷ []))) regrouped)
 
 -- ---- of two cuts of one list, one lies within the other
 
@@ -103,17 +116,17 @@ filled-joined limit run (word ∷ words) =
     (λ _. ap (λ (rest : List Word). run ++ rest) (filled-joined limit (word ∷ []) words))
 
 filled-nonempty : (limit : ℕ) (run : Run) (words : List Word) → 0 < length run → All (λ run. 0 < length run) (filled limit run words)
-filled-nonempty limit run [] some = All-cons (λ run. 0 < length run) run [] some (All-nil (λ run. 0 < length run))
-filled-nonempty limit run (word ∷ words) some =
+filled-nonempty limit run [] has_word = All-cons (λ run. 0 < length run) run [] has_word (All-nil (λ run. 0 < length run))
+filled-nonempty limit run (word ∷ words) has_word =
     filled-cases (All (λ run. 0 < length run)) limit run word words
     (λ _. filled-nonempty limit (run ++ word ∷ []) words (omega (arith, length-append run (word ∷ []))))
-    (λ _. All-cons (λ run. 0 < length run) run _ some (filled-nonempty limit (word ∷ []) words (omega arith)))
+    (λ _. All-cons (λ run. 0 < length run) run _ has_word (filled-nonempty limit (word ∷ []) words (omega arith)))
 
 filled-fits : (limit : ℕ) (run : Run) (words : List Word) → FitsIn limit run → All (FitsIn limit) (filled limit run words)
 filled-fits limit run [] fits = All-cons (FitsIn limit) run [] fits (All-nil (FitsIn limit))
 filled-fits limit run (word ∷ words) fits =
     filled-cases (All (FitsIn limit)) limit run word words
-    (λ e. filled-fits limit (run ++ word ∷ []) words (fits-taken limit run word e))
+    (λ e. filled-fits limit (run ++ word ∷ []) words (FitsIn-taken limit run word e))
     (λ _. All-cons (FitsIn limit) run _ fits (filled-fits limit (word ∷ []) words (inl refl)))
 
 -- a run that can't take a word stands tightly before runs that begin with it
@@ -124,11 +137,11 @@ tight-cons limit run word runs long first tight =
     subst (λ (runs : List Run). NoneTakesMore limit (run ∷ runs)) (sym as_cons) (long, subst (NoneTakesMore limit) as_cons tight)
 
 filled-tight : (limit : ℕ) (run : Run) (words : List Word) → 0 < length run → NoneTakesMore limit (filled limit run words)
-filled-tight limit run [] some = tt
-filled-tight limit run (word ∷ words) some =
+filled-tight limit run [] has_word = tt
+filled-tight limit run (word ∷ words) has_word =
     filled-cases (NoneTakesMore limit) limit run word words
     (λ _. filled-tight limit (run ++ word ∷ []) words (omega (arith, length-append run (word ∷ []))))
-    (λ e. tight-cons limit run word _ (too_long limit run word some e) (filled-first limit (word ∷ []) words) (filled-tight limit (word ∷ []) words (omega arith)))
+    (λ e. tight-cons limit run word _ (refused_too_long limit run word has_word e) (filled-first limit (word ∷ []) words) (filled-tight limit (word ∷ []) words (omega arith)))
 
 pub broken-tight : (limit : ℕ) (words : List Word) → IsTightBreaking limit words (broken limit words)
 broken-tight limit [] = record { fitting = record { joined = refl; nonempty = All-nil (λ run. 0 < length run); fits = All-nil (FitsIn limit) }; tight = tt }
@@ -143,26 +156,19 @@ broken-tight limit (word ∷ words) = record {
 
 -- ---- it is the only one
 
-not_taken : (limit : ℕ) (run : Run) (word : Word) → ¬ FitsIn limit (run ++ word ∷ []) → takes limit run word ≡ false
-not_taken limit run word long = by_answer (takes limit run word) refl
-  where
-    by_answer : (answer : Bool) → takes limit run word ≡ answer → takes limit run word ≡ false
-    by_answer true e = absurd (long (fits-taken limit run word e))
-    by_answer false e = e
-
 -- a tight breaking whose first run begins with the run is what filling from that run gives
 filled-only : (limit : ℕ) (runs : List Run) (run more : Run) → 0 < length run → All (λ run. 0 < length run) runs → All (FitsIn limit) ((run ++ more) ∷ runs) → NoneTakesMore limit ((run ++ more) ∷ runs) → filled limit run (more ++ flat_map (λ run. run) runs) ≡ (run ++ more) ∷ runs
-filled-only limit runs run (word ∷ more) some nonempty fits tight =
+filled-only limit runs run (word ∷ more) has_word nonempty fits tight =
     let regrouped : (run ++ word ∷ []) ++ more ≡ run ++ word ∷ more = append_assoc run (word ∷ []) more in
-    let taken = takes-inside limit [] run word more some (All-head (FitsIn limit) (run ++ word ∷ more) runs fits) in
+    let taken = taken-inside limit [] run word more has_word (All-head (FitsIn limit) (run ++ word ∷ more) runs fits) in
     let longer : 0 < length (run ++ word ∷ []) = omega (arith, length-append run (word ∷ [])) in
     filled-taken limit run word (more ++ flat_map (λ run. run) runs) taken
     ∙ filled-only limit runs (run ++ word ∷ []) more longer nonempty (subst (λ (first : Run). All (FitsIn limit) (first ∷ runs)) (sym regrouped) fits) (subst (λ (first : Run). NoneTakesMore limit (first ∷ runs)) (sym regrouped) tight)
     ∙ ap (λ (first : Run). first ∷ runs) regrouped
-filled-only limit [] run [] some nonempty fits tight = ap (λ (first : Run). first ∷ []) (sym (append-nil run))
-filled-only limit ([] ∷ runs) run [] some nonempty fits tight = absurd (omega (arith, All-head (λ run. 0 < length run) [] runs nonempty))
-filled-only limit ((word ∷ next) ∷ runs) run [] some nonempty fits tight =
-    let refused = not_taken limit run word (subst (λ (first : Run). ¬ FitsIn limit (first ++ word ∷ [])) (append-nil run) tight.0) in
+filled-only limit [] run [] has_word nonempty fits tight = ap (λ (first : Run). first ∷ []) (sym (append-nil run))
+filled-only limit ([] ∷ runs) run [] has_word nonempty fits tight = absurd (omega (arith, All-head (λ run. 0 < length run) [] runs nonempty))
+filled-only limit ((word ∷ next) ∷ runs) run [] has_word nonempty fits tight =
+    let refused = too_long_refused limit run word (subst (λ (first : Run). ¬ FitsIn limit (first ++ word ∷ [])) (append-nil run) tight.0) in
     filled-refused limit run word (next ++ flat_map (λ run. run) runs) refused
     ∙ ap (λ (rest : List Run). run ∷ rest) (filled-only limit runs (word ∷ []) next (omega arith) (All-tail (λ run. 0 < length run) (word ∷ next) runs nonempty) (All-tail (FitsIn limit) (run ++ []) ((word ∷ next) ∷ runs) fits) tight.1)
     ∙ ap (λ (first : Run). first ∷ (word ∷ next) ∷ runs) (sym (append-nil run))
@@ -182,11 +188,11 @@ has_one_tight_breaking limit words = record { runs = broken limit words; is_tigh
 
 -- words that follow a run inside a fitting run are all taken
 filled-through : (limit : ℕ) (front run more : Run) (words : List Word) → 0 < length run → FitsIn limit (front ++ (run ++ more)) → filled limit run (more ++ words) ≡ filled limit (run ++ more) words
-filled-through limit front run [] words some fits = ap (λ (run : Run). filled limit run words) (sym (append-nil run))
-filled-through limit front run (word ∷ more) words some fits =
+filled-through limit front run [] words has_word fits = ap (λ (run : Run). filled limit run words) (sym (append-nil run))
+filled-through limit front run (word ∷ more) words has_word fits =
     let regrouped : (run ++ word ∷ []) ++ more ≡ run ++ word ∷ more = append_assoc run (word ∷ []) more in
     let longer : 0 < length (run ++ word ∷ []) = omega (arith, length-append run (word ∷ [])) in
-    filled-taken limit run word (more ++ words) (takes-inside limit front run word more some fits)
+    filled-taken limit run word (more ++ words) (taken-inside limit front run word more has_word fits)
     ∙ filled-through limit front (run ++ word ∷ []) more words longer (subst (λ (inner : Run). FitsIn limit (front ++ inner)) (sym regrouped) fits)
     ∙ ap (λ (run : Run). filled limit run words) regrouped
 
@@ -208,28 +214,28 @@ AheadFrom limit others = (front : List Word) (run : Run) (words : List Word) →
 
 after_from : (limit : ℕ) (others : List Run) → AheadFrom limit others → AheadAfter limit others
 unfolding AheadAfter AheadFrom
-after_from limit others ahead front run [] some fitting = omega arith
-after_from limit others ahead front run (word ∷ words) some fitting =
+after_from limit others ahead front run [] has_word fitting = omega arith
+after_from limit others ahead front run (word ∷ words) has_word fitting =
     filled-cases (λ runs. length runs ≤ 1 + length others) limit run word words
     (λ _. after_from limit others ahead (front ++ word ∷ []) (run ++ word ∷ []) words (omega (arith, length-append run (word ∷ []))) (subst (λ (covered : List Word). IsFittingBreaking limit covered others) (sym (append_assoc front (word ∷ []) words)) fitting))
     (λ _. omega (arith, ahead front (word ∷ []) words (omega arith) fitting))
 
 from_after : (limit : ℕ) (other : Run) (others : List Run) → AheadAfter limit others → AheadFrom limit (other ∷ others)
 unfolding AheadAfter AheadFrom Within
-from_after limit other others ahead front run words some fitting =
+from_after limit other others ahead front run words has_word fitting =
     ⊎_elim
-    (λ (w : Within other (flat_map (λ run. run) others) (front ++ run) words). omega (arith, ahead w.0 run words some (fitting-tail limit _ (w.0 ++ words) other others fitting w.2)))
+    (λ (w : Within other (flat_map (λ run. run) others) (front ++ run) words). omega (arith, ahead w.0 run words has_word (fitting-tail limit _ (w.0 ++ words) other others fitting w.2)))
     (λ (w : Within (front ++ run) words other (flat_map (λ run. run) others)).
     let inside : FitsIn limit (front ++ (run ++ w.0)) = subst (FitsIn limit) (w.1 ∙ append_assoc front run w.0) (All-head (FitsIn limit) other others fitting.fits) in
-    let through : filled limit run words ≡ filled limit (run ++ w.0) (flat_map (λ run. run) others) = ap (filled limit run) w.2 ∙ filled-through limit front run w.0 (flat_map (λ run. run) others) some inside in
+    let through : filled limit run words ≡ filled limit (run ++ w.0) (flat_map (λ run. run) others) = ap (filled limit run) w.2 ∙ filled-through limit front run w.0 (flat_map (λ run. run) others) has_word inside in
     let fewer = ahead [] (run ++ w.0) (flat_map (λ run. run) others) (omega (arith, length-append run w.0)) (fitting-tail limit _ _ other others fitting refl) in
     omega (arith, ap length through, fewer))
     (cuts other (flat_map (λ run. run) others) (front ++ run) words (fitting.joined ∙ sym (append_assoc front run words)))
 
 ahead_from : (limit : ℕ) (others : List Run) → AheadFrom limit others
 unfolding AheadFrom
-ahead_from limit [] front run words some fitting = absurd (omega (arith, ap length fitting.joined, length-append front (run ++ words), length-append run words))
-ahead_from limit (other ∷ others) front run words some fitting = from_after limit other others (after_from limit others (ahead_from limit others)) front run words some fitting
+ahead_from limit [] front run words has_word fitting = absurd (omega (arith, ap length fitting.joined, length-append front (run ++ words), length-append run words))
+ahead_from limit (other ∷ others) front run words has_word fitting = from_after limit other others (after_from limit others (ahead_from limit others)) front run words has_word fitting
 
 pub broken-fewest : (limit : ℕ) (words : List Word) (others : List Run) → IsFittingBreaking limit words others → length (broken limit words) ≤ length others
 unfolding AheadFrom

@@ -1,11 +1,11 @@
 -- The rows of a description, line after line, and what holds of all of them.
-use Rattle.std.proofs.Common.{◌≡◌, ℕ, List, [], ◌∷◌, ◌++◌, map, sym, refl, ap, ◌∙◌, subst, append_assoc, append-nil}
+use Rattle.std.proofs.Common.{◌≡◌, ℕ, List, [], ◌∷◌, ◌++◌, map, sym, refl, ap, ◌∙◌, subst, append-nil}
 use Rattle.std.specs.Prelude.{◌↔◌}
 use Rattle.std.specs.List.{AllZip, flat_map}
 use Rattle.std.proofs.lemmas.List.{map-append}
 use Rattle.std.proofs.lemmas.List.Concat.{flat_map-append}
-use Rattle.getopts.specs.Wrap.{Word, Run, text_of, IsTightBreaking, IsFewestBreaking, words_of, words_of_lines, IsBrokenBy, IsDescriptionRows, AddsLine}
-use Rattle.getopts.proofs.WrapLemmas.{broken, broken-tight, broken-only, broken-is_fewest}
+use Rattle.getopts.specs.Wrap.{Word, Run, text_of, IsTightBreaking, IsFewestBreaking, words_of, words_of_lines, BreaksInto, IsDescriptionRows, AddsLine}
+use Rattle.getopts.proofs.WrapLemmas.{broken, broken-only, broken-is_fewest}
 
 -- one more pair at the end of two lists
 all_zip_push : {A B : Type 0} (R : A → B → Type 0) (xs : List A) (ys : List B) (x : A) (y : B) → AllZip R xs ys → R x y → AllZip R (xs ++ x ∷ []) (ys ++ y ∷ [])
@@ -67,7 +67,7 @@ pub rows_exactly : (limit : ℕ) (desc : List ℕ) (rows others : List (List ℕ
 rows_exactly limit desc rows others are_rows = (rows_only limit desc rows others are_rows, λ same. subst (IsDescriptionRows limit desc) (sym same) are_rows)
 
 -- each line of them has as few rows as any fitting breaking
-pub rows_fewest : (limit : ℕ) (desc : List ℕ) (rows : List (List ℕ)) → IsDescriptionRows limit desc rows → IsBrokenBy (IsFewestBreaking limit) desc rows
+pub rows_fewest : (limit : ℕ) (desc : List ℕ) (rows : List (List ℕ)) → IsDescriptionRows limit desc rows → BreaksInto (IsFewestBreaking limit) desc rows
 rows_fewest limit desc rows are_rows = record {
   breakings = are_rows.breakings;
   each_line = all_zip_weaker (IsTightBreaking limit) (IsFewestBreaking limit) (λ words runs tight. subst (IsFewestBreaking limit words) (sym (broken-only limit words runs tight)) (broken-is_fewest limit words)) (words_of_lines desc) are_rows.breakings are_rows.each_line;

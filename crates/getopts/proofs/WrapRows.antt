@@ -1,7 +1,6 @@
 -- The rows of a line while they are filled, word after word.
-use Rattle.std.proofs.Common.{◌≡◌, ℕ, ◌+◌, ◌-◌, ◌<◌, ◌≤◌, Bool, true, false, List, [], ◌∷◌, ◌++◌, length, map, sym, refl, ap, ◌∙◌, subst, append_assoc, append-nil, arith, length-append}
+use Rattle.std.proofs.Common.{◌≡◌, ℕ, ◌+◌, ◌<◌, ◌≤◌, true, false, List, [], ◌∷◌, ◌++◌, length, map, sym, ap, ◌∙◌, subst, append_assoc, append-nil, arith, length-append}
 use Rattle.std.specs.Prelude.{nat_le}
-use Rattle.std.specs.List.{join_with_byte}
 use Rattle.std.specs.Str.{IsUtf8}
 use Rattle.std.proofs.lemmas.Bool.{le-leb}
 use Rattle.std.proofs.lemmas.Bool.Decides.{nat_tests}
@@ -11,12 +10,12 @@ use Rattle.getopts.proofs.WrapLemmas.{takes, filled, broken, filled-taken, fille
 
 -- one more word at the end of a run: its columns and its text
 columns_of-push : (run : Run) (word : Word) → 0 < length run → columns_of (run ++ word ∷ []) ≡ columns_of run + (1 + width_of word)
-columns_of-push run word some = omega (arith, sum_by-append width_of run (word ∷ []), length-append run (word ∷ []))
+columns_of-push run word has_word = omega (arith, sum_by-append width_of run (word ∷ []), length-append run (word ∷ []))
 
 text_of-push : (run : Run) (word : Word) → 0 < length run → text_of (run ++ word ∷ []) ≡ (text_of run ++ 32 ∷ []) ++ word
-text_of-push [] word some = absurd (omega arith)
-text_of-push (first ∷ []) word some = sym (append_assoc first (32 ∷ []) word)
-text_of-push (first ∷ second ∷ run) word some =
+text_of-push [] word has_word = absurd (omega arith)
+text_of-push (first ∷ []) word has_word = sym (append_assoc first (32 ∷ []) word)
+text_of-push (first ∷ second ∷ run) word has_word =
     ap (λ (more : List ℕ). first ++ 32 ∷ more) (text_of-push (second ∷ run) word (omega arith)) ∙ simp append_assoc
 
 lt-leb : (limit n : ℕ) → limit < n → nat_le n limit ≡ false

@@ -66,7 +66,7 @@ pub record HasOneTightBreaking (limit : ℕ) (words : List Word) : Type 0 where
 abbrev pub lines_of : List ℕ → List (List ℕ)
 lines_of desc = slice_split (λ byte. byte == 10) desc
 
--- the words of a line, which is cut at each character of white space: the pieces that are not empty
+-- the words of a line, which is cut at each character of white space: the pieces that are not empty, and so the longest with no white space
 abbrev pub words_of : List ℕ → List Word
 words_of line = map encode_utf8_all (filter (λ piece. nat_lt 0 (length piece)) (slice_split is_whitespace (chars line)))
 
@@ -74,15 +74,15 @@ words_of line = map encode_utf8_all (filter (λ piece. nat_lt 0 (length piece)) 
 abbrev pub words_of_lines : List ℕ → List (List Word)
 words_of_lines desc = map words_of (lines_of desc)
 
--- the rows are the texts of the runs of each line in turn, where `Breaks` says how a line's words are broken into runs
-pub record IsBrokenBy (Breaks : List Word → List Run → Type 0) (desc : List ℕ) (rows : List (List ℕ)) : Type 0 where
+-- the description breaks into the rows, where `IsBroken` says how a line's words may be broken: the rows are the texts of the runs of each line in turn
+pub record BreaksInto (IsBroken : List Word → List Run → Type 0) (desc : List ℕ) (rows : List (List ℕ)) : Type 0 where
   pub breakings : List (List Run)
-  pub each_line : AllZip Breaks (words_of_lines desc) breakings
+  pub each_line : AllZip IsBroken (words_of_lines desc) breakings
   pub texts : rows ≡ map text_of (flat_map (λ runs. runs) breakings)
 
 -- the rows of a description for a limit: those of each line's tight breaking
 abbrev pub IsDescriptionRows : ℕ → List ℕ → List (List ℕ) → Type 0
-IsDescriptionRows limit desc rows = IsBrokenBy (IsTightBreaking limit) desc rows
+IsDescriptionRows limit desc rows = BreaksInto (IsTightBreaking limit) desc rows
 
 -- the rows that a line adds are the texts of the runs of its tight breaking
 abbrev pub AddsLine : ℕ → List ℕ → List (List ℕ) → List (List ℕ) → Type 0

@@ -3,9 +3,9 @@ use Rattle.std.specs.Str.Iter.{split_text, split_has_more, split_pattern}
 use Rattle.std.proofs.lemmas.Iterator.Consumers.{YieldsList-end}
 use Rattle.std.proofs.lemmas.Iterator.Splits.{YieldsList-from_str_split}
 use Rattle.std.proofs.lemmas.List.{map-append}
-use Rattle.getopts.specs.Wrap.{words_of, lines_of, IsDescriptionRows}
+use Rattle.getopts.specs.Wrap.{words_of, IsDescriptionRows}
 use Rattle.getopts.proofs.WrapLemmas.{has_one_tight_breaking}
-use Rattle.getopts.proofs.WrapLines.{LinesSoFar, lines_begin, lines_add, lines_end, rows_exactly, rows_fewest}
+use Rattle.getopts.proofs.WrapLines.{LinesSoFar, lines_add, lines_end, rows_exactly, rows_fewest}
 use Rattle.getopts.proofs.wrap.each_split_within.Goals as goal
 
 -- one more line, with the rows that it adds

@@ -1,10 +1,10 @@
-use Rattle.std.proofs.Common.{ℕ, ◌≡◌, ◌+◌, ◌≤◌, ◌<◌, List, [], ◌∷◌, ◌++◌, map, string_bytes, lit<, arith, ap, ◌∙◌, sym, subst}
+use Rattle.std.proofs.Common.{ℕ, ◌+◌, ◌<◌, List, [], ◌∷◌, ◌++◌, map, string_bytes, lit<, arith, ap, ◌∙◌, sym, subst}
 use Rattle.std.specs.Str.{IsUtf8}
 use Rattle.std.specs.Str.Iter.{split_whitespace_rest}
 use Rattle.std.proofs.lemmas.List.{map-append}
 use Rattle.getopts.specs.Wrap.{width_of, words_of}
 use Rattle.getopts.proofs.WrapWords.{words_of-none, words_of-step}
-use Rattle.getopts.proofs.WrapRows.{RowsSoFar, adds_none, rows_begin, rows_take, rows_end, rows_finish}
+use Rattle.getopts.proofs.WrapRows.{adds_none, rows_begin, rows_take, rows_end, rows_finish}
 use Rattle.getopts.proofs.wrap.push_line.Goals as goal
 use Rattle.getopts.proofs.wrap.push_line.Goals.{then-columns-lim+then-width-lim+in_ok-push, else-columns-lim+in_ok-push-2, else-columns-lim-via-then-columns-lim+else-width-lim, else-columns-lim-via-else-columns-lim}
 
