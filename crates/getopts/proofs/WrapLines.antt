@@ -5,7 +5,7 @@ use Rattle.std.specs.List.{AllZip, flat_map}
 use Rattle.std.proofs.lemmas.List.{map-append}
 use Rattle.std.proofs.lemmas.List.Concat.{flat_map-append}
 use Rattle.getopts.specs.Wrap.{Word, Run, text_of, IsTightBreaking, IsFewestBreaking, words_of, words_of_lines, BreaksInto, IsDescriptionRows, AddsLine}
-use Rattle.getopts.proofs.WrapLemmas.{broken, broken-only, broken-is_fewest}
+use Rattle.getopts.proofs.WrapLemmas.{runs_of, runs_of-only, runs_of-is_fewest}
 
 -- one more pair at the end of two lists
 all_zip_push : {A B : Type 0} (R : A → B → Type 0) (xs : List A) (ys : List B) (x : A) (y : B) → AllZip R xs ys → R x y → AllZip R (xs ++ x ∷ []) (ys ++ y ∷ [])
@@ -34,9 +34,7 @@ pub record LinesSoFar (limit : ℕ) (lines rows : List (List ℕ)) : Type 0 wher
   pub each_line : AllZip (IsTightBreaking limit) (map words_of lines) breakings
   pub texts : rows ≡ map text_of (flat_map (λ runs. runs) breakings)
 
-pub lines_begin : (limit : ℕ) (rows : List (List ℕ)) → rows ≡ [] → LinesSoFar limit [] rows
-lines_begin limit rows none = record { breakings = []; each_line = tt; texts = none }
-
+-- one more line, with the rows that it adds
 pub lines_add : (limit : ℕ) (lines rows : List (List ℕ)) (line : List ℕ) (new_rows : List (List ℕ)) → LinesSoFar limit lines rows → AddsLine limit line rows new_rows → LinesSoFar limit (lines ++ line ∷ []) new_rows
 lines_add limit lines rows line new_rows so_far adds = record {
   breakings = so_far.breakings ++ adds.0 ∷ [];
@@ -61,8 +59,9 @@ pub rows_only : (limit : ℕ) (desc : List ℕ) (rows others : List (List ℕ)) 
 rows_only limit desc rows others are_rows are_others = are_others.texts ∙ ap (λ (breakings : List (List Run)). map text_of (flat_map (λ runs. runs) breakings)) same ∙ sym are_rows.texts
   where
     same : are_others.breakings ≡ are_rows.breakings
-    same = all_zip_only (IsTightBreaking limit) (broken limit) (broken-only limit) (words_of_lines desc) are_others.breakings are_others.each_line ∙ sym (all_zip_only (IsTightBreaking limit) (broken limit) (broken-only limit) (words_of_lines desc) are_rows.breakings are_rows.each_line)
+    same = all_zip_only (IsTightBreaking limit) (runs_of limit) (runs_of-only limit) (words_of_lines desc) are_others.breakings are_others.each_line ∙ sym (all_zip_only (IsTightBreaking limit) (runs_of limit) (runs_of-only limit) (words_of_lines desc) are_rows.breakings are_rows.each_line)
 
+-- its rows are exactly these
 pub rows_exactly : (limit : ℕ) (desc : List ℕ) (rows others : List (List ℕ)) → IsDescriptionRows limit desc rows → IsDescriptionRows limit desc others ↔ (others ≡ rows)
 rows_exactly limit desc rows others are_rows = (rows_only limit desc rows others are_rows, λ same. subst (IsDescriptionRows limit desc) (sym same) are_rows)
 
@@ -70,6 +69,6 @@ rows_exactly limit desc rows others are_rows = (rows_only limit desc rows others
 pub rows_fewest : (limit : ℕ) (desc : List ℕ) (rows : List (List ℕ)) → IsDescriptionRows limit desc rows → BreaksInto (IsFewestBreaking limit) desc rows
 rows_fewest limit desc rows are_rows = record {
   breakings = are_rows.breakings;
-  each_line = all_zip_weaker (IsTightBreaking limit) (IsFewestBreaking limit) (λ words runs tight. subst (IsFewestBreaking limit words) (sym (broken-only limit words runs tight)) (broken-is_fewest limit words)) (words_of_lines desc) are_rows.breakings are_rows.each_line;
+  each_line = all_zip_weaker (IsTightBreaking limit) (IsFewestBreaking limit) (λ words runs tight. subst (IsFewestBreaking limit words) (sym (runs_of-only limit words runs tight)) (runs_of-is_fewest limit words)) (words_of_lines desc) are_rows.breakings are_rows.each_line;
   texts = are_rows.texts;
 }

@@ -6,7 +6,7 @@ use Rattle.std.proofs.lemmas.Bool.{le-leb}
 use Rattle.std.proofs.lemmas.Bool.Decides.{nat_tests}
 use Rattle.std.proofs.lemmas.List.Sums.{sum_by-append, sum_by-cons}
 use Rattle.getopts.specs.Wrap.{Word, Run, width_of, columns_of, text_of, IsTightBreaking, words_of, AddsLine}
-use Rattle.getopts.proofs.WrapLemmas.{takes, filled, broken, filled-taken, filled-refused, broken-tight}
+use Rattle.getopts.proofs.WrapLemmas.{has_room, runs_from, runs_of, runs_from-taken, runs_from-refused, runs_of-tight}
 
 -- one more word at the end of a run: its columns and its text
 columns_of-push : (run : Run) (word : Word) → 0 < length run → columns_of (run ++ word ∷ []) ≡ columns_of run + (1 + width_of word)
@@ -28,11 +28,11 @@ pub record RowsSoFar (limit : ℕ) (line : List ℕ) (before rows : List (List �
   pub row_is : row ≡ text_of run
   pub columns_are : columns ≡ columns_of run
   pub utf8 : IsUtf8 rest
-  pub to_come : rows ++ map text_of (filled limit run (words_of rest)) ≡ before ++ map text_of (broken limit (words_of line))
+  pub to_come : rows ++ map text_of (runs_from limit run (words_of rest)) ≡ before ++ map text_of (runs_of limit (words_of line))
 
 -- a line with no word adds nothing
 pub adds_none : (limit : ℕ) (line : List ℕ) (rows : List (List ℕ)) → words_of line ≡ [] → AddsLine limit line rows rows
-adds_none limit line rows none = ([], subst (λ (words : List Word). IsTightBreaking limit words []) (sym none) (broken-tight limit []), sym (append-nil rows))
+adds_none limit line rows none = ([], subst (λ (words : List Word). IsTightBreaking limit words []) (sym none) (runs_of-tight limit []), sym (append-nil rows))
 
 -- the first word begins a row
 pub rows_begin : (limit : ℕ) (line : List ℕ) (rows : List (List ℕ)) (row word : List ℕ) (columns : ℕ) (rest : List ℕ) → IsUtf8 rest × (words_of line ≡ word ∷ words_of rest) → row ≡ word → columns ≡ width_of word → RowsSoFar limit line rows rows row columns rest
@@ -42,7 +42,7 @@ rows_begin limit line rows row word columns rest next row_is columns_are = recor
   row_is = row_is;
   columns_are = omega (arith, sum_by-cons width_of word []);
   utf8 = next.0;
-  to_come = ap (λ (words : List Word). rows ++ map text_of (broken limit words)) (sym next.1);
+  to_come = ap (λ (words : List Word). rows ++ map text_of (runs_of limit words)) (sym next.1);
 }
 
 module _ {limit : ℕ} {line : List ℕ} {before rows : List (List ℕ)} {row : List ℕ} {columns : ℕ} {rest : List ℕ} (so_far : RowsSoFar limit line before rows row columns rest) where
@@ -52,7 +52,7 @@ module _ {limit : ℕ} {line : List ℕ} {before rows : List (List ℕ)} {row : 
       let run = so_far.run in
       let begun = so_far.begun in
       let pushed = columns_of-push run word begun in
-      let taken : takes limit run word ≡ true = le-leb _ _ (omega (arith, so_far.columns_are)) in
+      let taken : has_room limit run word ≡ true = le-leb _ _ (omega (arith, so_far.columns_are)) in
       record {
         run = run ++ word ∷ [];
         begun = omega (arith, length-append run (word ∷ []));
@@ -60,7 +60,7 @@ module _ {limit : ℕ} {line : List ℕ} {before rows : List (List ℕ)} {row : 
         columns_are = omega (arith, so_far.columns_are);
         utf8 = next.0;
         to_come =
-            ap (λ (runs : List Run). rows ++ map text_of runs) (sym (ap (filled limit run) next.1 ∙ filled-taken limit run word (words_of after) taken))
+            ap (λ (runs : List Run). rows ++ map text_of runs) (sym (ap (runs_from limit run) next.1 ∙ runs_from-taken limit run word (words_of after) taken))
             ∙ so_far.to_come;
       }
 
@@ -69,7 +69,7 @@ module _ {limit : ℕ} {line : List ℕ} {before rows : List (List ℕ)} {row : 
   rows_end word after width new_rows new_row new_columns next width_is long new_rows_are new_row_is new_columns_are =
       let run = so_far.run in
       let pushed = columns_of-push run word so_far.begun in
-      let refused : takes limit run word ≡ false = lt-leb limit (columns_of (run ++ word ∷ [])) (omega (arith, so_far.columns_are)) in
+      let refused : has_room limit run word ≡ false = lt-leb limit (columns_of (run ++ word ∷ [])) (omega (arith, so_far.columns_are)) in
       record {
         run = word ∷ [];
         begun = omega arith;
@@ -77,19 +77,19 @@ module _ {limit : ℕ} {line : List ℕ} {before rows : List (List ℕ)} {row : 
         columns_are = omega (arith, sum_by-cons width_of word []);
         utf8 = next.0;
         to_come =
-            ap (λ (rows : List (List ℕ)). rows ++ map text_of (filled limit (word ∷ []) (words_of after))) (new_rows_are ∙ ap (λ (row : List ℕ). rows ++ row ∷ []) so_far.row_is)
-            ∙ append_assoc rows (text_of run ∷ []) (map text_of (filled limit (word ∷ []) (words_of after)))
-            ∙ ap (λ (runs : List Run). rows ++ map text_of runs) (sym (ap (filled limit run) next.1 ∙ filled-refused limit run word (words_of after) refused))
+            ap (λ (rows : List (List ℕ)). rows ++ map text_of (runs_from limit (word ∷ []) (words_of after))) (new_rows_are ∙ ap (λ (row : List ℕ). rows ++ row ∷ []) so_far.row_is)
+            ∙ append_assoc rows (text_of run ∷ []) (map text_of (runs_from limit (word ∷ []) (words_of after)))
+            ∙ ap (λ (runs : List Run). rows ++ map text_of runs) (sym (ap (runs_from limit run) next.1 ∙ runs_from-refused limit run word (words_of after) refused))
             ∙ so_far.to_come;
       }
 
   -- with no word left, the row in hand is the last
   pub rows_finish : (new_rows : List (List ℕ)) → words_of rest ≡ [] → new_rows ≡ rows ++ row ∷ [] → AddsLine limit line before new_rows
   rows_finish new_rows none new_rows_are = (
-    broken limit (words_of line),
-    broken-tight limit (words_of line),
+    runs_of limit (words_of line),
+    runs_of-tight limit (words_of line),
     new_rows_are
         ∙ ap (λ (row : List ℕ). rows ++ row ∷ []) so_far.row_is
-        ∙ ap (λ (words : List Word). rows ++ map text_of (filled limit so_far.run words)) (sym none)
+        ∙ ap (λ (words : List Word). rows ++ map text_of (runs_from limit so_far.run words)) (sym none)
         ∙ so_far.to_come,
   )

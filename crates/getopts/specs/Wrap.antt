@@ -66,7 +66,8 @@ pub record HasOneTightBreaking (limit : ℕ) (words : List Word) : Type 0 where
 abbrev pub lines_of : List ℕ → List (List ℕ)
 lines_of desc = slice_split (λ byte. byte == 10) desc
 
--- the words of a line, which is cut at each character of white space: the pieces that are not empty, and so the longest with no white space
+-- the words of a line: it is cut at each character of white space, and the pieces that are not empty are its words,
+-- so each word is a run of other characters that is as long as it can be
 abbrev pub words_of : List ℕ → List Word
 words_of line = map encode_utf8_all (filter (λ piece. nat_lt 0 (length piece)) (slice_split is_whitespace (chars line)))
 
@@ -74,7 +75,8 @@ words_of line = map encode_utf8_all (filter (λ piece. nat_lt 0 (length piece)) 
 abbrev pub words_of_lines : List ℕ → List (List Word)
 words_of_lines desc = map words_of (lines_of desc)
 
--- the description breaks into the rows, where `IsBroken` says how a line's words may be broken: the rows are the texts of the runs of each line in turn
+-- the description breaks into the rows, where `IsBroken` says how a line's words may be broken: the rows are the texts
+-- of the runs of each line in turn
 pub record BreaksInto (IsBroken : List Word → List Run → Type 0) (desc : List ℕ) (rows : List (List ℕ)) : Type 0 where
   pub breakings : List (List Run)
   pub each_line : AllZip IsBroken (words_of_lines desc) breakings
