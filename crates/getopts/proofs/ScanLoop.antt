@@ -69,7 +69,7 @@ ReadSoFar-none grammar words = record {
 drop_past : {X : Type 0} (words after : List X) (word : X) (at used : ℕ) → drop at words ≡ word ∷ after → drop (at + (1 + used)) words ≡ drop used after
 drop_past words after word at used left =
     let place : at + (1 + used) ≡ at + suc used = omega arith in
-    ap (λ n. drop n words) place ∙ sym (drop-drop at (suc used) words) ∙ ap (drop (suc used)) left
+    ap (λ n. drop n words) place ∙ sym (drop-drop (suc used) at words) ∙ ap (drop (suc used)) left
 
 module _ (grammar : Grammar) (words : List Text) (at position : ℕ) (occurrences : List Occurrence) (frees : List Text) (before : ReadSoFar grammar words at position occurrences frees) where
   -- one more item

@@ -6,3 +6,4 @@ pub mod Names
 pub mod Options
 pub mod Scan
 pub mod ScanLaws
+pub mod Wrap

@@ -5,6 +5,7 @@ mod fail;
 mod names;
 mod options;
 mod scan;
+pub mod wrap;
 
 pub use fail::Fail;
 pub use names::names_lawful;
