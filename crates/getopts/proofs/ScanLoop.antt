@@ -1,11 +1,15 @@
 -- A line that was read up to a place: its items so far, one more item, and each way in which it goes on.
-use Rattle.std.proofs.Common.{◌≡◌, ◌<◌, ◌≤◌, ◌+◌, ◌-◌, ℕ, Bool, true, false, List, [], ◌∷◌, ◌++◌, length, map, take, drop, slice_get, Option, Some, None, refl, ap, ◌∙◌, sym, subst, append_assoc, zero-le, arith, add-one, zero-add, add-zero, add_assoc, suc, length-drop, drop-drop}
+use Rattle.std.proofs.Common.{◌≡◌, ◌<◌, ◌≤◌, ◌+◌, ◌-◌, ℕ, Bool, true, false, List, [], ◌∷◌, ◌++◌, length, map, take, drop, slice_get, Option, Some, None, refl, ap, ◌∙◌, sym, subst, append_assoc, zero-le, arith, add-one, zero-add, add-zero, add_assoc, suc, length-drop, drop-drop, get_or, Bor, drop-cons, zero, not, eqb}
+use Rattle.std.specs.Bool.{then_some}
 use Rattle.std.specs.List.{AllByRecursion}
-use Rattle.std.proofs.lemmas.List.{append-nil, length-append}
+use Rattle.std.proofs.lemmas.List.{append-nil, length-append, take_all, length-map}
+use Rattle.std.proofs.lemmas.Bool.Decides.{nat_tests}
 use Rattle.getopts.specs.Names.{Text}
 use Rattle.getopts.specs.Options.{Grammar}
 use Rattle.getopts.specs.Fail.{Fault}
-use Rattle.getopts.specs.Scan.{Item, free, long, cluster, spelled, spelled_all, IsLawfulItem, is_dashed, stop_word, is_bare, EndsOrIsDashed, AreWellFollowed, BeginsWith, Occurrence, occurrence_at, occurrences_after, mentions, free_items, Tail, line_end, stop, rest, tail_words, tail_frees, trailing_after, IsLawfulTail, Reading, IsReading, occurrences_of, free_words, trailing_start, IsFaultAt, IsScanFault}
+use Rattle.getopts.specs.Line.{texts, AddsItem}
+use Rattle.getopts.specs.declared.options.ParsingStyle.TheVariants.{FloatingFrees, StopAtFirstFree}
+use Rattle.getopts.specs.Scan.{Item, free, long, cluster, spelled, spelled_all, IsLawfulItem, is_dashed, stop_word, is_bare, EndsOrIsDashed, AreWellFollowed, BeginsWith, Occurrence, occurrence_at, occurrences_after, mentions, free_items, Tail, line_end, stop, rest, tail_words, tail_frees, trailing_after, IsLawfulTail, Reading, IsReading, occurrences_of, free_words, trailing_start, IsFaultAt, IsScanFault, BeginsFree}
 use Rattle.getopts.proofs.ScanTexts.{AllByRecursion-append}
 use Rattle.getopts.proofs.ScanLawProofs.{free_items-append, spelled_all-append}
 use Rattle.getopts.proofs.ScanReadings.{spelled_all-append as words_after}
@@ -121,3 +125,81 @@ module _ (grammar : Grammar) (words : List Text) (at position : ℕ) (occurrence
     };
     fault_at = fault_at;
   }
+
+-- what is left of borrowed words from a place on is the word there, and the others
+pub texts_from : (words : List (Bor Text)) (word : Bor Text) (at : ℕ) → at < length words → drop at (texts words) ≡ (get_or words at word).now ∷ texts (drop (at + 1) words)
+texts_from [] word at within = absurd (omega arith)
+texts_from (first ∷ words) word zero within = refl
+texts_from (first ∷ words) word (suc at) within = rw add-one (simp add-one at (texts_from words word at (omega arith)))
+
+-- the words after a place, as texts
+pub texts-drop : (words : List (Bor Text)) (at : ℕ) → texts (drop at words) ≡ drop at (texts words)
+texts-drop words zero = refl
+texts-drop [] (suc at) = refl
+texts-drop (first ∷ words) (suc at) = texts-drop words at
+
+-- all that is left of a list from a place on
+pub take-drop : {X : Type 0} (xs : List X) (at : ℕ) → take (length xs - at) (drop at xs) ≡ drop at xs
+take-drop xs at = take_all (length xs - at) (drop at xs) (omega (arith, length-drop at xs))
+
+-- where the words after a stop begin
+pub trailing_after-stop : (start : ℕ) (words : List Text) (empty : Bool) → empty ≡ eqb (length words) 0 → then_some (not empty) start ≡ trailing_after start (stop words)
+trailing_after-stop start [] empty is = rw is refl
+trailing_after-stop start (word ∷ words) empty is =
+    let some : eqb (suc (length words)) 0 ≡ false = grind (arith, nat_tests) in
+    let told : empty ≡ false = is ∙ some in
+    rw told refl
+
+-- as many texts as words
+pub length-texts : (words : List (Bor Text)) → length (texts words) ≡ length words
+length-texts words = simp length-map
+
+-- an item that a dashed word begins is no free word
+no_free : (grammar : Grammar) (word : Text) (after more : List Text) (item : Item) → BeginsWith grammar (word ∷ after) item more → is_dashed word ≡ true → free_items (item ∷ []) ≡ []
+no_free grammar word after more (free w) begins dashed =
+    let same : word ≡ w = cc (begins.spells) in
+    let plain : is_dashed w ≡ false = begins.lawful.0 in
+    cc
+no_free grammar word after more (long dashes name argument) begins dashed = refl
+no_free grammar word after more (cluster names end) begins dashed = refl
+
+-- A line of borrowed words that was read up to a place where a word stands.
+module _ (grammar : Grammar) (words : List (Bor Text)) (at position : ℕ) (occurrences : List Occurrence) (frees : List Text) (before : ReadSoFar grammar (texts words) at position occurrences frees) (d : Bor Text) (within : at < length words) where
+  -- a free word
+  pub ReadSoFar-free : (new_frees : List Text) → is_dashed (get_or words at d).now ≡ false → grammar.style ≡ FloatingFrees → new_frees ≡ frees ++ (get_or words at d).now ∷ []
+      → ReadSoFar grammar (texts words) (at + 1) (position + 1) occurrences new_frees
+  ReadSoFar-free new_frees plain floating pushed =
+      ReadSoFar-item grammar (texts words) at position occurrences frees before (get_or words at d).now (texts (drop (at + 1) words)) (free (get_or words at d).now) 0 occurrences new_frees
+      (texts_from words d at within) zero-le
+      (record { spells = refl; lawful = (plain, floating); followed = λ bare. cc })
+      (sym (append-nil occurrences)) pushed
+
+  -- an item that a dashed word begins
+  pub ReadSoFar-added : (word : Text) (used : ℕ) (newer : List Occurrence) → (get_or words at d).now ≡ word → is_dashed word ≡ true
+      → AddsItem grammar word (texts (drop (at + 1) words)) position used occurrences newer
+      → ReadSoFar grammar (texts words) (at + (1 + used)) (position + 1) newer frees
+  ReadSoFar-added word used newer word_is dashed adds =
+      let none_free : free_items (adds.reads.item ∷ []) ≡ [] = no_free grammar word (texts (drop (at + 1) words)) (drop used (texts (drop (at + 1) words))) adds.reads.item adds.reads.begins dashed in
+      ReadSoFar-item grammar (texts words) at position occurrences frees before word (texts (drop (at + 1) words)) adds.reads.item used newer frees
+      (texts_from words d at within ∙ ap (λ (w : Text). w ∷ texts (drop (at + 1) words)) word_is) adds.reads.within adds.reads.begins
+      (adds.added ∙ ap (λ (os : List Occurrence). occurrences ++ os) adds.reads.found)
+      (sym (append-nil frees) ∙ ap (λ (ws : List Text). frees ++ ws) (sym none_free))
+
+  -- the rest, from a free word on
+  pub IsReading-rest : is_dashed (get_or words at d).now ≡ false → grammar.style ≡ StopAtFirstFree
+      → IsReading grammar (record { items = before.items; tail = rest (drop at (texts words)) }) (texts words)
+  IsReading-rest plain stops =
+      IsReading-tail grammar (texts words) at position occurrences frees before (rest (drop at (texts words)))
+      ((subst BeginsFree (sym (texts_from words d at within)) plain), stops) refl
+
+  -- the stop, and the words after it
+  pub IsReading-stop : (get_or words at d).now ≡ stop_word → IsReading grammar (record { items = before.items; tail = stop (texts (drop (at + 1) words)) }) (texts words)
+  IsReading-stop stops =
+      IsReading-tail grammar (texts words) at position occurrences frees before (stop (texts (drop (at + 1) words))) tt
+      (ap (λ (w : Text). w ∷ texts (drop (at + 1) words)) (sym stops) ∙ sym (texts_from words d at within))
+
+  -- a fault of the word here
+  pub IsScanFault-word : (word : Text) (fault : Fault) → (get_or words at d).now ≡ word → IsFaultAt grammar word (texts (drop (at + 1) words)) fault → IsScanFault grammar (texts words) fault
+  IsScanFault-word word fault word_is fault_at =
+      IsScanFault-here grammar (texts words) at position occurrences frees before word (texts (drop (at + 1) words)) fault
+      (texts_from words d at within ∙ ap (λ (w : Text). w ∷ texts (drop (at + 1) words)) word_is) fault_at

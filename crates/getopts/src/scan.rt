@@ -273,25 +273,22 @@ impl<'o> Scanner<'o> {
         'items: while at < words.len() {
             let word = words[at];
             let after = &words[at + 1..];
-            match dashed_text(word) {
-                None if self.style == ParsingStyle::StopAtFirstFree => {
+            let Some(text) = dashed_text(word) else {
+                if self.style == ParsingStyle::StopAtFirstFree {
                     free.extend_from_slice(&words[at..])?;
                     return Ok(Line { occurrences, free, trailing_start: None });
                 }
-                None => {
-                    free.push(word)?;
-                    at += 1;
-                }
-                Some("-") => {
-                    let start = free.len();
-                    free.extend_from_slice(after)?;
-                    let trailing_start = if after.is_empty() { None } else { Some(start) };
-                    return Ok(Line { occurrences, free, trailing_start });
-                }
-                Some(text) => {
-                    at += 1 + self.item(alloc, text, after, position, &mut occurrences)?;
-                }
+                free.push(word)?;
+                at += 1;
+                position += 1;
+                continue;
+            };
+            if text == "-" {
+                let trailing_start = (!after.is_empty()).then_some(free.len());
+                free.extend_from_slice(after)?;
+                return Ok(Line { occurrences, free, trailing_start });
             }
+            at += 1 + self.item(alloc, text, after, position, &mut occurrences)?;
             position += 1;
         }
         Ok(Line { occurrences, free, trailing_start: None })
