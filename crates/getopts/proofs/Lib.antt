@@ -1,4 +1,5 @@
 pub mod CanonLemmas
+pub mod MatchesLemmas
 pub mod NamesLemmas
 pub mod OptLemmas
 pub mod OptionsLemmas

@@ -2,10 +2,12 @@
 #![tactic(auto)]
 
 mod fail;
+mod matches;
 mod names;
 mod options;
 mod scan;
 
 pub use fail::Fail;
+pub use matches::Matches;
 pub use names::names_lawful;
 pub use options::{HasArg, Occur, Options, ParsingStyle};
