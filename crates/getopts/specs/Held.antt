@@ -28,9 +28,13 @@ given_found given = record { position = given.position; value = given_value give
 abbrev pub givens_of : ℕ → List Given → List Given
 givens_of group given = filter (λ g. g.group == group) given
 
+-- the occurrences of one group, as the code holds them
+abbrev pub givens : OfGroup → List Given
+givens of_group = givens_of of_group.group of_group.given.now
+
 -- the occurrences of one group
 abbrev pub founds : OfGroup → List Found
-founds of_group = map given_found (givens_of of_group.group of_group.given.now)
+founds of_group = map given_found (givens of_group)
 
 -- each option is lawfully named
 abbrev pub AreLawful : List Opt → Type 0

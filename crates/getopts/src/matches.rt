@@ -1,10 +1,12 @@
 //! What an accepted line gave: options with their values, and free words.
 
-ghost use Rattle.std.specs.Prelude.{◌≡◌, map, IfOk};
+ghost use Rattle.std.specs.Prelude.{◌≡◌, ◌==◌, ◌↔◌, find, IsTrue, map, length, slice_get, IfOk};
+ghost use Rattle.std.specs.List.{list_any};
+ghost use Rattle.std.specs.Option.{option_copied, option_map};
 ghost use Rattle.std.specs.String.{string_bytes};
 ghost use Rattle.getopts.specs.Line.{texts, occurrence_view, occurrences_view};
 
-use crate::options::Opt;
+use crate::options::{Opt, resolve};
 use crate::scan::{Line, Occurrence};
 use std::alloc::{AllocError, Global};
 use std::marker::Model;
@@ -112,5 +114,86 @@ impl Matches {
             given: Given::all_copied(alloc, line.occurrences.as_slice())?,
             trailing_start: line.trailing_start,
         })
+    }
+}
+
+impl<'m> OfGroup<'m> {
+    ghost use Rattle.getopts.specs.Held.{givens};
+
+    fn count(&self) -> usize
+        ensures { result ≡ length (givens self.now) }
+    {
+        let group = self.group;
+        self.given
+            .iter()
+            .filter(|given| given.group == group)
+            .count()
+    }
+
+    fn first(&self) -> Option<&'m Given>
+        ensures { option_copied result ≡ find (λ given. given.group == self.now.group) self.now.given.now }
+    {
+        let group = self.group;
+        self.given.iter().find(|given| given.group == group)
+    }
+
+    fn positions(&self, alloc: Global) -> Result<Vec<usize>, AllocError>
+        ensures { IfOk result (λ positions. positions.items ≡ map (λ given. given.position) (givens self.now)) }
+    {
+        let group = self.group;
+        self.given
+            .iter()
+            .filter(|given| given.group == group)
+            .map(|given| given.position)
+            .collect(alloc)
+    }
+}
+
+impl Matches {
+    ghost use Rattle.getopts.specs.Held.{founds};
+    ghost use Rattle.getopts.specs.Accessors.{IsDefined, OneGroupOneAnswer, found_of, is_present};
+
+    /// The occurrences of the group that a name resolves to. Of an undefined name there are none.
+    fn given_of(&self, name: &str) -> OfGroup<'_>
+        ensures { founds result ≡ found_of self.now.groups name.now }
+    {
+        match resolve(self.opts.as_slice(), name) {
+            Some(group) => OfGroup {
+                group,
+                given: self.given.as_slice(),
+            },
+            None => OfGroup {
+                group: 0,
+                given: &[],
+            },
+        }
+    }
+
+    /// Whether a name resolves to a group.
+    ///
+    /// This is the test for the condition of the calls that ask for one option. Such a call panics in
+    /// the Rust where the name is undefined; here the caller shows that it is defined. A name is given
+    /// without dashes: `opt_defined("verbose")`.
+    pub fn opt_defined(&self, name: &str) -> bool
+        ensures defined { IsTrue result ↔ IsDefined self.now.groups name.now }
+        ensures one_group { OneGroupOneAnswer self.now.groups name.now }
+    {
+        resolve(self.opts.as_slice(), name).is_some()
+    }
+
+    /// How often an option was given, by any of its names.
+    pub fn opt_count(&self, name: &str) -> usize
+        requires { IsDefined self.now.groups name.now }
+        ensures { result ≡ length (found_of self.now.groups name.now) }
+    {
+        self.given_of(name).count()
+    }
+
+    /// Whether an option was given at least once, by any of its names.
+    pub fn opt_present(&self, name: &str) -> bool
+        requires { IsDefined self.now.groups name.now }
+        ensures { result ≡ is_present self.now.groups name.now }
+    {
+        self.given_of(name).count() > 0
     }
 }
