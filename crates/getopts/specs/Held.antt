@@ -1,8 +1,10 @@
 -- What matches hold, as the code has it: one list of occurrences, in the order of the line.
-use Rattle.std.specs.Prelude.{◌==◌, ℕ, List, map, Option}
+use Rattle.std.specs.Prelude.{◌==◌, if◌then◌else◌, ℕ, List, map, Option, None}
 use Rattle.std.specs.List.{filter, AllByRecursion}
 use Rattle.std.specs.Option.{option_map}
 use Rattle.std.specs.String.{string_bytes}
+use Rattle.std.specs.declared.string.String.{String}
+use Rattle.std.specs.declared.alloc.Global.{Global}
 use Rattle.getopts.specs.Names.{Text, IsLawfullyNamed, names_view}
 use Rattle.getopts.specs.Options.{opt_view}
 use Rattle.getopts.specs.Scan.{Occurrence}
@@ -35,6 +37,14 @@ givens of_group = givens_of of_group.group of_group.given.now
 -- the occurrences of one group
 abbrev pub founds : OfGroup → List Found
 founds of_group = map given_found (givens of_group)
+
+-- the value of an occurrence, if it is one of this group and has a value
+abbrev pub value_in : ℕ → Given → Option Text
+value_in group given = if given.group == group then given_value given else None
+
+-- a position and a value, as the code holds them
+abbrev pub pair_view : ℕ × String Global → ℕ × Text
+pair_view pair = (pair.0, string_bytes pair.1)
 
 -- each option is lawfully named
 abbrev pub AreLawful : List Opt → Type 0

@@ -1,5 +1,5 @@
 -- A name is defined where it resolves among the options.
-use Rattle.std.proofs.Common.{rules, ◌≡◌, ap, ◌∙◌}
+use Rattle.std.proofs.Common.{rules}
 use Rattle.getopts.proofs.matches.Matches.opt_defined.Goals as goal
 use Rattle.getopts.proofs.MatchesLemmas.{place_of-matched}
 
