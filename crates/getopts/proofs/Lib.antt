@@ -1,5 +1,6 @@
 pub mod CanonLemmas
 pub mod FailLemmas
+pub mod MatchesLemmas
 pub mod NamesLemmas
 pub mod OptLemmas
 pub mod OptionsLemmas

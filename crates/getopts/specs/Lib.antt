@@ -1,5 +1,7 @@
+pub mod Accessors
 pub mod Canon
 pub mod Fail
+pub mod Held
 pub mod Line
 pub mod Matches
 pub mod Names

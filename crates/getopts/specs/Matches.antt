@@ -2,7 +2,7 @@
 use Rattle.std.specs.Prelude.{◌≡◌, ◌==◌, ℕ, ◌+◌, ◌≤◌, ⊤, List, [], ◌∷◌, ◌++◌, length, map, Option}
 use Rattle.std.specs.List.{AllByRecursion, filter}
 use Rattle.getopts.specs.Names.{Text, Names, main_name}
-use Rattle.getopts.specs.Options.{Group, Declared, Grammar, grammar_of}
+use Rattle.getopts.specs.Options.{Group, Declared, grammar_of, Known}
 use Rattle.getopts.specs.Fail.{Fault, option_missing, option_duplicated}
 use Rattle.getopts.specs.Scan.{Reading, Occurrence, occurrences_of, free_words, trailing_start}
 use Rattle.getopts.specs.declared.options.HasArg.{HasArg}
@@ -40,6 +40,16 @@ matched_from place (group ∷ groups) occurrences = record {
   occurrence = group.occurrence;
   found = found_at place occurrences;
 } ∷ matched_from (place + 1) groups occurrences
+
+-- each known group with its occurrences, where the first group has this place
+abbrev pub matched_known : ℕ → List Known → List Occurrence → List MatchedGroup
+matched_known place [] occurrences = []
+matched_known place (group ∷ groups) occurrences = record {
+  names = group.names;
+  kind = group.kind;
+  occurrence = group.occurrence;
+  found = found_at place occurrences;
+} ∷ matched_known (place + 1) groups occurrences
 
 -- the matches of a reading
 abbrev pub matches_of : Declared → Reading → Matched

@@ -2,11 +2,13 @@
 #![tactic(auto)]
 
 mod fail;
+mod matches;
 mod names;
 mod options;
 mod scan;
 pub mod wrap;
 
 pub use fail::Fail;
+pub use matches::Matches;
 pub use names::names_lawful;
 pub use options::{HasArg, Occur, Options, ParsingStyle};

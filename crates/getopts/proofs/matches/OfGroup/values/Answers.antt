@@ -1,0 +1,12 @@
+-- One more occurrence has its value, if any.
+use Rattle.std.proofs.Common.{arith}
+use Rattle.std.proofs.lemmas.Grind.{common_steps}
+use Rattle.std.proofs.lemmas.List.Elements.{filter_map-append}
+use Rattle.getopts.proofs.MatchesLemmas.{values_of_givens}
+use Rattle.getopts.proofs.matches.OfGroup.values.Goals as goal
+
+pub loop-given-preserved : goal.loop-given-preserved
+loop-given-preserved c = grind (arith, common_steps, filter_map-append)
+
+pub returns : goal.returns
+returns c = rw (values_of_givens c.args.self.now.group c.args.self.now.given.now) (grind (arith, common_steps))

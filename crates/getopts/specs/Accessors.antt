@@ -1,0 +1,77 @@
+-- What the accessors of matches answer, over the groups that matches hold.
+use Rattle.std.specs.Prelude.{◌≡◌, ℕ, Bool, List, [], ◌∷◌, map, length, nat_lt, IsSome, Option, Some, None, Result, Ok, Err, slice_get, unwrap_or}
+use Rattle.std.specs.List.{AllByRecursion, filter_map}
+use Rattle.std.specs.Option.{option_and_then, option_map, option_map_or, option_or}
+use Rattle.getopts.specs.Names.{Text, resolution}
+use Rattle.getopts.specs.Matches.{Found, MatchedGroup}
+
+-- the place of the group that a name resolves to
+abbrev pub place_of : List MatchedGroup → Text → Option ℕ
+place_of groups name = resolution (map (λ group. group.names) groups) name
+
+-- a name is defined: it resolves to a group
+abbrev pub IsDefined : List MatchedGroup → Text → Type 0
+IsDefined groups name = IsSome (place_of groups name)
+
+-- each name is defined
+abbrev pub AreDefined : List MatchedGroup → List Text → Type 0
+AreDefined groups names = AllByRecursion (IsDefined groups) names
+
+-- the occurrences of the group at this place; where there is no such group, none
+abbrev pub found_in : List MatchedGroup → Option ℕ → List Found
+found_in groups place = option_map_or (λ group. group.found) (option_and_then (λ i. slice_get groups i) place) []
+
+-- the occurrences of the group that a name resolves to; of an undefined name there are none
+abbrev pub found_of : List MatchedGroup → Text → List Found
+found_of groups name = found_in groups (place_of groups name)
+
+-- whether there is an occurrence
+abbrev pub is_present : List MatchedGroup → Text → Bool
+is_present groups name = nat_lt 0 (length (found_of groups name))
+
+-- the positions of occurrences
+abbrev pub positions_of : List Found → List ℕ
+positions_of founds = map (λ found. found.position) founds
+
+-- the values of the occurrences that have one
+abbrev pub values_of : List Found → List Text
+values_of founds = filter_map (λ found. found.value) founds
+
+-- an occurrence's position and value, where it has a value
+abbrev pub pair_of : Found → Option (ℕ × Text)
+pair_of found = option_map (λ value. (found.position, value)) found.value
+
+-- the positions and values of the occurrences that have a value
+abbrev pub pairs_of : List Found → List (ℕ × Text)
+pairs_of founds = filter_map pair_of founds
+
+-- the value of the first occurrence, if there is one and it has a value
+abbrev pub first_value : List Found → Option Text
+first_value [] = None
+first_value (found ∷ founds) = found.value
+
+-- the value of the first occurrence, or this text where that has none
+abbrev pub first_value_or : List Found → Text → Option Text
+first_value_or [] fallback = None
+first_value_or (found ∷ founds) fallback = Some (unwrap_or found.value fallback)
+
+-- the value for the first of these names whose group's first occurrence has a value
+abbrev pub first_value_among : List MatchedGroup → List Text → Option Text
+first_value_among groups [] = None
+first_value_among groups (name ∷ names) = option_or (first_value (found_of groups name)) (first_value_among groups names)
+
+-- What a value is read as: where there is one, what this reading gives for it; else nothing.
+abbrev pub IsReadAs : {T E : Type 0} → (Text → Result T E → Type 0) → Option Text → Result (Option T) E → Type 0
+IsReadAs gives None answer = answer ≡ Ok None
+IsReadAs gives (Some text) (Ok None) = ⊥
+IsReadAs gives (Some text) (Ok (Some value)) = gives text (Ok value)
+IsReadAs gives (Some text) (Err error) = gives text (Err error)
+
+-- What a value is read as: where there is one, what this reading gives for it; else this default.
+abbrev pub IsReadOr : {T E : Type 0} → (Text → Result T E → Type 0) → Option Text → T → Result T E → Type 0
+IsReadOr gives None default answer = answer ≡ Ok default
+IsReadOr gives (Some text) default answer = gives text answer
+
+-- One group, one answer: a name that resolves to the same group has the same occurrences.
+abbrev pub OneGroupOneAnswer : List MatchedGroup → Text → Type 0
+OneGroupOneAnswer groups name = (other : Text) → place_of groups other ≡ place_of groups name → found_of groups other ≡ found_of groups name
