@@ -181,12 +181,159 @@ impl Options {
         Ok(self)
     }
 
+    /// Adds a group.
+    pub fn optflag(
+        &mut self,
+        short_name: &str,
+        long_name: &str,
+        desc: &str,
+    ) -> Result<&mut Options, AllocError>
+        requires { AreLawful short_name.now long_name.now }
+        ensures added { IfOk result (λ options. options.now ≡ with_group self.old (record {
+          names = record { short = short_name.now; long = long_name.now };
+          hint = [];
+          description = desc.now;
+          kind = HasArg.No;
+          occurrence = Occur.Optional;
+        })) }
+        ensures same_options { IfOk result (λ options. options.ghost_name ≡ self.entry.ghost_name) }
+    {
+        self.opt(short_name, long_name, desc, "", HasArg::No, Occur::Optional)
+    }
+
+    /// Adds a group.
+    pub fn optflagmulti(
+        &mut self,
+        short_name: &str,
+        long_name: &str,
+        desc: &str,
+    ) -> Result<&mut Options, AllocError>
+        requires { AreLawful short_name.now long_name.now }
+        ensures added { IfOk result (λ options. options.now ≡ with_group self.old (record {
+          names = record { short = short_name.now; long = long_name.now };
+          hint = [];
+          description = desc.now;
+          kind = HasArg.No;
+          occurrence = Occur.Multi;
+        })) }
+        ensures same_options { IfOk result (λ options. options.ghost_name ≡ self.entry.ghost_name) }
+    {
+        self.opt(short_name, long_name, desc, "", HasArg::No, Occur::Multi)
+    }
+
+    /// Adds a group.
+    pub fn optflagopt(
+        &mut self,
+        short_name: &str,
+        long_name: &str,
+        desc: &str,
+        hint: &str,
+    ) -> Result<&mut Options, AllocError>
+        requires { AreLawful short_name.now long_name.now }
+        ensures added { IfOk result (λ options. options.now ≡ with_group self.old (record {
+          names = record { short = short_name.now; long = long_name.now };
+          hint = hint.now;
+          description = desc.now;
+          kind = HasArg.Maybe;
+          occurrence = Occur.Optional;
+        })) }
+        ensures same_options { IfOk result (λ options. options.ghost_name ≡ self.entry.ghost_name) }
+    {
+        self.opt(
+            short_name,
+            long_name,
+            desc,
+            hint,
+            HasArg::Maybe,
+            Occur::Optional,
+        )
+    }
+
+    /// Adds a group.
+    pub fn optmulti(
+        &mut self,
+        short_name: &str,
+        long_name: &str,
+        desc: &str,
+        hint: &str,
+    ) -> Result<&mut Options, AllocError>
+        requires { AreLawful short_name.now long_name.now }
+        ensures added { IfOk result (λ options. options.now ≡ with_group self.old (record {
+          names = record { short = short_name.now; long = long_name.now };
+          hint = hint.now;
+          description = desc.now;
+          kind = HasArg.Yes;
+          occurrence = Occur.Multi;
+        })) }
+        ensures same_options { IfOk result (λ options. options.ghost_name ≡ self.entry.ghost_name) }
+    {
+        self.opt(short_name, long_name, desc, hint, HasArg::Yes, Occur::Multi)
+    }
+
+    /// Adds a group.
+    pub fn optopt(
+        &mut self,
+        short_name: &str,
+        long_name: &str,
+        desc: &str,
+        hint: &str,
+    ) -> Result<&mut Options, AllocError>
+        requires { AreLawful short_name.now long_name.now }
+        ensures added { IfOk result (λ options. options.now ≡ with_group self.old (record {
+          names = record { short = short_name.now; long = long_name.now };
+          hint = hint.now;
+          description = desc.now;
+          kind = HasArg.Yes;
+          occurrence = Occur.Optional;
+        })) }
+        ensures same_options { IfOk result (λ options. options.ghost_name ≡ self.entry.ghost_name) }
+    {
+        self.opt(
+            short_name,
+            long_name,
+            desc,
+            hint,
+            HasArg::Yes,
+            Occur::Optional,
+        )
+    }
+
+    /// Adds a group.
+    pub fn reqopt(
+        &mut self,
+        short_name: &str,
+        long_name: &str,
+        desc: &str,
+        hint: &str,
+    ) -> Result<&mut Options, AllocError>
+        requires { AreLawful short_name.now long_name.now }
+        ensures added { IfOk result (λ options. options.now ≡ with_group self.old (record {
+          names = record { short = short_name.now; long = long_name.now };
+          hint = hint.now;
+          description = desc.now;
+          kind = HasArg.Yes;
+          occurrence = Occur.Req;
+        })) }
+        ensures same_options { IfOk result (λ options. options.ghost_name ≡ self.entry.ghost_name) }
+    {
+        self.opt(short_name, long_name, desc, hint, HasArg::Yes, Occur::Req)
+    }
+
     /// Sets the parsing style.
     pub fn parsing_style(&mut self, style: ParsingStyle) -> &mut Options
         ensures set { result.now ≡ record self.old { style = style } }
         ensures same_options { result.ghost_name ≡ self.entry.ghost_name }
     {
         self.style = style;
+        self
+    }
+
+    /// Sets whether the mode is long-only.
+    pub fn long_only(&mut self, long_only: bool) -> &mut Options
+        ensures set { result.now ≡ record self.old { long_only = long_only } }
+        ensures same_options { result.ghost_name ≡ self.entry.ghost_name }
+    {
+        self.long_only = long_only;
         self
     }
 }
