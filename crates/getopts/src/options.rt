@@ -189,9 +189,9 @@ impl Options {
 
     /// Adds an option with any kind of argument and any kind of occurrence, as the last group.
     ///
-    /// `hint` stands for the argument in usage texts, `desc` is the description there.
-    /// `options.opt("c", "color", "colour the output", "WHEN", HasArg::Maybe, Occur::Multi)?` reads `-c`
-    /// and `--color=auto`, any number of times.
+    /// `hint` stands for the argument in usage texts, `desc` is the description there. With the names `c`
+    /// and `color`, `HasArg::Maybe` and `Occur::Multi`, a line may have `-c` and `--color=auto` any number
+    /// of times.
     ///
     /// What differs from the Rust: the names have to be lawful, which `names_lawful` tests. The Rust
     /// panics in this call where one is too long or too short, and takes two empty names, on which
