@@ -99,7 +99,7 @@ module _ (grammar : Grammar) (position : ℕ) (text : Text) where
           → AddsItem grammar word after position used old newer
       AddsItem-ends group kind value used newer place kind_is ending pushed =
           let parts : text ≡ take at text ++ (slice_index text at ∷ unwrap_or (attached_argument ending.argument) []) =
-              text_parts text at within ∙ ap (λ t. take at text ++ (slice_index text at ∷ t)) ending.rest_is in
+          text_parts text at within ∙ ap (λ t. take at text ++ (slice_index text at ∷ t)) ending.rest_is in
           let named = λ (name : ℕ). mention grammar (name ∷ []) None in
           let last : occurrence_at position (mention grammar (slice_index text at ∷ []) (value_of ending.argument)) ∷ [] ≡ record { group = group; value = value; position = position } ∷ [] = rw (place, ← ending.value_is) refl in
           record {

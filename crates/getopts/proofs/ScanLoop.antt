@@ -33,7 +33,7 @@ occurrences_after-push before grammar [] item = append-nil _ ∙ ap (λ n. map (
 occurrences_after-push before grammar (first ∷ items) item =
     let later : before + 1 + length items ≡ before + suc (length items) = omega arith in
     ap (λ (os : List Occurrence). map (occurrence_at before) (mentions grammar first) ++ os) (occurrences_after-push (before + 1) grammar items item
-        ∙ ap (λ n. occurrences_after (before + 1) grammar items ++ map (occurrence_at n) (mentions grammar item)) later)
+    ∙ ap (λ n. occurrences_after (before + 1) grammar items ++ map (occurrence_at n) (mentions grammar item)) later)
     ∙ sym (append_assoc (map (occurrence_at before) (mentions grammar first)) (occurrences_after (before + 1) grammar items) (map (occurrence_at (before + suc (length items))) (mentions grammar item)))
 
 -- items are well followed, and one more that follows them
@@ -82,23 +82,23 @@ module _ (grammar : Grammar) (words : List Text) (at position : ℕ) (occurrence
       → newer ≡ occurrences ++ map (occurrence_at position) (mentions grammar item) → new_frees ≡ frees ++ free_items (item ∷ [])
       → ReadSoFar grammar words (at + (1 + used)) (position + 1) newer new_frees
   ReadSoFar-item word after item used newer new_frees left short begins added freed =
-   let next : drop (at + (1 + used)) words ≡ drop used after = drop_past words after word at used left in
-   let size : length (drop at words) ≡ suc (length after) = ap length left in
-   let spells_next : drop at words ≡ spelled item (drop (at + (1 + used)) words) = left ∙ begins.spells ∙ ap (spelled item) (sym next) in
-   record {
-    items = before.items ++ item ∷ [];
-    spells = spelled_all-append before.items (item ∷ []) (drop (at + (1 + used)) words) ∙ ap (spelled_all before.items) (sym spells_next) ∙ before.spells;
-    lawful = AllByRecursion-append (IsLawfulItem grammar) before.items (item ∷ []) before.lawful (begins.lawful, tt);
-    followed = followed-push before.items item (drop (at + (1 + used)) words) (subst (AreWellFollowed before.items) spells_next before.followed)
-        (λ bare. subst EndsOrIsDashed (sym next) (begins.followed bare));
-    occurrences_are = added ∙ ap (λ (os : List Occurrence). os ++ map (occurrence_at position) (mentions grammar item)) before.occurrences_are
-        ∙ ap (λ n. occurrences_after 0 grammar before.items ++ map (occurrence_at n) (mentions grammar item)) (before.position_is ∙ sym (zero-add (length before.items)))
-        ∙ sym (occurrences_after-push 0 grammar before.items item);
-    free_are = freed ∙ ap (λ (ws : List Text). ws ++ free_items (item ∷ [])) before.free_are ∙ sym (free_items-append before.items (item ∷ []));
-    position_is = let longer : length (before.items ++ item ∷ []) ≡ length before.items + 1 = length-append before.items (item ∷ []) in omega (arith, longer, before.position_is);
-    position_below = omega (arith, before.position_below);
-    within = omega (arith, size, length-drop at words);
-  }
+      let next : drop (at + (1 + used)) words ≡ drop used after = drop_past words after word at used left in
+      let size : length (drop at words) ≡ suc (length after) = ap length left in
+      let spells_next : drop at words ≡ spelled item (drop (at + (1 + used)) words) = left ∙ begins.spells ∙ ap (spelled item) (sym next) in
+      record {
+        items = before.items ++ item ∷ [];
+        spells = spelled_all-append before.items (item ∷ []) (drop (at + (1 + used)) words) ∙ ap (spelled_all before.items) (sym spells_next) ∙ before.spells;
+        lawful = AllByRecursion-append (IsLawfulItem grammar) before.items (item ∷ []) before.lawful (begins.lawful, tt);
+        followed = followed-push before.items item (drop (at + (1 + used)) words) (subst (AreWellFollowed before.items) spells_next before.followed)
+            (λ bare. subst EndsOrIsDashed (sym next) (begins.followed bare));
+        occurrences_are = added ∙ ap (λ (os : List Occurrence). os ++ map (occurrence_at position) (mentions grammar item)) before.occurrences_are
+            ∙ ap (λ n. occurrences_after 0 grammar before.items ++ map (occurrence_at n) (mentions grammar item)) (before.position_is ∙ sym (zero-add (length before.items)))
+            ∙ sym (occurrences_after-push 0 grammar before.items item);
+        free_are = freed ∙ ap (λ (ws : List Text). ws ++ free_items (item ∷ [])) before.free_are ∙ sym (free_items-append before.items (item ∷ []));
+        position_is = let longer : length (before.items ++ item ∷ []) ≡ length before.items + 1 = length-append before.items (item ∷ []) in omega (arith, longer, before.position_is);
+        position_below = omega (arith, before.position_below);
+        within = omega (arith, size, length-drop at words);
+      }
 
   -- the words from here on are a tail
   pub IsReading-tail : (tail : Tail) → IsLawfulTail grammar tail → tail_words tail ≡ drop at words → IsReading grammar (record { items = before.items; tail = tail }) words

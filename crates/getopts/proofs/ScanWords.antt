@@ -16,16 +16,16 @@ pub is_dashed-other : (word : Text) → ((rest : Text) → word ≢ dash ∷ res
 is_dashed-other [] h = refl
 is_dashed-other (c ∷ []) h = refl
 is_dashed-other (c ∷ d ∷ more) h = other (eqb c dash) (λ e. h (d ∷ more) (ap (λ x. x ∷ d ∷ more) ((Decides-eqb c dash).0 e))) where
-    other : (b : Bool) → b ≢ true → b ≡ false
-    other true no_dash = absurd (no_dash refl)
-    other false no_dash = refl
+  other : (b : Bool) → b ≢ true → b ≡ false
+  other true no_dash = absurd (no_dash refl)
+  other false no_dash = refl
 
 -- a text with no byte `=` doesn't hold it
 pub holds_equals-none : (text : Text) → ((i : ℕ) → i < length text → get_or text i 0 ≢ equals_sign) → holds_equals text ≡ false
 holds_equals-none text h = list_any_none (λ c. eqb c equals_sign) text (λ k d l. other (eqb (get_or text k d) equals_sign) (λ e. h k l (get_or_default text k 0 d l ∙ (Decides-eqb (get_or text k d) equals_sign).0 e))) where
-    other : (b : Bool) → b ≢ true → b ≡ false
-    other true no_equals = absurd (no_equals refl)
-    other false no_equals = refl
+  other : (b : Bool) → b ≢ true → b ≡ false
+  other true no_equals = absurd (no_equals refl)
+  other false no_equals = refl
 
 -- a name begins with `-` only where the text that it begins does
 pub begins_with_dash-front : (name more : Text) → begins_with_dash (name ++ more) ≡ false → begins_with_dash name ≡ false
@@ -65,9 +65,9 @@ wide_above byte h = grind (arith, nat_tests)
 pub begins_with_dash-other : (text : Text) → ((more : Text) → text ≢ dash ∷ more) → begins_with_dash text ≡ false
 begins_with_dash-other [] h = refl
 begins_with_dash-other (c ∷ text) h = other (eqb c dash) (λ e. h text (ap (λ x. x ∷ text) ((Decides-eqb c dash).0 e))) where
-    other : (b : Bool) → b ≢ true → b ≡ false
-    other true no_dash = absurd (no_dash refl)
-    other false no_dash = refl
+  other : (b : Bool) → b ≢ true → b ≡ false
+  other true no_dash = absurd (no_dash refl)
+  other false no_dash = refl
 
 -- `-` and a text that isn't empty is a dashed word
 pub is_dashed-text : (text : Text) → text ≢ [] → is_dashed (dash ∷ text) ≡ true

@@ -28,14 +28,22 @@ impl<'w> Occurrence<'w> {
     fn bare(group: usize, position: usize) -> Occurrence<'w>
         ensures { occurrence_view result ≡ record { group = group; value = None; position = position } }
     {
-        Occurrence { group, position, value: None }
+        Occurrence {
+            group,
+            position,
+            value: None,
+        }
     }
 
     /// An occurrence with a value.
     fn with_value(group: usize, position: usize, value: &'w str) -> Occurrence<'w>
         ensures { occurrence_view result ≡ record { group = group; value = Some value.now; position = position } }
     {
-        Occurrence { group, position, value: Some(value) }
+        Occurrence {
+            group,
+            position,
+            value: Some(value),
+        }
     }
 }
 
@@ -214,7 +222,11 @@ impl<'o> Scanner<'o> {
                 Some((group, hasarg)) => {
                     let name = &text[at..at + 1];
                     let (value, used) = ending(alloc, hasarg, name, &text[at + 1..], after)?;
-                    found.push(Occurrence { group, position, value })?;
+                    found.push(Occurrence {
+                        group,
+                        position,
+                        value,
+                    })?;
                     return Ok(used);
                 }
             }
@@ -276,7 +288,11 @@ impl<'o> Scanner<'o> {
             let Some(text) = dashed_text(word) else {
                 if self.style == ParsingStyle::StopAtFirstFree {
                     free.extend_from_slice(&words[at..])?;
-                    return Ok(Line { occurrences, free, trailing_start: None });
+                    return Ok(Line {
+                        occurrences,
+                        free,
+                        trailing_start: None,
+                    });
                 }
                 free.push(word)?;
                 at += 1;
@@ -286,11 +302,19 @@ impl<'o> Scanner<'o> {
             if text == "-" {
                 let trailing_start = (!after.is_empty()).then_some(free.len());
                 free.extend_from_slice(after)?;
-                return Ok(Line { occurrences, free, trailing_start });
+                return Ok(Line {
+                    occurrences,
+                    free,
+                    trailing_start,
+                });
             }
             at += 1 + self.item(alloc, text, after, position, &mut occurrences)?;
             position += 1;
         }
-        Ok(Line { occurrences, free, trailing_start: None })
+        Ok(Line {
+            occurrences,
+            free,
+            trailing_start: None,
+        })
     }
 }

@@ -19,7 +19,7 @@ returns-in-None-clause-err c = λ word form.
     let first = c.first_character-name.ensures in
     Tells-one c.unrecognized_option.result (unrecognized_option c.first_character-name.result.now) (IsFaultAt (scanner_grammar c.args.self.now) word (texts c.args.after.now)) c.unrecognized_option.ensures
     (IsFaultAt-unknown (scanner_grammar c.args.self.now) c.args.position c.args.text.now word (texts c.args.after.now) form c.names.at _ _ (omega arith) c.names.invariant
-        first.0 c.first_character-name.result.now first.1 c.in-None.ensures.option first.2 first.3 (sym c.range_from.ensures.value ∙ first.4))
+    first.0 c.first_character-name.result.now first.1 c.in-None.ensures.option first.2 first.3 (sym c.range_from.ensures.value ∙ first.4))
 
 pub range-name-requires-clause-end_boundary : goal.range-name-requires-clause-end_boundary
 range-name-requires-clause-end_boundary c = IsCharBoundary-after_ascii c.args.text.now c.names.at c.utf8.text (omega arith) c.in-Some.ensures.ascii

@@ -55,7 +55,7 @@ returns-then-eq-2-clause-ok c =
           ∙ ap (λ (ws : List Text). ws ++ texts (drop (c.items.at + 1) c.args.words.now)) before.free_are;
       trailing =
           let size : length (texts (drop (c.items.at + 1) c.args.words.now)) ≡ length (take (length c.args.words.now - (c.items.at + 1)) (drop (c.items.at + 1) c.args.words.now)) =
-              length-texts (drop (c.items.at + 1) c.args.words.now) ∙ ap length (sym after) in
+          length-texts (drop (c.items.at + 1) c.args.words.now) ∙ ap length (sym after) in
           let empty : c.is_empty.result ≡ eqb (length (texts (drop (c.items.at + 1) c.args.words.now))) 0 = c.is_empty.ensures ∙ ap (λ n. eqb n 0) (sym size) in
           let start : c.len.result ≡ length (free_items before.items) = c.len.ensures ∙ c.items.free.ok.0 ∙ sym (length-texts c.items.free.items) ∙ ap length before.free_are in
           c.then_some-trailing_start.ensures ∙ trailing_after-stop c.len.result (texts (drop (c.items.at + 1) c.args.words.now)) c.is_empty.result empty
@@ -67,7 +67,7 @@ returns-in_err-at-clause-err c =
     let left = err_from_is_err_and c.from_residual-in_err-at.result c.from_residual-in_err-at.ensures.1 in
     let told = rw (take-drop c.args.words.now (c.items.at + 1)) at c.in_err-at.ensures.err in
     rw (left.1, left.2) (Tells-weaker c.in_err-at.field-0.0 (IsFaultAt (scanner_grammar c.args.self.now) (dash ∷ c.in-Some.text.now) (texts (drop (c.items.at + 1) c.args.words.now))) (IsScanFault (scanner_grammar c.args.self.now) (texts c.args.words.now)) told
-        (λ fault. IsScanFault-word (scanner_grammar c.args.self.now) c.args.words.now c.items.at c.items.position _ _ c.items.invariant _ (omega arith) (dash ∷ c.in-Some.text.now) fault c.in-Some.ensures.1))
+    (λ fault. IsScanFault-word (scanner_grammar c.args.self.now) c.args.words.now c.items.at c.items.position _ _ c.items.invariant _ (omega arith) (dash ∷ c.in-Some.text.now) fault c.in-Some.ensures.1))
 
 pub items-preserved : goal.items-preserved
 items-preserved c =
