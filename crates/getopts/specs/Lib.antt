@@ -7,5 +7,6 @@ pub mod Matches
 pub mod Names
 pub mod Options
 pub mod Scan
+pub mod Parse
 pub mod ScanLaws
 pub mod Wrap

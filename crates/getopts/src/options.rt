@@ -6,6 +6,7 @@ ghost use Rattle.std.specs.Option.{option_copied};
 ghost use Rattle.std.specs.Cmp.Rules.{comparing};
 ghost use Rattle.std.specs.Ordering.{on};
 ghost use Rattle.std.proofs.Common.{rules};
+ghost use Rattle.getopts.specs.Options.{group_view, known_of, opt_view};
 ghost use Rattle.getopts.specs.Names.{is_alias, is_main, names_view, resolution, AreLawful};
 
 use crate::names::Names;
@@ -93,6 +94,21 @@ pub(crate) struct Opt {
     pub occur: Occur,
 }
 
+/// What reading asks of groups, copied.
+pub(crate) fn known_options(alloc: Global, groups: &[OptGroup]) -> Result<Vec<Opt>, AllocError>
+    ensures { IfOk result (λ opts. map opt_view opts.items ≡ map known_of (map group_view groups.now)) }
+{
+    let mut opts = Vec::with_capacity(alloc, groups.len())?;
+    for group in groups {
+        opts.push(Opt {
+            names: Names::copied(alloc, group.names.short.as_str(), group.names.long.as_str())?,
+            hasarg: group.hasarg,
+            occur: group.occur,
+        })?;
+    }
+    Ok(opts)
+}
+
 /// The place of the group that a name resolves to.
 pub(crate) fn resolve(opts: &[Opt], name: &str) -> Option<usize>
     ensures { result ≡ resolution (map (λ opt. names_view opt.names) opts.now) name.now }
@@ -124,9 +140,9 @@ fn declarer_of<'o>(opts: &'o [Opt], name: &str) -> Option<&'o Opt>
 #[derive(Debug, Drop)]
 pub struct Options {
     alloc: Global,
-    groups: Vec<OptGroup>,
-    style: ParsingStyle,
-    long_only: bool,
+    pub(crate) groups: Vec<OptGroup>,
+    pub(crate) style: ParsingStyle,
+    pub(crate) long_only: bool,
 }
 
 impl Model for Options {

@@ -1,16 +1,20 @@
 //! Reading words as items, from the first to the last.
 
-ghost use Rattle.std.specs.Prelude.{◌≡◌, ◌≢◌, ◌<◌, ◌∷◌, ◌++◌, [], ℕ, List, length, MatchOption, OnSome, Some, None, true, false, IfOk, IfErr, slice_get, slice_index, encode_utf8};
+ghost use Rattle.std.specs.Prelude.{◌≡◌, ◌≢◌, ◌<◌, ◌∷◌, ◌++◌, [], ℕ, List, length, MatchOption, OnSome, Some, None, true, false, IfOk, IfErr, OnOk, ◌==◌, map, slice_get, slice_index, encode_utf8};
 ghost use Rattle.std.specs.Char.{IsScalar};
 ghost use Rattle.std.specs.Str.{IsCharBoundary};
 ghost use Rattle.getopts.specs.Fail.{Tells, argument_missing};
-ghost use Rattle.getopts.specs.Line.{texts, IsEnding};
+ghost use Rattle.std.specs.List.{filter};
+ghost use Rattle.getopts.specs.Line.{texts, IsEnding, occurrences_view};
+ghost use Rattle.getopts.specs.Options.{opt_view};
+ghost use Rattle.getopts.specs.Matches.{matched_known, KeepsCounts, IsCountFault};
 ghost use Rattle.std.specs.Option.{option_copied};
 ghost use Rattle.getopts.specs.Names.{Text};
 ghost use Rattle.getopts.specs.Scan.{dash, is_dashed, holds_equals, with_equals, IsFaultAt, IsShortForm, IsScanFault, Occurrence as Found};
 
 use crate::fail::Fail;
-use crate::options::{HasArg, Opt, ParsingStyle, resolve};
+use crate::matches::Matches;
+use crate::options::{HasArg, Occur, Opt, Options, ParsingStyle, known_options, resolve};
 use std::alloc::Global;
 
 /// One option that the words give: the place of its group, the position of its item, and its value.
@@ -135,8 +139,8 @@ fn ending<'w>(
 }
 
 impl<'o> Scanner<'o> {
-    ghost use Rattle.std.specs.Prelude.{drop, map};
-    ghost use Rattle.getopts.specs.Line.{occurrence_view, occurrences_view, scanner_grammar, IsLawfulScanner, IsInLongForm, ReadsItem, AddsItem, ReadsLine};
+    ghost use Rattle.std.specs.Prelude.{drop};
+    ghost use Rattle.getopts.specs.Line.{occurrence_view, scanner_grammar, IsLawfulScanner, IsInLongForm, ReadsItem, AddsItem, ReadsLine};
 
     /// The place and the kind of argument of the option that a name resolves to.
     fn option(&self, name: &str) -> Option<(usize, HasArg)>
@@ -316,5 +320,68 @@ impl<'o> Scanner<'o> {
             free,
             trailing_start: None,
         })
+    }
+}
+
+/// How many of the occurrences are of the group at this place.
+fn count_of(occurrences: &[Occurrence<'_>], place: usize) -> usize
+    ensures { result ≡ length (filter (λ o. o.group == place) occurrences.now) }
+{
+    occurrences.iter().filter(|o| o.group == place).count()
+}
+
+/// Tests the counts, group by group in order of definition.
+fn check_counts(alloc: Global, opts: &[Opt], occurrences: &[Occurrence<'_>]) -> Result<(), Fail>
+    ensures ok { OnOk result (KeepsCounts (matched_known 0 (map opt_view opts.now) (occurrences_view occurrences.now))) }
+    ensures err { IfErr result (λ fail. Tells fail (IsCountFault (matched_known 0 (map opt_view opts.now) (occurrences_view occurrences.now)))) }
+{
+    for (place, opt) in opts.iter().enumerate() {
+        let count = count_of(occurrences, place);
+        if count == 0 && opt.occur == Occur::Req {
+            return Err(Fail::option_missing(alloc, opt.names.main()));
+        }
+        if count > 1 && opt.occur != Occur::Multi {
+            return Err(Fail::option_duplicated(alloc, opt.names.main()));
+        }
+    }
+    Ok(())
+}
+
+impl Options {
+    ghost use Rattle.std.specs.Iterator.{IsFinite};
+    ghost use Rattle.std.specs.Iterator.Runs.{WholeRun};
+    ghost use Rattle.getopts.specs.Parse.{IsAccepted, IsRefused};
+
+    /// Reads a line by these options.
+    fn parse_words(&self, alloc: Global, words: &[&str]) -> crate::Result
+        ensures accepted { IfOk result (λ matches. IsAccepted self.now (texts words.now) matches) }
+        ensures refused { IfErr result (λ fail. Tells fail (IsRefused self.now (texts words.now))) }
+    {
+        let opts = known_options(alloc, &self.groups)?;
+        let scanner = Scanner {
+            opts: &opts,
+            style: self.style,
+            long_only: self.long_only,
+        };
+        let line = scanner.scan(alloc, words)?;
+        check_counts(alloc, &opts, &line.occurrences)?;
+        Ok(Matches::from_line(alloc, opts, &line)?)
+    }
+
+    /// Reads a line of words by these options, without the program's own name.
+    pub fn parse<'a, I: Iterator<Item = &'a str> + Drop>(
+        &self,
+        alloc: Global,
+        args: I,
+    ) -> crate::Result
+        requires can { I.can_next args }
+        requires ends { IsFinite (I.remaining args) }
+        ensures accepted { IfOk result (λ matches. WholeRun I.next_gives args
+            (λ run. IsAccepted self.now (texts run.items) matches)) }
+        ensures refused { IfErr result (λ fail. Tells fail (λ fault. WholeRun I.next_gives args
+            (λ run. IsRefused self.now (texts run.items) fault))) }
+    {
+        let words: Vec<&str> = args.collect(alloc)?;
+        self.parse_words(alloc, &words)
     }
 }
