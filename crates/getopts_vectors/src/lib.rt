@@ -1,0 +1,21 @@
+//! Tests of `getopts` by its public calls: lines of words, and what they have to mean.
+//!
+//! The expected answers are known from outside: from the rules of the Rust crate and from its tests.
+#![tactic(auto)]
+
+#[cfg(test)]
+mod clusters;
+#[cfg(test)]
+mod colliding_names;
+#[cfg(test)]
+mod counts;
+#[cfg(test)]
+mod fixtures;
+#[cfg(test)]
+mod long_only;
+#[cfg(test)]
+mod long_options;
+#[cfg(test)]
+mod names;
+#[cfg(test)]
+mod styles;
