@@ -24,6 +24,9 @@ pub enum Adding {
 /// A group: the call that adds it, its short name and its long name.
 pub type Group<'a> = (Adding, &'a str, &'a str);
 
+/// All parts of a group: short name, long name, description, hint, kind of argument, kind of occurrence.
+pub type Parts<'a> = (&'a str, &'a str, &'a str, &'a str, HasArg, Occur);
+
 /// An answer of matches: the call, what it's asked, and what it has to answer. `AnyPresent` is the answer
 /// of `opts_present` and `opts_present_any`, `FirstStr` that of `opts_str` and `opts_str_first`.
 #[derive(Clone, Copy, Debug)]
@@ -79,7 +82,8 @@ pub fn declared(
     Ok(options)
 }
 
-fn declare(
+/// Adds a group as the last one.
+pub fn declare(
     rt: &impl Abort,
     options: &mut Options,
     adding: Adding,
@@ -99,6 +103,15 @@ fn declare(
         }
     };
     Ok(())
+}
+
+/// Options with one group of these parts.
+pub fn of_parts(rt: &impl Abort, alloc: Global, parts: Parts<'_>) -> Result<Options, AllocError> {
+    let (short, long, desc, hint, hasarg, occur) = parts;
+    assert!(rt; names_lawful(short, long), "names {short:?} and {long:?}");
+    let mut options = Options::new(alloc);
+    options.opt(short, long, desc, hint, hasarg, occur)?;
+    Ok(options)
 }
 
 /// Reads a line.

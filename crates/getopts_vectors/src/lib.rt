@@ -4,13 +4,25 @@
 #![tactic(auto)]
 
 #[cfg(test)]
+mod builder;
+#[cfg(test)]
 mod clusters;
 #[cfg(test)]
 mod colliding_names;
 #[cfg(test)]
 mod counts;
 #[cfg(test)]
+mod faults;
+#[cfg(test)]
 mod fixtures;
+#[cfg(test)]
+mod free_words;
+#[cfg(test)]
+mod from_rust;
+#[cfg(test)]
+mod items;
+#[cfg(test)]
+mod large_lines;
 #[cfg(test)]
 mod long_only;
 #[cfg(test)]
@@ -18,4 +30,10 @@ mod long_options;
 #[cfg(test)]
 mod names;
 #[cfg(test)]
+mod odd_names;
+#[cfg(test)]
+mod several_names;
+#[cfg(test)]
 mod styles;
+#[cfg(test)]
+mod values;

@@ -1,0 +1,429 @@
+//! The tests of the Rust crate, but those of usage texts and of wrapping. Here names inside faults count
+//! too.
+
+use crate::fixtures::Adding::{Optflag, Optflagmulti, Optflagopt, Optmulti, Optopt, Reqopt};
+use crate::fixtures::Answer::{
+    AnyPresent, Count, Default, Defined, FirstStr, Free, Positions, Present, Str, Strs, StrsPos,
+    TrailingStart,
+};
+use crate::fixtures::Fault::{
+    ArgumentMissing, OptionDuplicated, OptionMissing, UnexpectedArgument, UnrecognizedOption,
+};
+use crate::fixtures::Meaning::{Accepted, Refused};
+use crate::fixtures::{Meaning, accepted, declared, expect_lines, strings};
+use std::test::Fail;
+
+const PRESENT: Meaning<'static> = Accepted(&[Present("t", true), Present("test", true)]);
+
+const ABSENT: Meaning<'static> = Accepted(&[Present("t", false), Present("test", false)]);
+
+const TWENTY: Meaning<'static> = Accepted(&[
+    Present("t", true),
+    Present("test", true),
+    Str("t", Some("20")),
+    Str("test", Some("20")),
+]);
+
+#[test]
+fn required_option(rt: HostRuntime) -> Result<(), Fail> {
+    expect_lines(
+        &rt,
+        rt.alloc(),
+        &[(Reqopt, "t", "test")],
+        &[
+            (&["--test=20"], TWENTY),
+            (&["-t", "20"], TWENTY),
+            (&["blah"], Refused(OptionMissing("test"))),
+            (&["--test"], Refused(ArgumentMissing("test"))),
+            (&["-t"], Refused(ArgumentMissing("t"))),
+            (
+                &["--test=20", "-t", "30"],
+                Refused(OptionDuplicated("test")),
+            ),
+        ],
+    )?;
+    Ok(())
+}
+
+#[test]
+fn optional_option(rt: HostRuntime) -> Result<(), Fail> {
+    expect_lines(
+        &rt,
+        rt.alloc(),
+        &[(Optopt, "t", "test")],
+        &[
+            (&["--test=20"], TWENTY),
+            (&["-t", "20"], TWENTY),
+            (&["blah"], ABSENT),
+            (&["--test"], Refused(ArgumentMissing("test"))),
+            (&["-t"], Refused(ArgumentMissing("t"))),
+            (
+                &["--test=20", "-t", "30"],
+                Refused(OptionDuplicated("test")),
+            ),
+        ],
+    )?;
+    Ok(())
+}
+
+#[test]
+fn option_that_comes_often(rt: HostRuntime) -> Result<(), Fail> {
+    expect_lines(
+        &rt,
+        rt.alloc(),
+        &[(Optmulti, "t", "test")],
+        &[
+            (&["--test=20"], TWENTY),
+            (&["-t", "20"], TWENTY),
+            (&["blah"], ABSENT),
+            (&["--test"], Refused(ArgumentMissing("test"))),
+            (&["-t"], Refused(ArgumentMissing("t"))),
+            (&["--test=20", "-t", "30"], TWENTY),
+            (
+                &["--test=20", "-t", "30"],
+                Accepted(&[Strs("test", &["20", "30"])]),
+            ),
+            (&["--untest"], Refused(UnrecognizedOption("untest"))),
+            (&["-u"], Refused(UnrecognizedOption("u"))),
+        ],
+    )?;
+    Ok(())
+}
+
+#[test]
+fn flag(rt: HostRuntime) -> Result<(), Fail> {
+    expect_lines(
+        &rt,
+        rt.alloc(),
+        &[(Optflag, "t", "test")],
+        &[
+            (&["--test"], PRESENT),
+            (&["-t"], PRESENT),
+            (&["blah"], ABSENT),
+            (&["--test=20"], Refused(UnexpectedArgument("test"))),
+            (&["--test", "-t"], Refused(OptionDuplicated("test"))),
+            (&["-t", "20"], Accepted(&[Free(&["20"])])),
+            (&["--", "-t"], ABSENT),
+            (
+                &["--", "-t"],
+                Accepted(&[TrailingStart(Some(0)), Free(&["-t"])]),
+            ),
+            (&["--"], Accepted(&[Free(&[]), TrailingStart(None)])),
+        ],
+    )?;
+    Ok(())
+}
+
+#[test]
+fn flag_that_comes_often(rt: HostRuntime) -> Result<(), Fail> {
+    let alloc = rt.alloc();
+    let once = Accepted(&[Count("v", 1), Count("verbose", 1)]);
+    let twice = Accepted(&[Count("v", 2), Count("verbose", 2)]);
+    expect_lines(
+        &rt,
+        alloc,
+        &[(Optflagmulti, "v", "verbose")],
+        &[
+            (&["-v"], once),
+            (&["-v", "-v"], twice),
+            (&["-vv"], twice),
+            (&["--verbose"], once),
+            (&["--verbose", "--verbose"], twice),
+            (
+                &["--verbose", "-v", "-vv", "verbose"],
+                Accepted(&[Count("v", 4), Count("verbose", 4)]),
+            ),
+        ],
+    )?;
+    expect_lines(
+        &rt,
+        alloc,
+        &[(Optflagmulti, "a", "apple")],
+        &[(
+            &["-a", "--apple", "-a"],
+            Accepted(&[Count("a", 3), Count("apple", 3)]),
+        )],
+    )?;
+    Ok(())
+}
+
+#[test]
+fn flag_with_an_optional_argument(rt: HostRuntime) -> Result<(), Fail> {
+    let x = Accepted(&[Str("t", Some("x")), Str("test", Some("x"))]);
+    expect_lines(
+        &rt,
+        rt.alloc(),
+        &[(Optflagopt, "t", "test")],
+        &[
+            (&["--test"], PRESENT),
+            (&["-t"], PRESENT),
+            (&["-t", "x"], x),
+            (&["--test=x"], x),
+            (
+                &["--test", "x"],
+                Accepted(&[Str("t", None), Str("test", None)]),
+            ),
+            (&[], ABSENT),
+        ],
+    )?;
+    Ok(())
+}
+
+#[test]
+fn free_words(rt: HostRuntime) -> Result<(), Fail> {
+    expect_lines(
+        &rt,
+        rt.alloc(),
+        &[],
+        &[
+            (&[], Accepted(&[TrailingStart(None)])),
+            (
+                &["pre", "--", "post"],
+                Accepted(&[TrailingStart(Some(1)), Free(&["pre", "post"])]),
+            ),
+            (&["-"], Accepted(&[Free(&["-"])])),
+        ],
+    )?;
+    Ok(())
+}
+
+#[test]
+fn options_and_free_words_combined(rt: HostRuntime) -> Result<(), Fail> {
+    expect_lines(
+        &rt,
+        rt.alloc(),
+        &[
+            (Optopt, "s", "something"),
+            (Optflag, "", "flag"),
+            (Reqopt, "", "long"),
+            (Optflag, "f", ""),
+            (Optmulti, "m", ""),
+            (Optmulti, "n", ""),
+            (Optopt, "", "notpresent"),
+        ],
+        &[(
+            &[
+                "prog",
+                "free1",
+                "-s",
+                "20",
+                "free2",
+                "--flag",
+                "--long=30",
+                "-f",
+                "-m",
+                "40",
+                "-m",
+                "50",
+                "-n",
+                "-A B",
+                "-n",
+                "-60 70",
+            ],
+            Accepted(&[
+                Free(&["prog", "free1", "free2"]),
+                Str("s", Some("20")),
+                Present("flag", true),
+                Present("f", true),
+                Str("long", Some("30")),
+                Strs("m", &["40", "50"]),
+                Strs("n", &["-A B", "-60 70"]),
+                Present("notpresent", false),
+                StrsPos("m", &[(7, "40"), (8, "50")]),
+            ]),
+        )],
+    )?;
+    Ok(())
+}
+
+#[test]
+fn several_names_at_once(rt: HostRuntime) -> Result<(), Fail> {
+    expect_lines(
+        &rt,
+        rt.alloc(),
+        &[
+            (Optopt, "e", ""),
+            (Optopt, "", "encrypt"),
+            (Optopt, "f", ""),
+        ],
+        &[
+            (
+                &["-e", "foo"],
+                Accepted(&[
+                    AnyPresent(&["e"], true),
+                    FirstStr(&["e"], Some("foo")),
+                    AnyPresent(&["encrypt"], false),
+                    FirstStr(&["encrypt"], None),
+                    AnyPresent(&["e", "encrypt"], true),
+                    FirstStr(&["e", "encrypt"], Some("foo")),
+                    AnyPresent(&["encrypt", "e"], true),
+                    FirstStr(&["encrypt", "e"], Some("foo")),
+                    AnyPresent(&["f"], false),
+                    FirstStr(&["f"], None),
+                    AnyPresent(&[], false),
+                    FirstStr(&[], None),
+                ]),
+            ),
+            (
+                &["-e", "foo", "--encrypt", "bar"],
+                Accepted(&[
+                    AnyPresent(&["e"], true),
+                    FirstStr(&["e"], Some("foo")),
+                    AnyPresent(&["encrypt"], true),
+                    FirstStr(&["encrypt"], Some("bar")),
+                    AnyPresent(&["e", "encrypt"], true),
+                    FirstStr(&["e", "encrypt"], Some("foo")),
+                    AnyPresent(&["encrypt", "e"], true),
+                    FirstStr(&["encrypt", "e"], Some("bar")),
+                    AnyPresent(&["f"], false),
+                    FirstStr(&["f"], None),
+                    AnyPresent(&[], false),
+                    FirstStr(&[], None),
+                ]),
+            ),
+        ],
+    )?;
+    Ok(())
+}
+
+#[test]
+fn undefined_name_is_not_present(rt: HostRuntime) -> Result<(), Fail> {
+    let alloc = rt.alloc();
+    let options = declared(
+        &rt,
+        alloc,
+        &[
+            (Optopt, "e", ""),
+            (Optopt, "", "encrypt"),
+            (Optopt, "f", ""),
+        ],
+    )?;
+    let thing = strings(alloc, &["thing"])?;
+    let one = accepted(&rt, alloc, &options, &["-e", "foo"]);
+    assert!(rt; !one.opts_present(&thing), "after one option");
+    let both = accepted(&rt, alloc, &options, &["-e", "foo", "--encrypt", "bar"]);
+    assert!(rt; !both.opts_present(&thing), "after two options");
+    Ok(())
+}
+
+#[test]
+fn arguments_in_the_word_of_their_option(rt: HostRuntime) -> Result<(), Fail> {
+    let alloc = rt.alloc();
+    expect_lines(
+        &rt,
+        alloc,
+        &[(Optmulti, "L", ""), (Optmulti, "M", "")],
+        &[(
+            &["-Lfoo", "-M."],
+            Accepted(&[
+                AnyPresent(&["L"], true),
+                FirstStr(&["L"], Some("foo")),
+                AnyPresent(&["M"], true),
+                FirstStr(&["M"], Some(".")),
+            ]),
+        )],
+    )?;
+    expect_lines(
+        &rt,
+        alloc,
+        &[(Optmulti, "L", ""), (Optflagmulti, "v", "verbose")],
+        &[(
+            &["-vvLverbose", "-v"],
+            Accepted(&[FirstStr(&["L"], Some("verbose")), Count("v", 3)]),
+        )],
+    )?;
+    Ok(())
+}
+
+#[test]
+fn arguments_with_equals_signs(rt: HostRuntime) -> Result<(), Fail> {
+    expect_lines(
+        &rt,
+        rt.alloc(),
+        &[(Optopt, "o", "one"), (Optopt, "t", "two")],
+        &[(
+            &["--one", "A=B", "--two=C=D"],
+            Accepted(&[FirstStr(&["o"], Some("A=B")), FirstStr(&["t"], Some("C=D"))]),
+        )],
+    )?;
+    Ok(())
+}
+
+#[test]
+fn names_that_are_defined(rt: HostRuntime) -> Result<(), Fail> {
+    let alloc = rt.alloc();
+    expect_lines(
+        &rt,
+        alloc,
+        &[(Optflag, "b", "bar")],
+        &[(
+            &[],
+            Accepted(&[Defined("foo", false), Defined("bar", true)]),
+        )],
+    )?;
+    expect_lines(
+        &rt,
+        alloc,
+        &[(Optflag, "h", "help")],
+        &[(&["-h"], Accepted(&[Defined("undefined", false)]))],
+    )?;
+    Ok(())
+}
+
+#[test]
+fn positions_of_options(rt: HostRuntime) -> Result<(), Fail> {
+    let alloc = rt.alloc();
+    expect_lines(
+        &rt,
+        alloc,
+        &[
+            (Optflagmulti, "a", "act"),
+            (Optflagmulti, "e", "enact"),
+            (Optflagmulti, "r", "react"),
+        ],
+        &[(
+            &["-a", "-a", "-r", "-a", "-r", "-r"],
+            Accepted(&[
+                Positions("a", &[0, 1, 3]),
+                Positions("e", &[]),
+                Positions("r", &[2, 4, 5]),
+            ]),
+        )],
+    )?;
+    expect_lines(
+        &rt,
+        alloc,
+        &[
+            (Optmulti, "a", "act"),
+            (Optmulti, "e", "enact"),
+            (Optmulti, "r", "react"),
+        ],
+        &[(
+            &["-a1", "-a2", "-r3", "-a4", "-r5", "-r6"],
+            Accepted(&[
+                StrsPos("a", &[(0, "1"), (1, "2"), (3, "4")]),
+                StrsPos("e", &[]),
+                StrsPos("r", &[(2, "3"), (4, "5"), (5, "6")]),
+            ]),
+        )],
+    )?;
+    Ok(())
+}
+
+#[test]
+fn default_of_an_option_without_a_value(rt: HostRuntime) -> Result<(), Fail> {
+    expect_lines(
+        &rt,
+        rt.alloc(),
+        &[
+            (Optflag, "h", "help"),
+            (Optflag, "i", "ignore"),
+            (Optflag, "r", "run"),
+        ],
+        &[(
+            &["-i", "-r", "10"],
+            Accepted(&[Default("help", "", None), Default("i", "def", Some("def"))]),
+        )],
+    )?;
+    Ok(())
+}

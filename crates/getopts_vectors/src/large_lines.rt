@@ -1,0 +1,103 @@
+//! Lines of many words and options of many groups.
+
+use crate::fixtures::Adding::{Optflag, Optflagmulti};
+use crate::fixtures::Answer::{Count, Defined, Positions};
+use crate::fixtures::{accepted, declare, declared, expect_answer, need_defined};
+use getopts::{Matches, Options};
+use std::alloc::{AllocError, Global};
+use std::iter;
+use std::process::Abort;
+use std::test::Fail;
+
+const MANY: usize = 100_000;
+
+// The positions of an option.
+fn positions(
+    rt: &impl Abort,
+    alloc: Global,
+    matches: &Matches,
+    name: &str,
+) -> Result<Vec<usize>, AllocError> {
+    need_defined(rt, matches, name);
+    matches.opt_positions(alloc, name)
+}
+
+#[test]
+fn one_flag_in_each_of_many_words(rt: HostRuntime) -> Result<(), Fail> {
+    let alloc = rt.alloc();
+    let options = declared(&rt, alloc, &[(Optflagmulti, "v", "")])?;
+    let matches = options.parse(alloc, iter::repeat_n("-v", MANY))?;
+    expect_answer(&rt, alloc, &matches, Count("v", MANY), &["-v", ".."])?;
+    let positions = positions(&rt, alloc, &matches, "v")?;
+    assert_eq!(rt; positions.len(), MANY, "positions");
+    assert_eq!(rt;
+        positions.last().copied(),
+        Some(99_999),
+        "the last position"
+    );
+    Ok(())
+}
+
+#[test]
+fn many_flags_in_one_word(rt: HostRuntime) -> Result<(), Fail> {
+    let alloc = rt.alloc();
+    let options = declared(&rt, alloc, &[(Optflagmulti, "v", "")])?;
+    let mut word = String::from_str(alloc, "-")?;
+    for _ in 0..MANY {
+        word.push('v')?;
+    }
+    let matches = accepted(&rt, alloc, &options, &[word.as_str()]);
+    expect_answer(&rt, alloc, &matches, Count("v", MANY), &["-vv.."])?;
+    let positions = positions(&rt, alloc, &matches, "v")?;
+    assert_eq!(rt; positions.len(), MANY, "positions");
+    assert!(rt;
+        positions.iter().all(|position| *position == 0),
+        "a position above 0"
+    );
+    Ok(())
+}
+
+#[test]
+fn many_free_words(rt: HostRuntime) -> Result<(), Fail> {
+    let alloc = rt.alloc();
+    let options = declared(&rt, alloc, &[])?;
+    let matches = options.parse(alloc, iter::repeat_n("x", MANY))?;
+    assert_eq!(rt; matches.free.len(), MANY, "free words");
+    assert!(rt;
+        matches.free.iter().all(|word| word.as_str() == "x"),
+        "another word"
+    );
+    assert_eq!(rt; matches.free_trailing_start(), None, "trailing start");
+    Ok(())
+}
+
+// Flags from `n199` down to `n000`, and then `n100` once more, with the short name `x`.
+fn two_hundred_flags(rt: &impl Abort, alloc: Global) -> Result<Options, AllocError> {
+    let mut options = Options::new(alloc);
+    for number in (0..200).rev() {
+        let name = format!(in alloc; "n{number:03}")?;
+        declare(rt, &mut options, Optflag, "", name.as_str())?;
+    }
+    options.optflag("x", "n100", "the same name again")?;
+    Ok(options)
+}
+
+#[test]
+fn many_groups(rt: HostRuntime) -> Result<(), Fail> {
+    let alloc = rt.alloc();
+    let options = two_hundred_flags(&rt, alloc)?;
+    let words = ["--n000", "--n199", "-x"];
+    let matches = accepted(&rt, alloc, &options, &words);
+    for answer in [
+        Count("n000", 1),
+        Count("n199", 1),
+        Count("n100", 1),
+        Count("x", 1),
+        Count("n101", 0),
+        Positions("x", &[2]),
+        Defined("n200", false),
+    ] {
+        expect_answer(&rt, alloc, &matches, answer, &words)?;
+    }
+    Ok(())
+}

@@ -1,0 +1,159 @@
+//! Values read as a type, and values where the first occurrence has none.
+
+use crate::fixtures::Adding::{Opt, Optflag, Optflagopt};
+use crate::fixtures::Answer::{Count, Default, FirstStr, Str, Strs, StrsPos};
+use crate::fixtures::Meaning::Accepted;
+use crate::fixtures::{Group, accepted, declared, expect_lines, need_defined};
+use getopts::{HasArg, Matches, Occur};
+use std::process::Abort;
+use std::str::FromStr;
+use std::test::Fail;
+
+const COLOR: [Group<'static>; 1] = [(Opt(HasArg::Maybe, Occur::Multi), "c", "color")];
+
+#[test]
+fn later_value_does_not_stand_for_the_first(rt: HostRuntime) -> Result<(), Fail> {
+    expect_lines(
+        &rt,
+        rt.alloc(),
+        &COLOR,
+        &[(
+            &["-c", "--color=x"],
+            Accepted(&[
+                Count("c", 2),
+                Str("c", None),
+                Default("c", "d", Some("d")),
+                Strs("c", &["x"]),
+                StrsPos("color", &[(1, "x")]),
+                FirstStr(&["color"], None),
+            ]),
+        )],
+    )?;
+    Ok(())
+}
+
+// What these matches give for the name, read as a `T`.
+fn read<T: FromStr>(rt: &impl Abort, matches: &Matches, name: &str) -> Result<Option<T>, T::Err> {
+    need_defined(rt, matches, name);
+    matches.opt_get(name)
+}
+
+// What these matches give for the name, read as a `T`, or this default.
+fn read_or<T: FromStr + Drop>(
+    rt: &impl Abort,
+    matches: &Matches,
+    name: &str,
+    def: T,
+) -> Result<T, T::Err> {
+    need_defined(rt, matches, name);
+    matches.opt_get_default(name, def)
+}
+
+#[test]
+fn values_read_as_numbers_and_truth_values(rt: HostRuntime) -> Result<(), Fail> {
+    let alloc = rt.alloc();
+    let options = declared(
+        &rt,
+        alloc,
+        &[
+            (Optflag, "h", "help"),
+            (Optflagopt, "i", "ignore"),
+            (Optflagopt, "r", "run"),
+            (Optflagopt, "p", "percent"),
+        ],
+    )?;
+    let matches = accepted(&rt, alloc, &options, &["-i", "true", "-p", "11"]);
+    assert_eq!(rt;
+        read::<i32>(&rt, &matches, "help"),
+        Ok(None),
+        "a flag that isn't there"
+    );
+    assert_eq!(rt;
+        read::<bool>(&rt, &matches, "i"),
+        Ok(Some(true)),
+        "a truth value"
+    );
+    assert_eq!(rt; read::<i32>(&rt, &matches, "p"), Ok(Some(11)), "a number");
+    assert!(rt;
+        read::<i32>(&rt, &matches, "i").is_err(),
+        "a text that is no number"
+    );
+    assert_eq!(rt;
+        read_or::<i32>(&rt, &matches, "r", 7),
+        Ok(7),
+        "an option that isn't there"
+    );
+    assert_eq!(rt;
+        read_or::<i32>(&rt, &matches, "help", 10),
+        Ok(10),
+        "a flag that isn't there"
+    );
+    assert_eq!(rt;
+        read_or::<bool>(&rt, &matches, "i", false),
+        Ok(true),
+        "a truth value"
+    );
+    assert_eq!(rt; read_or::<i32>(&rt, &matches, "p", 10), Ok(11), "a number");
+    Ok(())
+}
+
+/// A type that no text can be read as.
+#[derive(Clone, Copy, Debug, PartialEq, Eq)]
+struct Unreadable;
+
+/// The error of each reading of an `Unreadable`.
+#[derive(Clone, Copy, Debug, PartialEq, Eq)]
+struct CannotRead;
+
+impl FromStr for Unreadable {
+    type Err = CannotRead;
+
+    fn from_str(_text: &str) -> Result<Unreadable, CannotRead> {
+        Err(CannotRead)
+    }
+}
+
+#[test]
+fn error_of_a_reading_comes_where_the_first_occurrence_has_a_value(
+    rt: HostRuntime,
+) -> Result<(), Fail> {
+    let alloc = rt.alloc();
+    let options = declared(&rt, alloc, &COLOR)?;
+    for words in [
+        ["--color=x"].as_slice(),
+        ["--color="].as_slice(),
+        ["-c", "x"].as_slice(),
+        ["--color=x", "-c"].as_slice(),
+    ] {
+        let matches = accepted(&rt, alloc, &options, words);
+        assert_eq!(rt;
+            read::<Unreadable>(&rt, &matches, "c"),
+            Err(CannotRead),
+            "{words:?}"
+        );
+        assert_eq!(rt;
+            read_or(&rt, &matches, "c", Unreadable),
+            Err(CannotRead),
+            "{words:?}"
+        );
+    }
+    for words in [
+        [].as_slice(),
+        ["x"].as_slice(),
+        ["-c"].as_slice(),
+        ["-c", "--color=x"].as_slice(),
+    ] {
+        let matches = accepted(&rt, alloc, &options, words);
+        assert_eq!(rt;
+            read::<Unreadable>(&rt, &matches, "c"),
+            Ok(None),
+            "{words:?}"
+        );
+        assert_eq!(rt;
+            read_or(&rt, &matches, "c", Unreadable),
+            Ok(Unreadable),
+            "{words:?}"
+        );
+    }
+    Ok(())
+}
