@@ -1,4 +1,6 @@
+pub mod ParseLemmas
 pub mod CanonLemmas
+pub mod CountLemmas
 pub mod FailLemmas
 pub mod MatchesLemmas
 pub mod NamesLemmas

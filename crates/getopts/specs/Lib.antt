@@ -6,7 +6,7 @@ pub mod Line
 pub mod Matches
 pub mod Names
 pub mod Options
-pub mod Scan
 pub mod Parse
+pub mod Scan
 pub mod ScanLaws
 pub mod Wrap

@@ -1,15 +1,15 @@
 //! Reading words as items, from the first to the last.
 
-ghost use Rattle.std.specs.Prelude.{◌≡◌, ◌≢◌, ◌<◌, ◌∷◌, ◌++◌, [], ℕ, List, length, MatchOption, OnSome, Some, None, true, false, IfOk, IfErr, OnOk, ◌==◌, map, slice_get, slice_index, encode_utf8};
+ghost use Rattle.std.specs.Prelude.{◌≡◌, ◌≢◌, ◌<◌, ◌∷◌, ◌++◌, [], ℕ, List, length, MatchOption, OnSome, Some, None, true, false, IfOk, IfErr, OnOk, OnErr, ◌==◌, map, slice_get, slice_index, encode_utf8};
 ghost use Rattle.std.specs.Char.{IsScalar};
-ghost use Rattle.std.specs.Str.{IsCharBoundary};
+ghost use Rattle.std.specs.Str.{IsCharBoundary, IsUtf8};
 ghost use Rattle.getopts.specs.Fail.{Tells, argument_missing};
-ghost use Rattle.std.specs.List.{filter};
+ghost use Rattle.std.specs.List.{filter, AllByRecursion};
 ghost use Rattle.getopts.specs.Line.{texts, IsEnding, occurrences_view};
 ghost use Rattle.getopts.specs.Options.{opt_view};
-ghost use Rattle.getopts.specs.Matches.{matched_known, KeepsCounts, IsCountFault};
+ghost use Rattle.getopts.specs.Matches.{matched_known, count_fault, FitsCount, KeepsCounts, IsCountFault};
 ghost use Rattle.std.specs.Option.{option_copied};
-ghost use Rattle.getopts.specs.Names.{Text};
+ghost use Rattle.getopts.specs.Names.{Text, main_name, names_view};
 ghost use Rattle.getopts.specs.Scan.{dash, is_dashed, holds_equals, with_equals, IsFaultAt, IsShortForm, IsScanFault, Occurrence as Found};
 
 use crate::fail::Fail;
@@ -330,21 +330,50 @@ fn count_of(occurrences: &[Occurrence<'_>], place: usize) -> usize
     occurrences.iter().filter(|o| o.group == place).count()
 }
 
+/// Tests how often an option came.
+fn check_count(alloc: Global, opt: &Opt, count: usize) -> Result<(), Fail>
+    ensures kept { OnOk result (FitsCount opt.now.occur count) }
+    ensures broken { OnErr result (¬ (FitsCount opt.now.occur count)) }
+    ensures fault { IfErr result (λ fail. Tells fail (λ fault. fault ≡ count_fault (main_name (names_view opt.now.names)) count)) }
+{
+    let kept = match opt.occur {
+        Occur::Req => count == 1,
+        Occur::Optional => count <= 1,
+        Occur::Multi => true,
+    };
+    if kept {
+        Ok(())
+    } else if count == 0 {
+        Err(Fail::option_missing(alloc, opt.names.main()))
+    } else {
+        Err(Fail::option_duplicated(alloc, opt.names.main()))
+    }
+}
+
 /// Tests the counts, group by group in order of definition.
 fn check_counts(alloc: Global, opts: &[Opt], occurrences: &[Occurrence<'_>]) -> Result<(), Fail>
     ensures ok { OnOk result (KeepsCounts (matched_known 0 (map opt_view opts.now) (occurrences_view occurrences.now))) }
     ensures err { IfErr result (λ fail. Tells fail (IsCountFault (matched_known 0 (map opt_view opts.now) (occurrences_view occurrences.now)))) }
 {
     for (place, opt) in opts.iter().enumerate() {
-        let count = count_of(occurrences, place);
-        if count == 0 && opt.occur == Occur::Req {
-            return Err(Fail::option_missing(alloc, opt.names.main()));
-        }
-        if count > 1 && opt.occur != Occur::Multi {
-            return Err(Fail::option_duplicated(alloc, opt.names.main()));
-        }
+        check_count(alloc, opt, count_of(occurrences, place))?;
     }
     Ok(())
+}
+
+/// A `&str` is a text.
+fn is_text(word: &str)
+    ensures { IsUtf8 word.now }
+{
+}
+
+/// Each word is a text, as its type says. It is for the proofs alone: nothing is left of it once built.
+fn are_texts(words: &[&str])
+    ensures { AllByRecursion IsUtf8 (texts words.now) }
+{
+    for word in words {
+        is_text(word);
+    }
 }
 
 impl Options {
@@ -357,6 +386,7 @@ impl Options {
         ensures accepted { IfOk result (λ matches. IsAccepted self.now (texts words.now) matches) }
         ensures refused { IfErr result (λ fail. Tells fail (IsRefused self.now (texts words.now))) }
     {
+        are_texts(words);
         let opts = known_options(alloc, &self.groups)?;
         let scanner = Scanner {
             opts: &opts,
