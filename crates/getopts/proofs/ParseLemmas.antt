@@ -10,13 +10,15 @@ use Rattle.getopts.specs.Options.{Group, Known, known_of, opt_view, Declared, Ar
 use Rattle.getopts.specs.Fail.{Fault}
 use Rattle.getopts.specs.Scan.{Reading, IsReading, IsScanFault, Occurrence, occurrences_of, free_words, trailing_start}
 use Rattle.getopts.specs.Matches.{Matched, MatchedGroup, matched_from, matched_known, matches_of, KeepsCounts, IsCountFault}
-use Rattle.getopts.specs.Parse.{IsAccepted, BreaksCounts, HasNoReading}
+use Rattle.getopts.specs.ScanLaws.{HavePositionsInOrder}
+use Rattle.getopts.specs.Parse.{IsAccepted, BreaksCounts, HasNoReading, KeepsReadingLaws}
 use Rattle.getopts.specs.declared.options.HasArg.{HasArg}
 use Rattle.getopts.specs.declared.options.Opt.{Opt}
 use Rattle.getopts.specs.declared.options.ParsingStyle.{ParsingStyle}
 use Rattle.getopts.proofs.MatchesLemmas.{matched_from-known}
 use Rattle.getopts.proofs.NamesLemmas.{AllByRecursion-map}
 use Rattle.getopts.proofs.OptLemmas.{opts_named}
+use Rattle.getopts.proofs.ScanLawProofs.{LongAttachedOrSeparate_lem, ShortAttachedOrSeparate_lem, ClusterSplits_lem, OneDashOrTwo_lem, LinesCompose_lem, TrailingStartIsAfterStop_lem, FreeWordsAreSubsequence_lem, HavePositionsInOrder-matched_from}
 use Rattle.getopts.proofs.ScanReadings.{only_reading, only_fault, no_reading}
 use Rattle.getopts.proofs.ScanTurns.{IsNamed, AreTexts}
 
@@ -134,3 +136,21 @@ module _ (options : Declared) (opts : List Opt) (copied : map opt_view opts ≡ 
         only = λ other other_reads. only_reading (grammar_of options) declared_named words other reading other_reads reads_here;
         breaks = subst (λ gs. IsCountFault gs fault) groups_are breaks;
       }
+
+  -- readings by the declared grammar keep the laws
+  pub keeps_laws : KeepsReadingLaws (grammar_of options)
+  keeps_laws = record {
+    long_argument = LongAttachedOrSeparate_lem (grammar_of options);
+    short_argument = ShortAttachedOrSeparate_lem (grammar_of options);
+    cluster = ClusterSplits_lem (grammar_of options);
+    dashes = OneDashOrTwo_lem (grammar_of options);
+    lines = LinesCompose_lem (grammar_of options) (λ reading other words reads other_reads. only_reading (grammar_of options) declared_named words reading other reads other_reads);
+    trailing = TrailingStartIsAfterStop_lem (grammar_of options);
+    frees = FreeWordsAreSubsequence_lem (grammar_of options);
+  }
+
+-- accepted matches keep the counts, and their positions are in order
+pub counts-accepted : (options : Declared) (words : List Text) (matches : Matched) → IsAccepted options words matches → KeepsCounts matches.groups × HavePositionsInOrder matches.groups
+counts-accepted options words matches accepted =
+    let groups : (matches_of options accepted.reading).groups ≡ matches.groups = ap (λ (m : Matched). m.groups) (sym accepted.matches_are) in
+    (subst KeepsCounts groups accepted.counts, subst HavePositionsInOrder groups (HavePositionsInOrder-matched_from (grammar_of options) accepted.reading 0 options.groups))
