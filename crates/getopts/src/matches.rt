@@ -6,6 +6,7 @@ ghost use Rattle.std.specs.Option.{option_copied, option_map};
 ghost use Rattle.std.specs.String.{string_bytes};
 ghost use Rattle.getopts.specs.Line.{texts, occurrence_view, occurrences_view};
 
+use crate::names::Names;
 use crate::options::{Opt, resolve};
 use crate::scan::{Line, Occurrence};
 use std::alloc::{AllocError, Global};
@@ -432,5 +433,53 @@ impl Matches {
             }
         }
         Ok(None)
+    }
+}
+
+impl Clone for Opt {
+    ghost use Rattle.getopts.specs.Options.{opt_view};
+
+    ghost is_clone = { λ a b. opt_view b ≡ opt_view a };
+
+    fn clone(&self) -> Result<Opt, AllocError> {
+        Ok(Opt {
+            names: Names {
+                short: self.names.short.clone()?,
+                long: self.names.long.clone()?,
+            },
+            hasarg: self.hasarg,
+            occur: self.occur,
+        })
+    }
+}
+
+impl Clone for Given {
+    ghost use Rattle.getopts.specs.Held.{given_view};
+
+    ghost is_clone = { λ a b. given_view b ≡ given_view a };
+
+    fn clone(&self) -> Result<Given, AllocError> {
+        Ok(Given {
+            group: self.group,
+            position: self.position,
+            value: self.value.clone()?,
+        })
+    }
+}
+
+impl Clone for Matches {
+    ghost is_clone = { λ a b. b ≡ a };
+
+    /// The same options with the same values, and the same free words. An error comes only where
+    /// memory was refused.
+    fn clone(&self) -> Result<Matches, AllocError>
+        ensures same { IfOk result (λ copy. copy ≡ self.now) }
+    {
+        Ok(Matches {
+            free: self.free.clone()?,
+            opts: self.opts.clone()?,
+            given: self.given.clone()?,
+            trailing_start: self.trailing_start,
+        })
     }
 }
