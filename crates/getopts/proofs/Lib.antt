@@ -3,6 +3,7 @@ pub mod MatchesLemmas
 pub mod NamesLemmas
 pub mod OptLemmas
 pub mod OptionsLemmas
+pub mod SameLemmas
 pub mod ScanItems
 pub mod ScanLawProofs
 pub mod ScanReadings

@@ -6,5 +6,6 @@ pub mod Line
 pub mod Matches
 pub mod Names
 pub mod Options
+pub mod SameMatches
 pub mod Scan
 pub mod ScanLaws

@@ -1,10 +1,16 @@
 //! What an accepted line gave: options with their values, and free words.
 
-ghost use Rattle.std.specs.Prelude.{◌≡◌, ◌==◌, ◌↔◌, find, IsTrue, map, length, vec_len, IfOk};
+ghost use Rattle.std.specs.Prelude.{◌≡◌, ◌==◌, ◌↔◌, find, IsTrue, map, length, vec_len, drop, ◌≤◌, IfOk};
 ghost use Rattle.std.specs.List.{list_any};
 ghost use Rattle.std.specs.Option.{option_copied, option_map};
 ghost use Rattle.std.specs.String.{string_bytes};
+ghost use Rattle.std.specs.Cmp.Lexicographic.{pointwise};
+ghost use Rattle.std.specs.Cmp.Rules.{comparing};
+ghost use Rattle.std.proofs.Common.{rules};
 ghost use Rattle.getopts.specs.Line.{texts, occurrence_view, occurrences_view};
+ghost use Rattle.getopts.specs.Options.{opt_view};
+ghost use Rattle.getopts.specs.Held.{groups_of};
+ghost use Rattle.getopts.specs.SameMatches.{same_known, same_group};
 
 use crate::names::Names;
 use crate::options::{Opt, resolve};
@@ -52,12 +58,20 @@ impl Model for Matches {
 }
 
 impl Given {
-    ghost use Rattle.getopts.specs.Held.{given_value, given_view};
+    ghost use Rattle.getopts.specs.Held.{given_value, given_view, given_found};
+    ghost use Rattle.getopts.specs.SameMatches.{same_found};
 
     fn value(&self) -> Option<&str>
         ensures { option_copied result ≡ given_value self.now }
     {
         self.value.as_deref()
+    }
+
+    /// Whether two occurrences have the same position and the same value.
+    fn same(&self, other: &Given) -> bool
+        ensures { result ≡ same_found (given_found self.now) (given_found other.now) }
+    {
+        self.position == other.position && self.value() == other.value()
     }
 
     /// An occurrence with a copy of its value.
@@ -205,6 +219,88 @@ impl<'m> OfGroup<'m> {
     {
         Some(self.first()?.value().unwrap_or(fallback))
     }
+}
+
+impl OfGroup<'_> {
+    ghost use Rattle.getopts.specs.Held.{founds};
+    ghost use Rattle.getopts.specs.SameMatches.{same_found};
+
+    /// Whether an occurrence of the group stands at this place or after it.
+    fn has_from(&self, start: usize) -> bool
+        requires { start ≤ length self.now.given.now }
+        ensures { result ≡ list_any (λ given. given.group == self.now.group) (drop start self.now.given.now) }
+    {
+        holds_group(&self.given[start..], self.group)
+    }
+
+    /// Whether two groups have occurrences of the same positions and values in the same order. Each
+    /// list is read once.
+    fn same(&self, other: &OfGroup<'_>) -> bool
+        ensures { result ≡ pointwise same_found (founds self.now) (founds other.now) }
+    {
+        let mut mine = 0;
+        let mut theirs = 0;
+        while mine < self.given.len() && theirs < other.given.len() {
+            let given = &self.given[mine];
+            let other_given = &other.given[theirs];
+            if given.group != self.group {
+                mine += 1;
+            } else if other_given.group != other.group {
+                theirs += 1;
+            } else if given.same(other_given) {
+                mine += 1;
+                theirs += 1;
+            } else {
+                return false;
+            }
+        }
+        !self.has_from(mine) && !other.has_from(theirs)
+    }
+}
+
+/// Whether some occurrence is one of this group.
+fn holds_group(given: &[Given], group: usize) -> bool
+    ensures { result ≡ list_any (λ given. given.group == group) given.now }
+{
+    given.iter().any(|given| given.group == group)
+}
+
+/// Whether two lists of words are the same.
+fn same_words(words: &[String], others: &[String]) -> bool
+    ensures { result ≡ pointwise (pointwise ◌==◌) (map string_bytes words.now) (map string_bytes others.now) }
+{
+    words == others
+}
+
+/// Whether two options have the same names and the same kinds.
+fn same_opt(opt: &Opt, other: &Opt) -> bool
+    ensures { result ≡ same_known (opt_view opt.now) (opt_view other.now) }
+{
+    opt.names.short == other.names.short
+        && opt.names.long == other.names.long
+        && opt.hasarg == other.hasarg
+        && opt.occur == other.occur
+}
+
+/// Whether two lists of options, each with one list of occurrences, are the same group by group. Each
+/// list of occurrences is read once for each group.
+fn same_groups(opts: &[Opt], given: &[Given], other_opts: &[Opt], other_given: &[Given]) -> bool
+    ensures { result ≡ pointwise same_group (groups_of opts.now given.now) (groups_of other_opts.now other_given.now) }
+{
+    if opts.len() != other_opts.len() {
+        return false;
+    }
+    for group in 0..opts.len() {
+        let mine = OfGroup { group, given };
+        let theirs = OfGroup {
+            group,
+            given: other_given,
+        };
+        if !same_opt(&opts[group], &other_opts[group]) || !mine.same(&theirs) {
+            return false;
+        }
+    }
+    true
 }
 
 /// A copy of a text, if there is one.
@@ -482,4 +578,35 @@ impl Clone for Matches {
             trailing_start: self.trailing_start,
         })
     }
+}
+
+impl PartialEq for Matches {
+    ghost use Rattle.getopts.specs.SameMatches.{same_matches};
+
+    ghost eq = { same_matches };
+
+    ghost laws = { Prim.search (comparing, rules) depth 14 };
+
+    /// Whether both hold the same: the groups' names and kinds, each group's positions and values, the
+    /// free words and the trailing start.
+    ///
+    /// Hints and descriptions don't count, nor does the order between options of different groups in
+    /// one cluster: after `-ab` and after `-ba` the matches are equal. Takes no memory; reads the
+    /// occurrences of both once for each group.
+    fn eq(&self, other: &Matches) -> bool
+        ensures answer { result ≡ same_matches self.now other.now }
+        ensures same { IsTrue result ↔ (self.now ≡ other.now) }
+    {
+        same_groups(
+            self.opts.as_slice(),
+            self.given.as_slice(),
+            other.opts.as_slice(),
+            other.given.as_slice(),
+        ) && same_words(self.free.as_slice(), other.free.as_slice())
+            && self.trailing_start == other.trailing_start
+    }
+}
+
+impl Eq for Matches {
+    ghost laws = { Prim.search (comparing, rules) depth 14 };
 }

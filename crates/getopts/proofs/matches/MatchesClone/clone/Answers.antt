@@ -2,7 +2,7 @@
 use Rattle.std.proofs.Common.{◌∙◌}
 use Rattle.std.specs.String.{string_bytes}
 use Rattle.getopts.specs.Options.{opt_view}
-use Rattle.getopts.specs.Matches.{Matched, matched_known}
+use Rattle.getopts.specs.Matches.{matched_known}
 use Rattle.getopts.specs.Held.{given_view}
 use Rattle.getopts.proofs.MatchesLemmas.{views_alike, AreLawful-alike}
 use Rattle.getopts.proofs.matches.MatchesClone.clone.Goals as goal
