@@ -144,13 +144,6 @@ first_value_among-next groups names i past founds value within found first =
     at_drop_more (λ (ns : List (Bor Text)). first_value_among groups (texts ns)) names i past within
     ∙ ap (λ (o : Option Text). option_or o (first_value_among groups (texts (drop (i + 1) names)))) (sym (first ∙ ap first_value found))
 
--- lists whose elements are alike through a map have the same image
-pub views_alike : {X Y : Type 0} (f : X → Y) (xs ys : List X) → AllZip (λ x y. f y ≡ f x) xs ys → map f ys ≡ map f xs
-views_alike f [] [] alike = refl
-views_alike f [] (y ∷ ys) alike = absurd alike
-views_alike f (x ∷ xs) [] alike = absurd alike
-views_alike f (x ∷ xs) (y ∷ ys) alike = λ i. alike.0 i ∷ views_alike f xs ys alike.1 i
-
 -- options that are seen as lawfully named ones are lawfully named
 pub AreLawful-alike : (xs ys : List Opt) → AllZip (λ x y. opt_view y ≡ opt_view x) xs ys → AreLawful xs → AreLawful ys
 AreLawful-alike [] [] alike lawful = tt

@@ -26,7 +26,7 @@ opts_named opts style long_only lawful =
       ascii = λ byte. elim (cases_lt byte 128) [
         | inl ascii ↦ inl ascii
         | inr wide ↦ inr (rw (resolution-wide (map (λ (opt : Opt). names_view opt.names) opts) all (shorts_are_texts opts) byte wide) refl)
-      ]
+      ];
     }
 
 -- a byte that isn't ASCII doesn't resolve

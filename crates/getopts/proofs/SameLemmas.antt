@@ -7,17 +7,14 @@ use Rattle.std.specs.Option.{option_eq}
 use Rattle.std.proofs.lemmas.Bool.{cases_Bool, false≢true}
 use Rattle.std.proofs.lemmas.Bool.Decides.{Decides-and, Decides-like, Decides-eqb}
 use Rattle.std.proofs.lemmas.List.{at_drop_more, drop_all}
-use Rattle.getopts.specs.Options.{Known, opt_view}
+use Rattle.getopts.specs.Options.{Group, Known, known_of, opt_view}
 use Rattle.getopts.specs.Matches.{Found, MatchedGroup, Matched, matched_known}
 use Rattle.getopts.specs.Held.{given_found, given_view, givens_of, groups_of}
-use Rattle.getopts.specs.SameMatches.{kind_number, occurrence_number, same_known, same_found, same_group, same_matches}
-use Rattle.getopts.specs.declared.options.HasArg.{HasArg}
-use Rattle.getopts.specs.declared.options.HasArg.TheVariants.{Yes, No, Maybe}
-use Rattle.getopts.specs.declared.options.Occur.{Occur}
-use Rattle.getopts.specs.declared.options.Occur.TheVariants.{Req, Optional, Multi}
+use Rattle.getopts.specs.SameMatches.{same_known, same_found, same_matched_group, same_matches}
 use Rattle.getopts.specs.declared.options.Opt.{Opt}
 use Rattle.getopts.specs.declared.matches.Given.{Given}
 use Rattle.getopts.proofs.MatchesLemmas.{found_at-given}
+use Rattle.getopts.proofs.OptionsLemmas.{same_group-decides}
 
 -- the occurrences of a group from a place on
 abbrev pub founds_from : ℕ → List Given → ℕ → List Found
@@ -30,7 +27,7 @@ same_from group given start other_group other_given other_start = pointwise same
 -- whether two lists of groups are the same from a place on
 abbrev pub same_groups_from : ℕ → List Opt → List Given → List Opt → List Given → Bool
 same_groups_from start opts given other_opts other_given =
-    pointwise same_group (matched_known start (map opt_view (drop start opts)) (map given_view given)) (matched_known start (map opt_view (drop start other_opts)) (map given_view other_given))
+    pointwise same_matched_group (matched_known start (map opt_view (drop start opts)) (map given_view given)) (matched_known start (map opt_view (drop start other_opts)) (map given_view other_given))
 
 -- no occurrence is the same as those of a list that has none of the group
 none_left : (group : ℕ) (given : List Given) → pointwise same_found [] (map given_found (givens_of group given)) ≡ not (list_any (λ (g : Given). g.group == group) given)
@@ -70,7 +67,7 @@ length-matched_known place (opt ∷ opts) given = ap suc (length-matched_known (
 pub differ_by_length : (opts : List Opt) (given : List Given) (other_opts : List Opt) (other_given : List Given) → length opts ≢ length other_opts → false ≡ same_groups_from 0 opts given other_opts other_given
 differ_by_length opts given other_opts other_given differ = elim (cases_Bool (same_groups_from 0 opts given other_opts other_given)) [
   | inl same ↦
-      let as_many = as_long same_group (groups_of opts given) (groups_of other_opts other_given) same in
+      let as_many = as_long same_matched_group (groups_of opts given) (groups_of other_opts other_given) same in
       absurd (differ (sym (length-matched_known 0 opts given) ∙ as_many ∙ length-matched_known 0 other_opts other_given))
   | inr other ↦ sym other
 ]
@@ -84,8 +81,8 @@ pub same_groups-next : (start : ℕ) (opts : List Opt) (given : List Given) (oth
     → start < length opts → start < length other_opts → x ≡ get_or opts start x → y ≡ get_or other_opts start y
     → same_groups_from start opts given other_opts other_given ≡ (same_place start x given y other_given && same_groups_from (start + 1) opts given other_opts other_given)
 same_groups-next start opts given other_opts other_given x y within other_within at other_at =
-    at_drop_more (λ (xs : List Opt). pointwise same_group (matched_known start (map opt_view xs) (map given_view given)) (matched_known start (map opt_view (drop start other_opts)) (map given_view other_given))) opts start x within
-    ∙ at_drop_more (λ (ys : List Opt). pointwise same_group (matched_known start (map opt_view (get_or opts start x ∷ drop (start + 1) opts)) (map given_view given)) (matched_known start (map opt_view ys) (map given_view other_given))) other_opts start y other_within
+    at_drop_more (λ (xs : List Opt). pointwise same_matched_group (matched_known start (map opt_view xs) (map given_view given)) (matched_known start (map opt_view (drop start other_opts)) (map given_view other_given))) opts start x within
+    ∙ at_drop_more (λ (ys : List Opt). pointwise same_matched_group (matched_known start (map opt_view (get_or opts start x ∷ drop (start + 1) opts)) (map given_view given)) (matched_known start (map opt_view ys) (map given_view other_given))) other_opts start y other_within
     ∙ (λ i. (same_known (opt_view (sym at i)) (opt_view (sym other_at i)) && pointwise same_found (found_at-given start given i) (found_at-given start other_given i)) && same_groups_from (start + 1) opts given other_opts other_given)
 
 -- one test that fails
@@ -101,30 +98,6 @@ passed true true r e f = refl
 passed true false r e f = cc f
 passed false b r e f = cc e
 
--- a kind by its number
-kinds_alike : (a b : HasArg) → kind_number a ≡ kind_number b → a ≡ b
-kinds_alike Yes Yes e = refl
-kinds_alike Yes No e = cc
-kinds_alike Yes Maybe e = cc
-kinds_alike No Yes e = cc
-kinds_alike No No e = refl
-kinds_alike No Maybe e = cc
-kinds_alike Maybe Yes e = cc
-kinds_alike Maybe No e = cc
-kinds_alike Maybe Maybe e = refl
-
--- an occurrence kind by its number
-occurrences_alike : (a b : Occur) → occurrence_number a ≡ occurrence_number b → a ≡ b
-occurrences_alike Req Req e = refl
-occurrences_alike Req Optional e = cc
-occurrences_alike Req Multi e = cc
-occurrences_alike Optional Req e = cc
-occurrences_alike Optional Optional e = refl
-occurrences_alike Optional Multi e = cc
-occurrences_alike Multi Req e = cc
-occurrences_alike Multi Optional e = cc
-occurrences_alike Multi Multi e = refl
-
 -- a test of options says exactly that they are equal, where that of their values does
 options_decide : {X : Type 0} (E : X → X → Bool) → ((a b : X) → Decides (E a b) (a ≡ b)) → (o p : Option X) → Decides (option_eq E o p) (o ≡ p)
 options_decide E decides None None = (λ _. refl, λ _. refl)
@@ -132,13 +105,13 @@ options_decide E decides None (Some y) = (λ e. absurd (false≢true e), λ e. c
 options_decide E decides (Some x) None = (λ e. absurd (false≢true e), λ e. cc e)
 options_decide E decides (Some x) (Some y) = (λ e. ap (λ z. Some z) ((decides x y).0 e), λ e. (decides x y).1 (cc e))
 
+-- a group of options with no hint and no description
+abbrev bare : Known → Group
+bare known = record { names = known.names; hint = []; description = []; kind = known.kind; occurrence = known.occurrence }
+
 -- the test of two known groups says exactly that they are equal
 same_known-decides : (a b : Known) → Decides (same_known a b) (a ≡ b)
-same_known-decides a b = Decides-like (same_known a b)
-    (λ h. λ i. record { names = record { short = h.0 i; long = h.1.0 i }; kind = kinds_alike a.kind b.kind h.1.1.0 i; occurrence = occurrences_alike a.occurrence b.occurrence h.1.1.1 i })
-    (λ e. (ap (λ k. k.names.short) e, (ap (λ k. k.names.long) e, (ap (λ k. kind_number k.kind) e, ap (λ k. occurrence_number k.occurrence) e))))
-    (Decides-and _ _ (bytes_decides a.names.short b.names.short) (Decides-and _ _ (bytes_decides a.names.long b.names.long)
-    (Decides-and _ _ (Decides-eqb (kind_number a.kind) (kind_number b.kind)) (Decides-eqb (occurrence_number a.occurrence) (occurrence_number b.occurrence)))))
+same_known-decides a b = Decides-like (same_known a b) (λ e. ap known_of e) (λ e. ap bare e) (same_group-decides (bare a) (bare b))
 
 -- the test of two occurrences says exactly that they are equal
 same_found-decides : (a b : Found) → Decides (same_found a b) (a ≡ b)
@@ -148,8 +121,8 @@ same_found-decides a b = Decides-like (same_found a b)
     (Decides-and _ _ (Decides-eqb a.position b.position) (options_decide (pointwise ◌==◌) bytes_decides a.value b.value))
 
 -- the test of two groups says exactly that they are equal
-same_group-decides : (a b : MatchedGroup) → Decides (same_group a b) (a ≡ b)
-same_group-decides a b = Decides-like (same_group a b)
+same_matched_group-decides : (a b : MatchedGroup) → Decides (same_matched_group a b) (a ≡ b)
+same_matched_group-decides a b = Decides-like (same_matched_group a b)
     (λ h. λ i. record { names = (h.0 i).names; kind = (h.0 i).kind; occurrence = (h.0 i).occurrence; found = h.1 i })
     (λ e. (ap (λ (g : MatchedGroup). let known : Known = record { names = g.names; kind = g.kind; occurrence = g.occurrence } in known) e, ap (λ g. g.found) e))
     (Decides-and _ _ (same_known-decides _ _) (pointwise_decides same_found-decides a.found b.found))
@@ -159,5 +132,5 @@ pub same_matches-decides : (a b : Matched) → Decides (same_matches a b) (a ≡
 same_matches-decides a b = Decides-like (same_matches a b)
     (λ h. λ i. record { groups = h.0 i; free = h.1.0 i; trailing_start = h.1.1 i })
     (λ e. (ap (λ m. m.groups) e, (ap (λ m. m.free) e, ap (λ m. m.trailing_start) e)))
-    (Decides-and _ _ (pointwise_decides same_group-decides a.groups b.groups)
+    (Decides-and _ _ (pointwise_decides same_matched_group-decides a.groups b.groups)
     (Decides-and _ _ (pointwise_decides bytes_decides a.free b.free) (options_decide ◌==◌ Decides-eqb a.trailing_start b.trailing_start)))

@@ -109,7 +109,7 @@ occurrences_after-in_place grammar (item ∷ front) old new same before =
     ap (λ later. map (occurrence_at before) (mentions grammar item) ++ later) (occurrences_after-in_place grammar front old new same (before + 1))
 
 -- the free items of two lists
-free_items-append : (items others : List Item) → free_items (items ++ others) ≡ free_items items ++ free_items others
+pub free_items-append : (items others : List Item) → free_items (items ++ others) ≡ free_items items ++ free_items others
 free_items-append [] others = refl
 free_items-append (free word ∷ items) others = ap (λ words. word ∷ words) (free_items-append items others)
 free_items-append (long dashes name argument ∷ items) others = free_items-append items others
@@ -303,7 +303,7 @@ spelled_all-before_both [] words more = refl
 spelled_all-before_both (item ∷ items) words more = ap (spelled item) (spelled_all-before_both items words more) ∙ spelled-append item (spelled_all items words) more
 
 -- the words of two lists of items
-spelled_all-append : (items others : List Item) (more : List Text) → spelled_all (items ++ others) more ≡ spelled_all items (spelled_all others more)
+pub spelled_all-append : (items others : List Item) (more : List Text) → spelled_all (items ++ others) more ≡ spelled_all items (spelled_all others more)
 spelled_all-append [] others more = refl
 spelled_all-append (item ∷ items) others more = ap (spelled item) (spelled_all-append items others more)
 

@@ -105,7 +105,7 @@ spelled-append (cluster names (ends_in option (attached argument))) xs ys = refl
 spelled-append (cluster names (ends_in option (separate word))) xs ys = refl
 
 -- words after what items spell
-spelled_all-append : (items : List Item) (xs ys : List Text) → spelled_all items (xs ++ ys) ≡ spelled_all items xs ++ ys
+pub spelled_all-append : (items : List Item) (xs ys : List Text) → spelled_all items (xs ++ ys) ≡ spelled_all items xs ++ ys
 spelled_all-append [] xs ys = refl
 spelled_all-append (item ∷ items) xs ys = ap (spelled item) (spelled_all-append items xs ys) ∙ spelled-append item (spelled_all items xs) ys
 

@@ -1,5 +1,5 @@
 -- Lemmas on single words.
-use Rattle.std.proofs.Common.{◌≡◌, ◌≢◌, ◌<◌, ◌≤◌, ◌+◌, ℕ, Bool, true, false, eqb, List, [], ◌∷◌, ◌++◌, length, get_or, slice_index, slice_range, refl, ap, ◌∙◌, sym, arith, lit<, MatchOption}
+use Rattle.std.proofs.Common.{◌≡◌, ◌≢◌, ◌<◌, ◌≤◌, ◌+◌, ℕ, Bool, true, false, eqb, List, [], ◌∷◌, ◌++◌, length, get_or, slice_index, slice_range, take, drop, drop-cons, add-one, ◌-◌, refl, ap, ◌∙◌, sym, arith, lit<, MatchOption}
 use Rattle.std.proofs.lemmas.List.{get_or_default}
 use Rattle.std.proofs.lemmas.List.Folds.{list_any_none}
 use Rattle.std.specs.Char.{is_ascii}
@@ -7,23 +7,25 @@ use Rattle.std.proofs.lemmas.Bool.Decides.{Decides-eqb, nat_tests}
 use Rattle.getopts.specs.declared.options.HasArg.{HasArg}
 use Rattle.getopts.specs.declared.options.HasArg.TheVariants.{Yes, No, Maybe}
 use Rattle.getopts.specs.Names.{Text}
-use Rattle.getopts.specs.Scan.{dash, equals_sign, is_dashed, begins_with_dash, holds_equals, attached, FitsEnd}
+use Rattle.getopts.specs.Scan.{dash, equals_sign, is_dashed, begins_with_dash, holds_equals, attached, FitsEnd, one, two, IsShortForm}
+use Rattle.getopts.specs.Options.{Grammar}
+use Rattle.getopts.specs.Line.{IsInLongForm}
 
 -- a word that doesn't begin with `-` isn't dashed
 pub is_dashed-other : (word : Text) → ((rest : Text) → word ≢ dash ∷ rest) → is_dashed word ≡ false
 is_dashed-other [] h = refl
 is_dashed-other (c ∷ []) h = refl
 is_dashed-other (c ∷ d ∷ more) h = other (eqb c dash) (λ e. h (d ∷ more) (ap (λ x. x ∷ d ∷ more) ((Decides-eqb c dash).0 e))) where
-    other : (b : Bool) → b ≢ true → b ≡ false
-    other true no_dash = absurd (no_dash refl)
-    other false no_dash = refl
+  other : (b : Bool) → b ≢ true → b ≡ false
+  other true no_dash = absurd (no_dash refl)
+  other false no_dash = refl
 
 -- a text with no byte `=` doesn't hold it
 pub holds_equals-none : (text : Text) → ((i : ℕ) → i < length text → get_or text i 0 ≢ equals_sign) → holds_equals text ≡ false
 holds_equals-none text h = list_any_none (λ c. eqb c equals_sign) text (λ k d l. other (eqb (get_or text k d) equals_sign) (λ e. h k l (get_or_default text k 0 d l ∙ (Decides-eqb (get_or text k d) equals_sign).0 e))) where
-    other : (b : Bool) → b ≢ true → b ≡ false
-    other true no_equals = absurd (no_equals refl)
-    other false no_equals = refl
+  other : (b : Bool) → b ≢ true → b ≡ false
+  other true no_equals = absurd (no_equals refl)
+  other false no_equals = refl
 
 -- a name begins with `-` only where the text that it begins does
 pub begins_with_dash-front : (name more : Text) → begins_with_dash (name ++ more) ≡ false → begins_with_dash name ≡ false
@@ -32,7 +34,10 @@ begins_with_dash-front (c ∷ name) more h = h
 
 -- one byte of a text, as a text
 pub slice_range-one : (text : Text) (i : ℕ) → i < length text → slice_range text i (i + 1) ≡ slice_index text i ∷ []
-slice_range-one text i within = ?
+slice_range-one text i within =
+    let span : (i + 1) - i ≡ 1 = omega arith in
+    let begins : drop i text ≡ get_or text i 0 ∷ drop (i + 1) text = rw (add-one, drop-cons text i 0) refl in
+    ap (λ n. take n (drop i text)) span ∙ ap (take 1) begins
 
 -- a text of some length isn't empty
 pub filled-length : (text : Text) → eqb (length text) 0 ≡ false → text ≢ []
@@ -55,3 +60,45 @@ ascii_below byte h = grind (arith, nat_tests)
 
 pub wide_above : (byte : ℕ) → is_ascii byte ≡ false → 128 ≤ byte
 wide_above byte h = grind (arith, nat_tests)
+
+-- a text that is no dash and a rest doesn't begin with one
+pub begins_with_dash-other : (text : Text) → ((more : Text) → text ≢ dash ∷ more) → begins_with_dash text ≡ false
+begins_with_dash-other [] h = refl
+begins_with_dash-other (c ∷ text) h = other (eqb c dash) (λ e. h text (ap (λ x. x ∷ text) ((Decides-eqb c dash).0 e))) where
+  other : (b : Bool) → b ≢ true → b ≡ false
+  other true no_dash = absurd (no_dash refl)
+  other false no_dash = refl
+
+-- `-` and a text that isn't empty is a dashed word
+pub is_dashed-text : (text : Text) → text ≢ [] → is_dashed (dash ∷ text) ≡ true
+is_dashed-text [] filled = absurd (filled refl)
+is_dashed-text (c ∷ text) filled = refl
+
+-- two dashes and a text that isn't empty are a word in long form
+pub IsInLongForm-two : (grammar : Grammar) (text long : Text) → text ≡ dash ∷ long → text ≢ dash ∷ [] → IsInLongForm grammar (dash ∷ text) long
+IsInLongForm-two grammar text long text_is no_stop = record {
+  dashes = two;
+  before = tt;
+  word_is = ap (λ t. dash ∷ t) text_is;
+  dashed = ap (λ t. is_dashed (dash ∷ t)) text_is;
+  no_stop = λ e. no_stop (cc);
+}
+
+-- in long-only mode one dash and a text that doesn't begin with one are a word in long form
+pub IsInLongForm-one : (grammar : Grammar) (text : Text) → grammar.long_only ≡ true → text ≢ [] → ((more : Text) → text ≢ dash ∷ more) → IsInLongForm grammar (dash ∷ text) text
+IsInLongForm-one grammar text long_only filled other = record {
+  dashes = one;
+  before = (long_only, begins_with_dash-other text other);
+  word_is = refl;
+  dashed = is_dashed-text text filled;
+  no_stop = λ e. other [] (cc);
+}
+
+-- in ordinary mode they are a word in short form
+pub IsShortForm-text : (grammar : Grammar) (text : Text) → grammar.long_only ≡ false → text ≢ [] → ((more : Text) → text ≢ dash ∷ more) → IsShortForm grammar (dash ∷ text) text
+IsShortForm-text grammar text ordinary filled other = record {
+  ordinary = ordinary;
+  word_is = refl;
+  filled = filled;
+  second = begins_with_dash-other text other;
+}

@@ -1,19 +1,20 @@
 -- The canonical line: what a line says, written again with main names alone; what such a line tells, and
 -- where there is none.
 use Rattle.std.specs.Prelude.{◌≡◌, ◌↔◌, ⊤, ℕ, Bool, false, List, [], ◌∷◌, ◌++◌, map, Option, Some, None, slice_get}
-use Rattle.std.specs.List.{AllByRecursion, Contains, flat_map}
+use Rattle.std.specs.List.{AllByRecursion, Contains}
 use Rattle.std.specs.Option.{option_map, option_map_or}
 use Rattle.getopts.specs.Names.{Text, main_name, resolution}
 use Rattle.getopts.specs.Options.{Group, Declared, names_of, Grammar, grammar_of}
-use Rattle.getopts.specs.Scan.{holds_equals, stop_word, Argument, none, attached, two, Item, long, long_word, spelled, IsLawfulItem, stop, Reading, IsReading, Mention, mentions, free_words}
+use Rattle.getopts.specs.Scan.{holds_equals, stop_word, Argument, none, attached, two, Item, long, long_word, spelled, IsLawfulItem, stop, Reading, IsReading, Mention, mentions, Occurrence, free_words}
+use Rattle.getopts.specs.ScanLaws.{mentions_of}
 use Rattle.getopts.specs.Matches.{matches_of, KeepsCounts}
 use Rattle.getopts.specs.declared.options.HasArg.{HasArg}
 use Rattle.getopts.specs.declared.options.HasArg.TheVariants.{Yes, No, Maybe}
 use Rattle.getopts.specs.declared.options.ParsingStyle.{ParsingStyle}
 
--- what a reading mentions, in the order of the line: its occurrences without their positions
-abbrev pub mentions_of : Grammar → Reading → List Mention
-mentions_of grammar reading = flat_map (mentions grammar) reading.items
+-- an occurrence without its position
+abbrev pub mention_of : Occurrence → Mention
+mention_of occurrence = record { group = occurrence.group; value = occurrence.value }
 
 -- what a line may say: mentions in order, and free words
 pub record Content : Type 0 where
@@ -32,13 +33,13 @@ main_at groups place = option_map_or (λ group. main_name group.names) (slice_ge
 abbrev pub kind_at : List Group → ℕ → Option HasArg
 kind_at groups place = option_map (λ group. group.kind) (slice_get groups place)
 
--- plain content: no mentioned group has a main name that holds `=`
-abbrev pub IsPlain : List Group → Content → Type 0
-IsPlain groups content = AllByRecursion (λ m. holds_equals (main_at groups m.group) ≡ false) content.mentions
+-- the group at this place has a main name that holds no `=`
+abbrev pub HasPlainMain : List Group → ℕ → Type 0
+HasPlainMain groups place = holds_equals (main_at groups place) ≡ false
 
--- sound content: each mentioned group is what its own main name resolves to
-abbrev pub IsSound : List Group → Content → Type 0
-IsSound groups content = AllByRecursion (λ m. resolution (names_of groups) (main_at groups m.group) ≡ Some m.group) content.mentions
+-- the group at this place is what its own main name resolves to
+abbrev pub AnswersMain : List Group → ℕ → Type 0
+AnswersMain groups place = resolution (names_of groups) (main_at groups place) ≡ Some place
 
 -- the values that a kind may have: none for No, one for Yes, at most one for Maybe
 abbrev pub FitsKind : HasArg → Option Text → Type 0
@@ -49,9 +50,21 @@ FitsKind Yes (Some value) = ⊤
 FitsKind Maybe None = ⊤
 FitsKind Maybe (Some value) = ⊤
 
--- fitting content: each mentioned group is there, and has a value as its kind may
+-- a mentioned group is there, and its kind may have the value
+abbrev pub FitsGroup : List Group → Mention → Type 0
+FitsGroup groups m = (kind : HasArg) × (kind_at groups m.group ≡ Some kind) × FitsKind kind m.value
+
+-- plain content: no mentioned group has a main name that holds `=`
+abbrev pub IsPlain : List Group → Content → Type 0
+IsPlain groups content = AllByRecursion (λ m. HasPlainMain groups m.group) content.mentions
+
+-- sound content: each mentioned group is what its own main name resolves to
+abbrev pub IsSound : List Group → Content → Type 0
+IsSound groups content = AllByRecursion (λ m. AnswersMain groups m.group) content.mentions
+
+-- fitting content: each mentioned group is there, and its kind may have the value
 abbrev pub IsFitting : List Group → Content → Type 0
-IsFitting groups content = AllByRecursion (λ m. (kind : HasArg) × (kind_at groups m.group ≡ Some kind) × FitsKind kind m.value) content.mentions
+IsFitting groups content = AllByRecursion (FitsGroup groups) content.mentions
 
 -- the canonical word of a mention: `--main`, or `--main=value` where it has a value
 abbrev pub canonical_word : List Group → Mention → Text

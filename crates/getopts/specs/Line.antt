@@ -51,6 +51,12 @@ pub record ReadsItem (grammar : Grammar) (word : Text) (after : List Text) (posi
   pub begins : BeginsWith grammar (word ∷ after) item (drop used after)
   pub found : occurrences ≡ map (occurrence_at position) (mentions grammar item)
 
+-- The line begins with an item that uses so many words after its first, and its occurrences are added.
+pub record AddsItem (grammar : Grammar) (word : Text) (after : List Text) (position used : ℕ) (old new : List Occurrence) : Type 0 where
+  pub occurrences : List Occurrence
+  pub reads : ReadsItem grammar word after position used occurrences
+  pub added : new ≡ old ++ occurrences
+
 -- How an option of this kind ends a cluster: the rest of the word and the words after it are its
 -- argument and what follows, with this value.
 pub record IsEnding (kind : HasArg) (rest : Text) (after : List Text) (value : Option Text) (used : ℕ) : Type 0 where

@@ -2,6 +2,8 @@
 use Rattle.std.specs.Prelude.{◌≢◌, ◌==◌, ℕ, ◌+◌, ◌<◌, ◌≤◌, Bool, ◌&&◌, not, List, length, Option, if◌then◌else◌}
 use Rattle.std.specs.List.{find, position}
 use Rattle.std.specs.Option.{option_and_then, option_or}
+use Rattle.std.specs.Cmp.Lexicographic.{pointwise}
+use Rattle.std.specs.Ordering.{on, eq_of_both}
 use Rattle.std.specs.Str.{bytes_eq}
 use Rattle.std.specs.String.{string_bytes}
 use Rattle.getopts.specs.declared.names.Names.{Names as Held}
@@ -54,3 +56,7 @@ main_place groups name = position (is_main name) groups
 abbrev pub resolution : List Names → Text → Option ℕ
 resolution groups name = option_or (main_place groups name)
     (option_and_then (λ declarer. main_place groups (main_name declarer)) (find (is_alias name) groups))
+
+-- whether the short names and the long names are the same
+abbrev pub same_names : Names → Names → Bool
+same_names = eq_of_both (on (λ names. names.short) (pointwise ◌==◌)) (on (λ names. names.long) (pointwise ◌==◌))

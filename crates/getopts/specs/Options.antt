@@ -1,14 +1,20 @@
 -- What options hold: groups in order of definition, a parsing style and a mode.
-use Rattle.std.specs.Prelude.{◌≡◌, ℕ, Bool, List, [], ◌∷◌, ◌++◌, Option, map, slice_get}
+use Rattle.std.specs.Prelude.{◌≡◌, ◌==◌, ℕ, Bool, List, [], ◌∷◌, ◌++◌, Option, map, slice_get}
+use Rattle.std.specs.Bool.{beq}
+use Rattle.std.specs.Cmp.Lexicographic.{pointwise}
 use Rattle.std.specs.List.{AllByRecursion}
 use Rattle.std.specs.Option.{option_and_then, option_map}
+use Rattle.std.specs.Ordering.{on, eq_of_both}
 use Rattle.std.specs.String.{string_bytes}
-use Rattle.getopts.specs.Names.{Text, Names, IsLawfullyNamed, resolution, names_view}
+use Rattle.getopts.specs.Names.{Text, Names, IsLawfullyNamed, resolution, names_view, same_names}
 use Rattle.getopts.specs.declared.options.OptGroup.{OptGroup}
 use Rattle.getopts.specs.declared.options.Opt.{Opt}
 use Rattle.getopts.specs.declared.options.HasArg.{HasArg}
 use Rattle.getopts.specs.declared.options.Occur.{Occur}
 use Rattle.getopts.specs.declared.options.ParsingStyle.{ParsingStyle}
+use Rattle.getopts.specs.declared.options.HasArg.TheVariants.{Yes, No, Maybe}
+use Rattle.getopts.specs.declared.options.Occur.TheVariants.{Req, Optional, Multi}
+use Rattle.getopts.specs.declared.options.ParsingStyle.TheVariants.{FloatingFrees, StopAtFirstFree}
 
 -- a group: two names, a hint, a description, a kind of argument and a kind of occurrence
 pub record Group : Type 0 where
@@ -91,5 +97,34 @@ opts_grammar opts style long_only = record {
   place_of = resolution (map (λ opt. names_view opt.names) opts);
   kind_of = opt_kind_of opts;
   style = style;
-  long_only = long_only
+  long_only = long_only;
 }
+
+-- a number for each kind of argument
+abbrev pub kind_index : HasArg → ℕ
+kind_index Yes = 0
+kind_index No = 1
+kind_index Maybe = 2
+
+-- a number for each kind of occurrence
+abbrev pub occurrence_index : Occur → ℕ
+occurrence_index Req = 0
+occurrence_index Optional = 1
+occurrence_index Multi = 2
+
+-- a number for each parsing style
+abbrev pub style_index : ParsingStyle → ℕ
+style_index FloatingFrees = 0
+style_index StopAtFirstFree = 1
+
+-- whether all six parts of two groups are the same
+abbrev pub same_group : Group → Group → Bool
+same_group = eq_of_both (on (λ group. group.names) same_names)
+    (eq_of_both (on (λ group. group.hint) (pointwise ◌==◌))
+    (eq_of_both (on (λ group. group.description) (pointwise ◌==◌))
+    (eq_of_both (on (λ group. kind_index group.kind) ◌==◌) (on (λ group. occurrence_index group.occurrence) ◌==◌))))
+
+-- whether the groups in order, the style and the mode are the same
+abbrev pub same_options : Declared → Declared → Bool
+same_options = eq_of_both (on (λ options. options.groups) (pointwise same_group))
+    (eq_of_both (on (λ options. style_index options.style) ◌==◌) (on (λ options. options.long_only) beq))

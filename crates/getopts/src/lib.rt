@@ -6,8 +6,12 @@ mod matches;
 mod names;
 mod options;
 mod scan;
+pub mod wrap;
 
 pub use fail::Fail;
 pub use matches::Matches;
 pub use names::names_lawful;
 pub use options::{HasArg, Occur, Options, ParsingStyle};
+
+/// What `parse` answers: the matches of an accepted line, or why the line was refused.
+pub type Result = std::result::Result<Matches, Fail>;

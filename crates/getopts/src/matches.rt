@@ -10,9 +10,8 @@ ghost use Rattle.std.proofs.Common.{rules};
 ghost use Rattle.getopts.specs.Line.{texts, occurrence_view, occurrences_view};
 ghost use Rattle.getopts.specs.Options.{opt_view};
 ghost use Rattle.getopts.specs.Held.{groups_of};
-ghost use Rattle.getopts.specs.SameMatches.{same_known, same_group};
+ghost use Rattle.getopts.specs.SameMatches.{same_known, same_matched_group};
 
-use crate::names::Names;
 use crate::options::{Opt, resolve};
 use crate::scan::{Line, Occurrence};
 use std::alloc::{AllocError, Global};
@@ -276,16 +275,13 @@ fn same_words(words: &[String], others: &[String]) -> bool
 fn same_opt(opt: &Opt, other: &Opt) -> bool
     ensures { result ≡ same_known (opt_view opt.now) (opt_view other.now) }
 {
-    opt.names.short == other.names.short
-        && opt.names.long == other.names.long
-        && opt.hasarg == other.hasarg
-        && opt.occur == other.occur
+    opt.names == other.names && opt.hasarg == other.hasarg && opt.occur == other.occur
 }
 
 /// Whether two lists of options, each with one list of occurrences, are the same group by group. Each
 /// list of occurrences is read once for each group.
 fn same_groups(opts: &[Opt], given: &[Given], other_opts: &[Opt], other_given: &[Given]) -> bool
-    ensures { result ≡ pointwise same_group (groups_of opts.now given.now) (groups_of other_opts.now other_given.now) }
+    ensures { result ≡ pointwise same_matched_group (groups_of opts.now given.now) (groups_of other_opts.now other_given.now) }
 {
     if opts.len() != other_opts.len() {
         return false;
@@ -539,10 +535,7 @@ impl Clone for Opt {
 
     fn clone(&self) -> Result<Opt, AllocError> {
         Ok(Opt {
-            names: Names {
-                short: self.names.short.clone()?,
-                long: self.names.long.clone()?,
-            },
+            names: self.names.clone()?,
             hasarg: self.hasarg,
             occur: self.occur,
         })

@@ -1,6 +1,9 @@
 //! Names of options, and the search for the group that a name resolves to.
 
 ghost use Rattle.std.specs.Prelude.{◌≡◌, ◌↔◌, IsTrue, map, IfOk};
+ghost use Rattle.std.specs.Cmp.Rules.{comparing};
+ghost use Rattle.std.specs.Ordering.{on};
+ghost use Rattle.std.proofs.Common.{rules};
 ghost use Rattle.getopts.specs.Names.{AreLawful};
 
 use std::alloc::{AllocError, Global};
@@ -59,5 +62,30 @@ impl Names {
         ensures { result ≡ is_alias name.now (names_view self.now) }
     {
         !self.long.is_empty() && !self.short.is_empty() && self.short.as_str() == name
+    }
+}
+
+impl Clone for Names {
+    ghost use Rattle.getopts.specs.Names.{names_view};
+
+    ghost is_clone = { λ a b. names_view b ≡ names_view a };
+
+    fn clone(&self) -> Result<Names, AllocError> {
+        Ok(Names {
+            short: self.short.clone()?,
+            long: self.long.clone()?,
+        })
+    }
+}
+
+impl PartialEq for Names {
+    ghost use Rattle.getopts.specs.Names.{names_view, same_names};
+
+    ghost eq = { on names_view same_names };
+
+    ghost laws = { Prim.search (comparing, rules) depth 12 };
+
+    fn eq(&self, other: &Names) -> bool {
+        self.short == other.short && self.long == other.long
     }
 }

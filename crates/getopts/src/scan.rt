@@ -1,16 +1,20 @@
 //! Reading words as items, from the first to the last.
 
-ghost use Rattle.std.specs.Prelude.{◌≡◌, ◌≢◌, ◌<◌, ◌∷◌, ◌++◌, [], ℕ, List, length, MatchOption, OnSome, Some, None, true, false, IfOk, IfErr, slice_get, slice_index, encode_utf8};
+ghost use Rattle.std.specs.Prelude.{◌≡◌, ◌≢◌, ◌<◌, ◌∷◌, ◌++◌, [], ℕ, List, length, MatchOption, OnSome, Some, None, true, false, IfOk, IfErr, OnOk, ◌==◌, map, slice_get, slice_index, encode_utf8};
 ghost use Rattle.std.specs.Char.{IsScalar};
 ghost use Rattle.std.specs.Str.{IsCharBoundary};
 ghost use Rattle.getopts.specs.Fail.{Tells, argument_missing};
-ghost use Rattle.getopts.specs.Line.{texts, IsEnding};
+ghost use Rattle.std.specs.List.{filter};
+ghost use Rattle.getopts.specs.Line.{texts, IsEnding, occurrences_view};
+ghost use Rattle.getopts.specs.Options.{opt_view};
+ghost use Rattle.getopts.specs.Matches.{matched_known, KeepsCounts, IsCountFault};
 ghost use Rattle.std.specs.Option.{option_copied};
 ghost use Rattle.getopts.specs.Names.{Text};
 ghost use Rattle.getopts.specs.Scan.{dash, is_dashed, holds_equals, with_equals, IsFaultAt, IsShortForm, IsScanFault, Occurrence as Found};
 
 use crate::fail::Fail;
-use crate::options::{HasArg, Opt, ParsingStyle, resolve};
+use crate::matches::Matches;
+use crate::options::{HasArg, Occur, Opt, Options, ParsingStyle, known_options, resolve};
 use std::alloc::Global;
 
 /// One option that the words give: the place of its group, the position of its item, and its value.
@@ -28,14 +32,22 @@ impl<'w> Occurrence<'w> {
     fn bare(group: usize, position: usize) -> Occurrence<'w>
         ensures { occurrence_view result ≡ record { group = group; value = None; position = position } }
     {
-        Occurrence { group, position, value: None }
+        Occurrence {
+            group,
+            position,
+            value: None,
+        }
     }
 
     /// An occurrence with a value.
     fn with_value(group: usize, position: usize, value: &'w str) -> Occurrence<'w>
         ensures { occurrence_view result ≡ record { group = group; value = Some value.now; position = position } }
     {
-        Occurrence { group, position, value: Some(value) }
+        Occurrence {
+            group,
+            position,
+            value: Some(value),
+        }
     }
 }
 
@@ -127,8 +139,8 @@ fn ending<'w>(
 }
 
 impl<'o> Scanner<'o> {
-    ghost use Rattle.std.specs.Prelude.{drop, map};
-    ghost use Rattle.getopts.specs.Line.{occurrence_view, occurrences_view, scanner_grammar, IsLawfulScanner, IsInLongForm, ReadsItem, ReadsLine};
+    ghost use Rattle.std.specs.Prelude.{drop};
+    ghost use Rattle.getopts.specs.Line.{occurrence_view, scanner_grammar, IsLawfulScanner, IsInLongForm, ReadsItem, AddsItem, ReadsLine};
 
     /// The place and the kind of argument of the option that a name resolves to.
     fn option(&self, name: &str) -> Option<(usize, HasArg)>
@@ -186,5 +198,190 @@ impl<'o> Scanner<'o> {
         } else {
             None
         }
+    }
+
+    /// Reads a cluster, by its text after the dash and the words after its first. Adds its occurrences,
+    /// and answers how many of those words it used.
+    fn cluster<'w>(
+        &self,
+        alloc: Global,
+        text: &'w str,
+        after: &[&'w str],
+        position: usize,
+        found: &mut Vec<Occurrence<'w>>,
+    ) -> Result<usize, Fail>
+        requires named { IsLawfulScanner self.now }
+        ensures ok { IfOk result (λ used. (word : Text) → IsShortForm (scanner_grammar self.now) word text.now
+            → AddsItem (scanner_grammar self.now) word (texts after.now) position used (occurrences_view found.old.items) (occurrences_view found.new.items)) }
+        ensures err { IfErr result (λ fail. (word : Text) → IsShortForm (scanner_grammar self.now) word text.now
+            → Tells fail (IsFaultAt (scanner_grammar self.now) word (texts after.now))) }
+    {
+        'names: for at in 0..text.len() {
+            match self.option_at(text, at) {
+                None => {
+                    let name = first_character(&text[at..]);
+                    return Err(Fail::unrecognized_option(alloc, name));
+                }
+                Some((group, HasArg::No)) => found.push(Occurrence::bare(group, position))?,
+                Some((group, hasarg)) => {
+                    let name = &text[at..at + 1];
+                    let (value, used) = ending(alloc, hasarg, name, &text[at + 1..], after)?;
+                    found.push(Occurrence {
+                        group,
+                        position,
+                        value,
+                    })?;
+                    return Ok(used);
+                }
+            }
+        }
+        Ok(0)
+    }
+
+    /// The text after the dashes of a word in long form, by its text after the first dash.
+    fn long_text<'w>(&self, text: &'w str) -> Option<&'w str>
+        requires filled { text.now ≢ [] }
+        requires no_stop { text.now ≢ dash ∷ [] }
+        ensures { MatchOption result (IsShortForm (scanner_grammar self.now) (dash ∷ text.now) text.now)
+            (λ long. IsInLongForm (scanner_grammar self.now) (dash ∷ text.now) long.now) }
+    {
+        match text.strip_prefix('-') {
+            Some(long) => Some(long),
+            None if self.long_only => Some(text),
+            None => None,
+        }
+    }
+
+    /// Reads the item that a dashed word other than `--` begins, by its text after the first dash and
+    /// the words after it. Adds its occurrences, and answers how many of those words it used.
+    fn item<'w>(
+        &self,
+        alloc: Global,
+        text: &'w str,
+        after: &[&'w str],
+        position: usize,
+        found: &mut Vec<Occurrence<'w>>,
+    ) -> Result<usize, Fail>
+        requires named { IsLawfulScanner self.now }
+        requires filled { text.now ≢ [] }
+        requires no_stop { text.now ≢ dash ∷ [] }
+        ensures ok { IfOk result (λ used. AddsItem (scanner_grammar self.now) (dash ∷ text.now) (texts after.now) position used (occurrences_view found.old.items) (occurrences_view found.new.items)) }
+        ensures err { IfErr result (λ fail. Tells fail (IsFaultAt (scanner_grammar self.now) (dash ∷ text.now) (texts after.now))) }
+    {
+        let Some(long) = self.long_text(text) else {
+            return self.cluster(alloc, text, after, position, found);
+        };
+        let (occurrence, used) = self.long(alloc, long, after, position)?;
+        found.push(occurrence)?;
+        Ok(used)
+    }
+
+    /// Reads a line: its items, and what follows the stop or the first free word.
+    pub(crate) fn scan<'w>(&self, alloc: Global, words: &[&'w str]) -> Result<Line<'w>, Fail>
+        requires named { IsLawfulScanner self.now }
+        ensures ok { IfOk result (λ line. ReadsLine (scanner_grammar self.now) (texts words.now) line) }
+        ensures err { IfErr result (λ fail. Tells fail (IsScanFault (scanner_grammar self.now) (texts words.now))) }
+    {
+        let mut occurrences = Vec::new(alloc);
+        let mut free = Vec::new(alloc);
+        let mut at = 0;
+        let mut position = 0;
+        'items: while at < words.len() {
+            let word = words[at];
+            let after = &words[at + 1..];
+            let Some(text) = dashed_text(word) else {
+                if self.style == ParsingStyle::StopAtFirstFree {
+                    free.extend_from_slice(&words[at..])?;
+                    return Ok(Line {
+                        occurrences,
+                        free,
+                        trailing_start: None,
+                    });
+                }
+                free.push(word)?;
+                at += 1;
+                position += 1;
+                continue;
+            };
+            if text == "-" {
+                let trailing_start = (!after.is_empty()).then_some(free.len());
+                free.extend_from_slice(after)?;
+                return Ok(Line {
+                    occurrences,
+                    free,
+                    trailing_start,
+                });
+            }
+            at += 1 + self.item(alloc, text, after, position, &mut occurrences)?;
+            position += 1;
+        }
+        Ok(Line {
+            occurrences,
+            free,
+            trailing_start: None,
+        })
+    }
+}
+
+/// How many of the occurrences are of the group at this place.
+fn count_of(occurrences: &[Occurrence<'_>], place: usize) -> usize
+    ensures { result ≡ length (filter (λ o. o.group == place) occurrences.now) }
+{
+    occurrences.iter().filter(|o| o.group == place).count()
+}
+
+/// Tests the counts, group by group in order of definition.
+fn check_counts(alloc: Global, opts: &[Opt], occurrences: &[Occurrence<'_>]) -> Result<(), Fail>
+    ensures ok { OnOk result (KeepsCounts (matched_known 0 (map opt_view opts.now) (occurrences_view occurrences.now))) }
+    ensures err { IfErr result (λ fail. Tells fail (IsCountFault (matched_known 0 (map opt_view opts.now) (occurrences_view occurrences.now)))) }
+{
+    for (place, opt) in opts.iter().enumerate() {
+        let count = count_of(occurrences, place);
+        if count == 0 && opt.occur == Occur::Req {
+            return Err(Fail::option_missing(alloc, opt.names.main()));
+        }
+        if count > 1 && opt.occur != Occur::Multi {
+            return Err(Fail::option_duplicated(alloc, opt.names.main()));
+        }
+    }
+    Ok(())
+}
+
+impl Options {
+    ghost use Rattle.std.specs.Iterator.{IsFinite};
+    ghost use Rattle.std.specs.Iterator.Runs.{WholeRun};
+    ghost use Rattle.getopts.specs.Parse.{IsAccepted, IsRefused};
+
+    /// Reads a line by these options.
+    fn parse_words(&self, alloc: Global, words: &[&str]) -> crate::Result
+        ensures accepted { IfOk result (λ matches. IsAccepted self.now (texts words.now) matches) }
+        ensures refused { IfErr result (λ fail. Tells fail (IsRefused self.now (texts words.now))) }
+    {
+        let opts = known_options(alloc, &self.groups)?;
+        let scanner = Scanner {
+            opts: &opts,
+            style: self.style,
+            long_only: self.long_only,
+        };
+        let line = scanner.scan(alloc, words)?;
+        check_counts(alloc, &opts, &line.occurrences)?;
+        Ok(Matches::from_line(alloc, opts, &line)?)
+    }
+
+    /// Reads a line of words by these options, without the program's own name.
+    pub fn parse<'a, I: Iterator<Item = &'a str> + Drop>(
+        &self,
+        alloc: Global,
+        args: I,
+    ) -> crate::Result
+        requires can { I.can_next args }
+        requires ends { IsFinite (I.remaining args) }
+        ensures accepted { IfOk result (λ matches. WholeRun I.next_gives args
+            (λ run. IsAccepted self.now (texts run.items) matches)) }
+        ensures refused { IfErr result (λ fail. Tells fail (λ fault. WholeRun I.next_gives args
+            (λ run. IsRefused self.now (texts run.items) fault))) }
+    {
+        let words: Vec<&str> = args.collect(alloc)?;
+        self.parse_words(alloc, &words)
     }
 }

@@ -4,7 +4,8 @@ use Rattle.std.specs.String.{string_bytes}
 use Rattle.getopts.specs.Options.{opt_view}
 use Rattle.getopts.specs.Matches.{matched_known}
 use Rattle.getopts.specs.Held.{given_view}
-use Rattle.getopts.proofs.MatchesLemmas.{views_alike, AreLawful-alike}
+use Rattle.getopts.proofs.MatchesLemmas.{AreLawful-alike}
+use Rattle.getopts.proofs.OptionsLemmas.{map-alike}
 use Rattle.getopts.proofs.matches.MatchesClone.clone.Goals as goal
 
 pub invariant_of-result : goal.invariant_of-result
@@ -12,7 +13,7 @@ invariant_of-result c = AreLawful-alike c.self.inside.opts.items c.in_ok-clone-2
 
 pub returns : goal.returns
 returns c =
-    let free = views_alike string_bytes c.self.inside.free.items c.in_ok-clone.field-0.items c.in_ok-clone.ensures.cases.0 in
-    let opts = views_alike opt_view c.self.inside.opts.items c.in_ok-clone-2.field-0.items c.in_ok-clone-2.ensures.cases.0 in
-    let given = views_alike given_view c.self.inside.given.items c.in_ok-clone-3.field-0.items c.in_ok-clone-3.ensures.cases.0 in
+    let free = map-alike string_bytes c.self.inside.free.items c.in_ok-clone.field-0.items c.in_ok-clone.ensures.cases.0 in
+    let opts = map-alike opt_view c.self.inside.opts.items c.in_ok-clone-2.field-0.items c.in_ok-clone-2.ensures.cases.0 in
+    let given = map-alike given_view c.self.inside.given.items c.in_ok-clone-3.field-0.items c.in_ok-clone-3.ensures.cases.0 in
     record { same = (λ i. record { groups = matched_known 0 (opts i) (given i); free = free i; trailing_start = c.self.inside.trailing_start }) ∙ c.self.view_is }

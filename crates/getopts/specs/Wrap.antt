@@ -1,0 +1,91 @@
+-- How a description stands in rows: its lines, their words, and the ways to break a line's words into rows.
+use Rattle.std.specs.Prelude.{◌≡◌, ℕ, ◌+◌, ◌-◌, ◌<◌, ◌≤◌, ◌==◌, nat_lt, false, ◌⊎◌, List, [], ◌∷◌, ◌++◌, length, take, map, filter, sum_by, All, chars, encode_utf8_all}
+use Rattle.std.specs.List.{AllZip, flat_map, join_with_byte, slice_split}
+use Rattle.std.specs.Char.{is_whitespace}
+use Rattle.unicode_width.specs.Width.{str_width}
+
+-- ---- words and runs
+
+-- a word, by its bytes
+abbrev pub Word : Type 0
+Word = List ℕ
+
+-- words that stand in one row
+abbrev pub Run : Type 0
+Run = List Word
+
+-- the columns that a word takes by itself
+unfoldable pub width_of : Word → ℕ
+width_of word = str_width false (chars word)
+
+-- the columns of a run: those of each word, and one for each gap between two words
+abbrev pub columns_of : Run → ℕ
+columns_of run = sum_by width_of run + (length run - 1)
+
+-- a run as the text of a row: its words, joined by one space
+abbrev pub text_of : Run → List ℕ
+text_of run = join_with_byte 32 run
+
+-- ---- breakings
+
+-- a run fits where it is one word, or its columns are at most the limit
+abbrev pub FitsIn : ℕ → Run → Type 0
+FitsIn limit run = (length run ≡ 1) ⊎ (columns_of run ≤ limit)
+
+-- the words are cut into runs: none is empty, and each fits
+pub record IsFittingBreaking (limit : ℕ) (words : List Word) (runs : List Run) : Type 0 where
+  pub joined : flat_map (λ run. run) runs ≡ words
+  pub nonempty : All (λ run. 0 < length run) runs
+  pub fits : All (FitsIn limit) runs
+
+-- no run, followed by the first word of the next run, fits
+abbrev pub NoneTakesMore : ℕ → List Run → Type 0
+NoneTakesMore limit [] = Unit {0}
+NoneTakesMore limit (run ∷ []) = Unit {0}
+NoneTakesMore limit (run ∷ next ∷ more) = (¬ FitsIn limit (run ++ take 1 next)) × NoneTakesMore limit (next ∷ more)
+
+-- a fitting breaking in which no run could take in the word that comes next
+pub record IsTightBreaking (limit : ℕ) (words : List Word) (runs : List Run) : Type 0 where
+  pub fitting : IsFittingBreaking limit words runs
+  pub tight : NoneTakesMore limit runs
+
+-- a tight breaking, and no fitting breaking of the same words has fewer runs
+pub record IsFewestBreaking (limit : ℕ) (words : List Word) (runs : List Run) : Type 0 where
+  pub tight : IsTightBreaking limit words runs
+  pub fewest : (others : List Run) → IsFittingBreaking limit words others → length runs ≤ length others
+
+-- the words have a tight breaking, and no other
+pub record HasOneTightBreaking (limit : ℕ) (words : List Word) : Type 0 where
+  pub runs : List Run
+  pub is_tight : IsTightBreaking limit words runs
+  pub only : (others : List Run) → IsTightBreaking limit words others → others ≡ runs
+
+-- ---- descriptions
+
+-- the lines of a description, which is cut at U+000A
+abbrev pub lines_of : List ℕ → List (List ℕ)
+lines_of desc = slice_split (λ byte. byte == 10) desc
+
+-- the words of a line: it is cut at each character of white space, and the pieces that are not empty are its words,
+-- so each word is a run of other characters that is as long as it can be
+abbrev pub words_of : List ℕ → List Word
+words_of line = map encode_utf8_all (filter (λ piece. nat_lt 0 (length piece)) (slice_split is_whitespace (chars line)))
+
+-- the words of each line of a description
+abbrev pub words_of_lines : List ℕ → List (List Word)
+words_of_lines desc = map words_of (lines_of desc)
+
+-- the description breaks into the rows, where `IsBroken` says how a line's words may be broken: the rows are the texts
+-- of the runs of each line in turn
+pub record BreaksInto (IsBroken : List Word → List Run → Type 0) (desc : List ℕ) (rows : List (List ℕ)) : Type 0 where
+  pub breakings : List (List Run)
+  pub each_line : AllZip IsBroken (words_of_lines desc) breakings
+  pub texts : rows ≡ map text_of (flat_map (λ runs. runs) breakings)
+
+-- the rows of a description for a limit: those of each line's tight breaking
+abbrev pub IsDescriptionRows : ℕ → List ℕ → List (List ℕ) → Type 0
+IsDescriptionRows limit desc rows = BreaksInto (IsTightBreaking limit) desc rows
+
+-- the rows that a line adds are the texts of the runs of its tight breaking
+abbrev pub AddsLine : ℕ → List ℕ → List (List ℕ) → List (List ℕ) → Type 0
+AddsLine limit line old new = (runs : List Run) × IsTightBreaking limit (words_of line) runs × (new ≡ old ++ map text_of runs)

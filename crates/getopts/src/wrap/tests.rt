@@ -1,0 +1,94 @@
+use super::*;
+use std::process::Abort;
+use std::test::Fail;
+
+const MARY: &str = "\nMary had a little lamb\nLittle lamb\n";
+
+// Stops unless the rows are these, all of them and in this order.
+fn expect_rows(
+    rt: &impl Abort,
+    alloc: Global,
+    desc: &str,
+    lim: usize,
+    expected: &[&str],
+) -> Result<(), AllocError> {
+    let rows = each_split_within(alloc, desc, lim)?;
+    assert_eq!(rt; rows.len(), expected.len(), "the rows of {desc:?} at {lim}");
+    for (row, text) in rows.iter().zip(expected) {
+        assert_eq!(rt; row.as_str(), *text, "in {desc:?} at {lim}");
+    }
+    Ok(())
+}
+
+// The first character from U+0300 on that isn't white space and whose text takes no columns.
+fn character_of_no_columns(alloc: Global) -> Result<Option<String>, AllocError> {
+    for code in 0x300..0x11_0000 {
+        let Some(c) = char::from_u32(code) else {
+            continue;
+        };
+        let text = c.to_string(alloc)?;
+        if !c.is_whitespace() && text.as_str().width() == 0 {
+            return Ok(Some(text));
+        }
+    }
+    Ok(None)
+}
+
+#[test]
+fn splits_within(rt: HostRuntime) -> Result<(), Fail> {
+    let alloc = rt.alloc();
+    expect_rows(&rt, alloc, "", 0, &[])?;
+    expect_rows(&rt, alloc, "", 15, &[])?;
+    expect_rows(&rt, alloc, "hello", 15, &["hello"])?;
+    expect_rows(
+        &rt,
+        alloc,
+        MARY,
+        15,
+        &["Mary had a", "little lamb", "Little lamb"],
+    )?;
+    expect_rows(
+        &rt,
+        alloc,
+        MARY,
+        usize::MAX,
+        &["Mary had a little lamb", "Little lamb"],
+    )?;
+    Ok(())
+}
+
+#[test]
+fn gives_each_word_a_row_at_limit_zero(rt: HostRuntime) -> Result<(), Fail> {
+    let words = ["Mary", "had", "a", "little", "lamb", "Little", "lamb"];
+    expect_rows(&rt, rt.alloc(), MARY, 0, &words)?;
+    Ok(())
+}
+
+#[test]
+fn counts_columns_and_joining_spaces(rt: HostRuntime) -> Result<(), Fail> {
+    let alloc = rt.alloc();
+    expect_rows(&rt, alloc, "a b", 3, &["a b"])?;
+    expect_rows(&rt, alloc, "a b", 2, &["a", "b"])?;
+    expect_rows(&rt, alloc, "日本 日本 ab", 9, &["日本 日本", "ab"])?;
+    expect_rows(&rt, alloc, "日本 日本 ab", 8, &["日本", "日本 ab"])?;
+    Ok(())
+}
+
+#[test]
+fn cuts_lines_at_line_feeds_and_words_at_white_space(rt: HostRuntime) -> Result<(), Fail> {
+    let alloc = rt.alloc();
+    expect_rows(&rt, alloc, "a\u{A0}b\u{2028}c", 54, &["a b c"])?;
+    expect_rows(&rt, alloc, "a\r\n\n\tb", 54, &["a", "b"])?;
+    Ok(())
+}
+
+#[test]
+fn counts_a_space_beside_a_word_of_no_columns(rt: HostRuntime) -> Result<(), Fail> {
+    let alloc = rt.alloc();
+    if let Some(z) = character_of_no_columns(alloc)? {
+        let both = format!(in alloc; "{z} {z}")?;
+        expect_rows(&rt, alloc, both.as_str(), 1, &[both.as_str()])?;
+        expect_rows(&rt, alloc, both.as_str(), 0, &[z.as_str(), z.as_str()])?;
+    }
+    Ok(())
+}
