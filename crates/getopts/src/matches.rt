@@ -1,6 +1,6 @@
 //! What an accepted line gave: options with their values, and free words.
 
-ghost use Rattle.std.specs.Prelude.{◌≡◌, ◌==◌, ◌↔◌, find, IsTrue, map, length, vec_len, drop, ◌≤◌, IfOk};
+ghost use Rattle.std.specs.Prelude.{◌≡◌, ◌==◌, ◌↔◌, find, IsTrue, map, length, vec_len, drop, ◌<◌, ◌≤◌, IfOk};
 ghost use Rattle.std.specs.List.{list_any};
 ghost use Rattle.std.specs.Option.{option_copied, option_map};
 ghost use Rattle.std.specs.String.{string_bytes};
@@ -36,8 +36,8 @@ struct OfGroup<'m> {
 /// What an accepted line gave: the options by name, and the words that are no option.
 #[derive(Debug, Drop)]
 pub struct Matches {
-    /// The free words, in the order of the line. They are the caller's to change: nothing else that
-    /// the matches answer rests on them.
+    /// The free words, in the order of the line. They are the caller's to change: no call that asks
+    /// for an option, and not `free_trailing_start` either, reads them.
     pub free: Vec<String>,
     opts: Vec<Opt>,
     given: Vec<Given>,
@@ -112,7 +112,6 @@ fn words_copied(alloc: Global, words: &[&str]) -> Result<Vec<String>, AllocError
 }
 
 impl Matches {
-    ghost use Rattle.getopts.specs.Options.{opt_view};
     ghost use Rattle.getopts.specs.Matches.{matched_known};
     ghost use Rattle.getopts.specs.Held.{AreLawful};
 
@@ -311,7 +310,7 @@ fn copied(alloc: Global, text: Option<&str>) -> Result<Option<String>, AllocErro
 
 impl Matches {
     ghost use Rattle.getopts.specs.Held.{founds, pair_view};
-    ghost use Rattle.getopts.specs.Accessors.{IsDefined, AreDefined, OneGroupOneAnswer, IsReadAs, IsReadOr, found_of, is_present, positions_of, values_of, pairs_of, first_value, first_value_or, first_value_among};
+    ghost use Rattle.getopts.specs.Accessors.{IsDefined, AreDefined, AreHeldLawfully, OneGroupOneAnswer, IsReadAs, IsReadOr, found_of, is_present, positions_of, values_of, pairs_of, first_value, first_value_or, first_value_among};
 
     /// The occurrences of the group that a name resolves to. Of an undefined name there are none.
     fn given_of(&self, name: &str) -> OfGroup<'_>
@@ -333,17 +332,19 @@ impl Matches {
     fn has(&self, name: &str) -> bool
         ensures { result ≡ is_present self.now.groups name.now }
     {
-        self.given_of(name).count() > 0
+        self.given_of(name).first().is_some()
     }
 
     /// Whether a name resolves to a group.
     ///
     /// This is the test for the condition of the calls that ask for one option. Such a call panics in
     /// the Rust where the name is undefined; here the caller shows that it is defined. A name is given
-    /// without dashes: `opt_defined("verbose")`.
+    /// without dashes: `opt_defined("verbose")`. Two names of one group get the same answer of each
+    /// call.
     pub fn opt_defined(&self, name: &str) -> bool
         ensures defined { IsTrue result ↔ IsDefined self.now.groups name.now }
         ensures one_group { OneGroupOneAnswer self.now.groups name.now }
+        ensures lawful { AreHeldLawfully self.now.groups }
     {
         resolve(self.opts.as_slice(), name).is_some()
     }
@@ -359,7 +360,8 @@ impl Matches {
     /// Whether an option was given at least once, by any of its names.
     pub fn opt_present(&self, name: &str) -> bool
         requires { IsDefined self.now.groups name.now }
-        ensures { result ≡ is_present self.now.groups name.now }
+        ensures present { result ≡ is_present self.now.groups name.now }
+        ensures counted { IsTrue result ↔ (0 < length (found_of self.now.groups name.now)) }
     {
         self.has(name)
     }
@@ -529,8 +531,6 @@ impl Matches {
 }
 
 impl Clone for Opt {
-    ghost use Rattle.getopts.specs.Options.{opt_view};
-
     ghost is_clone = { λ a b. opt_view b ≡ opt_view a };
 
     fn clone(&self) -> Result<Opt, AllocError> {
@@ -568,7 +568,7 @@ impl Clone for Matches {
             free: self.free.clone()?,
             opts: self.opts.clone()?,
             given: self.given.clone()?,
-            trailing_start: self.trailing_start,
+            trailing_start: self.free_trailing_start(),
         })
     }
 }
@@ -596,7 +596,7 @@ impl PartialEq for Matches {
             other.opts.as_slice(),
             other.given.as_slice(),
         ) && same_words(self.free.as_slice(), other.free.as_slice())
-            && self.trailing_start == other.trailing_start
+            && self.free_trailing_start() == other.free_trailing_start()
     }
 }
 
