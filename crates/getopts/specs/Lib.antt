@@ -7,6 +7,7 @@ pub mod Matches
 pub mod Names
 pub mod Options
 pub mod Parse
+pub mod SameMatches
 pub mod Scan
 pub mod ScanLaws
 pub mod Wrap
