@@ -6,4 +6,5 @@ pub mod Names
 pub mod Options
 pub mod Scan
 pub mod ScanLaws
+pub mod Usage
 pub mod Wrap

@@ -5,8 +5,10 @@ mod fail;
 mod names;
 mod options;
 mod scan;
+mod usage;
 pub mod wrap;
 
 pub use fail::Fail;
 pub use names::names_lawful;
 pub use options::{HasArg, Occur, Options, ParsingStyle};
+pub use usage::UsageRows;

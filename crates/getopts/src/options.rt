@@ -89,9 +89,9 @@ fn declarer_of<'o>(opts: &'o [Opt], name: &str) -> Option<&'o Opt>
 #[derive(Debug, Drop)]
 pub struct Options {
     alloc: Global,
-    groups: Vec<OptGroup>,
+    pub(crate) groups: Vec<OptGroup>,
     style: ParsingStyle,
-    long_only: bool,
+    pub(crate) long_only: bool,
 }
 
 impl Model for Options {
