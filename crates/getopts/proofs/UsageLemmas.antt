@@ -3,13 +3,15 @@ use Rattle.std.proofs.Common.{◌≡◌, ℕ, ◌+◌, ◌<◌, Bool, List, [], 
 use Rattle.std.specs.Prelude.{◌↔◌, Result, Ok, Err, OnOk}
 use Rattle.std.specs.List.{AllZip, flat_map, join_by, list_any}
 use Rattle.std.proofs.lemmas.List.{map_more, map_push}
-use Rattle.getopts.specs.Names.{Text, is_empty}
-use Rattle.getopts.specs.Options.{Group, Declared, group_view}
-use Rattle.getopts.specs.Usage.{IsTheOnly, joined, row_text, IsUsageRow, AreUsageRows, usage_text, IsUsageText}
+use Rattle.getopts.specs.Names.{Text}
+use Rattle.getopts.specs.Options.{Group, Declared}
+use Rattle.getopts.specs.Usage.{IsTheOnly, joined, head, row_text, IsUsageRow, AreUsageRows, usage_text, IsUsageText}
 use Rattle.getopts.specs.Wrap.{IsDescriptionRows}
-use Rattle.getopts.specs.declared.options.OptGroup.{OptGroup}
-use Rattle.getopts.specs.declared.options.ParsingStyle.{ParsingStyle}
-use Rattle.getopts.specs.declared.usage.Layout.{Layout}
+
+-- what holds anyway holds where the answer is `Ok`
+pub on_ok : {T E P : Type 0} (r : Result T E) → P → OnOk r P
+on_ok (Ok x) holds = holds
+on_ok (Err e) holds = tt
 
 -- ---- texts
 
@@ -33,7 +35,7 @@ list_any-map f test (x ∷ xs) = ap (λ rest. test (f x) || rest) (list_any-map 
 pub made_of_the_only : {X Y : Type 0} (P : X → Type 0) (make : X → Y) (x : X) (y : Y) → IsTheOnly P x → y ≡ make x → IsTheOnly (λ (other : Y). (z : X) × P z × (other ≡ make z)) y
 made_of_the_only {X} P make x y only made = λ other. (
   (λ found. found.2 ∙ ap make ((only found.0).0 found.1) ∙ sym made),
-  (λ same. (x, (only x).1 refl, same ∙ made))
+  (λ same. (x, (only x).1 refl, same ∙ made)),
 )
 
 -- a list whose elements are each the only one is the only list
@@ -66,23 +68,9 @@ all_zip_more R f g xs i x ys y within is so_far last =
 -- ---- rows
 
 -- a row that is made of the only description rows is the only row
-pub row_is_the_only : (layout : Layout) (group : Group) (description : List Text) (row : Text) → IsTheOnly (IsDescriptionRows 54 group.description) description → row ≡ row_text layout group description → IsTheOnly (IsUsageRow layout group) row
-row_is_the_only layout group description row only made = made_of_the_only (IsDescriptionRows 54 group.description) (row_text layout group) description row only made
-
--- the only row of each group, in order, are the only usage rows
-pub rows_are_the_only : (held : List OptGroup) (style : ParsingStyle) (long_only any : Bool) (rows : List Text) → any ≡ list_any (λ (group : OptGroup). not (is_empty (string_bytes group.names.short))) held →
-    AllZip (λ (group : Group) (row : Text). IsTheOnly (IsUsageRow (record { long_only = long_only; any_short = any }) group) row) (map group_view held) rows →
-    IsTheOnly (AreUsageRows (record { groups = map group_view held; style = style; long_only = long_only })) rows
-rows_are_the_only held style long_only any rows any_is each =
-    let same : any ≡ list_any (λ (group : Group). not (is_empty group.names.short)) (map group_view held) = any_is ∙ sym (list_any-map group_view (λ (group : Group). not (is_empty group.names.short)) held) in
-    subst (λ (b : Bool). IsTheOnly (AllZip (IsUsageRow (record { long_only = long_only; any_short = b })) (map group_view held)) rows) same
-    (each_is_the_only (IsUsageRow (record { long_only = long_only; any_short = any })) (map group_view held) rows each)
+pub row_is_the_only : (long_only among_shorts : Bool) (group : Group) (description : List Text) (row : Text) → IsTheOnly (IsDescriptionRows 54 group.description) description → row ≡ row_text (head long_only among_shorts group) description → IsTheOnly (IsUsageRow long_only among_shorts group) row
+row_is_the_only long_only among_shorts group description row only made = made_of_the_only (IsDescriptionRows 54 group.description) (row_text (head long_only among_shorts group)) description row only made
 
 -- a text that is made of the only usage rows is the only usage text
 pub text_is_the_only : (options : Declared) (brief : Text) (rows : List Text) (text : Text) → IsTheOnly (AreUsageRows options) rows → text ≡ usage_text brief rows → IsTheOnly (IsUsageText options brief) text
 text_is_the_only options brief rows text only made = made_of_the_only (AreUsageRows options) (usage_text brief) rows text only made
-
--- what holds anyway holds where the answer is `Ok`
-pub on_ok : {T E P : Type 0} (r : Result T E) → P → OnOk r P
-on_ok (Ok x) holds = holds
-on_ok (Err e) holds = tt

@@ -1,5 +1,5 @@
 -- What usage texts say: the line of all options, and the rows of options with their descriptions.
-use Rattle.std.specs.Prelude.{◌≡◌, ◌↔◌, ℕ, ◌-◌, Bool, not, nat_lt, List, [], ◌∷◌, ◌++◌, map, codes, if◌then◌else◌}
+use Rattle.std.specs.Prelude.{◌≡◌, ◌↔◌, ℕ, ◌-◌, Bool, not, nat_lt, List, [], ◌++◌, map, codes, if◌then◌else◌}
 use Rattle.std.specs.List.{AllZip, join_by, list_any, repeat}
 use Rattle.getopts.specs.Names.{Text, Names, is_empty}
 use Rattle.getopts.specs.Options.{Group, Declared}
@@ -8,11 +8,10 @@ use Rattle.getopts.specs.declared.options.HasArg.{HasArg}
 use Rattle.getopts.specs.declared.options.HasArg.TheVariants as argument
 use Rattle.getopts.specs.declared.options.Occur.{Occur}
 use Rattle.getopts.specs.declared.options.Occur.TheVariants as occurrence
-use Rattle.getopts.specs.declared.usage.Layout.{Layout}
 
--- the value meets `P`, and no other value does
+-- the value meets the fact, and no other value does
 abbrev pub IsTheOnly : {X : Type 0} → (X → Type 0) → X → Type 0
-IsTheOnly {X} P value = (other : X) → P other ↔ (other ≡ value)
+IsTheOnly {X} Fact value = (other : X) → Fact other ↔ (other ≡ value)
 
 -- ---- texts
 
@@ -56,25 +55,22 @@ short_usage_text options program = codes "Usage: " ++ (program ++ (codes " " ++ 
 
 -- ---- rows
 
--- the mode, and whether any group has a short name
-abbrev pub layout_of : Declared → Layout
-layout_of options = record {
-  long_only = options.long_only;
-  any_short = list_any (λ group. not (is_empty group.names.short)) options.groups
-}
+-- whether any group has a short name
+abbrev pub any_short : List Group → Bool
+any_short groups = list_any (λ group. not (is_empty group.names.short)) groups
 
--- the short name with a dash, and what parts it from what follows; spaces in its place where another group has one
-abbrev pub short_part : Layout → Names → Text
-short_part layout names =
+-- the short name with a dash, and what parts it from what follows; where there is none, four spaces if another group has one
+abbrev pub short_part : Bool → Names → Text
+short_part among_shorts names =
     if is_empty names.short
-    then (if layout.any_short then spaces 4 else [])
+    then (if among_shorts then spaces 4 else [])
     else codes "-" ++ (names.short ++ (if has_columns names.long then codes ", " else codes " "))
 
 -- the long name with its dashes and a space, unless it takes no column
-abbrev pub long_part : Layout → Text → Text
-long_part layout long =
+abbrev pub long_part : Bool → Text → Text
+long_part long_only long =
     if has_columns long
-    then (if layout.long_only then codes "-" else codes "--") ++ (long ++ codes " ")
+    then (if long_only then codes "-" else codes "--") ++ (long ++ codes " ")
     else []
 
 -- the hint, which stands in brackets where the argument may be left out
@@ -84,28 +80,28 @@ argument_part argument.No hint = []
 argument_part argument.Maybe hint = codes "[" ++ (hint ++ codes "]")
 
 -- what stands before the description of a group
-abbrev pub head : Layout → Group → Text
-head layout group = spaces 4 ++ (short_part layout group.names ++ (long_part layout group.names.long ++ argument_part group.kind group.hint))
+abbrev pub head : Bool → Bool → Group → Text
+head long_only among_shorts group = spaces 4 ++ (short_part among_shorts group.names ++ (long_part long_only group.names.long ++ argument_part group.kind group.hint))
 
 -- a line end, and the spaces under a head
 abbrev pub next_row : Text
-next_row = 10 ∷ spaces 24
+next_row = codes "\n" ++ spaces 24
 
 -- what stands between a head and its description: the spaces that its columns lack to 24, or else the next row
 abbrev pub padding : Text → Text
 padding head = if nat_lt (width_of head) 24 then spaces (24 - width_of head) else next_row
 
--- a group's row, where these are the rows of its description
-abbrev pub row_text : Layout → Group → List Text → Text
-row_text layout group description = head layout group ++ (padding (head layout group) ++ joined next_row description)
+-- what a head becomes with the rows of its description
+abbrev pub row_text : Text → List Text → Text
+row_text head description = head ++ (padding head ++ joined next_row description)
 
 -- a group's row: its head, its padding, and the rows of its description within 54 columns
-abbrev pub IsUsageRow : Layout → Group → Text → Type 0
-IsUsageRow layout group row = (description : List Text) × IsDescriptionRows 54 group.description description × (row ≡ row_text layout group description)
+abbrev pub IsUsageRow : Bool → Bool → Group → Text → Type 0
+IsUsageRow long_only among_shorts group row = (description : List Text) × IsDescriptionRows 54 group.description description × (row ≡ row_text (head long_only among_shorts group) description)
 
 -- each group's row, in order of definition
 abbrev pub AreUsageRows : Declared → List Text → Type 0
-AreUsageRows options rows = AllZip (IsUsageRow (layout_of options)) options.groups rows
+AreUsageRows options rows = AllZip (IsUsageRow options.long_only (any_short options.groups)) options.groups rows
 
 -- ---- the usage text
 

@@ -9,4 +9,4 @@ pub returns : goal.returns
 returns c =
     let rows = map string_bytes c.in_ok-rows.rows.items in
     let made : IfOk c.format.result (λ text. string_bytes text ≡ usage_text c.args.brief.now rows) = search rules in
-    IfOk-weaker c.format.result _ _ (λ text is_made. text_is_the_only c.args.self.now c.args.brief.now rows (string_bytes text) c.in_ok-rows.ensures is_made) made
+    record { text = IfOk-weaker c.format.result _ _ (λ text is_made. text_is_the_only c.args.self.now c.args.brief.now rows (string_bytes text) c.in_ok-rows.ensures is_made) made }
