@@ -1,9 +1,12 @@
 pub mod CanonLemmas
+pub mod CountLemmas
 pub mod FailLemmas
 pub mod MatchesLemmas
 pub mod NamesLemmas
 pub mod OptLemmas
 pub mod OptionsLemmas
+pub mod ParseLemmas
+pub mod SameLemmas
 pub mod ScanClusters
 pub mod ScanItems
 pub mod ScanLawProofs
@@ -13,6 +16,7 @@ pub mod ScanSteps
 pub mod ScanTexts
 pub mod ScanTurns
 pub mod ScanWords
+pub mod UsageLemmas
 pub mod WrapLemmas
 pub mod WrapLines
 pub mod WrapRows

@@ -1,6 +1,6 @@
--- Lemmas on searches in a list that is seen through a map.
+-- Lemmas on searches in a list that is seen through a map, and on copies and equality of options.
 use denote.Enum.Bare.{sameb}
-use Rattle.std.proofs.Common.{◌≡◌, ◌==◌, ℕ, ◌+◌, Bool, true, false, not, cond, List, [], ◌∷◌, map, length, Option, Some, None, refl, ap, ◌∙◌, sym, ltb}
+use Rattle.std.proofs.Common.{◌≡◌, ◌==◌, ℕ, ◌+◌, Bool, true, false, not, cond, List, [], ◌∷◌, map, length, Option, Some, None, refl, ap, ◌∙◌, ltb}
 use Rattle.std.specs.Bool.{Decides}
 use Rattle.std.specs.Cmp.{booleans_Decides}
 use Rattle.std.specs.Cmp.Lexicographic.{pointwise_decides, bytes_decides}

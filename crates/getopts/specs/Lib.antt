@@ -6,7 +6,9 @@ pub mod Line
 pub mod Matches
 pub mod Names
 pub mod Options
-pub mod Scan
 pub mod Parse
+pub mod SameMatches
+pub mod Scan
 pub mod ScanLaws
+pub mod Usage
 pub mod Wrap

@@ -1,5 +1,5 @@
 -- What the matches of a reading hold, and whether the counts are kept.
-use Rattle.std.specs.Prelude.{◌≡◌, ◌==◌, ℕ, ◌+◌, ◌≤◌, ⊤, List, [], ◌∷◌, ◌++◌, length, map, Option}
+use Rattle.std.specs.Prelude.{◌≡◌, ◌==◌, if◌then◌else◌, ℕ, ◌+◌, ◌≤◌, ⊤, List, [], ◌∷◌, ◌++◌, length, map, Option}
 use Rattle.std.specs.List.{AllByRecursion, filter}
 use Rattle.getopts.specs.Names.{Text, Names, main_name}
 use Rattle.getopts.specs.Options.{Group, Declared, grammar_of, Known}
@@ -73,12 +73,13 @@ KeepsCount group = FitsCount group.occurrence (length group.found)
 abbrev pub KeepsCounts : List MatchedGroup → Type 0
 KeepsCounts groups = AllByRecursion KeepsCount groups
 
--- the fault of a group that breaks its count: missing where there is no occurrence, else given too often
+-- the fault of a broken count: missing where there is no occurrence, else given too often
+abbrev pub count_fault : Text → ℕ → Fault
+count_fault main count = if count == 0 then option_missing main else option_duplicated main
+
+-- the fault of a group that breaks its count
 abbrev pub broken_count : MatchedGroup → Fault
-broken_count group = broken_by group.found where
-  broken_by : List Found → Fault
-  broken_by [] = option_missing (main_name group.names)
-  broken_by (first ∷ others) = option_duplicated (main_name group.names)
+broken_count group = count_fault (main_name group.names) (length group.found)
 
 -- the count fault: that of the first group in order of definition that breaks its count
 pub record IsCountFault (groups : List MatchedGroup) (fault : Fault) : Type 0 where

@@ -1,9 +1,10 @@
 -- The answers of `parse`: exactly one of three cases holds of the words.
 use Rattle.std.specs.Prelude.{◌≡◌, ◌⊎◌, List}
 use Rattle.getopts.specs.Names.{Text}
-use Rattle.getopts.specs.Options.{Declared, grammar_of}
+use Rattle.getopts.specs.Options.{Declared, Grammar, grammar_of}
 use Rattle.getopts.specs.Fail.{Fault}
 use Rattle.getopts.specs.Scan.{Reading, IsReading, IsScanFault}
+use Rattle.getopts.specs.ScanLaws.{LongAttachedOrSeparate, ShortAttachedOrSeparate, ClusterSplits, OneDashOrTwo, LinesCompose, TrailingStartIsAfterStop, FreeWordsAreSubsequence}
 use Rattle.getopts.specs.Matches.{Matched, matches_of, KeepsCounts, IsCountFault}
 
 -- every reading of the words is this one
@@ -36,3 +37,14 @@ pub record HasNoReading (options : Declared) (words : List Text) (fault : Fault)
 -- the words are refused with this fault
 abbrev pub IsRefused : Declared → List Text → Fault → Type 0
 IsRefused options words fault = HasNoReading options words fault ⊎ BreaksCounts options words fault
+
+-- The laws of readings by a grammar: other spellings of one line, lines one after the other, and where
+-- free words stand.
+pub record KeepsReadingLaws (grammar : Grammar) : Type 0 where
+  pub long_argument : LongAttachedOrSeparate grammar
+  pub short_argument : ShortAttachedOrSeparate grammar
+  pub cluster : ClusterSplits grammar
+  pub dashes : OneDashOrTwo grammar
+  pub lines : LinesCompose grammar
+  pub trailing : TrailingStartIsAfterStop grammar
+  pub frees : FreeWordsAreSubsequence grammar

@@ -213,7 +213,8 @@ impl Options {
     /// panics in this call where one is too long or too short, and takes two empty names, on which
     /// `parse` then panics. The answer is a `Result`, so calls are chained with `?`: in it is a reference
     /// to the same options. An error comes only where memory was refused, and leaves the options
-    /// unchanged.
+    /// unchanged. No clause here can say so, since the answer borrows from the options: the clause `err`
+    /// of `push_group` does.
     pub fn opt(
         &mut self,
         short_name: &str,
@@ -239,8 +240,9 @@ impl Options {
 
     /// Adds an option that takes no argument and may come once.
     ///
-    /// `options.optflag("q", "quiet", "say less")?` reads `-q` and `--quiet`, once on a line. As in the Rust,
-    /// usage texts show no hint for it. The condition on the names, the answer and an error are those of `opt`.
+    /// `options.optflag("q", "quiet", "say less")?` reads `-q` and `--quiet`, once on a line. As in the
+    /// Rust, usage texts show no hint for it. The condition on the names, the answer and an error are
+    /// those of `opt`.
     pub fn optflag(
         &mut self,
         short_name: &str,

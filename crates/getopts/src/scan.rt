@@ -1,15 +1,15 @@
 //! Reading words as items, from the first to the last.
 
-ghost use Rattle.std.specs.Prelude.{◌≡◌, ◌≢◌, ◌<◌, ◌∷◌, ◌++◌, [], ℕ, List, length, MatchOption, OnSome, Some, None, true, false, IfOk, IfErr, OnOk, ◌==◌, map, slice_get, slice_index, encode_utf8};
+ghost use Rattle.std.specs.Prelude.{◌≡◌, ◌≢◌, ◌<◌, ◌∷◌, ◌++◌, [], ℕ, List, length, MatchOption, OnSome, Some, None, true, false, IfOk, IfErr, OnOk, OnErr, ◌==◌, map, slice_get, slice_index, encode_utf8};
 ghost use Rattle.std.specs.Char.{IsScalar};
-ghost use Rattle.std.specs.Str.{IsCharBoundary};
+ghost use Rattle.std.specs.Str.{IsCharBoundary, IsUtf8};
 ghost use Rattle.getopts.specs.Fail.{Tells, argument_missing};
-ghost use Rattle.std.specs.List.{filter};
+ghost use Rattle.std.specs.List.{filter, AllByRecursion};
 ghost use Rattle.getopts.specs.Line.{texts, IsEnding, occurrences_view};
 ghost use Rattle.getopts.specs.Options.{opt_view};
-ghost use Rattle.getopts.specs.Matches.{matched_known, KeepsCounts, IsCountFault};
+ghost use Rattle.getopts.specs.Matches.{matched_known, count_fault, FitsCount, KeepsCounts, IsCountFault};
 ghost use Rattle.std.specs.Option.{option_copied};
-ghost use Rattle.getopts.specs.Names.{Text};
+ghost use Rattle.getopts.specs.Names.{Text, main_name, names_view};
 ghost use Rattle.getopts.specs.Scan.{dash, is_dashed, holds_equals, with_equals, IsFaultAt, IsShortForm, IsScanFault, Occurrence as Found};
 
 use crate::fail::Fail;
@@ -330,33 +330,67 @@ fn count_of(occurrences: &[Occurrence<'_>], place: usize) -> usize
     occurrences.iter().filter(|o| o.group == place).count()
 }
 
+/// Tests how often an option came.
+fn check_count(alloc: Global, opt: &Opt, count: usize) -> Result<(), Fail>
+    ensures kept { OnOk result (FitsCount opt.now.occur count) }
+    ensures broken { OnErr result (¬ (FitsCount opt.now.occur count)) }
+    ensures fault { IfErr result (λ fail. Tells fail (λ fault. fault ≡ count_fault (main_name (names_view opt.now.names)) count)) }
+{
+    let kept = match opt.occur {
+        Occur::Req => count == 1,
+        Occur::Optional => count <= 1,
+        Occur::Multi => true,
+    };
+    if kept {
+        Ok(())
+    } else if count == 0 {
+        Err(Fail::option_missing(alloc, opt.names.main()))
+    } else {
+        Err(Fail::option_duplicated(alloc, opt.names.main()))
+    }
+}
+
 /// Tests the counts, group by group in order of definition.
 fn check_counts(alloc: Global, opts: &[Opt], occurrences: &[Occurrence<'_>]) -> Result<(), Fail>
     ensures ok { OnOk result (KeepsCounts (matched_known 0 (map opt_view opts.now) (occurrences_view occurrences.now))) }
     ensures err { IfErr result (λ fail. Tells fail (IsCountFault (matched_known 0 (map opt_view opts.now) (occurrences_view occurrences.now)))) }
 {
     for (place, opt) in opts.iter().enumerate() {
-        let count = count_of(occurrences, place);
-        if count == 0 && opt.occur == Occur::Req {
-            return Err(Fail::option_missing(alloc, opt.names.main()));
-        }
-        if count > 1 && opt.occur != Occur::Multi {
-            return Err(Fail::option_duplicated(alloc, opt.names.main()));
-        }
+        check_count(alloc, opt, count_of(occurrences, place))?;
     }
     Ok(())
+}
+
+/// A `&str` is a text.
+fn is_text(word: &str)
+    ensures { IsUtf8 word.now }
+{
+}
+
+/// Each word is a text, as its type says. It is for the proofs alone: nothing is left of it once built.
+fn are_texts(words: &[&str])
+    ensures { AllByRecursion IsUtf8 (texts words.now) }
+{
+    for word in words {
+        is_text(word);
+    }
 }
 
 impl Options {
     ghost use Rattle.std.specs.Iterator.{IsFinite};
     ghost use Rattle.std.specs.Iterator.Runs.{WholeRun};
-    ghost use Rattle.getopts.specs.Parse.{IsAccepted, IsRefused};
+    ghost use Rattle.getopts.specs.Options.{grammar_of};
+    ghost use Rattle.getopts.specs.ScanLaws.{LongAttachedOrSeparate, ShortAttachedOrSeparate, ClusterSplits, OneDashOrTwo, LinesCompose, TrailingStartIsAfterStop, FreeWordsAreSubsequence, HavePositionsInOrder};
+    ghost use Rattle.getopts.specs.Parse.{IsAccepted, IsRefused, KeepsReadingLaws};
 
     /// Reads a line by these options.
     fn parse_words(&self, alloc: Global, words: &[&str]) -> crate::Result
         ensures accepted { IfOk result (λ matches. IsAccepted self.now (texts words.now) matches) }
         ensures refused { IfErr result (λ fail. Tells fail (IsRefused self.now (texts words.now))) }
+        ensures counts { IfOk result (λ matches. KeepsCounts matches.groups × HavePositionsInOrder matches.groups) }
+        ensures laws { OnOk result (KeepsReadingLaws (grammar_of self.now)) }
     {
+        are_texts(words);
         let opts = known_options(alloc, &self.groups)?;
         let scanner = Scanner {
             opts: &opts,
@@ -368,7 +402,22 @@ impl Options {
         Ok(Matches::from_line(alloc, opts, &line)?)
     }
 
-    /// Reads a line of words by these options, without the program's own name.
+    /// Reads the words of a line, without the program's own name.
+    ///
+    /// Every list of words is one of three things, and only one: it has a reading that keeps the counts,
+    /// and the answer is what that reading gives; it has a reading that breaks them, and the answer is the
+    /// fault of the first option, in order of definition, that is missing or came too often; or it has no
+    /// reading, and the answer is the first fault in the order of the words. `Fail::OutOfMemory` comes
+    /// where memory was refused, in place of any other answer. All items of the iterator are taken before
+    /// any of these answers.
+    ///
+    /// The iterator has to end; `words.iter().copied()` of a list of words does. A refusal gives no
+    /// matches, and the options stay as they are.
+    ///
+    /// With an option `o`/`output` that needs an argument, `["-ofile", "x"]`, `["-o", "file", "x"]` and
+    /// `["--output=file", "x"]` all give `output` the value `file`, and the free word `x`.
+    ///
+    /// The Rust takes words that may be no UTF-8, and refuses those.
     pub fn parse<'a, I: Iterator<Item = &'a str> + Drop>(
         &self,
         alloc: Global,
@@ -380,6 +429,21 @@ impl Options {
             (λ run. IsAccepted self.now (texts run.items) matches)) }
         ensures refused { IfErr result (λ fail. Tells fail (λ fault. WholeRun I.next_gives args
             (λ run. IsRefused self.now (texts run.items) fault))) }
+
+        // What an accepted line gives keeps the counts, and tells positions in order.
+        ensures counts_kept { IfOk result (λ matches. KeepsCounts matches.groups) }
+        ensures positions_in_order { IfOk result (λ matches. HavePositionsInOrder matches.groups) }
+
+        // Other spellings of an accepted line, and lines one after the other, by these options.
+        ensures long_argument { OnOk result (LongAttachedOrSeparate (grammar_of self.now)) }
+        ensures short_argument { OnOk result (ShortAttachedOrSeparate (grammar_of self.now)) }
+        ensures cluster_splits { OnOk result (ClusterSplits (grammar_of self.now)) }
+        ensures one_dash_or_two { OnOk result (OneDashOrTwo (grammar_of self.now)) }
+        ensures lines_compose { OnOk result (LinesCompose (grammar_of self.now)) }
+
+        // Where free words stand.
+        ensures trailing_start { OnOk result (TrailingStartIsAfterStop (grammar_of self.now)) }
+        ensures free_words { OnOk result (FreeWordsAreSubsequence (grammar_of self.now)) }
     {
         let words: Vec<&str> = args.collect(alloc)?;
         self.parse_words(alloc, &words)

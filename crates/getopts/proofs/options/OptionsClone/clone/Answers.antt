@@ -1,5 +1,5 @@
 -- The copied groups are seen as the groups that they were copied from.
-use Rattle.std.proofs.Common.{◌≡◌, map, ap, ◌∙◌}
+use Rattle.std.proofs.Common.{ap, ◌∙◌}
 use Rattle.getopts.specs.Options.{group_view}
 use Rattle.getopts.proofs.OptionsLemmas.{map-alike}
 use Rattle.getopts.proofs.options.OptionsClone.clone.Goals as goal
