@@ -3,12 +3,21 @@
 use crate::fixtures::Adding::{Optflag, Optflagmulti, Optmulti};
 use crate::fixtures::Answer::{Count, Free, Str};
 use crate::fixtures::Meaning::Accepted;
-use crate::fixtures::{declared, expect_rows, of_parts};
+use crate::fixtures::{Group, Parts, Row, declared, expect_rows, of_parts};
 use getopts::{HasArg, Occur, Options, ParsingStyle};
 use std::test::Fail;
 
 #[test]
 fn calls_that_add_a_group_are_chained(rt: HostRuntime) -> Result<(), Fail> {
+    const ROWS: &[Row] = &[(
+        &["-apple", "-output=x", "-v", "--verbose", "in", "-v"],
+        Accepted(&[
+            Count("apple", 1),
+            Str("o", Some("x")),
+            Count("v", 2),
+            Free(&["in", "-v"]),
+        ]),
+    )];
     let alloc = rt.alloc();
     let mut options = Options::new(alloc);
     options
@@ -17,20 +26,7 @@ fn calls_that_add_a_group_are_chained(rt: HostRuntime) -> Result<(), Fail> {
         .parsing_style(ParsingStyle::StopAtFirstFree)
         .optflagmulti("v", "verbose", "say more")?
         .long_only(true);
-    expect_rows(
-        &rt,
-        alloc,
-        &options,
-        &[(
-            &["-apple", "-output=x", "-v", "--verbose", "in", "-v"],
-            Accepted(&[
-                Count("apple", 1),
-                Str("o", Some("x")),
-                Count("v", 2),
-                Free(&["in", "-v"]),
-            ]),
-        )],
-    )?;
+    expect_rows(&rt, alloc, &options, ROWS)?;
     Ok(())
 }
 
@@ -88,12 +84,8 @@ fn calls_for_the_common_kinds(rt: HostRuntime) -> Result<(), Fail> {
 
 #[test]
 fn options_are_equal_in_all_parts_of_a_group(rt: HostRuntime) -> Result<(), Fail> {
-    let alloc = rt.alloc();
-    let parts = ("n", "name", "D", "H", HasArg::Yes, Occur::Req);
-    let options = of_parts(&rt, alloc, parts)?;
-    assert!(rt; options == of_parts(&rt, alloc, parts)?, "the same parts");
-    assert!(rt; options != Options::new(alloc), "no group");
-    for (part, parts) in [
+    const PARTS: Parts = ("n", "name", "D", "H", HasArg::Yes, Occur::Req);
+    const OTHERS: &[(&str, Parts)] = &[
         (
             "short name",
             ("m", "name", "D", "H", HasArg::Yes, Occur::Req),
@@ -115,21 +107,26 @@ fn options_are_equal_in_all_parts_of_a_group(rt: HostRuntime) -> Result<(), Fail
             "kind of occurrence",
             ("n", "name", "D", "H", HasArg::Yes, Occur::Multi),
         ),
-    ] {
-        assert!(rt; options != of_parts(&rt, alloc, parts)?, "another {part}");
+    ];
+    let alloc = rt.alloc();
+    let options = of_parts(&rt, alloc, PARTS)?;
+    assert!(rt; options == of_parts(&rt, alloc, PARTS)?, "the same parts");
+    assert!(rt; options != Options::new(alloc), "no group");
+    for (part, parts) in OTHERS {
+        assert!(rt; options != of_parts(&rt, alloc, *parts)?, "another {part}");
     }
     Ok(())
 }
 
 #[test]
 fn options_are_equal_in_order_style_and_mode(rt: HostRuntime) -> Result<(), Fail> {
+    const GROUPS: &[Group] = &[(Optflag, "a", "apple"), (Optflag, "b", "")];
+    const TURNED: &[Group] = &[(Optflag, "b", ""), (Optflag, "a", "apple")];
     let alloc = rt.alloc();
-    let groups = [(Optflag, "a", "apple"), (Optflag, "b", "")];
-    let options = declared(&rt, alloc, &groups)?;
-    let mut other = declared(&rt, alloc, &groups)?;
+    let options = declared(&rt, alloc, GROUPS)?;
+    let mut other = declared(&rt, alloc, GROUPS)?;
     assert!(rt; options == other, "the same groups");
-    let turned = declared(&rt, alloc, &[(Optflag, "b", ""), (Optflag, "a", "apple")])?;
-    assert!(rt; options != turned, "another order");
+    assert!(rt; options != declared(&rt, alloc, TURNED)?, "another order");
     other.parsing_style(ParsingStyle::StopAtFirstFree);
     assert!(rt; options != other, "another style");
     other.parsing_style(ParsingStyle::FloatingFrees);
@@ -143,12 +140,9 @@ fn options_are_equal_in_order_style_and_mode(rt: HostRuntime) -> Result<(), Fail
 
 #[test]
 fn clone_of_options_equals_its_source(rt: HostRuntime) -> Result<(), Fail> {
+    const GROUPS: &[Group] = &[(Optmulti, "L", ""), (Optflagmulti, "v", "verbose")];
     let alloc = rt.alloc();
-    let mut options = declared(
-        &rt,
-        alloc,
-        &[(Optmulti, "L", ""), (Optflagmulti, "v", "verbose")],
-    )?;
+    let mut options = declared(&rt, alloc, GROUPS)?;
     assert!(rt; options.clone()? == options, "as made");
     options
         .parsing_style(ParsingStyle::StopAtFirstFree)

@@ -4,14 +4,12 @@ use crate::fixtures::Answer::{
 };
 use crate::fixtures::Fault::{ArgumentMissing, OptionDuplicated, UnrecognizedOption};
 use crate::fixtures::Meaning::{Accepted, Refused};
-use crate::fixtures::expect_lines;
+use crate::fixtures::{Table, expect_lines};
 use std::test::Fail;
 
 #[test]
 fn flags_and_arguments_in_clusters(rt: HostRuntime) -> Result<(), Fail> {
-    expect_lines(
-        &rt,
-        rt.alloc(),
+    const TABLES: &[Table] = &[(
         &[(Optflag, "a", ""), (Optopt, "o", ""), (Optflagopt, "c", "")],
         &[
             (
@@ -28,15 +26,14 @@ fn flags_and_arguments_in_clusters(rt: HostRuntime) -> Result<(), Fail> {
             ),
             (&["-a-"], Refused(UnrecognizedOption("-"))),
         ],
-    )?;
+    )];
+    expect_lines(&rt, rt.alloc(), TABLES)?;
     Ok(())
 }
 
 #[test]
 fn options_of_one_cluster_share_a_position(rt: HostRuntime) -> Result<(), Fail> {
-    expect_lines(
-        &rt,
-        rt.alloc(),
+    const TABLES: &[Table] = &[(
         &[(Optmulti, "L", ""), (Optflagmulti, "v", "verbose")],
         &[(
             &["-vvLverbose", "-v"],
@@ -47,29 +44,27 @@ fn options_of_one_cluster_share_a_position(rt: HostRuntime) -> Result<(), Fail> 
                 Positions("L", &[0]),
             ]),
         )],
-    )?;
+    )];
+    expect_lines(&rt, rt.alloc(), TABLES)?;
     Ok(())
 }
 
 #[test]
 fn separate_argument_is_no_item(rt: HostRuntime) -> Result<(), Fail> {
-    expect_lines(
-        &rt,
-        rt.alloc(),
+    const TABLES: &[Table] = &[(
         &[(Optmulti, "a", "")],
         &[(
             &["-a", "1", "-a", "2"],
             Accepted(&[StrsPos("a", &[(0, "1"), (1, "2")])]),
         )],
-    )?;
+    )];
+    expect_lines(&rt, rt.alloc(), TABLES)?;
     Ok(())
 }
 
 #[test]
 fn arguments_that_are_needed(rt: HostRuntime) -> Result<(), Fail> {
-    expect_lines(
-        &rt,
-        rt.alloc(),
+    const TABLES: &[Table] = &[(
         &[(Optopt, "t", "")],
         &[
             (&["-t", "1", "-t", "2", "-t"], Refused(ArgumentMissing("t"))),
@@ -80,15 +75,14 @@ fn arguments_that_are_needed(rt: HostRuntime) -> Result<(), Fail> {
             ),
             (&["-t", ""], Accepted(&[Str("t", Some(""))])),
         ],
-    )?;
+    )];
+    expect_lines(&rt, rt.alloc(), TABLES)?;
     Ok(())
 }
 
 #[test]
 fn arguments_that_may_be_left_out(rt: HostRuntime) -> Result<(), Fail> {
-    expect_lines(
-        &rt,
-        rt.alloc(),
+    const TABLES: &[Table] = &[(
         &[(Optflagopt, "c", "color")],
         &[
             (&["-c", "-"], Accepted(&[Strs("c", &["-"]), Free(&[])])),
@@ -105,34 +99,33 @@ fn arguments_that_may_be_left_out(rt: HostRuntime) -> Result<(), Fail> {
             (&["--color", "x"], Accepted(&[Strs("c", &[]), Free(&["x"])])),
             (&["--color="], Accepted(&[Strs("c", &[""])])),
         ],
-    )?;
+    )];
+    expect_lines(&rt, rt.alloc(), TABLES)?;
     Ok(())
 }
 
 #[test]
 fn equals_sign_in_a_cluster_is_of_the_argument(rt: HostRuntime) -> Result<(), Fail> {
-    expect_lines(
-        &rt,
-        rt.alloc(),
+    const TABLES: &[Table] = &[(
         &[(Optopt, "o", "")],
         &[
             (&["-o=5"], Accepted(&[Strs("o", &["=5"])])),
             (&["--o=5"], Accepted(&[Strs("o", &["5"])])),
         ],
-    )?;
+    )];
+    expect_lines(&rt, rt.alloc(), TABLES)?;
     Ok(())
 }
 
 #[test]
 fn wide_character_in_a_cluster_is_no_long_name(rt: HostRuntime) -> Result<(), Fail> {
-    expect_lines(
-        &rt,
-        rt.alloc(),
+    const TABLES: &[Table] = &[(
         &[(Optflag, "", "é")],
         &[
             (&["-é"], Refused(UnrecognizedOption("é"))),
             (&["--é"], Accepted(&[Present("é", true)])),
         ],
-    )?;
+    )];
+    expect_lines(&rt, rt.alloc(), TABLES)?;
     Ok(())
 }

@@ -1,14 +1,12 @@
 use crate::fixtures::Adding::{Optflag, Reqopt};
 use crate::fixtures::Fault::{OptionDuplicated, OptionMissing};
 use crate::fixtures::Meaning::Refused;
-use crate::fixtures::expect_lines;
+use crate::fixtures::{Meaning, Table, expect_lines};
 use std::test::Fail;
 
 #[test]
 fn required_option_once(rt: HostRuntime) -> Result<(), Fail> {
-    expect_lines(
-        &rt,
-        rt.alloc(),
+    const TABLES: &[Table] = &[(
         &[(Reqopt, "t", "test")],
         &[
             (
@@ -17,28 +15,25 @@ fn required_option_once(rt: HostRuntime) -> Result<(), Fail> {
             ),
             (&["blah"], Refused(OptionMissing("test"))),
         ],
-    )?;
+    )];
+    expect_lines(&rt, rt.alloc(), TABLES)?;
     Ok(())
 }
 
 #[test]
 fn first_broken_group_in_order_of_definition_is_named(rt: HostRuntime) -> Result<(), Fail> {
-    let alloc = rt.alloc();
-    let required = (Reqopt, "a", "");
-    let flag = (Optflag, "b", "");
-    let missing = Refused(OptionMissing("a"));
-    let duplicated = Refused(OptionDuplicated("b"));
-    expect_lines(
-        &rt,
-        alloc,
-        &[required, flag],
-        &[(&["-b", "-b"], missing), (&["--b", "--b"], missing)],
-    )?;
-    expect_lines(
-        &rt,
-        alloc,
-        &[flag, required],
-        &[(&["-b", "-b"], duplicated), (&["--b", "--b"], duplicated)],
-    )?;
+    const MISSING: Meaning = Refused(OptionMissing("a"));
+    const DUPLICATED: Meaning = Refused(OptionDuplicated("b"));
+    const TABLES: &[Table] = &[
+        (
+            &[(Reqopt, "a", ""), (Optflag, "b", "")],
+            &[(&["-b", "-b"], MISSING), (&["--b", "--b"], MISSING)],
+        ),
+        (
+            &[(Optflag, "b", ""), (Reqopt, "a", "")],
+            &[(&["-b", "-b"], DUPLICATED), (&["--b", "--b"], DUPLICATED)],
+        ),
+    ];
+    expect_lines(&rt, rt.alloc(), TABLES)?;
     Ok(())
 }

@@ -5,7 +5,7 @@ use crate::fixtures::Fault::{
 use getopts::Fail as Refusal;
 use std::test::Fail;
 
-const FAULTS: [(Fault<'static>, &str); 5] = [
+const FAULTS: [(Fault, &str); 5] = [
     (ArgumentMissing("N"), "Argument to option 'N' missing"),
     (UnrecognizedOption("N"), "Unrecognized option: 'N'"),
     (OptionMissing("N"), "Required option 'N' missing"),

@@ -5,7 +5,7 @@ ghost use Rattle.std.specs.String.{string_bytes};
 ghost use Rattle.getopts.specs.Accessors.{AreDefined, IsDefined};
 ghost use Rattle.getopts.specs.Line.{texts};
 
-use getopts::{Fail, HasArg, Matches, Occur, Options, names_lawful};
+use getopts::{Fail, HasArg, Matches, Occur, Options, ParsingStyle, names_lawful};
 use std::alloc::{AllocError, Global};
 use std::process::Abort;
 
@@ -22,59 +22,65 @@ pub enum Adding {
 }
 
 /// A group: the call that adds it, its short name and its long name.
-pub type Group<'a> = (Adding, &'a str, &'a str);
+pub type Group = (Adding, &'static str, &'static str);
+
+/// Groups, and lines beside what they mean by these groups.
+pub type Table = (&'static [Group], &'static [Row]);
 
 /// All parts of a group: short name, long name, description, hint, kind of argument, kind of occurrence.
-pub type Parts<'a> = (&'a str, &'a str, &'a str, &'a str, HasArg, Occur);
+pub type Parts = (
+    &'static str,
+    &'static str,
+    &'static str,
+    &'static str,
+    HasArg,
+    Occur,
+);
 
 /// An answer of matches: the call, what it's asked, and what it has to answer. `AnyPresent` is the answer
 /// of `opts_present` and `opts_present_any`, `FirstStr` that of `opts_str` and `opts_str_first`.
 #[derive(Clone, Copy, Debug)]
-pub enum Answer<'a> {
-    Defined(&'a str, bool),
-    Present(&'a str, bool),
-    Count(&'a str, usize),
-    Positions(&'a str, &'a [usize]),
-    Strs(&'a str, &'a [&'a str]),
-    StrsPos(&'a str, &'a [(usize, &'a str)]),
-    Str(&'a str, Option<&'a str>),
-    Default(&'a str, &'a str, Option<&'a str>),
-    AnyPresent(&'a [&'a str], bool),
-    FirstStr(&'a [&'a str], Option<&'a str>),
-    Free(&'a [&'a str]),
+pub enum Answer {
+    Defined(&'static str, bool),
+    Present(&'static str, bool),
+    Count(&'static str, usize),
+    Positions(&'static str, &'static [usize]),
+    Strs(&'static str, &'static [&'static str]),
+    StrsPos(&'static str, &'static [(usize, &'static str)]),
+    Str(&'static str, Option<&'static str>),
+    Default(&'static str, &'static str, Option<&'static str>),
+    AnyPresent(&'static [&'static str], bool),
+    FirstStr(&'static [&'static str], Option<&'static str>),
+    Free(&'static [&'static str]),
     TrailingStart(Option<usize>),
 }
 
 /// Why a line has to be refused, with the name that is told.
 #[derive(Clone, Copy, Debug)]
-pub enum Fault<'a> {
-    ArgumentMissing(&'a str),
-    UnrecognizedOption(&'a str),
-    OptionMissing(&'a str),
-    OptionDuplicated(&'a str),
-    UnexpectedArgument(&'a str),
+pub enum Fault {
+    ArgumentMissing(&'static str),
+    UnrecognizedOption(&'static str),
+    OptionMissing(&'static str),
+    OptionDuplicated(&'static str),
+    UnexpectedArgument(&'static str),
 }
 
 /// What a line has to mean: answers of its matches, or a fault.
 #[derive(Clone, Copy, Debug)]
-pub enum Meaning<'a> {
-    Accepted(&'a [Answer<'a>]),
-    Refused(Fault<'a>),
+pub enum Meaning {
+    Accepted(&'static [Answer]),
+    Refused(Fault),
 }
 
 /// A line beside what it has to mean.
-pub type Row<'a> = (&'a [&'a str], Meaning<'a>);
+pub type Row = (&'static [&'static str], Meaning);
 
 const HINT: &str = "HINT";
 
 const DESCRIPTION: &str = "what it does";
 
 /// Options with these groups in this order.
-pub fn declared(
-    rt: &impl Abort,
-    alloc: Global,
-    groups: &[Group<'_>],
-) -> Result<Options, AllocError> {
+pub fn declared(rt: &impl Abort, alloc: Global, groups: &[Group]) -> Result<Options, AllocError> {
     let mut options = Options::new(alloc);
     for (adding, short, long) in groups {
         declare(rt, &mut options, *adding, short, long)?;
@@ -106,7 +112,7 @@ pub fn declare(
 }
 
 /// Options with one group of these parts.
-pub fn of_parts(rt: &impl Abort, alloc: Global, parts: Parts<'_>) -> Result<Options, AllocError> {
+pub fn of_parts(rt: &impl Abort, alloc: Global, parts: Parts) -> Result<Options, AllocError> {
     let (short, long, desc, hint, hasarg, occur) = parts;
     assert!(rt; names_lawful(short, long), "names {short:?} and {long:?}");
     let mut options = Options::new(alloc);
@@ -142,14 +148,26 @@ fn same_pairs(pairs: &[(usize, String)], expected: &[(usize, &str)]) -> bool {
         .eq(expected.iter().copied())
 }
 
-/// Stops unless by these groups each of the lines means what stands beside it.
-pub fn expect_lines(
+/// Stops unless by the groups of each table its lines mean what stands beside them.
+pub fn expect_lines(rt: &impl Abort, alloc: Global, tables: &[Table]) -> Result<(), AllocError> {
+    expect_lines_in(rt, alloc, ParsingStyle::FloatingFrees, false, tables)
+}
+
+/// Stops unless in this style and mode, by the groups of each table, its lines mean what stands beside
+/// them.
+pub fn expect_lines_in(
     rt: &impl Abort,
     alloc: Global,
-    groups: &[Group<'_>],
-    rows: &[Row<'_>],
+    style: ParsingStyle,
+    long_only: bool,
+    tables: &[Table],
 ) -> Result<(), AllocError> {
-    expect_rows(rt, alloc, &declared(rt, alloc, groups)?, rows)
+    for (groups, rows) in tables {
+        let mut options = declared(rt, alloc, groups)?;
+        options.parsing_style(style).long_only(long_only);
+        expect_rows(rt, alloc, &options, rows)?;
+    }
+    Ok(())
 }
 
 /// Stops unless by these options each of the lines means what stands beside it.
@@ -157,18 +175,30 @@ pub fn expect_rows(
     rt: &impl Abort,
     alloc: Global,
     options: &Options,
-    rows: &[Row<'_>],
+    rows: &[Row],
 ) -> Result<(), AllocError> {
     for (words, meaning) in rows {
         match *meaning {
             Meaning::Accepted(answers) => {
                 let matches = accepted(rt, alloc, options, words);
-                for answer in answers {
-                    expect_answer(rt, alloc, &matches, *answer, words)?;
-                }
+                expect_answers(rt, alloc, &matches, answers, words)?;
             }
             Meaning::Refused(fault) => expect_refused(rt, alloc, options, words, fault)?,
         }
+    }
+    Ok(())
+}
+
+/// Stops unless the matches of these words give these answers.
+pub fn expect_answers(
+    rt: &impl Abort,
+    alloc: Global,
+    matches: &Matches,
+    answers: &[Answer],
+    words: &[&str],
+) -> Result<(), AllocError> {
+    for answer in answers {
+        expect_answer(rt, alloc, matches, *answer, words)?;
     }
     Ok(())
 }
@@ -178,7 +208,7 @@ fn expect_refused(
     alloc: Global,
     options: &Options,
     words: &[&str],
-    fault: Fault<'_>,
+    fault: Fault,
 ) -> Result<(), AllocError> {
     let Err(fail) = line(alloc, options, words) else {
         panic!(rt; "{words:?} is accepted");
@@ -187,7 +217,7 @@ fn expect_refused(
     Ok(())
 }
 
-impl Fault<'_> {
+impl Fault {
     /// The fault as `parse` answers it.
     pub fn fail(self, alloc: Global) -> Result<Fail, AllocError> {
         Ok(match self {
@@ -215,16 +245,20 @@ pub fn need_defined(rt: &impl Abort, matches: &Matches, name: &str)
 pub fn need_all_defined(rt: &impl Abort, matches: &Matches, names: &[&str])
     ensures { AreDefined matches.now.groups (texts names.now) }
 {
-    let defined = names.iter().all(|name| matches.opt_defined(name));
-    assert!(rt; defined, "not all of {names:?} are defined");
+    if let [first, others @ ..] = names {
+        need_defined(rt, matches, first);
+        need_all_defined(rt, matches, others);
+    }
 }
 
 /// Stops unless all names are defined.
 pub fn need_all_strings_defined(rt: &impl Abort, matches: &Matches, names: &[String])
     ensures { AreDefined matches.now.groups (map string_bytes names.now) }
 {
-    let defined = names.iter().all(|name| matches.opt_defined(name.as_str()));
-    assert!(rt; defined, "not all of {names:?} are defined");
+    if let [first, others @ ..] = names {
+        need_defined(rt, matches, first.as_str());
+        need_all_strings_defined(rt, matches, others);
+    }
 }
 
 /// Copies of texts.
@@ -235,12 +269,11 @@ pub fn strings(alloc: Global, texts: &[&str]) -> Result<Vec<String>, AllocError>
         .try_collect(alloc)
 }
 
-/// Stops unless the matches of these words give this answer.
-pub fn expect_answer(
+fn expect_answer(
     rt: &impl Abort,
     alloc: Global,
     matches: &Matches,
-    answer: Answer<'_>,
+    answer: Answer,
     words: &[&str],
 ) -> Result<(), AllocError> {
     match answer {

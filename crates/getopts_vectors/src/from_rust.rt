@@ -10,14 +10,14 @@ use crate::fixtures::Fault::{
     ArgumentMissing, OptionDuplicated, OptionMissing, UnexpectedArgument, UnrecognizedOption,
 };
 use crate::fixtures::Meaning::{Accepted, Refused};
-use crate::fixtures::{Meaning, accepted, declared, expect_lines, strings};
+use crate::fixtures::{Group, Meaning, Table, accepted, declared, expect_lines, strings};
 use std::test::Fail;
 
-const PRESENT: Meaning<'static> = Accepted(&[Present("t", true), Present("test", true)]);
+const PRESENT: Meaning = Accepted(&[Present("t", true), Present("test", true)]);
 
-const ABSENT: Meaning<'static> = Accepted(&[Present("t", false), Present("test", false)]);
+const ABSENT: Meaning = Accepted(&[Present("t", false), Present("test", false)]);
 
-const TWENTY: Meaning<'static> = Accepted(&[
+const TWENTY: Meaning = Accepted(&[
     Present("t", true),
     Present("test", true),
     Str("t", Some("20")),
@@ -26,9 +26,7 @@ const TWENTY: Meaning<'static> = Accepted(&[
 
 #[test]
 fn required_option(rt: HostRuntime) -> Result<(), Fail> {
-    expect_lines(
-        &rt,
-        rt.alloc(),
+    const TABLES: &[Table] = &[(
         &[(Reqopt, "t", "test")],
         &[
             (&["--test=20"], TWENTY),
@@ -41,15 +39,14 @@ fn required_option(rt: HostRuntime) -> Result<(), Fail> {
                 Refused(OptionDuplicated("test")),
             ),
         ],
-    )?;
+    )];
+    expect_lines(&rt, rt.alloc(), TABLES)?;
     Ok(())
 }
 
 #[test]
 fn optional_option(rt: HostRuntime) -> Result<(), Fail> {
-    expect_lines(
-        &rt,
-        rt.alloc(),
+    const TABLES: &[Table] = &[(
         &[(Optopt, "t", "test")],
         &[
             (&["--test=20"], TWENTY),
@@ -62,15 +59,14 @@ fn optional_option(rt: HostRuntime) -> Result<(), Fail> {
                 Refused(OptionDuplicated("test")),
             ),
         ],
-    )?;
+    )];
+    expect_lines(&rt, rt.alloc(), TABLES)?;
     Ok(())
 }
 
 #[test]
 fn option_that_comes_often(rt: HostRuntime) -> Result<(), Fail> {
-    expect_lines(
-        &rt,
-        rt.alloc(),
+    const TABLES: &[Table] = &[(
         &[(Optmulti, "t", "test")],
         &[
             (&["--test=20"], TWENTY),
@@ -86,15 +82,14 @@ fn option_that_comes_often(rt: HostRuntime) -> Result<(), Fail> {
             (&["--untest"], Refused(UnrecognizedOption("untest"))),
             (&["-u"], Refused(UnrecognizedOption("u"))),
         ],
-    )?;
+    )];
+    expect_lines(&rt, rt.alloc(), TABLES)?;
     Ok(())
 }
 
 #[test]
 fn flag(rt: HostRuntime) -> Result<(), Fail> {
-    expect_lines(
-        &rt,
-        rt.alloc(),
+    const TABLES: &[Table] = &[(
         &[(Optflag, "t", "test")],
         &[
             (&["--test"], PRESENT),
@@ -110,70 +105,66 @@ fn flag(rt: HostRuntime) -> Result<(), Fail> {
             ),
             (&["--"], Accepted(&[Free(&[]), TrailingStart(None)])),
         ],
-    )?;
+    )];
+    expect_lines(&rt, rt.alloc(), TABLES)?;
     Ok(())
 }
 
 #[test]
 fn flag_that_comes_often(rt: HostRuntime) -> Result<(), Fail> {
-    let alloc = rt.alloc();
-    let once = Accepted(&[Count("v", 1), Count("verbose", 1)]);
-    let twice = Accepted(&[Count("v", 2), Count("verbose", 2)]);
-    expect_lines(
-        &rt,
-        alloc,
-        &[(Optflagmulti, "v", "verbose")],
-        &[
-            (&["-v"], once),
-            (&["-v", "-v"], twice),
-            (&["-vv"], twice),
-            (&["--verbose"], once),
-            (&["--verbose", "--verbose"], twice),
-            (
-                &["--verbose", "-v", "-vv", "verbose"],
-                Accepted(&[Count("v", 4), Count("verbose", 4)]),
-            ),
-        ],
-    )?;
-    expect_lines(
-        &rt,
-        alloc,
-        &[(Optflagmulti, "a", "apple")],
-        &[(
-            &["-a", "--apple", "-a"],
-            Accepted(&[Count("a", 3), Count("apple", 3)]),
-        )],
-    )?;
+    const ONCE: Meaning = Accepted(&[Count("v", 1), Count("verbose", 1)]);
+    const TWICE: Meaning = Accepted(&[Count("v", 2), Count("verbose", 2)]);
+    const TABLES: &[Table] = &[
+        (
+            &[(Optflagmulti, "v", "verbose")],
+            &[
+                (&["-v"], ONCE),
+                (&["-v", "-v"], TWICE),
+                (&["-vv"], TWICE),
+                (&["--verbose"], ONCE),
+                (&["--verbose", "--verbose"], TWICE),
+                (
+                    &["--verbose", "-v", "-vv", "verbose"],
+                    Accepted(&[Count("v", 4), Count("verbose", 4)]),
+                ),
+            ],
+        ),
+        (
+            &[(Optflagmulti, "a", "apple")],
+            &[(
+                &["-a", "--apple", "-a"],
+                Accepted(&[Count("a", 3), Count("apple", 3)]),
+            )],
+        ),
+    ];
+    expect_lines(&rt, rt.alloc(), TABLES)?;
     Ok(())
 }
 
 #[test]
 fn flag_with_an_optional_argument(rt: HostRuntime) -> Result<(), Fail> {
-    let x = Accepted(&[Str("t", Some("x")), Str("test", Some("x"))]);
-    expect_lines(
-        &rt,
-        rt.alloc(),
+    const X: Meaning = Accepted(&[Str("t", Some("x")), Str("test", Some("x"))]);
+    const TABLES: &[Table] = &[(
         &[(Optflagopt, "t", "test")],
         &[
             (&["--test"], PRESENT),
             (&["-t"], PRESENT),
-            (&["-t", "x"], x),
-            (&["--test=x"], x),
+            (&["-t", "x"], X),
+            (&["--test=x"], X),
             (
                 &["--test", "x"],
                 Accepted(&[Str("t", None), Str("test", None)]),
             ),
             (&[], ABSENT),
         ],
-    )?;
+    )];
+    expect_lines(&rt, rt.alloc(), TABLES)?;
     Ok(())
 }
 
 #[test]
 fn free_words(rt: HostRuntime) -> Result<(), Fail> {
-    expect_lines(
-        &rt,
-        rt.alloc(),
+    const TABLES: &[Table] = &[(
         &[],
         &[
             (&[], Accepted(&[TrailingStart(None)])),
@@ -183,15 +174,14 @@ fn free_words(rt: HostRuntime) -> Result<(), Fail> {
             ),
             (&["-"], Accepted(&[Free(&["-"])])),
         ],
-    )?;
+    )];
+    expect_lines(&rt, rt.alloc(), TABLES)?;
     Ok(())
 }
 
 #[test]
 fn options_and_free_words_combined(rt: HostRuntime) -> Result<(), Fail> {
-    expect_lines(
-        &rt,
-        rt.alloc(),
+    const TABLES: &[Table] = &[(
         &[
             (Optopt, "s", "something"),
             (Optflag, "", "flag"),
@@ -232,15 +222,14 @@ fn options_and_free_words_combined(rt: HostRuntime) -> Result<(), Fail> {
                 StrsPos("m", &[(7, "40"), (8, "50")]),
             ]),
         )],
-    )?;
+    )];
+    expect_lines(&rt, rt.alloc(), TABLES)?;
     Ok(())
 }
 
 #[test]
 fn several_names_at_once(rt: HostRuntime) -> Result<(), Fail> {
-    expect_lines(
-        &rt,
-        rt.alloc(),
+    const TABLES: &[Table] = &[(
         &[
             (Optopt, "e", ""),
             (Optopt, "", "encrypt"),
@@ -282,22 +271,20 @@ fn several_names_at_once(rt: HostRuntime) -> Result<(), Fail> {
                 ]),
             ),
         ],
-    )?;
+    )];
+    expect_lines(&rt, rt.alloc(), TABLES)?;
     Ok(())
 }
 
 #[test]
 fn undefined_name_is_not_present(rt: HostRuntime) -> Result<(), Fail> {
+    const GROUPS: &[Group] = &[
+        (Optopt, "e", ""),
+        (Optopt, "", "encrypt"),
+        (Optopt, "f", ""),
+    ];
     let alloc = rt.alloc();
-    let options = declared(
-        &rt,
-        alloc,
-        &[
-            (Optopt, "e", ""),
-            (Optopt, "", "encrypt"),
-            (Optopt, "f", ""),
-        ],
-    )?;
+    let options = declared(&rt, alloc, GROUPS)?;
     let thing = strings(alloc, &["thing"])?;
     let one = accepted(&rt, alloc, &options, &["-e", "foo"]);
     assert!(rt; !one.opts_present(&thing), "after one option");
@@ -308,113 +295,104 @@ fn undefined_name_is_not_present(rt: HostRuntime) -> Result<(), Fail> {
 
 #[test]
 fn arguments_in_the_word_of_their_option(rt: HostRuntime) -> Result<(), Fail> {
-    let alloc = rt.alloc();
-    expect_lines(
-        &rt,
-        alloc,
-        &[(Optmulti, "L", ""), (Optmulti, "M", "")],
-        &[(
-            &["-Lfoo", "-M."],
-            Accepted(&[
-                AnyPresent(&["L"], true),
-                FirstStr(&["L"], Some("foo")),
-                AnyPresent(&["M"], true),
-                FirstStr(&["M"], Some(".")),
-            ]),
-        )],
-    )?;
-    expect_lines(
-        &rt,
-        alloc,
-        &[(Optmulti, "L", ""), (Optflagmulti, "v", "verbose")],
-        &[(
-            &["-vvLverbose", "-v"],
-            Accepted(&[FirstStr(&["L"], Some("verbose")), Count("v", 3)]),
-        )],
-    )?;
+    const TABLES: &[Table] = &[
+        (
+            &[(Optmulti, "L", ""), (Optmulti, "M", "")],
+            &[(
+                &["-Lfoo", "-M."],
+                Accepted(&[
+                    AnyPresent(&["L"], true),
+                    FirstStr(&["L"], Some("foo")),
+                    AnyPresent(&["M"], true),
+                    FirstStr(&["M"], Some(".")),
+                ]),
+            )],
+        ),
+        (
+            &[(Optmulti, "L", ""), (Optflagmulti, "v", "verbose")],
+            &[(
+                &["-vvLverbose", "-v"],
+                Accepted(&[FirstStr(&["L"], Some("verbose")), Count("v", 3)]),
+            )],
+        ),
+    ];
+    expect_lines(&rt, rt.alloc(), TABLES)?;
     Ok(())
 }
 
 #[test]
 fn arguments_with_equals_signs(rt: HostRuntime) -> Result<(), Fail> {
-    expect_lines(
-        &rt,
-        rt.alloc(),
+    const TABLES: &[Table] = &[(
         &[(Optopt, "o", "one"), (Optopt, "t", "two")],
         &[(
             &["--one", "A=B", "--two=C=D"],
             Accepted(&[FirstStr(&["o"], Some("A=B")), FirstStr(&["t"], Some("C=D"))]),
         )],
-    )?;
+    )];
+    expect_lines(&rt, rt.alloc(), TABLES)?;
     Ok(())
 }
 
 #[test]
 fn names_that_are_defined(rt: HostRuntime) -> Result<(), Fail> {
-    let alloc = rt.alloc();
-    expect_lines(
-        &rt,
-        alloc,
-        &[(Optflag, "b", "bar")],
-        &[(
-            &[],
-            Accepted(&[Defined("foo", false), Defined("bar", true)]),
-        )],
-    )?;
-    expect_lines(
-        &rt,
-        alloc,
-        &[(Optflag, "h", "help")],
-        &[(&["-h"], Accepted(&[Defined("undefined", false)]))],
-    )?;
+    const TABLES: &[Table] = &[
+        (
+            &[(Optflag, "b", "bar")],
+            &[(
+                &[],
+                Accepted(&[Defined("foo", false), Defined("bar", true)]),
+            )],
+        ),
+        (
+            &[(Optflag, "h", "help")],
+            &[(&["-h"], Accepted(&[Defined("undefined", false)]))],
+        ),
+    ];
+    expect_lines(&rt, rt.alloc(), TABLES)?;
     Ok(())
 }
 
 #[test]
 fn positions_of_options(rt: HostRuntime) -> Result<(), Fail> {
-    let alloc = rt.alloc();
-    expect_lines(
-        &rt,
-        alloc,
-        &[
-            (Optflagmulti, "a", "act"),
-            (Optflagmulti, "e", "enact"),
-            (Optflagmulti, "r", "react"),
-        ],
-        &[(
-            &["-a", "-a", "-r", "-a", "-r", "-r"],
-            Accepted(&[
-                Positions("a", &[0, 1, 3]),
-                Positions("e", &[]),
-                Positions("r", &[2, 4, 5]),
-            ]),
-        )],
-    )?;
-    expect_lines(
-        &rt,
-        alloc,
-        &[
-            (Optmulti, "a", "act"),
-            (Optmulti, "e", "enact"),
-            (Optmulti, "r", "react"),
-        ],
-        &[(
-            &["-a1", "-a2", "-r3", "-a4", "-r5", "-r6"],
-            Accepted(&[
-                StrsPos("a", &[(0, "1"), (1, "2"), (3, "4")]),
-                StrsPos("e", &[]),
-                StrsPos("r", &[(2, "3"), (4, "5"), (5, "6")]),
-            ]),
-        )],
-    )?;
+    const TABLES: &[Table] = &[
+        (
+            &[
+                (Optflagmulti, "a", "act"),
+                (Optflagmulti, "e", "enact"),
+                (Optflagmulti, "r", "react"),
+            ],
+            &[(
+                &["-a", "-a", "-r", "-a", "-r", "-r"],
+                Accepted(&[
+                    Positions("a", &[0, 1, 3]),
+                    Positions("e", &[]),
+                    Positions("r", &[2, 4, 5]),
+                ]),
+            )],
+        ),
+        (
+            &[
+                (Optmulti, "a", "act"),
+                (Optmulti, "e", "enact"),
+                (Optmulti, "r", "react"),
+            ],
+            &[(
+                &["-a1", "-a2", "-r3", "-a4", "-r5", "-r6"],
+                Accepted(&[
+                    StrsPos("a", &[(0, "1"), (1, "2"), (3, "4")]),
+                    StrsPos("e", &[]),
+                    StrsPos("r", &[(2, "3"), (4, "5"), (5, "6")]),
+                ]),
+            )],
+        ),
+    ];
+    expect_lines(&rt, rt.alloc(), TABLES)?;
     Ok(())
 }
 
 #[test]
 fn default_of_an_option_without_a_value(rt: HostRuntime) -> Result<(), Fail> {
-    expect_lines(
-        &rt,
-        rt.alloc(),
+    const TABLES: &[Table] = &[(
         &[
             (Optflag, "h", "help"),
             (Optflag, "i", "ignore"),
@@ -424,6 +402,7 @@ fn default_of_an_option_without_a_value(rt: HostRuntime) -> Result<(), Fail> {
             &["-i", "-r", "10"],
             Accepted(&[Default("help", "", None), Default("i", "def", Some("def"))]),
         )],
-    )?;
+    )];
+    expect_lines(&rt, rt.alloc(), TABLES)?;
     Ok(())
 }

@@ -2,7 +2,10 @@
 
 use crate::fixtures::Adding::{Optflag, Optflagmulti};
 use crate::fixtures::Answer::{Count, Defined, Positions};
-use crate::fixtures::{accepted, declare, declared, expect_answer, need_defined};
+use crate::fixtures::Meaning::Accepted;
+use crate::fixtures::{
+    Answer, Row, accepted, declare, declared, expect_answers, expect_rows, need_defined,
+};
 use getopts::{Matches, Options};
 use std::alloc::{AllocError, Global};
 use std::iter;
@@ -10,6 +13,8 @@ use std::process::Abort;
 use std::test::Fail;
 
 const MANY: usize = 100_000;
+
+const ANSWERS: &[Answer] = &[Count("v", MANY)];
 
 // The positions of an option.
 fn positions(
@@ -27,7 +32,7 @@ fn one_flag_in_each_of_many_words(rt: HostRuntime) -> Result<(), Fail> {
     let alloc = rt.alloc();
     let options = declared(&rt, alloc, &[(Optflagmulti, "v", "")])?;
     let matches = options.parse(alloc, iter::repeat_n("-v", MANY))?;
-    expect_answer(&rt, alloc, &matches, Count("v", MANY), &["-v", ".."])?;
+    expect_answers(&rt, alloc, &matches, ANSWERS, &["-v", ".."])?;
     let positions = positions(&rt, alloc, &matches, "v")?;
     assert_eq!(rt; positions.len(), MANY, "positions");
     assert_eq!(rt;
@@ -47,7 +52,7 @@ fn many_flags_in_one_word(rt: HostRuntime) -> Result<(), Fail> {
         word.push('v')?;
     }
     let matches = accepted(&rt, alloc, &options, &[word.as_str()]);
-    expect_answer(&rt, alloc, &matches, Count("v", MANY), &["-vv.."])?;
+    expect_answers(&rt, alloc, &matches, ANSWERS, &["-vv.."])?;
     let positions = positions(&rt, alloc, &matches, "v")?;
     assert_eq!(rt; positions.len(), MANY, "positions");
     assert!(rt;
@@ -84,20 +89,20 @@ fn two_hundred_flags(rt: &impl Abort, alloc: Global) -> Result<Options, AllocErr
 
 #[test]
 fn many_groups(rt: HostRuntime) -> Result<(), Fail> {
+    const ROWS: &[Row] = &[(
+        &["--n000", "--n199", "-x"],
+        Accepted(&[
+            Count("n000", 1),
+            Count("n199", 1),
+            Count("n100", 1),
+            Count("x", 1),
+            Count("n101", 0),
+            Positions("x", &[2]),
+            Defined("n200", false),
+        ]),
+    )];
     let alloc = rt.alloc();
     let options = two_hundred_flags(&rt, alloc)?;
-    let words = ["--n000", "--n199", "-x"];
-    let matches = accepted(&rt, alloc, &options, &words);
-    for answer in [
-        Count("n000", 1),
-        Count("n199", 1),
-        Count("n100", 1),
-        Count("x", 1),
-        Count("n101", 0),
-        Positions("x", &[2]),
-        Defined("n200", false),
-    ] {
-        expect_answer(&rt, alloc, &matches, answer, &words)?;
-    }
+    expect_rows(&rt, alloc, &options, ROWS)?;
     Ok(())
 }

@@ -2,80 +2,60 @@ use crate::fixtures::Adding::{Optflag, Optflagopt, Optopt};
 use crate::fixtures::Answer::{Count, Free, Present, Str, Strs};
 use crate::fixtures::Fault::UnrecognizedOption;
 use crate::fixtures::Meaning::{Accepted, Refused};
-use crate::fixtures::{Group, Row, declared, expect_rows};
-use getopts::Options;
+use crate::fixtures::{Group, Meaning, Row, Table, expect_lines, expect_lines_in, expect_rows};
+use getopts::{Options, ParsingStyle};
 use std::alloc::{AllocError, Global};
 use std::process::Abort;
 use std::test::Fail;
 
 // Stops unless in long-only mode each of these lines means what stands beside it.
-fn expect_long_only(
-    rt: &impl Abort,
-    alloc: Global,
-    groups: &[Group<'_>],
-    rows: &[Row<'_>],
-) -> Result<(), AllocError> {
-    let mut options = declared(rt, alloc, groups)?;
-    options.long_only(true);
-    expect_rows(rt, alloc, &options, rows)
+fn expect_long_only(rt: &impl Abort, alloc: Global, tables: &[Table]) -> Result<(), AllocError> {
+    expect_lines_in(rt, alloc, ParsingStyle::FloatingFrees, true, tables)
 }
 
 #[test]
 fn long_names_after_one_dash(rt: HostRuntime) -> Result<(), Fail> {
-    let alloc = rt.alloc();
-    expect_long_only(
-        &rt,
-        alloc,
-        &[(Optopt, "o", "")],
-        &[(&["-o=5"], Accepted(&[Strs("o", &["5"])]))],
-    )?;
-    expect_long_only(
-        &rt,
-        alloc,
-        &[(Optflag, "", "é")],
-        &[(&["-é"], Accepted(&[Present("é", true)]))],
-    )?;
-    expect_long_only(
-        &rt,
-        alloc,
-        &[(Optflagopt, "c", "color")],
-        &[(
-            &["-c", "x"],
-            Accepted(&[Count("c", 1), Strs("c", &[]), Free(&["x"])]),
-        )],
-    )?;
+    const TABLES: &[Table] = &[
+        (
+            &[(Optopt, "o", "")],
+            &[(&["-o=5"], Accepted(&[Strs("o", &["5"])]))],
+        ),
+        (
+            &[(Optflag, "", "é")],
+            &[(&["-é"], Accepted(&[Present("é", true)]))],
+        ),
+        (
+            &[(Optflagopt, "c", "color")],
+            &[(
+                &["-c", "x"],
+                Accepted(&[Count("c", 1), Strs("c", &[]), Free(&["x"])]),
+            )],
+        ),
+    ];
+    expect_long_only(&rt, rt.alloc(), TABLES)?;
     Ok(())
 }
 
 #[test]
 fn names_that_no_option_has(rt: HostRuntime) -> Result<(), Fail> {
-    let alloc = rt.alloc();
-    expect_long_only(
-        &rt,
-        alloc,
-        &[(Optflag, "a", ""), (Optflag, "b", "")],
-        &[(&["-ab"], Refused(UnrecognizedOption("ab")))],
-    )?;
-    expect_long_only(
-        &rt,
-        alloc,
-        &[],
-        &[(&["---"], Refused(UnrecognizedOption("-")))],
-    )?;
-    expect_long_only(
-        &rt,
-        alloc,
-        &[(Optflag, "=", "")],
-        &[(&["-="], Refused(UnrecognizedOption("")))],
-    )?;
+    const TABLES: &[Table] = &[
+        (
+            &[(Optflag, "a", ""), (Optflag, "b", "")],
+            &[(&["-ab"], Refused(UnrecognizedOption("ab")))],
+        ),
+        (&[], &[(&["---"], Refused(UnrecognizedOption("-")))]),
+        (
+            &[(Optflag, "=", "")],
+            &[(&["-="], Refused(UnrecognizedOption("")))],
+        ),
+    ];
+    expect_long_only(&rt, rt.alloc(), TABLES)?;
     Ok(())
 }
 
 #[test]
 fn values_in_each_spelling(rt: HostRuntime) -> Result<(), Fail> {
-    expect_long_only(
-        &rt,
-        rt.alloc(),
+    const TABLES: &[Table] = &[(
         &[
             (Optopt, "a", "apple"),
             (Optopt, "b", "banana"),
@@ -105,11 +85,12 @@ fn values_in_each_spelling(rt: HostRuntime) -> Result<(), Fail> {
                 Str("fruit", Some("any")),
             ]),
         )],
-    )?;
+    )];
+    expect_long_only(&rt, rt.alloc(), TABLES)?;
     Ok(())
 }
 
-const HELP_IGNORE_HI: [Group<'static>; 3] = [
+const HELP_IGNORE_HI: [Group; 3] = [
     (Optflag, "h", "help"),
     (Optflag, "i", "ignore"),
     (Optflag, "", "hi"),
@@ -117,40 +98,33 @@ const HELP_IGNORE_HI: [Group<'static>; 3] = [
 
 #[test]
 fn one_dash_and_several_letters(rt: HostRuntime) -> Result<(), Fail> {
+    const GROUPS: &[Group] = &[
+        (Optflag, "h", "help"),
+        (Optflag, "i", "ignore"),
+        (Optflag, "", "hi"),
+    ];
+    const LONG: Meaning = Accepted(&[
+        Count("h", 0),
+        Count("i", 0),
+        Count("hi", 1),
+        Present("h", false),
+        Present("i", false),
+        Present("hi", true),
+    ]);
+    const SHORT: Meaning = Accepted(&[
+        Count("h", 1),
+        Count("i", 1),
+        Count("hi", 0),
+        Present("h", true),
+        Present("i", true),
+        Present("hi", false),
+    ]);
+    const IN_LONG_ONLY: &[Table] = &[(GROUPS, &[(&["-hi"], LONG)])];
+    const ORDINARY: &[Row] = &[(&["-hi"], SHORT)];
+    const IN_ORDINARY: &[Table] = &[(GROUPS, ORDINARY)];
     let alloc = rt.alloc();
-    expect_long_only(
-        &rt,
-        alloc,
-        &HELP_IGNORE_HI,
-        &[(
-            &["-hi"],
-            Accepted(&[
-                Count("h", 0),
-                Count("i", 0),
-                Count("hi", 1),
-                Present("h", false),
-                Present("i", false),
-                Present("hi", true),
-            ]),
-        )],
-    )?;
-    let ordinary: [Row<'_>; 1] = [(
-        &["-hi"],
-        Accepted(&[
-            Count("h", 1),
-            Count("i", 1),
-            Count("hi", 0),
-            Present("h", true),
-            Present("i", true),
-            Present("hi", false),
-        ]),
-    )];
-    expect_rows(
-        &rt,
-        alloc,
-        &declared(&rt, alloc, &HELP_IGNORE_HI)?,
-        &ordinary,
-    )?;
+    expect_long_only(&rt, alloc, IN_LONG_ONLY)?;
+    expect_lines(&rt, alloc, IN_ORDINARY)?;
     let mut options = Options::new(alloc);
     options
         .long_only(true)
@@ -158,6 +132,6 @@ fn one_dash_and_several_letters(rt: HostRuntime) -> Result<(), Fail> {
         .optflag("i", "ignore", "")?
         .optflag("", "hi", "")?
         .long_only(false);
-    expect_rows(&rt, alloc, &options, &ordinary)?;
+    expect_rows(&rt, alloc, &options, ORDINARY)?;
     Ok(())
 }

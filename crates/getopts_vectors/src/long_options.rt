@@ -4,15 +4,13 @@ use crate::fixtures::Fault::{
     ArgumentMissing, OptionDuplicated, UnexpectedArgument, UnrecognizedOption,
 };
 use crate::fixtures::Meaning::{Accepted, Refused};
-use crate::fixtures::expect_lines;
+use crate::fixtures::{Table, expect_lines};
 use getopts::{HasArg, Occur};
 use std::test::Fail;
 
 #[test]
 fn long_options_and_their_arguments(rt: HostRuntime) -> Result<(), Fail> {
-    expect_lines(
-        &rt,
-        rt.alloc(),
+    const TABLES: &[Table] = &[(
         &[
             (Opt(HasArg::Yes, Occur::Optional), "o", "output"),
             (Opt(HasArg::No, Occur::Multi), "v", "verbose"),
@@ -36,30 +34,28 @@ fn long_options_and_their_arguments(rt: HostRuntime) -> Result<(), Fail> {
             (&["-v"], Accepted(&[Count("v", 1)])),
             (&["-éa"], Refused(UnrecognizedOption("é"))),
         ],
-    )?;
+    )];
+    expect_lines(&rt, rt.alloc(), TABLES)?;
     Ok(())
 }
 
 #[test]
 fn attached_arguments_of_flags_and_of_unknown_names(rt: HostRuntime) -> Result<(), Fail> {
-    expect_lines(
-        &rt,
-        rt.alloc(),
+    const TABLES: &[Table] = &[(
         &[(Optflag, "t", "test")],
         &[
             (&["--test="], Refused(UnexpectedArgument("test"))),
             (&["--=x"], Refused(UnrecognizedOption(""))),
             (&["-tq"], Refused(UnrecognizedOption("q"))),
         ],
-    )?;
+    )];
+    expect_lines(&rt, rt.alloc(), TABLES)?;
     Ok(())
 }
 
 #[test]
 fn free_words_without_options(rt: HostRuntime) -> Result<(), Fail> {
-    expect_lines(
-        &rt,
-        rt.alloc(),
+    const TABLES: &[Table] = &[(
         &[],
         &[
             (&[], Accepted(&[Free(&[]), TrailingStart(None)])),
@@ -70,17 +66,17 @@ fn free_words_without_options(rt: HostRuntime) -> Result<(), Fail> {
                 Accepted(&[TrailingStart(Some(1)), Free(&["pre", "post"])]),
             ),
         ],
-    )?;
+    )];
+    expect_lines(&rt, rt.alloc(), TABLES)?;
     Ok(())
 }
 
 #[test]
 fn stop_without_words_after_it(rt: HostRuntime) -> Result<(), Fail> {
-    expect_lines(
-        &rt,
-        rt.alloc(),
+    const TABLES: &[Table] = &[(
         &[(Optflag, "t", "test")],
         &[(&["--"], Accepted(&[Free(&[]), TrailingStart(None)]))],
-    )?;
+    )];
+    expect_lines(&rt, rt.alloc(), TABLES)?;
     Ok(())
 }

@@ -2,7 +2,7 @@ use getopts::names_lawful;
 
 #[test]
 fn lawful_names(rt: HostRuntime) {
-    for (short, long, lawful) in [
+    const ROWS: &[(&str, &str, bool)] = &[
         ("a", "apple", true),
         ("a", "", true),
         ("", "é", true),
@@ -11,7 +11,12 @@ fn lawful_names(rt: HostRuntime) {
         ("é", "", false),
         ("ab", "", false),
         ("", "", false),
-    ] {
-        assert_eq!(rt; names_lawful(short, long), lawful, "{short:?} and {long:?}");
+    ];
+    for (short, long, lawful) in ROWS {
+        assert_eq!(rt;
+            names_lawful(short, long),
+            *lawful,
+            "{short:?} and {long:?}"
+        );
     }
 }

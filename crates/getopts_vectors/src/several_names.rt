@@ -1,7 +1,7 @@
 use crate::fixtures::Adding::{Optflag, Optopt};
 use crate::fixtures::Answer::{AnyPresent, FirstStr};
 use crate::fixtures::Meaning::Accepted;
-use crate::fixtures::{accepted, declared, expect_lines, strings};
+use crate::fixtures::{Table, accepted, declared, expect_lines, strings};
 use std::test::Fail;
 
 #[test]
@@ -33,9 +33,7 @@ fn undefined_names_count_as_not_given(rt: HostRuntime) -> Result<(), Fail> {
 
 #[test]
 fn names_of_one_option_give_one_answer(rt: HostRuntime) -> Result<(), Fail> {
-    expect_lines(
-        &rt,
-        rt.alloc(),
+    const TABLES: &[Table] = &[(
         &[(Optopt, "o", "output"), (Optflag, "a", "apple")],
         &[(
             &["-o", "x"],
@@ -48,6 +46,7 @@ fn names_of_one_option_give_one_answer(rt: HostRuntime) -> Result<(), Fail> {
                 FirstStr(&["apple", "output"], Some("x")),
             ]),
         )],
-    )?;
+    )];
+    expect_lines(&rt, rt.alloc(), TABLES)?;
     Ok(())
 }

@@ -3,20 +3,18 @@
 use crate::fixtures::Adding::{Opt, Optflag, Optflagopt};
 use crate::fixtures::Answer::{Count, Default, FirstStr, Str, Strs, StrsPos};
 use crate::fixtures::Meaning::Accepted;
-use crate::fixtures::{Group, accepted, declared, expect_lines, need_defined};
+use crate::fixtures::{Group, Table, accepted, declared, expect_lines, need_defined};
 use getopts::{HasArg, Matches, Occur};
 use std::process::Abort;
 use std::str::FromStr;
 use std::test::Fail;
 
-const COLOR: [Group<'static>; 1] = [(Opt(HasArg::Maybe, Occur::Multi), "c", "color")];
+const COLOR: &[Group] = &[(Opt(HasArg::Maybe, Occur::Multi), "c", "color")];
 
 #[test]
 fn later_value_does_not_stand_for_the_first(rt: HostRuntime) -> Result<(), Fail> {
-    expect_lines(
-        &rt,
-        rt.alloc(),
-        &COLOR,
+    const TABLES: &[Table] = &[(
+        COLOR,
         &[(
             &["-c", "--color=x"],
             Accepted(&[
@@ -28,7 +26,8 @@ fn later_value_does_not_stand_for_the_first(rt: HostRuntime) -> Result<(), Fail>
                 FirstStr(&["color"], None),
             ]),
         )],
-    )?;
+    )];
+    expect_lines(&rt, rt.alloc(), TABLES)?;
     Ok(())
 }
 
@@ -51,17 +50,14 @@ fn read_or<T: FromStr + Drop>(
 
 #[test]
 fn values_read_as_numbers_and_truth_values(rt: HostRuntime) -> Result<(), Fail> {
+    const GROUPS: &[Group] = &[
+        (Optflag, "h", "help"),
+        (Optflagopt, "i", "ignore"),
+        (Optflagopt, "r", "run"),
+        (Optflagopt, "p", "percent"),
+    ];
     let alloc = rt.alloc();
-    let options = declared(
-        &rt,
-        alloc,
-        &[
-            (Optflag, "h", "help"),
-            (Optflagopt, "i", "ignore"),
-            (Optflagopt, "r", "run"),
-            (Optflagopt, "p", "percent"),
-        ],
-    )?;
+    let options = declared(&rt, alloc, GROUPS)?;
     let matches = accepted(&rt, alloc, &options, &["-i", "true", "-p", "11"]);
     assert_eq!(rt;
         read::<i32>(&rt, &matches, "help"),
@@ -117,14 +113,16 @@ impl FromStr for Unreadable {
 fn error_of_a_reading_comes_where_the_first_occurrence_has_a_value(
     rt: HostRuntime,
 ) -> Result<(), Fail> {
+    const WITH_A_VALUE: &[&[&str]] = &[
+        &["--color=x"],
+        &["--color="],
+        &["-c", "x"],
+        &["--color=x", "-c"],
+    ];
+    const WITHOUT: &[&[&str]] = &[&[], &["x"], &["-c"], &["-c", "--color=x"]];
     let alloc = rt.alloc();
-    let options = declared(&rt, alloc, &COLOR)?;
-    for words in [
-        ["--color=x"].as_slice(),
-        ["--color="].as_slice(),
-        ["-c", "x"].as_slice(),
-        ["--color=x", "-c"].as_slice(),
-    ] {
+    let options = declared(&rt, alloc, COLOR)?;
+    for words in WITH_A_VALUE {
         let matches = accepted(&rt, alloc, &options, words);
         assert_eq!(rt;
             read::<Unreadable>(&rt, &matches, "c"),
@@ -137,12 +135,7 @@ fn error_of_a_reading_comes_where_the_first_occurrence_has_a_value(
             "{words:?}"
         );
     }
-    for words in [
-        [].as_slice(),
-        ["x"].as_slice(),
-        ["-c"].as_slice(),
-        ["-c", "--color=x"].as_slice(),
-    ] {
+    for words in WITHOUT {
         let matches = accepted(&rt, alloc, &options, words);
         assert_eq!(rt;
             read::<Unreadable>(&rt, &matches, "c"),
