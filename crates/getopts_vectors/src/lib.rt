@@ -12,6 +12,8 @@ mod colliding_names;
 #[cfg(test)]
 mod counts;
 #[cfg(test)]
+mod equality;
+#[cfg(test)]
 mod faults;
 #[cfg(test)]
 mod fixtures;
