@@ -1,5 +1,6 @@
-//! The tests of the Rust crate, but those of usage texts and of wrapping. Here names inside faults count
-//! too.
+//! The Rust crate's tests of single options, of several names and of whole lines. Here names inside faults
+//! count too. Its tests of styles, of the long-only mode, of names and of values that are read stand in the
+//! files on those.
 
 use crate::fixtures::Adding::{Optflag, Optflagmulti, Optflagopt, Optmulti, Optopt, Reqopt};
 use crate::fixtures::Answer::{
@@ -38,6 +39,20 @@ fn required_option(rt: HostRuntime) -> Result<(), Fail> {
                 &["--test=20", "-t", "30"],
                 Refused(OptionDuplicated("test")),
             ),
+        ],
+    )];
+    expect_lines(&rt, rt.alloc(), TABLES)?;
+    Ok(())
+}
+
+#[test]
+fn required_option_has_its_long_name_in_faults(rt: HostRuntime) -> Result<(), Fail> {
+    const TABLES: &[Table] = &[(
+        &[(Reqopt, "b", "banana")],
+        &[
+            (&["-b", "1"], Accepted(&[Strs("banana", &["1"])])),
+            (&["--banana", "1"], Accepted(&[Strs("b", &["1"])])),
+            (&[], Refused(OptionMissing("banana"))),
         ],
     )];
     expect_lines(&rt, rt.alloc(), TABLES)?;
@@ -220,6 +235,7 @@ fn options_and_free_words_combined(rt: HostRuntime) -> Result<(), Fail> {
                 Strs("n", &["-A B", "-60 70"]),
                 Present("notpresent", false),
                 StrsPos("m", &[(7, "40"), (8, "50")]),
+                StrsPos("n", &[(9, "-A B"), (10, "-60 70")]),
             ]),
         )],
     )];

@@ -1,29 +1,31 @@
 //! The iterator that `parse` is given.
 
-ghost use Rattle.std.specs.Iterator.{item_count};
+ghost use Rattle.std.specs.Prelude.{◌-◌, length};
+ghost use Rattle.std.specs.Iterator.{at_most};
 
 use crate::fixtures::Fault::UnrecognizedOption;
 use crate::fixtures::declared;
 use std::cell::Cell;
 use std::test::Fail;
 
-/// Words, and how many of them it has given.
+/// Words, of which some are taken. How many these are stands in a cell too, which the test keeps.
 #[derive(Drop)]
 struct Counted<'a, 'c> {
     words: &'a [&'a str],
-    given: &'c Cell<usize>,
+    taken: usize,
+    told: &'c Cell<usize>,
 }
 
 impl<'a> Iterator for Counted<'a, '_> {
     type Item = &'a str;
 
-    ghost remaining = { item_count (λ s. s.words.now) };
+    ghost remaining = { λ s. at_most (length s.words.now - s.taken) };
 
     fn next(&mut self) -> Option<&'a str> {
-        let (first, others) = self.words.split_first()?;
-        self.words = others;
-        self.given.set(self.given.get().saturating_add(1));
-        Some(*first)
+        let word = self.words.get(self.taken).copied()?;
+        self.taken += 1;
+        self.told.set(self.taken);
+        Some(word)
     }
 }
 
@@ -31,15 +33,16 @@ impl<'a> Iterator for Counted<'a, '_> {
 fn all_words_are_taken_before_a_fault_is_answered(rt: HostRuntime) -> Result<(), Fail> {
     let alloc = rt.alloc();
     let options = declared(&rt, alloc, &[])?;
-    let given = Cell::new(0);
+    let told = Cell::new(0);
     let words = Counted {
         words: &["--nope", "x", "y"],
-        given: &given,
+        taken: 0,
+        told: &told,
     };
     let Err(fail) = options.parse(alloc, words) else {
         panic!(rt; "an option that isn't there is accepted");
     };
     assert_eq!(rt; fail, UnrecognizedOption("nope").fail(alloc)?);
-    assert_eq!(rt; given.get(), 3, "words taken");
+    assert_eq!(rt; told.get(), 3, "words taken");
     Ok(())
 }
