@@ -64,7 +64,7 @@ module _ (opts : List Opt) (held : List Held) (i : ℕ) (d : Opt) (within : i < 
       let at : drop i whole ≡ matched_at i (get_or opts i d) (occurrences_view held) ∷ drop (i + 1) whole = simp zero-add at (matched_known-from 0 opts (occurrences_view held) i d within) in
       subst KeepsCounts (sym (take-from whole (drop (i + 1) whole) (matched_at i (get_or opts i d) (occurrences_view held)) i at))
       (AllByRecursion-append KeepsCount (take i whole) (matched_at i (get_or opts i d) (occurrences_view held) ∷ []) kept
-          ((subst (FitsCount (get_or opts i d).occur) (counted ∙ sym (length-found_at i held)) fits), tt))
+      ((subst (FitsCount (get_or opts i d).occur) (counted ∙ sym (length-found_at i held)) fits), tt))
 
   -- the group there breaks its count
   pub IsCountFault-at : (count : ℕ) (fault : Fault) → count ≡ length (filter (λ (o : Held). o.group == i) held) → ¬ (FitsCount (get_or opts i d).occur count)

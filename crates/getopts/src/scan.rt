@@ -364,8 +364,7 @@ fn check_counts(alloc: Global, opts: &[Opt], occurrences: &[Occurrence<'_>]) -> 
 /// A `&str` is a text.
 fn is_text(word: &str)
     ensures { IsUtf8 word.now }
-{
-}
+{}
 
 /// Each word is a text, as its type says. It is for the proofs alone: nothing is left of it once built.
 fn are_texts(words: &[&str])

@@ -17,7 +17,7 @@ returns-clause-ok c =
     rw (sym (take_all c.loop-place.place whole (omega (arith, length-matched_known 0 c.args.opts.now (occurrences_view c.args.occurrences.now))))) c.loop-place.invariant
 
 pub loop-place-preserved : goal.loop-place-preserved
-loop-place-preserved c = 
+loop-place-preserved c =
     let opt = c.index-opts-place.result in
     KeepsCounts-more c.args.opts.now c.args.occurrences.now c.loop-place.place opt (omega arith) c.loop-place.invariant c.count_of.result c.count_of.ensures
     (subst (λ (o : Opt). FitsCount o.occur c.count_of.result) c.index-opts-place.is c.in_ok-check_count.ensures.kept)
@@ -27,7 +27,7 @@ returns-in_err-check_count-clause-err c =
     let left = err_from_is_err_and c.from_residual.result c.from_residual.ensures.1 in
     let opt = c.index-opts-place.result in
     rw (left.1, left.2) (Tells-weaker c.in_err-check_count.field-0.0 (λ fault. fault ≡ count_fault (main_name (names_view opt.names)) c.count_of.result) (IsCountFault (matched_known 0 (map opt_view c.args.opts.now) (occurrences_view c.args.occurrences.now))) c.in_err-check_count.ensures.fault
-        (λ fault told. IsCountFault-at c.args.opts.now c.args.occurrences.now c.loop-place.place opt (omega arith) c.loop-place.invariant c.count_of.result fault c.count_of.ensures
-            (subst (λ (o : Opt). ¬ (FitsCount o.occur c.count_of.result)) c.index-opts-place.is c.in_err-check_count.ensures.broken)
-            (told ∙ ap (count_fault (main_name (names_view opt.names))) (c.count_of.ensures ∙ sym (length-found_at c.loop-place.place c.args.occurrences.now))
-                ∙ ap (λ (o : Opt). count_fault (main_name (names_view o.names)) (length (found_at c.loop-place.place (occurrences_view c.args.occurrences.now)))) c.index-opts-place.is)))
+    (λ fault told. IsCountFault-at c.args.opts.now c.args.occurrences.now c.loop-place.place opt (omega arith) c.loop-place.invariant c.count_of.result fault c.count_of.ensures
+    (subst (λ (o : Opt). ¬ (FitsCount o.occur c.count_of.result)) c.index-opts-place.is c.in_err-check_count.ensures.broken)
+    (told ∙ ap (count_fault (main_name (names_view opt.names))) (c.count_of.ensures ∙ sym (length-found_at c.loop-place.place c.args.occurrences.now))
+    ∙ ap (λ (o : Opt). count_fault (main_name (names_view o.names)) (length (found_at c.loop-place.place (occurrences_view c.args.occurrences.now)))) c.index-opts-place.is)))
