@@ -137,10 +137,8 @@ impl Options {
         ensures called { OnOk result ((rows : List Text) ×
             IsTheOnly (AreUsageRows self.now) rows × F.post formatter rows result) }
     {
-        let rows = self.usage_rows(alloc)?;
-        formatter(UsageRows {
-            rows: rows.into_iter(),
-        })
+        let rows = self.usage_rows(alloc)?.into_iter();
+        formatter(UsageRows { rows })
     }
 
     /// The rows of the usage text.
