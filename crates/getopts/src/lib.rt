@@ -11,7 +11,7 @@ pub mod wrap;
 
 pub use fail::Fail;
 pub use matches::Matches;
-pub use names::names_lawful;
+pub use names::{names_lawful, names_resolve};
 pub use options::{HasArg, Occur, Options, ParsingStyle};
 pub use usage::UsageRows;
 
