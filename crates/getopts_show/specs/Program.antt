@@ -1,0 +1,112 @@
+-- The program: its options, and the text and the status that words have.
+use Rattle.std.specs.Prelude.{◌≡◌, ◌⊎◌, ℕ, false, Option, List, [], ◌∷◌, ◌++◌, length, map, codes, decimal}
+use Rattle.std.specs.List.{flat_map}
+use Rattle.std.specs.Io.KnownBytes.{Appends}
+use Rattle.getopts.specs.Accessors.{found_of, values_of}
+use Rattle.getopts.specs.Fail.{Fault, argument_missing, unrecognized_option, option_missing, option_duplicated, unexpected_argument}
+use Rattle.getopts.specs.Matches.{Found, Matched, MatchedGroup, matched_from}
+use Rattle.getopts.specs.Names.{Text, main_name}
+use Rattle.getopts.specs.Options.{Group, Declared}
+use Rattle.getopts.specs.Scan.{Occurrence}
+use Rattle.getopts.specs.Parse.{IsAccepted, IsRefused}
+use Rattle.getopts.specs.declared.options.HasArg.{HasArg}
+use Rattle.getopts.specs.declared.options.HasArg.TheVariants.{Yes, No, Maybe}
+use Rattle.getopts.specs.declared.options.Occur.{Occur}
+use Rattle.getopts.specs.declared.options.Occur.TheVariants.{Optional, Multi}
+use Rattle.getopts.specs.declared.options.ParsingStyle.TheVariants.{FloatingFrees}
+
+-- a group by its six parts
+abbrev pub group_of : Text → Text → HasArg → Occur → Text → Text → Group
+group_of short long kind occurrence hint description = record {
+  names = record { short = short; long = long };
+  hint = hint;
+  description = description;
+  kind = kind;
+  occurrence = occurrence;
+}
+
+-- the program's groups
+abbrev pub program_groups : List Group
+program_groups =
+    group_of (codes "o") (codes "output") Yes Optional (codes "NAME") (codes "set output file name")
+    ∷ group_of (codes "h") (codes "help") No Optional [] (codes "print this help menu")
+    ∷ group_of (codes "v") (codes "verbose") No Multi [] (codes "say more")
+    ∷ group_of (codes "L") [] Yes Multi (codes "DIR") (codes "add a folder")
+    ∷ group_of (codes "c") (codes "color") Maybe Optional (codes "WHEN") (codes "colour the output")
+    ∷ []
+
+-- the main names of the program's groups
+abbrev pub main_names : List Text
+main_names = map (λ (group : Group). main_name group.names) program_groups
+
+-- the program's options: its groups, in the default style and mode
+abbrev pub program_options : Declared
+program_options = record { groups = program_groups; style = FloatingFrees; long_only = false }
+
+-- the end of a line
+abbrev pub line_end : Text
+line_end = 10 ∷ []
+
+-- the line `name: count`
+abbrev pub count_line : Text → ℕ → Text
+count_line name count = name ++ (codes ": " ++ (decimal count ++ line_end))
+
+-- the line `name = value`
+abbrev pub value_line : Text → Text → Text
+value_line name value = name ++ (codes " = " ++ (value ++ line_end))
+
+-- the line `free: word`
+abbrev pub free_line : Text → Text
+free_line word = codes "free: " ++ (word ++ line_end)
+
+-- the lines of an option with this main name and these occurrences: how many they are, and each value
+abbrev pub option_lines : Text → List Found → Text
+option_lines name founds = count_line name (length founds) ++ flat_map (value_line name) (values_of founds)
+
+-- the lines of the option that this name resolves to, shown by this name
+abbrev pub named_lines : List MatchedGroup → Text → Text
+named_lines groups name = option_lines name (found_of groups name)
+
+-- the groups are the program's, each with some occurrences
+abbrev pub HasProgramGroups : List MatchedGroup → Type 0
+HasProgramGroups groups = (occurrences : List Occurrence) × (groups ≡ matched_from 0 program_groups occurrences)
+
+-- the lines of a group, shown by its main name
+abbrev pub group_lines : MatchedGroup → Text
+group_lines group = option_lines (main_name group.names) group.found
+
+-- the text of matches: the lines of each option in order, and each free word
+abbrev pub matches_text : Matched → Text
+matches_text matches = flat_map group_lines matches.groups ++ flat_map free_line matches.free
+
+-- what a fault says
+abbrev pub fault_text : Fault → Text
+fault_text (argument_missing name) = codes "Argument to option '" ++ (name ++ codes "' missing")
+fault_text (unrecognized_option name) = codes "Unrecognized option: '" ++ (name ++ codes "'")
+fault_text (option_missing name) = codes "Required option '" ++ (name ++ codes "' missing")
+fault_text (option_duplicated name) = codes "Option '" ++ (name ++ codes "' given more than once")
+fault_text (unexpected_argument name) = codes "Option '" ++ (name ++ codes "' does not take an argument")
+
+-- the line of a fault: the program's name, and what the fault says
+abbrev pub fault_line : Fault → Text
+fault_line fault = codes "getopts_show: " ++ (fault_text fault ++ line_end)
+
+-- The text and the status of words: those of the matches that they are accepted with, or those of the
+-- fault that they are refused with.
+pub data IsProgramText (words : List Text) : Text → ℕ → Type 0 where
+  accepted : (matches : Matched) → IsAccepted program_options words matches → IsProgramText words (matches_text matches) 0
+  refused : (fault : Fault) → IsRefused program_options words fault → IsProgramText words (fault_line fault) 2
+
+-- the statuses: the text of the words was shown, of accepted or of refused ones; memory was refused; it couldn't be written
+abbrev pub IsStatus : ℕ → Type 0
+IsStatus status = (status ≡ 0) ⊎ (status ≡ 2) ⊎ (status ≡ 3) ⊎ (status ≡ 4)
+
+-- the statuses of words whose text was written
+abbrev pub IsDone : ℕ → Type 0
+IsDone status = (status ≡ 0) ⊎ (status ≡ 2)
+
+-- what a writer holds has grown by the text of these words, which have this status
+pub record ShowsText (old new : Option (List ℕ)) (words : List Text) (status : ℕ) : Type 0 where
+  pub text : Text
+  pub is_text : IsProgramText words text status
+  pub written : Appends old new text
