@@ -2,6 +2,8 @@
 #![tactic(auto)]
 
 mod show;
+#[cfg(test)]
+mod tests;
 
 use show::{NO_MEMORY, show};
 use std::process::ExitCode;
