@@ -1,1 +1,2 @@
+mod OneText
 mod ShowLemmas

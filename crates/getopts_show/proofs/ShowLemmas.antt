@@ -1,15 +1,15 @@
 -- What the program's names and groups give.
-use Rattle.std.proofs.Common.{◌≡◌, ℕ, zero, suc, ◌<◌, List, [], ◌∷◌, length, get_or, refl, sym, subst, arith}
+use Rattle.std.proofs.Common.{◌≡◌, ℕ, zero, suc, ◌<◌, List, [], ◌∷◌, length, get_or, map, refl, sym, subst, arith}
 use Rattle.std.specs.Prelude.{⊤, Option, Some, None, MatchOption, IsSomeAnd}
 use Rattle.std.specs.Borrow.{Bor}
 use Rattle.std.specs.List.{AllByRecursion, flat_map}
 use Rattle.getopts.specs.Line.{texts}
 use Rattle.getopts.specs.Fail.{Fault}
 use Rattle.getopts.specs.Matches.{Matched, MatchedGroup}
-use Rattle.getopts.specs.Names.{Text}
-use Rattle.getopts.specs.Options.{Declared}
+use Rattle.getopts.specs.Names.{Text, main_name}
+use Rattle.getopts.specs.Options.{Declared, Group}
 use Rattle.getopts.specs.Parse.{IsAccepted, IsRefused}
-use Rattle.getopts_show.specs.Program.{HasProgramGroups, IsProgramText, accepted, fault_line, group_lines, main_names, matches_text, named_lines, program_options, refused}
+use Rattle.getopts_show.specs.Program.{HasProgramGroups, IsProgramText, accepted, fault_line, group_lines, matches_text, named_lines, program_groups, program_options, refused}
 
 -- what holds of each text holds of the text at a place
 pub text_at : (P : Text → Type 0) (words : List (Bor Text)) → AllByRecursion P (texts words)
@@ -17,6 +17,10 @@ pub text_at : (P : Text → Type 0) (words : List (Bor Text)) → AllByRecursion
 text_at P [] each k default below = absurd (omega arith)
 text_at P (word ∷ words) each zero default below = each.0
 text_at P (word ∷ words) each (suc k) default below = text_at P words each.1 k default (omega arith)
+
+-- the main names of the program's groups
+abbrev pub main_names : List Text
+main_names = map (λ (group : Group). main_name group.names) program_groups
 
 -- the lines of the program's main names are the lines of its groups
 pub lines_of_names : (groups : List MatchedGroup) → HasProgramGroups groups

@@ -1,5 +1,5 @@
 -- The program: its options, and the text and the status that words have.
-use Rattle.std.specs.Prelude.{◌≡◌, ◌⊎◌, ℕ, false, Option, List, [], ◌∷◌, ◌++◌, length, map, codes, decimal}
+use Rattle.std.specs.Prelude.{◌≡◌, ◌⊎◌, ℕ, false, Option, List, [], ◌∷◌, ◌++◌, length, codes, decimal}
 use Rattle.std.specs.List.{flat_map}
 use Rattle.std.specs.Io.KnownBytes.{Appends}
 use Rattle.getopts.specs.Accessors.{found_of, values_of}
@@ -35,10 +35,6 @@ program_groups =
     ∷ group_of (codes "c") (codes "color") Maybe Optional (codes "WHEN") (codes "colour the output")
     ∷ []
 
--- the main names of the program's groups
-abbrev pub main_names : List Text
-main_names = map (λ (group : Group). main_name group.names) program_groups
-
 -- the program's options: its groups, in the default style and mode
 abbrev pub program_options : Declared
 program_options = record { groups = program_groups; style = FloatingFrees; long_only = false }
@@ -59,23 +55,23 @@ value_line name value = name ++ (codes " = " ++ (value ++ line_end))
 abbrev pub free_line : Text → Text
 free_line word = codes "free: " ++ (word ++ line_end)
 
--- the lines of an option with this main name and these occurrences: how many they are, and each value
+-- the lines of an option with this name and these occurrences: how many they are, and each value
 abbrev pub option_lines : Text → List Found → Text
 option_lines name founds = count_line name (length founds) ++ flat_map (value_line name) (values_of founds)
 
--- the lines of the option that this name resolves to, shown by this name
+-- the lines of the option that this name resolves to, under this name
 abbrev pub named_lines : List MatchedGroup → Text → Text
 named_lines groups name = option_lines name (found_of groups name)
 
--- the groups are the program's, each with some occurrences
+-- the groups are the program's, each with its share of some occurrences
 abbrev pub HasProgramGroups : List MatchedGroup → Type 0
 HasProgramGroups groups = (occurrences : List Occurrence) × (groups ≡ matched_from 0 program_groups occurrences)
 
--- the lines of a group, shown by its main name
+-- the lines of a group, under its main name
 abbrev pub group_lines : MatchedGroup → Text
 group_lines group = option_lines (main_name group.names) group.found
 
--- the text of matches: the lines of each option in order, and each free word
+-- the text of matches: the lines of each option in order, and the line of each free word
 abbrev pub matches_text : Matched → Text
 matches_text matches = flat_map group_lines matches.groups ++ flat_map free_line matches.free
 
@@ -97,16 +93,22 @@ pub data IsProgramText (words : List Text) : Text → ℕ → Type 0 where
   accepted : (matches : Matched) → IsAccepted program_options words matches → IsProgramText words (matches_text matches) 0
   refused : (fault : Fault) → IsRefused program_options words fault → IsProgramText words (fault_line fault) 2
 
--- the statuses: the text of the words was shown, of accepted or of refused ones; memory was refused; it couldn't be written
+-- the statuses: 0 where the matches of accepted words were shown, 2 where the fault of refused words was,
+-- 3 where memory was refused, 4 where a write or the flush failed
 abbrev pub IsStatus : ℕ → Type 0
 IsStatus status = (status ≡ 0) ⊎ (status ≡ 2) ⊎ (status ≡ 3) ⊎ (status ≡ 4)
 
--- the statuses of words whose text was written
+-- the statuses where the text of the words was written
 abbrev pub IsDone : ℕ → Type 0
 IsDone status = (status ≡ 0) ⊎ (status ≡ 2)
 
--- what a writer holds has grown by the text of these words, which have this status
+-- the words have no other text, and no other status
+abbrev pub IsOnlyText : List Text → Text → ℕ → Type 0
+IsOnlyText words text status = (other : Text) (another : ℕ) → IsProgramText words other another → (other ≡ text) × (another ≡ status)
+
+-- what a writer holds has grown by the one text of these words, which have this status
 pub record ShowsText (old new : Option (List ℕ)) (words : List Text) (status : ℕ) : Type 0 where
   pub text : Text
   pub is_text : IsProgramText words text status
+  pub only : IsOnlyText words text status
   pub written : Appends old new text

@@ -40,6 +40,7 @@ struct Answer {
 /// for each free word; the answer is 0. Of refused words the fault is shown, after the program's name,
 /// and the answer is 2. Where memory is refused nothing is written and the answer is 3, and where a
 /// write or the flush fails it is 4.
+#[tactic(auto, using(crate::proofs::OneText::only_text))]
 pub fn show<W: Write>(alloc: Global, words: &[&str], out: &mut W) -> u8
     ensures status { IsStatus result }
     ensures shown { IsDone result → ShowsText (W.contents out.old) (W.contents out.new) (texts words.now) result }
