@@ -1,4 +1,3 @@
-pub mod ParseLemmas
 pub mod CanonLemmas
 pub mod CountLemmas
 pub mod FailLemmas
@@ -6,6 +5,8 @@ pub mod MatchesLemmas
 pub mod NamesLemmas
 pub mod OptLemmas
 pub mod OptionsLemmas
+pub mod ParseLemmas
+pub mod SameLemmas
 pub mod ScanClusters
 pub mod ScanItems
 pub mod ScanLawProofs
@@ -15,6 +16,7 @@ pub mod ScanSteps
 pub mod ScanTexts
 pub mod ScanTurns
 pub mod ScanWords
+pub mod UsageLemmas
 pub mod WrapLemmas
 pub mod WrapLines
 pub mod WrapRows
