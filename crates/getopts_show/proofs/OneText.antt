@@ -1,12 +1,12 @@
 -- Words have one text and one status.
-use Rattle.std.proofs.Common.{◌≡◌, ℕ, List, [], ◌∷◌, ◌++◌, refl, sym, ap, subst, ◌∙◌, inl, inr}
+use Rattle.std.proofs.Common.{◌≡◌, ℕ, true, false, List, [], ◌∷◌, ◌++◌, refl, sym, ap, subst, ◌∙◌, inl, inr}
 use Rattle.std.specs.List.{AllByRecursion}
 use Rattle.getopts.specs.Fail.{Fault}
 use Rattle.getopts.specs.Matches.{MatchedGroup, Matched, matches_of, KeepsCount, KeepsCounts, IsCountFault, broken_count}
 use Rattle.getopts.specs.Names.{Text}
 use Rattle.getopts.specs.Parse.{IsAccepted, IsRefused}
 use Rattle.getopts.specs.Scan.{Reading}
-use Rattle.getopts_show.specs.Program.{IsProgramText, IsOnlyText, accepted, fault_line, matches_text, program_options, refused}
+use Rattle.getopts_show.specs.Program.{IsProgramText, IsOnlyText, accepted, asks_help, fault_line, helped, matches_text, program_options, refused}
 
 -- what holds of each element holds of one in the middle
 middle_of : {X : Type 0} (P : X → Type 0) (before : List X) (x : X) (after : List X) → AllByRecursion P (before ++ x ∷ after) → P x
@@ -55,12 +55,24 @@ one_refusal words fault other (inr is) (inr also) =
     one_count_fault (matches_of program_options is.reading).groups fault other is.breaks
     (subst (λ (r : Reading). IsCountFault (matches_of program_options r).groups other) (is.only also.reading also.reads) also.breaks)
 
+-- matches that words are accepted with ask for help or don't
+asks_or_not : (words : List Text) (matches others : Matched) → IsAccepted program_options words matches → IsAccepted program_options words others
+    → asks_help matches ≡ true → asks_help others ≡ false → ⊥
+asks_or_not words matches others is also asks plain =
+    let same : true ≡ false = sym (subst (λ (m : Matched). asks_help m ≡ true) (sym (one_accepted words matches others is also)) asks) ∙ plain in
+    cc
+
 -- the text and the status of words are the only ones
 pub one_text : {words : List Text} {text other : Text} {status another : ℕ} → IsProgramText words text status → IsProgramText words other another
     → (other ≡ text) × (another ≡ status)
-one_text {words} (accepted matches is) (accepted others also) = (ap matches_text (one_accepted words matches others is also), refl)
-one_text {words} (accepted matches is) (refused fault also) = absurd (accepted_not_refused words matches fault is also)
-one_text {words} (refused fault is) (accepted matches also) = absurd (accepted_not_refused words matches fault also is)
+one_text {words} (helped matches text is asks help) (helped others other also ask helps) = ((help other).0 ((helps other).1 refl), refl)
+one_text {words} (accepted matches is plain) (accepted others also plains) = (ap matches_text (one_accepted words matches others is also), refl)
+one_text {words} (helped matches text is asks help) (accepted others also plains) = absurd (asks_or_not words matches others is also asks plains)
+one_text {words} (accepted matches is plain) (helped others other also asks helps) = absurd (asks_or_not words others matches also is asks plain)
+one_text {words} (helped matches text is asks help) (refused fault also) = absurd (accepted_not_refused words matches fault is also)
+one_text {words} (accepted matches is plain) (refused fault also) = absurd (accepted_not_refused words matches fault is also)
+one_text {words} (refused fault is) (helped matches text also asks help) = absurd (accepted_not_refused words matches fault also is)
+one_text {words} (refused fault is) (accepted matches also plain) = absurd (accepted_not_refused words matches fault also is)
 one_text {words} (refused fault is) (refused other also) = (ap fault_line (one_refusal words fault other is also), refl)
 
 -- a text of words is their only one

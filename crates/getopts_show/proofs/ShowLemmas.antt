@@ -1,5 +1,5 @@
 -- What the program's names and groups give.
-use Rattle.std.proofs.Common.{◌≡◌, ℕ, zero, suc, ◌<◌, List, [], ◌∷◌, length, get_or, map, refl, sym, subst, arith}
+use Rattle.std.proofs.Common.{◌≡◌, ℕ, Bool, true, false, zero, suc, ◌<◌, List, [], ◌∷◌, length, get_or, map, refl, sym, subst, arith}
 use Rattle.std.specs.Prelude.{⊤, Option, Some, None, MatchOption, IsSomeAnd}
 use Rattle.std.specs.Borrow.{Bor}
 use Rattle.std.specs.List.{AllByRecursion, flat_map}
@@ -9,7 +9,7 @@ use Rattle.getopts.specs.Matches.{Matched, MatchedGroup}
 use Rattle.getopts.specs.Names.{Text, main_name}
 use Rattle.getopts.specs.Options.{Declared, Group}
 use Rattle.getopts.specs.Parse.{IsAccepted, IsRefused}
-use Rattle.getopts_show.specs.Program.{HasProgramGroups, IsProgramText, accepted, fault_line, group_lines, matches_text, named_lines, program_groups, program_options, refused}
+use Rattle.getopts_show.specs.Program.{HasProgramGroups, IsHelpText, IsProgramText, accepted, asks_help, fault_line, group_lines, helped, matches_text, named_lines, program_groups, program_options, refused}
 
 -- what holds of each text holds of the text at a place
 pub text_at : (P : Text → Type 0) (words : List (Bor Text)) → AllByRecursion P (texts words)
@@ -27,14 +27,23 @@ pub lines_of_names : (groups : List MatchedGroup) → HasProgramGroups groups
     → flat_map (named_lines groups) main_names ≡ flat_map group_lines groups
 lines_of_names groups (occurrences, is) = subst (λ (gs : List MatchedGroup). flat_map (named_lines gs) main_names ≡ flat_map group_lines gs) (sym is) refl
 
--- words that are accepted, and the text of their matches
+-- the text of accepted words, where it is known for help and for the rest
+text_of_matches : (words : List Text) (matches : Matched) (text : Text) (asks : Bool) → asks_help matches ≡ asks
+    → IsAccepted program_options words matches → (asks_help matches ≡ true → IsHelpText text) → (asks_help matches ≡ false → text ≡ matches_text matches)
+    → IsProgramText words text 0
+text_of_matches words matches text true asks is help shown = helped matches text is asks (help asks)
+text_of_matches words matches text false asks is help shown =
+    subst (λ (t : Text). IsProgramText words t 0) (sym (shown asks)) (accepted matches is asks)
+
+-- words that are accepted, and their text
 pub accepted_text : (options : Declared) (words items : List (Bor Text)) (matches : Matched) (text : Text)
-    → options ≡ program_options → items ≡ words → IsAccepted options (texts items) matches → text ≡ matches_text matches
+    → options ≡ program_options → items ≡ words → IsAccepted options (texts items) matches
+    → (asks_help matches ≡ true → IsHelpText text) → (asks_help matches ≡ false → text ≡ matches_text matches)
     → IsProgramText (texts words) text 0
-accepted_text options words items matches text options_are items_are is text_is =
-    subst (λ (t : Text). IsProgramText (texts words) t 0) (sym text_is)
-    (accepted matches (subst (λ (o : Declared). IsAccepted o (texts words) matches) options_are
-    (subst (λ (ws : List (Bor Text)). IsAccepted options (texts ws) matches) items_are is)))
+accepted_text options words items matches text options_are items_are is help shown =
+    text_of_matches (texts words) matches text (asks_help matches) refl
+    (subst (λ (o : Declared). IsAccepted o (texts words) matches) options_are
+    (subst (λ (ws : List (Bor Text)). IsAccepted options (texts ws) matches) items_are is)) help shown
 
 -- words that are refused, and the text of their fault
 pub refused_text : (options : Declared) (words items : List (Bor Text)) (fault : Fault) (text : Text)

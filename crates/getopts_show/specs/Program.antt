@@ -1,14 +1,15 @@
 -- The program: its options, and the text and the status that words have.
-use Rattle.std.specs.Prelude.{◌≡◌, ◌⊎◌, ℕ, false, Option, List, [], ◌∷◌, ◌++◌, length, codes, decimal}
+use Rattle.std.specs.Prelude.{◌≡◌, ◌⊎◌, ℕ, Bool, true, false, Option, List, [], ◌∷◌, ◌++◌, length, codes, decimal}
 use Rattle.std.specs.List.{flat_map}
 use Rattle.std.specs.Io.KnownBytes.{Appends}
-use Rattle.getopts.specs.Accessors.{found_of, values_of}
+use Rattle.getopts.specs.Accessors.{found_of, is_present, values_of}
 use Rattle.getopts.specs.Fail.{Fault, argument_missing, unrecognized_option, option_missing, option_duplicated, unexpected_argument}
 use Rattle.getopts.specs.Matches.{Found, Matched, MatchedGroup, matched_from}
 use Rattle.getopts.specs.Names.{Text, main_name}
 use Rattle.getopts.specs.Options.{Group, Declared}
 use Rattle.getopts.specs.Scan.{Occurrence}
 use Rattle.getopts.specs.Parse.{IsAccepted, IsRefused}
+use Rattle.getopts.specs.Usage.{IsTheOnly, IsUsageText}
 use Rattle.getopts.specs.declared.options.HasArg.{HasArg}
 use Rattle.getopts.specs.declared.options.HasArg.TheVariants.{Yes, No, Maybe}
 use Rattle.getopts.specs.declared.options.Occur.{Occur}
@@ -87,13 +88,28 @@ fault_text (unexpected_argument name) = codes "Option '" ++ (name ++ codes "' do
 abbrev pub fault_line : Fault → Text
 fault_line fault = codes "getopts_show: " ++ (fault_text fault ++ line_end)
 
--- The text and the status of words: those of the matches that they are accepted with, or those of the
--- fault that they are refused with.
+-- whether matches ask for help
+abbrev pub asks_help : Matched → Bool
+asks_help matches = is_present matches.groups (codes "help")
+
+-- the line before the options in the program's help
+abbrev pub brief : Text
+brief = codes "Usage: getopts_show [options] FILE"
+
+-- the program's help: the usage text of its options, which is one alone
+abbrev pub IsHelpText : Text → Type 0
+IsHelpText text = IsTheOnly (IsUsageText program_options brief) text
+
+-- The text and the status of words: the program's help or the text of their matches, as the matches that
+-- they are accepted with ask for help or not, or those of the fault that they are refused with.
 pub data IsProgramText (words : List Text) : Text → ℕ → Type 0 where
-  accepted : (matches : Matched) → IsAccepted program_options words matches → IsProgramText words (matches_text matches) 0
+  helped : (matches : Matched) (text : Text) → IsAccepted program_options words matches → asks_help matches ≡ true
+    → IsHelpText text → IsProgramText words text 0
+  accepted : (matches : Matched) → IsAccepted program_options words matches → asks_help matches ≡ false
+    → IsProgramText words (matches_text matches) 0
   refused : (fault : Fault) → IsRefused program_options words fault → IsProgramText words (fault_line fault) 2
 
--- the statuses: 0 where the matches of accepted words were shown, 2 where the fault of refused words was,
+-- the statuses: 0 where the program's help or the matches of accepted words were shown, 2 where the fault of refused words was,
 -- 3 where memory was refused, 4 where a write or the flush failed
 abbrev pub IsStatus : ℕ → Type 0
 IsStatus status = (status ≡ 0) ⊎ (status ≡ 2) ⊎ (status ≡ 3) ⊎ (status ≡ 4)

@@ -1,13 +1,13 @@
 //! The program's work over words and a writer.
 
-ghost use Rattle.std.specs.Prelude.{◌≡◌, ◌++◌, map, IfOk, IsSomeAnd, OnOk};
+ghost use Rattle.std.specs.Prelude.{◌≡◌, ◌++◌, true, false, map, IfOk, IsSomeAnd, OnOk};
 ghost use Rattle.std.specs.List.{flat_map};
 ghost use Rattle.std.specs.String.{string_bytes};
 ghost use Rattle.std.specs.Io.KnownBytes.{Appends};
 ghost use Rattle.getopts.specs.Accessors.{AreDefined, IsDefined, found_of};
 ghost use Rattle.getopts.specs.Fail.{fault_of};
 ghost use Rattle.getopts.specs.Line.{texts};
-ghost use Rattle.getopts_show.specs.Program.{IsProgramText, HasProgramGroups, IsStatus, IsDone, ShowsText, fault_line, free_line, matches_text, named_lines, program_options};
+ghost use Rattle.getopts_show.specs.Program.{IsProgramText, IsHelpText, HasProgramGroups, IsStatus, IsDone, ShowsText, asks_help, fault_line, free_line, matches_text, named_lines, program_options};
 
 use getopts::{Fail, Matches, Options};
 use std::alloc::{AllocError, Global};
@@ -26,6 +26,9 @@ const NOT_WRITTEN: u8 = 4;
 /// The main names of the program's options, in order.
 const MAIN_NAMES: [&str; 5] = ["output", "help", "verbose", "L", "color"];
 
+/// The line before the options in the program's help.
+const BRIEF: &str = "Usage: getopts_show [options] FILE";
+
 /// What the program has to write, and the status that it ends with.
 #[derive(Debug, Drop)]
 struct Answer {
@@ -35,11 +38,12 @@ struct Answer {
 
 /// Reads words by the program's options, and writes what they are.
 ///
-/// The text is made whole, and then written once and flushed. Accepted words are shown: for each option
-/// the line `main: count` and a line `main = value` for each of its values, then a line `free: word`
-/// for each free word; the answer is 0. Of refused words the fault is shown, after the program's name,
-/// and the answer is 2. Where memory is refused nothing is written and the answer is 3, and where a
-/// write or the flush fails it is 4.
+/// The text is made whole, and then written once and flushed. Accepted words that hold `-h` or `--help`
+/// are answered by the program's help alone. Other accepted words are shown: for each option the line
+/// `main: count` and a line `main = value` for each of its values, then a line `free: word` for each
+/// free word. The answer to accepted words is 0. Of refused words, also where they ask for help, the
+/// fault is shown, after the program's name, and the answer is 2. Where memory is refused nothing is
+/// written and the answer is 3, and where a write or the flush fails it is 4.
 #[tactic(auto, using(crate::proofs::OneText::only_text))]
 pub fn show<W: Write>(alloc: Global, words: &[&str], out: &mut W) -> u8
     ensures status { IsStatus result }
@@ -70,13 +74,31 @@ fn answer_to(alloc: Global, words: &[&str]) -> Result<Answer, AllocError>
     let options = program_options(alloc)?;
     match options.parse(alloc, words.iter().copied()) {
         Ok(matches) => Ok(Answer {
-            text: matches_text(alloc, &matches)?,
+            text: accepted_text(alloc, &options, &matches)?,
             status: SHOWN,
         }),
         Err(fail) => Ok(Answer {
             text: fault_line(alloc, &fail)?,
             status: REFUSED,
         }),
+    }
+}
+
+/// The text of accepted words: the program's help where they ask for it, or else what they are.
+fn accepted_text(
+    alloc: Global,
+    options: &Options,
+    matches: &Matches,
+) -> Result<String, AllocError>
+    requires program { options.now ≡ program_options }
+    requires groups { HasProgramGroups matches.now.groups }
+    ensures help { IfOk result (λ text. asks_help matches.now ≡ true → IsHelpText (string_bytes text)) }
+    ensures shown { IfOk result (λ text. asks_help matches.now ≡ false → string_bytes text ≡ matches_text matches.now) }
+{
+    if matches.opt_present("help") {
+        options.usage(alloc, BRIEF)
+    } else {
+        matches_text(alloc, matches)
     }
 }
 

@@ -55,7 +55,30 @@ impl Write for Memory {
 /// Words, the text that they have, and their status.
 type Row = (&'static [&'static str], &'static str, u8);
 
-const ROWS: [Row; 12] = [
+const HELP: &str = "Usage: getopts_show [options] FILE
+
+Options:
+    -o, --output NAME   set output file name
+    -h, --help          print this help menu
+    -v, --verbose       say more
+    -L DIR              add a folder
+    -c, --color [WHEN]  colour the output
+";
+
+const ROWS: [Row; 17] = [
+    (&["-h"], HELP, 0),
+    (&["-h", "x"], HELP, 0),
+    (&["-vo", "x", "--help", "--", "y"], HELP, 0),
+    (
+        &["-h", "--nope"],
+        "getopts_show: Unrecognized option: 'nope'\n",
+        2,
+    ),
+    (
+        &["-h", "-h"],
+        "getopts_show: Option 'help' given more than once\n",
+        2,
+    ),
     (
         &["--output=x.txt", "--verbose", "in.txt"],
         "output: 1\noutput = x.txt\nhelp: 0\nverbose: 1\nL: 0\ncolor: 0\nfree: in.txt\n",

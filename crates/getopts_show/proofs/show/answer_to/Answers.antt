@@ -13,7 +13,7 @@ returns-in-Ok c =
     let words_are = source.2.2 ∙ (c.iter.ensures.runs source.0 (source.0).seen).4 (source.2.0 ∙ told.2)
     ∙ ap (λ iter. iter.rest.now) source.1 ∙ c.iter.ensures.rest in
     accepted_text c.in_ok-options.options c.args.words.now (told.0).items c.in-Ok.matches _
-    c.in_ok-options.ensures words_are told.3 c.in_ok-matches_text-in-Ok.ensures
+    c.in_ok-options.ensures words_are told.3 c.in_ok-accepted_text-in-Ok.ensures.help c.in_ok-accepted_text-in-Ok.ensures.shown
 
 pub returns : goal.returns
 returns c =
