@@ -23,7 +23,7 @@ spaces count = repeat count (codes " ")
 abbrev pub joined : Text → List Text → Text
 joined separator texts = join_by (λ text. text) separator texts
 
--- the text takes at least one column
+-- whether the text takes at least one column
 abbrev pub has_columns : Text → Bool
 has_columns text = nat_lt 0 (width_of text)
 
@@ -105,7 +105,7 @@ AreUsageRows options rows = AllZip (IsUsageRow options.long_only (any_short opti
 
 -- ---- the usage text
 
--- the brief, an empty line, a line that says `Options:`, and each row with a line end
+-- the brief, an empty line, a line that says `Options:`, the rows parted by line ends, and a line end
 abbrev pub usage_text : Text → List Text → Text
 usage_text brief rows = brief ++ (codes "\n\nOptions:\n" ++ (joined (codes "\n") rows ++ codes "\n"))
 

@@ -82,9 +82,10 @@ impl Options {
 
     /// The brief, and each option with its description, for a help screen.
     ///
-    /// Descriptions begin at column 24 and fill 54 columns. A head of 24 columns or more stands on a line
-    /// of its own. Columns are those that `unicode_width` gives for the text: they are not bytes, so the
-    /// descriptions stand below one another where names are not ASCII.
+    /// A description stands after 24 columns, in rows of at most 54; a wider word has a row of its own. A head
+    /// of 24 columns or more stands on a line by itself. Columns are those that `unicode_width` gives for a
+    /// text: they are not bytes, so descriptions stand below one another also where names are not ASCII. A
+    /// line may end in spaces.
     ///
     /// ```
     /// options.optopt("o", "output", "set output file name", "NAME")?.optflag("h", "help", "print this")?;

@@ -4,6 +4,7 @@ use crate::show::show;
 use std::alloc::{AllocError, Global};
 use std::io;
 use std::io::{ErrorKind, Write};
+use std::process::Abort;
 use std::test::Fail;
 
 /// A writer over memory that takes at most so many bytes a write, and fails where it is told to.
@@ -167,26 +168,49 @@ fn text_is_added_to_what_is_there(rt: HostRuntime) -> Result<(), Fail> {
     Ok(())
 }
 
-#[test]
-fn failed_writes_answer_four(rt: HostRuntime) -> Result<(), Fail> {
+/// Each row answers 4 over a writer with these faults, and so many bytes of its text are taken; `None`
+/// is all of them.
+fn rows_fail(
+    rt: &(impl Abort + AllocGlobal),
+    step: usize,
+    failing_write: Option<usize>,
+    failing_flush: Option<usize>,
+    taken: Option<usize>,
+) -> Result<(), Fail> {
     for (words, text, _) in ROWS {
-        for (step, failing_write, failing_flush, taken) in [
-            (usize::MAX, Some(1), None, 0),
-            (1, Some(1), None, 0),
-            (1, Some(3), None, 2),
-            (0, None, None, 0),
-            (usize::MAX, None, Some(1), text.len()),
-            (1, None, Some(1), text.len()),
-        ] {
-            let mut out = Memory::new(rt.alloc())?;
-            out.step = step;
-            out.failing_write = failing_write;
-            out.failing_flush = failing_flush;
-            assert_eq!(rt; show(rt.alloc(), words, &mut out), 4, "at {text:?}");
-            assert_eq!(rt; out.held.len(), taken);
-        }
+        let mut out = Memory::new(rt.alloc())?;
+        out.step = step;
+        out.failing_write = failing_write;
+        out.failing_flush = failing_flush;
+        assert_eq!(rt; show(rt.alloc(), words, &mut out), 4, "at {text:?}");
+        assert_eq!(rt; out.held.len(), taken.unwrap_or(text.len()));
     }
     Ok(())
+}
+
+#[test]
+fn first_write_fails(rt: HostRuntime) -> Result<(), Fail> {
+    rows_fail(&rt, usize::MAX, Some(1), None, Some(0))
+}
+
+#[test]
+fn third_write_of_one_byte_fails(rt: HostRuntime) -> Result<(), Fail> {
+    rows_fail(&rt, 1, Some(3), None, Some(2))
+}
+
+#[test]
+fn no_byte_is_taken(rt: HostRuntime) -> Result<(), Fail> {
+    rows_fail(&rt, 0, None, None, Some(0))
+}
+
+#[test]
+fn flush_fails(rt: HostRuntime) -> Result<(), Fail> {
+    rows_fail(&rt, usize::MAX, None, Some(1), None)
+}
+
+#[test]
+fn flush_fails_after_writes_of_one_byte(rt: HostRuntime) -> Result<(), Fail> {
+    rows_fail(&rt, 1, None, Some(1), None)
 }
 
 /// Passes whichever growth is refused: want of memory is answered with nothing written, and else the
