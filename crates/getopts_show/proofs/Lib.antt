@@ -1,0 +1,2 @@
+mod OneText
+mod ShowLemmas

@@ -1,0 +1,9 @@
+use Rattle.std.proofs.Common.{◌≡◌, ◌++◌, map, take}
+use Rattle.std.specs.List.{flat_map}
+use Rattle.std.specs.String.{string_bytes}
+use Rattle.getopts_show.specs.Program.{value_line}
+use Rattle.getopts_show.proofs.show.push_option.Given as goal
+
+-- the lines of the values so far were added
+abbrev pub invariant-loop-value : goal.invariant-loop-value
+invariant-loop-value l = string_bytes l.text ≡ string_bytes l.initial.text ++ flat_map (value_line l.name) (map string_bytes (take l.value-index l.value-items))

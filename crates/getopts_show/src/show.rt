@@ -1,0 +1,178 @@
+//! The program's work over words and a writer.
+
+ghost use Rattle.std.specs.Prelude.{◌≡◌, ◌++◌, true, false, map, IfOk, IsSomeAnd, OnOk};
+ghost use Rattle.std.specs.List.{flat_map};
+ghost use Rattle.std.specs.String.{string_bytes};
+ghost use Rattle.std.specs.Io.KnownBytes.{Appends};
+ghost use Rattle.getopts.specs.Accessors.{AreDefined, IsDefined, found_of};
+ghost use Rattle.getopts.specs.Fail.{fault_of};
+ghost use Rattle.getopts.specs.Line.{texts};
+ghost use Rattle.getopts_show.specs.Program.{IsProgramText, IsHelpText, HasProgramGroups, IsStatus, IsDone, ShowsText, asks_help, fault_line, free_line, matches_text, named_lines, program_options};
+
+use getopts::{Fail, Matches, Options};
+use std::alloc::{AllocError, Global};
+use std::io;
+use std::io::Write;
+
+/// The status where the words were accepted, and what they say was shown.
+const SHOWN: u8 = 0;
+/// The status where the words were refused, and the fault was shown.
+const REFUSED: u8 = 2;
+/// The status where memory was refused.
+pub(crate) const NO_MEMORY: u8 = 3;
+/// The status where a write or a flush failed.
+const NOT_WRITTEN: u8 = 4;
+
+/// The main names of the program's options, in order.
+const MAIN_NAMES: [&str; 5] = ["output", "help", "verbose", "L", "color"];
+
+/// The line before the options in the program's help.
+const BRIEF: &str = "Usage: getopts_show [options] FILE";
+
+/// What the program has to write, and the status that it ends with.
+#[derive(Debug, Drop)]
+struct Answer {
+    text: String,
+    status: u8,
+}
+
+/// Reads words by the program's options, and writes what they are.
+///
+/// The text is made whole, and then written once and flushed. Accepted words that hold `-h` or `--help`
+/// are answered by the program's help alone. Other accepted words are shown: for each option the line
+/// `main: count` and a line `main = value` for each of its values, then a line `free: word` for each
+/// free word. The answer to accepted words is 0. Of refused words, also where they ask for help, the
+/// fault is shown, after the program's name, and the answer is 2. Where memory is refused nothing is
+/// written and the answer is 3, and where a write or the flush fails it is 4.
+#[tactic(auto, using(crate::proofs::OneText::only_text))]
+pub fn show<W: Write>(alloc: Global, words: &[&str], out: &mut W) -> u8
+    ensures status { IsStatus result }
+    ensures shown { IsDone result → ShowsText (W.contents out.old) (W.contents out.new) (texts words.now) result }
+    ensures nothing_written { result ≡ 3 → out.new ≡ out.old }
+{
+    match answer_to(alloc, words) {
+        Ok(answer) => match print(out, answer.text.as_str()) {
+            Ok(()) => answer.status,
+            Err(_) => NOT_WRITTEN,
+        },
+        Err(_) => NO_MEMORY,
+    }
+}
+
+/// Writes a text, and flushes it.
+fn print<W: Write>(out: &mut W, text: &str) -> io::Result<()>
+    ensures { OnOk result (Appends (W.contents out.old) (W.contents out.new) text.now) }
+{
+    out.write_all(text.as_bytes())?;
+    out.flush()
+}
+
+/// What the program says to words.
+fn answer_to(alloc: Global, words: &[&str]) -> Result<Answer, AllocError>
+    ensures { IfOk result (λ answer. IsProgramText (texts words.now) (string_bytes answer.text) answer.status) }
+{
+    let options = program_options(alloc)?;
+    match options.parse(alloc, words.iter().copied()) {
+        Ok(matches) => Ok(Answer {
+            text: accepted_text(alloc, &options, &matches)?,
+            status: SHOWN,
+        }),
+        Err(fail) => Ok(Answer {
+            text: fault_line(alloc, &fail)?,
+            status: REFUSED,
+        }),
+    }
+}
+
+/// The text of accepted words: the program's help where they ask for it, or else what they are.
+fn accepted_text(
+    alloc: Global,
+    options: &Options,
+    matches: &Matches,
+) -> Result<String, AllocError>
+    requires program { options.now ≡ program_options }
+    requires groups { HasProgramGroups matches.now.groups }
+    ensures help { IfOk result (λ text. asks_help matches.now ≡ true → IsHelpText (string_bytes text)) }
+    ensures shown { IfOk result (λ text. asks_help matches.now ≡ false → string_bytes text ≡ matches_text matches.now) }
+{
+    if matches.opt_present("help") {
+        options.usage(alloc, BRIEF)
+    } else {
+        matches_text(alloc, matches)
+    }
+}
+
+/// The line of the fault that a refusal tells. An error comes also where it tells that memory was
+/// refused.
+fn fault_line(alloc: Global, fail: &Fail) -> Result<String, AllocError>
+    ensures { IfOk result (λ text. IsSomeAnd (fault_of fail.now) (λ fault. string_bytes text ≡ fault_line fault)) }
+{
+    match fail {
+        Fail::OutOfMemory => Err(AllocError),
+        _ => format!(in alloc; "getopts_show: {fail}\n"),
+    }
+}
+
+/// The program's options.
+fn program_options(alloc: Global) -> Result<Options, AllocError>
+    ensures { IfOk result (λ options. options ≡ program_options) }
+{
+    let mut options = Options::new(alloc);
+    options
+        .optopt("o", "output", "set output file name", "NAME")?
+        .optflag("h", "help", "print this help menu")?
+        .optflagmulti("v", "verbose", "say more")?
+        .optmulti("L", "", "add a folder", "DIR")?
+        .optflagopt("c", "color", "colour the output", "WHEN")?;
+    Ok(options)
+}
+
+/// The text of matches of the program's options.
+fn matches_text(alloc: Global, matches: &Matches) -> Result<String, AllocError>
+    requires { HasProgramGroups matches.now.groups }
+    ensures { IfOk result (λ text. string_bytes text ≡ matches_text matches.now) }
+{
+    let mut text = options_text(alloc, matches, &MAIN_NAMES)?;
+    push_free(&mut text, &matches.free)?;
+    Ok(text)
+}
+
+/// The lines of the options with these names, in order.
+fn options_text(alloc: Global, matches: &Matches, names: &[&str]) -> Result<String, AllocError>
+    requires { AreDefined matches.now.groups (texts names.now) }
+    ensures { IfOk result (λ text. string_bytes text ≡ flat_map (named_lines matches.now.groups) (texts names.now)) }
+{
+    let mut text = String::new(alloc);
+    for name in names {
+        push_option(alloc, &mut text, matches, name)?;
+    }
+    Ok(text)
+}
+
+/// Adds the lines of the option with this name.
+fn push_option(
+    alloc: Global,
+    text: &mut String,
+    matches: &Matches,
+    name: &str,
+) -> Result<(), AllocError>
+    requires { IsDefined matches.now.groups name.now }
+    ensures { OnOk result (string_bytes text.new ≡ string_bytes text.old ++ named_lines matches.now.groups name.now) }
+{
+    let count = matches.opt_count(name);
+    writeln!(text, "{name}: {count}")?;
+    for value in &matches.opt_strs(alloc, name)? {
+        writeln!(text, "{name} = {value}")?;
+    }
+    Ok(())
+}
+
+/// Adds the line of each free word.
+fn push_free(text: &mut String, free: &[String]) -> Result<(), AllocError>
+    ensures { OnOk result (string_bytes text.new ≡ string_bytes text.old ++ flat_map free_line (map string_bytes free.now)) }
+{
+    for word in free {
+        writeln!(text, "free: {word}")?;
+    }
+    Ok(())
+}
