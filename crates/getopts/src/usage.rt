@@ -331,6 +331,3 @@ fn argument_of_option(alloc: Global, hasarg: HasArg, hint: &str) -> Result<Strin
         HasArg::Maybe => format!(in alloc; " [{hint}]"),
     }
 }
-
-#[cfg(test)]
-mod tests;

@@ -79,6 +79,3 @@ fn push_line(
     rows.push(row)?;
     Ok(())
 }
-
-#[cfg(test)]
-mod tests;

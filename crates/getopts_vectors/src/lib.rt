@@ -38,4 +38,8 @@ mod several_names;
 #[cfg(test)]
 mod styles;
 #[cfg(test)]
+mod usage_texts;
+#[cfg(test)]
 mod values;
+#[cfg(test)]
+mod wrapping;

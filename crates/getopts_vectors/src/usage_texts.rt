@@ -1,5 +1,7 @@
-use super::*;
-use crate::names::names_lawful;
+//! Usage texts, byte for byte, and closures that make texts of usage rows.
+
+use getopts::{HasArg, Occur, Options, names_lawful};
+use std::alloc::{AllocError, Global};
 use std::process::Abort;
 use std::test::Fail;
 
@@ -34,7 +36,7 @@ fn declared(
     groups: &[Row<'_>],
 ) -> Result<Options, AllocError> {
     let mut options = Options::new(alloc);
-    options.long_only = long_only;
+    options.long_only(long_only);
     for (short, long, desc, hint, hasarg, occur) in groups {
         assert!(rt; names_lawful(short, long), "{short:?} and {long:?}");
         options.opt(short, long, desc, hint, *hasarg, *occur)?;

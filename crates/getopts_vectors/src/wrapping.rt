@@ -1,6 +1,10 @@
-use super::*;
+//! Rows of descriptions, and where a break goes.
+
+use getopts::wrap::each_split_within;
+use std::alloc::{AllocError, Global};
 use std::process::Abort;
 use std::test::Fail;
+use unicode_width::UnicodeWidthStr;
 
 const MARY: &str = "\nMary had a little lamb\nLittle lamb\n";
 
