@@ -1,5 +1,6 @@
 pub mod ParseLemmas
 pub mod CanonLemmas
+pub mod CanonicalLemmas
 pub mod CountLemmas
 pub mod FailLemmas
 pub mod MatchesLemmas

@@ -1,6 +1,7 @@
 //! Command-line options: declared groups, a list of words, and the one reading of those words.
 #![tactic(auto)]
 
+mod canon;
 mod fail;
 mod matches;
 mod names;
@@ -8,6 +9,7 @@ mod options;
 mod scan;
 pub mod wrap;
 
+pub use canon::{canonical_lines_tell, equal_input_equal_answers};
 pub use fail::Fail;
 pub use matches::Matches;
 pub use names::names_lawful;

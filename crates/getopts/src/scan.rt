@@ -364,8 +364,7 @@ fn check_counts(alloc: Global, opts: &[Opt], occurrences: &[Occurrence<'_>]) -> 
 /// A `&str` is a text.
 fn is_text(word: &str)
     ensures { IsUtf8 word.now }
-{
-}
+{}
 
 /// Each word is a text, as its type says. It is for the proofs alone: nothing is left of it once built.
 fn are_texts(words: &[&str])
@@ -382,13 +381,16 @@ impl Options {
     ghost use Rattle.getopts.specs.Options.{grammar_of};
     ghost use Rattle.getopts.specs.ScanLaws.{LongAttachedOrSeparate, ShortAttachedOrSeparate, ClusterSplits, OneDashOrTwo, LinesCompose, TrailingStartIsAfterStop, FreeWordsAreSubsequence, HavePositionsInOrder};
     ghost use Rattle.getopts.specs.Parse.{IsAccepted, IsRefused, KeepsReadingLaws};
+    ghost use Rattle.getopts.specs.AcceptedLine.{IsAcceptedLine};
 
-    /// Reads a line by these options.
-    fn parse_words(&self, alloc: Global, words: &[&str]) -> crate::Result
-        ensures accepted { IfOk result (λ matches. IsAccepted self.now (texts words.now) matches) }
+    /// Reads a line by copies of these options, and checks its counts.
+    pub(crate) fn accepted_line<'w>(
+        &self,
+        alloc: Global,
+        words: &[&'w str],
+    ) -> Result<(Vec<Opt>, Line<'w>), Fail>
+        ensures accepted { IfOk result (λ found. IsAcceptedLine self.now (texts words.now) found.0.items found.1) }
         ensures refused { IfErr result (λ fail. Tells fail (IsRefused self.now (texts words.now))) }
-        ensures counts { IfOk result (λ matches. KeepsCounts matches.groups × HavePositionsInOrder matches.groups) }
-        ensures laws { OnOk result (KeepsReadingLaws (grammar_of self.now)) }
     {
         are_texts(words);
         let opts = known_options(alloc, &self.groups)?;
@@ -399,6 +401,17 @@ impl Options {
         };
         let line = scanner.scan(alloc, words)?;
         check_counts(alloc, &opts, &line.occurrences)?;
+        Ok((opts, line))
+    }
+
+    /// What a line gives, read by these options.
+    fn parse_words(&self, alloc: Global, words: &[&str]) -> crate::Result
+        ensures accepted { IfOk result (λ matches. IsAccepted self.now (texts words.now) matches) }
+        ensures refused { IfErr result (λ fail. Tells fail (IsRefused self.now (texts words.now))) }
+        ensures counts { IfOk result (λ matches. KeepsCounts matches.groups × HavePositionsInOrder matches.groups) }
+        ensures laws { OnOk result (KeepsReadingLaws (grammar_of self.now)) }
+    {
+        let (opts, line) = self.accepted_line(alloc, words)?;
         Ok(Matches::from_line(alloc, opts, &line)?)
     }
 

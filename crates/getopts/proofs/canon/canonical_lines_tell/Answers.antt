@@ -1,0 +1,7 @@
+-- Lawful names are names, so the laws of canonical lines hold.
+use Rattle.getopts.proofs.CanonLemmas.{CanonicalLinesTell-lawful}
+use Rattle.getopts.proofs.NamesLemmas.{named_grammar}
+use Rattle.getopts.proofs.canon.canonical_lines_tell.Goals as goal
+
+pub returns : goal.returns
+returns c options lawful texts = CanonicalLinesTell-lawful options lawful (named_grammar options lawful texts)
