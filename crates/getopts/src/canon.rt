@@ -80,7 +80,7 @@ impl Options {
     ghost use Rattle.getopts.specs.Canon.{IsSound, IsFitting, ReadsBackEverywhere, SaysNothingElse, IsItsOwn, IsOnlyContent, HasCanonicalLine};
     ghost use Rattle.getopts.specs.CanonAnswers.{IsWritten, IsUnwritable, EachContent, EachPlainContent};
 
-    /// The canonical line of a line, if it has one.
+    /// The canonical line of accepted words, if they have one.
     fn canonical_words(&self, alloc: Global, words: &[&str]) -> Result<Option<Vec<String>>, Fail>
         ensures written { IfOk result (λ answer. IfSome answer (λ line.
             IsWritten self.now (texts words.now) (map string_bytes line.items))) }
@@ -98,7 +98,23 @@ impl Options {
         }
     }
 
-    /// The canonical line of a line.
+    /// Writes an accepted line again with main names alone, for a program that logs, compares or caches
+    /// by command lines.
+    ///
+    /// The canonical line has `--main` or `--main=value` for each option that the line gives, in the order
+    /// of the line, then always `--`, then the free words. Here `main` is the long name where the option
+    /// has one, else the short name. With the options `v`/`verbose` and `o`/`output`, the latter with an
+    /// argument, `["-vofile", "x"]` and `["x", "--verbose", "--output", "file"]` both give
+    /// `["--verbose", "--output=file", "--", "x"]`, and no words give `["--"]`. Positions, and where free
+    /// words stood among the options, are not kept.
+    ///
+    /// The answer is `None` where an option that the line gives has a main name that holds `=`: the
+    /// option `p=x` can't be written with two dashes, since `--p=x` is the option `p` with the value `x`.
+    /// An option that is declared and not given does no harm.
+    ///
+    /// Errors come where `parse` gives them, and are the same; `Fail::OutOfMemory` comes where memory was
+    /// refused. As in `parse`, the iterator has to end, and all its items are taken before any other
+    /// answer. The options stay as they are. The Rust has no such call.
     pub fn canonical<'a, I: Iterator<Item = &'a str> + Drop>(
         &self,
         alloc: Global,
@@ -128,16 +144,24 @@ impl Options {
     }
 }
 
-/// Equal input, equal answers: for one set of options and one list of words there is one answer of
-/// `parse` and one of `canonical`.
+/// Equal input, equal answers: one set of options and one list of words have one answer of `parse`, and
+/// one of `canonical`. Want of memory, which may come in place of either, is no such answer.
 ///
-/// It is a law, and nothing runs in it.
+/// This is a law for proofs: nothing is left of it once built.
 pub fn equal_input_equal_answers()
     ensures parse { (options : Declared) (words : List Text) → HasOneAnswer (IsParseAnswer options words) }
     ensures canonical { (options : Declared) (words : List Text) → HasOneAnswer (IsCanonicalAnswer options words) }
 {}
 
-/// The main theorem of canonical lines.
+/// The main theorem: two accepted lines of the same options, in styles and modes that may differ, have
+/// equal canonical lines exactly if they read to the same occurrences and free words.
+///
+/// Occurrences are the same where they are of the same options, in the same order, with the same values;
+/// their positions may differ. The lines are those that have a canonical line. Either canonical line, in
+/// both styles and both modes, reads back to what its line said, and says nothing else.
+///
+/// Options that the calls of this crate build are lawfully named, by texts. This is a law for proofs:
+/// nothing is left of it once built.
 pub fn canonical_lines_tell()
     ensures { (options : Declared) → AreLawfullyNamed options.groups
         → AllByRecursion (λ group. IsUtf8 group.names.short) options.groups
