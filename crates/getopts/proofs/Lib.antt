@@ -1,4 +1,3 @@
-pub mod ParseLemmas
 pub mod CanonLemmas
 pub mod CanonicalLemmas
 pub mod CountLemmas
@@ -7,6 +6,8 @@ pub mod MatchesLemmas
 pub mod NamesLemmas
 pub mod OptLemmas
 pub mod OptionsLemmas
+pub mod ParseLemmas
+pub mod SameLemmas
 pub mod ScanClusters
 pub mod ScanItems
 pub mod ScanLawProofs
@@ -16,6 +17,7 @@ pub mod ScanSteps
 pub mod ScanTexts
 pub mod ScanTurns
 pub mod ScanWords
+pub mod UsageLemmas
 pub mod WrapLemmas
 pub mod WrapLines
 pub mod WrapRows

@@ -1,19 +1,20 @@
 -- What matches hold, by the groups and the one list that the code has.
-use Rattle.std.proofs.Common.{◌≡◌, ◌==◌, ℕ, suc, zero, ◌+◌, ◌<◌, Bool, true, false, cond, List, [], ◌∷◌, map, length, filter, find, Option, Some, None, option_and_then, unwrap_or, slice_get, get_or, drop, refl, ap, sym, ◌∙◌, arith}
-use Rattle.std.specs.List.{filter_map, cons_option}
+use Rattle.std.proofs.Common.{◌≡◌, ◌==◌, ℕ, suc, zero, ◌+◌, ◌<◌, Bool, true, false, cond, List, [], ◌∷◌, map, length, filter, find, Option, Some, None, option_and_then, unwrap_or, is_some, nat_lt, slice_get, get_or, drop, refl, ap, sym, ◌∙◌, subst, arith}
+use Rattle.std.specs.List.{AllZip, filter_map, cons_option}
 use Rattle.std.specs.Option.{option_copied, option_map, option_map_or, option_or}
 use Rattle.std.specs.Borrow.{Bor}
 use Rattle.std.specs.String.{string_bytes}
 use Rattle.std.specs.declared.string.String.{String}
 use Rattle.std.specs.declared.alloc.Global.{Global}
+use Rattle.std.proofs.lemmas.Bool.Decides.{nat_tests}
 use Rattle.std.proofs.lemmas.List.{length-map, at_drop_more}
-use Rattle.getopts.specs.Names.{Text, Names, names_view, resolution}
-use Rattle.getopts.specs.Options.{Group, known_of, opt_view}
+use Rattle.getopts.specs.Names.{Text, Names, IsLawfullyNamed, names_view, resolution}
+use Rattle.getopts.specs.Options.{Group, Known, known_of, opt_view}
 use Rattle.getopts.specs.Line.{texts}
 use Rattle.getopts.specs.Scan.{Occurrence}
 use Rattle.getopts.specs.Matches.{Found, MatchedGroup, found_at, matched_from, matched_known}
-use Rattle.getopts.specs.Accessors.{found_in, found_of, place_of, positions_of, values_of, pairs_of, first_value, first_value_or, first_value_among}
-use Rattle.getopts.specs.Held.{given_value, given_view, given_found, givens_of, value_in, pair_view}
+use Rattle.getopts.specs.Accessors.{AreHeldLawfully, found_in, found_of, place_of, positions_of, values_of, pairs_of, first_value, first_value_or, first_value_among}
+use Rattle.getopts.specs.Held.{AreLawful, given_value, given_view, given_found, givens_of, value_in, pair_view}
 use Rattle.getopts.specs.declared.options.Opt.{Opt}
 use Rattle.getopts.specs.declared.matches.Given.{Given}
 use Rattle.getopts.proofs.NamesLemmas.{resolution_within}
@@ -143,3 +144,30 @@ pub first_value_among-next : (groups : List MatchedGroup) (names : List (Bor Tex
 first_value_among-next groups names i past founds value within found first =
     at_drop_more (λ (ns : List (Bor Text)). first_value_among groups (texts ns)) names i past within
     ∙ ap (λ (o : Option Text). option_or o (first_value_among groups (texts (drop (i + 1) names)))) (sym (first ∙ ap first_value found))
+
+-- options that are seen as lawfully named ones are lawfully named
+pub AreLawful-alike : (xs ys : List Opt) → AllZip (λ x y. opt_view y ≡ opt_view x) xs ys → AreLawful xs → AreLawful ys
+AreLawful-alike [] [] alike lawful = tt
+AreLawful-alike [] (y ∷ ys) alike lawful = absurd alike
+AreLawful-alike (x ∷ xs) [] alike lawful = absurd alike
+AreLawful-alike (x ∷ xs) (y ∷ ys) alike lawful = (subst (λ (known : Known). IsLawfullyNamed known.names) (sym alike.0) lawful.0, AreLawful-alike xs ys alike.1 lawful.1)
+
+-- lawfully named options give lawfully named groups
+pub AreHeldLawfully-known : (place : ℕ) (opts : List Opt) (occurrences : List Occurrence) → AreLawful opts → AreHeldLawfully (matched_known place (map opt_view opts) occurrences)
+AreHeldLawfully-known place [] occurrences lawful = tt
+AreHeldLawfully-known place (opt ∷ opts) occurrences lawful = (lawful.0, AreHeldLawfully-known (place + 1) opts occurrences lawful.1)
+
+-- a group has a first occurrence where it has one at all
+pub is_some_hit : (group : ℕ) (given : List Given) (hit : Option (Bor Given)) → option_copied hit ≡ find (λ (g : Given). g.group == group) given → is_some hit ≡ nat_lt 0 (length (map given_found (givens_of group given)))
+is_some_hit group given hit e = copied hit ∙ ap is_some e ∙ from_list given where
+  copied : (o : Option (Bor Given)) → is_some o ≡ is_some (option_copied o)
+  copied None = refl
+  copied (Some g) = refl
+
+  from_list : (gs : List Given) → is_some (find (λ (g : Given). g.group == group) gs) ≡ nat_lt 0 (length (map given_found (givens_of group gs)))
+  from_list [] = refl
+  from_list (g ∷ gs) =
+      elim (g.group == group) as (λ (b : Bool). is_some (cond b (Some g) (find (λ (h : Given). h.group == group) gs)) ≡ nat_lt 0 (length (map given_found (cond b (g ∷ givens_of group gs) (givens_of group gs))))) [
+        | true ↦ grind (arith, nat_tests)
+        | false ↦ from_list gs
+      ]

@@ -2,7 +2,7 @@
 use Rattle.std.specs.Prelude.{◌≡◌, ℕ, Bool, List, [], ◌∷◌, map, length, nat_lt, IsSome, Option, Some, None, Result, Ok, Err, slice_get, unwrap_or}
 use Rattle.std.specs.List.{AllByRecursion, filter_map}
 use Rattle.std.specs.Option.{option_and_then, option_map, option_map_or, option_or}
-use Rattle.getopts.specs.Names.{Text, resolution}
+use Rattle.getopts.specs.Names.{Text, IsLawfullyNamed, resolution}
 use Rattle.getopts.specs.Matches.{Found, MatchedGroup}
 
 -- the place of the group that a name resolves to
@@ -16,6 +16,10 @@ IsDefined groups name = IsSome (place_of groups name)
 -- each name is defined
 abbrev pub AreDefined : List MatchedGroup → List Text → Type 0
 AreDefined groups names = AllByRecursion (IsDefined groups) names
+
+-- each group that matches hold is lawfully named
+abbrev pub AreHeldLawfully : List MatchedGroup → Type 0
+AreHeldLawfully groups = AllByRecursion (λ group. IsLawfullyNamed group.names) groups
 
 -- the occurrences of the group at this place; where there is no such group, none
 abbrev pub found_in : List MatchedGroup → Option ℕ → List Found

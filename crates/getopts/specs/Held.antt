@@ -8,7 +8,7 @@ use Rattle.std.specs.declared.alloc.Global.{Global}
 use Rattle.getopts.specs.Names.{Text, IsLawfullyNamed, names_view}
 use Rattle.getopts.specs.Options.{opt_view}
 use Rattle.getopts.specs.Scan.{Occurrence}
-use Rattle.getopts.specs.Matches.{Found, Matched, matched_known}
+use Rattle.getopts.specs.Matches.{Found, MatchedGroup, Matched, matched_known}
 use Rattle.getopts.specs.declared.options.Opt.{Opt}
 use Rattle.getopts.specs.declared.matches.Given.{Given}
 use Rattle.getopts.specs.declared.matches.OfGroup.{OfGroup}
@@ -50,10 +50,14 @@ pair_view pair = (pair.0, string_bytes pair.1)
 abbrev pub AreLawful : List Opt → Type 0
 AreLawful opts = AllByRecursion (λ (opt : Opt). IsLawfullyNamed (names_view opt.names)) opts
 
+-- the groups that options and one list of occurrences give
+abbrev pub groups_of : List Opt → List Given → List MatchedGroup
+groups_of opts given = matched_known 0 (map opt_view opts) (map given_view given)
+
 -- what matches hold
 abbrev pub matches_view : Inside → Matched
 matches_view inside = record {
-  groups = matched_known 0 (map opt_view inside.opts.items) (map given_view inside.given.items);
+  groups = groups_of inside.opts.items inside.given.items;
   free = map string_bytes inside.free.items;
   trailing_start = inside.trailing_start;
 }

@@ -9,6 +9,8 @@ pub mod Matches
 pub mod Names
 pub mod Options
 pub mod Parse
+pub mod SameMatches
 pub mod Scan
 pub mod ScanLaws
+pub mod Usage
 pub mod Wrap

@@ -1,6 +1,6 @@
 //! The refusals of `parse`.
 
-ghost use Rattle.std.specs.Prelude.{◌≡◌, Some};
+ghost use Rattle.std.specs.Prelude.{◌≡◌, Some, IfOk};
 ghost use Rattle.getopts.specs.declared.fail.Fail.TheVariants.{OutOfMemory};
 
 use std::alloc::{AllocError, AllocFailed, Global};
@@ -27,6 +27,27 @@ pub enum Fail {
     UnexpectedArgument(String),
     /// Memory was refused. The Rust ends the process there, and has no such variant.
     OutOfMemory,
+}
+
+impl Clone for Fail {
+    ghost use Rattle.getopts.specs.Fail.{fault_of};
+
+    ghost is_clone = { λ a b. fault_of b ≡ fault_of a };
+
+    /// The same refusal with a copy of the name. An error comes only where memory was refused, and
+    /// `OutOfMemory` is copied without any.
+    fn clone(&self) -> Result<Fail, AllocError>
+        ensures same { IfOk result (λ copy. fault_of copy ≡ fault_of self.now) }
+    {
+        Ok(match self {
+            Fail::ArgumentMissing(name) => Fail::ArgumentMissing(name.clone()?),
+            Fail::UnrecognizedOption(name) => Fail::UnrecognizedOption(name.clone()?),
+            Fail::OptionMissing(name) => Fail::OptionMissing(name.clone()?),
+            Fail::OptionDuplicated(name) => Fail::OptionDuplicated(name.clone()?),
+            Fail::UnexpectedArgument(name) => Fail::UnexpectedArgument(name.clone()?),
+            Fail::OutOfMemory => Fail::OutOfMemory,
+        })
+    }
 }
 
 impl fmt::Display for Fail {

@@ -1,10 +1,16 @@
 //! What an accepted line gave: options with their values, and free words.
 
-ghost use Rattle.std.specs.Prelude.{◌≡◌, ◌==◌, ◌↔◌, find, IsTrue, map, length, vec_len, IfOk};
+ghost use Rattle.std.specs.Prelude.{◌≡◌, ◌==◌, ◌↔◌, find, IsTrue, map, length, vec_len, drop, ◌<◌, ◌≤◌, IfOk};
 ghost use Rattle.std.specs.List.{list_any};
 ghost use Rattle.std.specs.Option.{option_copied, option_map};
 ghost use Rattle.std.specs.String.{string_bytes};
+ghost use Rattle.std.specs.Cmp.Lexicographic.{pointwise};
+ghost use Rattle.std.specs.Cmp.Rules.{comparing};
+ghost use Rattle.std.proofs.Common.{rules};
 ghost use Rattle.getopts.specs.Line.{texts, occurrence_view, occurrences_view};
+ghost use Rattle.getopts.specs.Options.{opt_view};
+ghost use Rattle.getopts.specs.Held.{groups_of};
+ghost use Rattle.getopts.specs.SameMatches.{same_known, same_matched_group};
 
 use crate::options::{Opt, resolve};
 use crate::scan::{Line, Occurrence};
@@ -30,8 +36,8 @@ struct OfGroup<'m> {
 /// What an accepted line gave: the options by name, and the words that are no option.
 #[derive(Debug, Drop)]
 pub struct Matches {
-    /// The free words, in the order of the line. They are the caller's to change: nothing else that
-    /// the matches answer rests on them.
+    /// The free words, in the order of the line. They are the caller's to change: no call that asks
+    /// for an option, and not `free_trailing_start` either, reads them.
     pub free: Vec<String>,
     opts: Vec<Opt>,
     given: Vec<Given>,
@@ -51,12 +57,20 @@ impl Model for Matches {
 }
 
 impl Given {
-    ghost use Rattle.getopts.specs.Held.{given_value, given_view};
+    ghost use Rattle.getopts.specs.Held.{given_value, given_view, given_found};
+    ghost use Rattle.getopts.specs.SameMatches.{same_found};
 
     fn value(&self) -> Option<&str>
         ensures { option_copied result ≡ given_value self.now }
     {
         self.value.as_deref()
+    }
+
+    /// Whether two occurrences have the same position and the same value.
+    fn same(&self, other: &Given) -> bool
+        ensures { result ≡ same_found (given_found self.now) (given_found other.now) }
+    {
+        self.position == other.position && self.value() == other.value()
     }
 
     /// An occurrence with a copy of its value.
@@ -76,7 +90,8 @@ impl Given {
 
     /// Occurrences with copies of their values.
     fn all_copied(alloc: Global, occurrences: &[Occurrence<'_>]) -> Result<Vec<Given>, AllocError>
-        ensures { IfOk result (λ given. map given_view given.items ≡ occurrences_view occurrences.now) }
+        ensures { IfOk result (λ given. map given_view given.items
+            ≡ occurrences_view occurrences.now) }
     {
         let mut given = Vec::new(alloc);
         for occurrence in occurrences {
@@ -98,7 +113,6 @@ fn words_copied(alloc: Global, words: &[&str]) -> Result<Vec<String>, AllocError
 }
 
 impl Matches {
-    ghost use Rattle.getopts.specs.Options.{opt_view};
     ghost use Rattle.getopts.specs.Matches.{matched_known};
     ghost use Rattle.getopts.specs.Held.{AreLawful};
 
@@ -110,7 +124,8 @@ impl Matches {
     ) -> Result<Matches, AllocError>
         requires { AreLawful opts.items }
         ensures { IfOk result (λ matches. matches ≡ record {
-          groups = matched_known 0 (map opt_view opts.items) (occurrences_view line.now.occurrences.items);
+          groups = matched_known 0 (map opt_view opts.items)
+              (occurrences_view line.now.occurrences.items);
           free = texts line.now.free.items;
           trailing_start = line.now.trailing_start;
         }) }
@@ -139,14 +154,16 @@ impl<'m> OfGroup<'m> {
     }
 
     fn first(&self) -> Option<&'m Given>
-        ensures { option_copied result ≡ find (λ given. given.group == self.now.group) self.now.given.now }
+        ensures { option_copied result
+            ≡ find (λ given. given.group == self.now.group) self.now.given.now }
     {
         let group = self.group;
         self.given.iter().find(|given| given.group == group)
     }
 
     fn positions(&self, alloc: Global) -> Result<Vec<usize>, AllocError>
-        ensures { IfOk result (λ positions. positions.items ≡ map (λ given. given.position) (givens self.now)) }
+        ensures { IfOk result (λ positions. positions.items
+            ≡ map (λ given. given.position) (givens self.now)) }
     {
         let group = self.group;
         self.given
@@ -168,7 +185,8 @@ impl<'m> OfGroup<'m> {
     }
 
     fn values(&self, alloc: Global) -> Result<Vec<String>, AllocError>
-        ensures { IfOk result (λ values. map string_bytes values.items ≡ values_of (founds self.now)) }
+        ensures { IfOk result (λ values. map string_bytes values.items
+            ≡ values_of (founds self.now)) }
     {
         let mut values = Vec::new(alloc);
         for given in self.given {
@@ -206,6 +224,89 @@ impl<'m> OfGroup<'m> {
     }
 }
 
+impl OfGroup<'_> {
+    ghost use Rattle.getopts.specs.Held.{founds};
+    ghost use Rattle.getopts.specs.SameMatches.{same_found};
+
+    /// Whether an occurrence of the group stands at this place or after it.
+    fn has_from(&self, start: usize) -> bool
+        requires { start ≤ length self.now.given.now }
+        ensures { result
+            ≡ list_any (λ given. given.group == self.now.group) (drop start self.now.given.now) }
+    {
+        holds_group(&self.given[start..], self.group)
+    }
+
+    /// Whether two groups have occurrences of the same positions and values in the same order. Each
+    /// list is read once.
+    fn same(&self, other: &OfGroup<'_>) -> bool
+        ensures { result ≡ pointwise same_found (founds self.now) (founds other.now) }
+    {
+        let mut mine = 0;
+        let mut theirs = 0;
+        while mine < self.given.len() && theirs < other.given.len() {
+            let given = &self.given[mine];
+            let other_given = &other.given[theirs];
+            if given.group != self.group {
+                mine += 1;
+            } else if other_given.group != other.group {
+                theirs += 1;
+            } else if given.same(other_given) {
+                mine += 1;
+                theirs += 1;
+            } else {
+                return false;
+            }
+        }
+        !self.has_from(mine) && !other.has_from(theirs)
+    }
+}
+
+/// Whether some occurrence is one of this group.
+fn holds_group(given: &[Given], group: usize) -> bool
+    ensures { result ≡ list_any (λ given. given.group == group) given.now }
+{
+    given.iter().any(|given| given.group == group)
+}
+
+/// Whether two lists of words are the same.
+fn same_words(words: &[String], others: &[String]) -> bool
+    ensures { result
+        ≡ pointwise (pointwise ◌==◌) (map string_bytes words.now) (map string_bytes others.now) }
+{
+    words == others
+}
+
+/// Whether two options have the same names and the same kinds.
+fn same_opt(opt: &Opt, other: &Opt) -> bool
+    ensures { result ≡ same_known (opt_view opt.now) (opt_view other.now) }
+{
+    opt.names == other.names && opt.hasarg == other.hasarg && opt.occur == other.occur
+}
+
+/// Whether two lists of options, each with one list of occurrences, are the same group by group. Each
+/// list of occurrences is read once for each group.
+fn same_groups(opts: &[Opt], given: &[Given], other_opts: &[Opt], other_given: &[Given]) -> bool
+    ensures { result
+        ≡ pointwise same_matched_group (groups_of opts.now given.now)
+        (groups_of other_opts.now other_given.now) }
+{
+    if opts.len() != other_opts.len() {
+        return false;
+    }
+    for group in 0..opts.len() {
+        let mine = OfGroup { group, given };
+        let theirs = OfGroup {
+            group,
+            given: other_given,
+        };
+        if !same_opt(&opts[group], &other_opts[group]) || !mine.same(&theirs) {
+            return false;
+        }
+    }
+    true
+}
+
 /// A copy of a text, if there is one.
 fn copied(alloc: Global, text: Option<&str>) -> Result<Option<String>, AllocError>
     ensures { IfOk result (λ copy. option_map string_bytes copy ≡ option_copied text.entry) }
@@ -218,7 +319,7 @@ fn copied(alloc: Global, text: Option<&str>) -> Result<Option<String>, AllocErro
 
 impl Matches {
     ghost use Rattle.getopts.specs.Held.{founds, pair_view};
-    ghost use Rattle.getopts.specs.Accessors.{IsDefined, AreDefined, OneGroupOneAnswer, IsReadAs, IsReadOr, found_of, is_present, positions_of, values_of, pairs_of, first_value, first_value_or, first_value_among};
+    ghost use Rattle.getopts.specs.Accessors.{IsDefined, AreDefined, AreHeldLawfully, OneGroupOneAnswer, IsReadAs, IsReadOr, found_of, is_present, positions_of, values_of, pairs_of, first_value, first_value_or, first_value_among};
 
     /// The occurrences of the group that a name resolves to. Of an undefined name there are none.
     fn given_of(&self, name: &str) -> OfGroup<'_>
@@ -240,17 +341,19 @@ impl Matches {
     fn has(&self, name: &str) -> bool
         ensures { result ≡ is_present self.now.groups name.now }
     {
-        self.given_of(name).count() > 0
+        self.given_of(name).first().is_some()
     }
 
     /// Whether a name resolves to a group.
     ///
     /// This is the test for the condition of the calls that ask for one option. Such a call panics in
     /// the Rust where the name is undefined; here the caller shows that it is defined. A name is given
-    /// without dashes: `opt_defined("verbose")`.
+    /// without dashes: `opt_defined("verbose")`. Two names of one group get the same answer of each
+    /// call.
     pub fn opt_defined(&self, name: &str) -> bool
         ensures defined { IsTrue result ↔ IsDefined self.now.groups name.now }
         ensures one_group { OneGroupOneAnswer self.now.groups name.now }
+        ensures lawful { AreHeldLawfully self.now.groups }
     {
         resolve(self.opts.as_slice(), name).is_some()
     }
@@ -266,7 +369,8 @@ impl Matches {
     /// Whether an option was given at least once, by any of its names.
     pub fn opt_present(&self, name: &str) -> bool
         requires { IsDefined self.now.groups name.now }
-        ensures { result ≡ is_present self.now.groups name.now }
+        ensures present { result ≡ is_present self.now.groups name.now }
+        ensures counted { IsTrue result ↔ (0 < length (found_of self.now.groups name.now)) }
     {
         self.has(name)
     }
@@ -278,8 +382,10 @@ impl Matches {
     /// the positions of `v` are 0, 2 and 2. An error comes only where memory was refused.
     pub fn opt_positions(&self, alloc: Global, name: &str) -> Result<Vec<usize>, AllocError>
         requires { IsDefined self.now.groups name.now }
-        ensures positions { IfOk result (λ positions. positions.items ≡ positions_of (found_of self.now.groups name.now)) }
-        ensures count { IfOk result (λ positions. vec_len positions ≡ length (found_of self.now.groups name.now)) }
+        ensures positions { IfOk result (λ positions. positions.items
+            ≡ positions_of (found_of self.now.groups name.now)) }
+        ensures count { IfOk result (λ positions. vec_len positions
+            ≡ length (found_of self.now.groups name.now)) }
     {
         self.given_of(name).positions(alloc)
     }
@@ -290,7 +396,8 @@ impl Matches {
     /// An error comes only where memory was refused.
     pub fn opt_strs(&self, alloc: Global, name: &str) -> Result<Vec<String>, AllocError>
         requires { IsDefined self.now.groups name.now }
-        ensures { IfOk result (λ values. map string_bytes values.items ≡ values_of (found_of self.now.groups name.now)) }
+        ensures { IfOk result (λ values. map string_bytes values.items
+            ≡ values_of (found_of self.now.groups name.now)) }
     {
         self.given_of(name).values(alloc)
     }
@@ -306,8 +413,10 @@ impl Matches {
         name: &str,
     ) -> Result<Vec<(usize, String)>, AllocError>
         requires { IsDefined self.now.groups name.now }
-        ensures pairs { IfOk result (λ pairs. map pair_view pairs.items ≡ pairs_of (found_of self.now.groups name.now)) }
-        ensures texts { IfOk result (λ pairs. map (λ pair. string_bytes pair.1) pairs.items ≡ values_of (found_of self.now.groups name.now)) }
+        ensures pairs { IfOk result (λ pairs. map pair_view pairs.items
+            ≡ pairs_of (found_of self.now.groups name.now)) }
+        ensures texts { IfOk result (λ pairs. map (λ pair. string_bytes pair.1) pairs.items
+            ≡ values_of (found_of self.now.groups name.now)) }
     {
         self.given_of(name).pairs(alloc)
     }
@@ -319,7 +428,8 @@ impl Matches {
     /// refused.
     pub fn opt_str(&self, alloc: Global, name: &str) -> Result<Option<String>, AllocError>
         requires { IsDefined self.now.groups name.now }
-        ensures { IfOk result (λ value. option_map string_bytes value ≡ first_value (found_of self.now.groups name.now)) }
+        ensures { IfOk result (λ value. option_map string_bytes value
+            ≡ first_value (found_of self.now.groups name.now)) }
     {
         copied(alloc, self.given_of(name).first_value())
     }
@@ -335,7 +445,8 @@ impl Matches {
         def: &str,
     ) -> Result<Option<String>, AllocError>
         requires { IsDefined self.now.groups name.now }
-        ensures { IfOk result (λ value. option_map string_bytes value ≡ first_value_or (found_of self.now.groups name.now) def.now) }
+        ensures { IfOk result (λ value. option_map string_bytes value
+            ≡ first_value_or (found_of self.now.groups name.now) def.now) }
     {
         copied(alloc, self.given_of(name).first_value_or(def))
     }
@@ -346,7 +457,8 @@ impl Matches {
     /// gives. The text is lent to the reading, where the Rust copies it first.
     pub fn opt_get<T: FromStr>(&self, name: &str) -> Result<Option<T>, T::Err>
         requires { IsDefined self.now.groups name.now }
-        ensures { IsReadAs T.from_str_gives (first_value (found_of self.now.groups name.now)) result }
+        ensures { IsReadAs T.from_str_gives
+            (first_value (found_of self.now.groups name.now)) result }
     {
         match self.given_of(name).first_value() {
             Some(text) => Ok(Some(text.parse()?)),
@@ -360,7 +472,8 @@ impl Matches {
     /// The text is lent to the reading, where the Rust copies it first.
     pub fn opt_get_default<T: FromStr + Drop>(&self, name: &str, def: T) -> Result<T, T::Err>
         requires { IsDefined self.now.groups name.now }
-        ensures { IsReadOr T.from_str_gives (first_value (found_of self.now.groups name.now)) def result }
+        ensures { IsReadOr T.from_str_gives
+            (first_value (found_of self.now.groups name.now)) def result }
     {
         match self.given_of(name).first_value() {
             Some(text) => text.parse(),
@@ -383,7 +496,8 @@ impl Matches {
     ///
     /// A name that no option has counts as not given.
     pub fn opts_present(&self, names: &[String]) -> bool
-        ensures { result ≡ list_any (λ name. is_present self.now.groups (string_bytes name)) names.now }
+        ensures { result
+            ≡ list_any (λ name. is_present self.now.groups (string_bytes name)) names.now }
     {
         names.iter().any(|name| self.has(name.as_str()))
     }
@@ -404,7 +518,8 @@ impl Matches {
     /// comes only where memory was refused.
     pub fn opts_str(&self, alloc: Global, names: &[String]) -> Result<Option<String>, AllocError>
         requires { AreDefined self.now.groups (map string_bytes names.now) }
-        ensures { IfOk result (λ value. option_map string_bytes value ≡ first_value_among self.now.groups (map string_bytes names.now)) }
+        ensures { IfOk result (λ value. option_map string_bytes value
+            ≡ first_value_among self.now.groups (map string_bytes names.now)) }
     {
         for name in names {
             if let Some(value) = self.given_of(name.as_str()).first_value() {
@@ -424,7 +539,8 @@ impl Matches {
         names: &[&str],
     ) -> Result<Option<String>, AllocError>
         requires { AreDefined self.now.groups (texts names.now) }
-        ensures { IfOk result (λ value. option_map string_bytes value ≡ first_value_among self.now.groups (texts names.now)) }
+        ensures { IfOk result (λ value. option_map string_bytes value
+            ≡ first_value_among self.now.groups (texts names.now)) }
     {
         for name in names {
             if let Some(value) = self.given_of(name).first_value() {
@@ -433,4 +549,78 @@ impl Matches {
         }
         Ok(None)
     }
+}
+
+impl Clone for Opt {
+    ghost is_clone = { λ a b. opt_view b ≡ opt_view a };
+
+    fn clone(&self) -> Result<Opt, AllocError> {
+        Ok(Opt {
+            names: self.names.clone()?,
+            hasarg: self.hasarg,
+            occur: self.occur,
+        })
+    }
+}
+
+impl Clone for Given {
+    ghost use Rattle.getopts.specs.Held.{given_view};
+
+    ghost is_clone = { λ a b. given_view b ≡ given_view a };
+
+    fn clone(&self) -> Result<Given, AllocError> {
+        Ok(Given {
+            group: self.group,
+            position: self.position,
+            value: self.value.clone()?,
+        })
+    }
+}
+
+impl Clone for Matches {
+    ghost is_clone = { λ a b. b ≡ a };
+
+    /// The same options with the same values, and the same free words. An error comes only where
+    /// memory was refused.
+    fn clone(&self) -> Result<Matches, AllocError>
+        ensures same { IfOk result (λ copy. copy ≡ self.now) }
+    {
+        Ok(Matches {
+            free: self.free.clone()?,
+            opts: self.opts.clone()?,
+            given: self.given.clone()?,
+            trailing_start: self.free_trailing_start(),
+        })
+    }
+}
+
+impl PartialEq for Matches {
+    ghost use Rattle.getopts.specs.SameMatches.{same_matches};
+
+    ghost eq = { same_matches };
+
+    ghost laws = { Prim.search (comparing, rules) depth 14 };
+
+    /// Whether both hold the same: the groups' names and kinds, each group's positions and values, the
+    /// free words and the trailing start.
+    ///
+    /// Hints and descriptions don't count, nor does the order between options of different groups in
+    /// one cluster: after `-ab` and after `-ba` the matches are equal. Takes no memory; reads the
+    /// occurrences of both once for each group.
+    fn eq(&self, other: &Matches) -> bool
+        ensures answer { result ≡ same_matches self.now other.now }
+        ensures same { IsTrue result ↔ (self.now ≡ other.now) }
+    {
+        same_groups(
+            self.opts.as_slice(),
+            self.given.as_slice(),
+            other.opts.as_slice(),
+            other.given.as_slice(),
+        ) && same_words(self.free.as_slice(), other.free.as_slice())
+            && self.free_trailing_start() == other.free_trailing_start()
+    }
+}
+
+impl Eq for Matches {
+    ghost laws = { Prim.search (comparing, rules) depth 14 };
 }
