@@ -4,20 +4,20 @@ use Rattle.std.proofs.lemmas.Bool.{and_parts, and_from, not-true, not_from_false
 use Rattle.std.proofs.lemmas.List.Folds.{list_any_at}
 use Rattle.std.specs.List.{AllByRecursion, list_all}
 use Rattle.getopts.specs.Names.{Text}
-use Rattle.getopts.specs.Options.{Group, Declared, Grammar, grammar_of, opt_view, opts_grammar}
+use Rattle.getopts.specs.Options.{Group, Declared, AreLawfullyNamed, Grammar, grammar_of, opt_view, opts_grammar}
 use Rattle.getopts.specs.Fail.{Fault}
 use Rattle.getopts.specs.Scan.{equals_sign, holds_equals, Reading, Mention}
 use Rattle.getopts.specs.ScanLaws.{mentions_of}
 use Rattle.getopts.specs.Line.{texts, occurrences_view}
 use Rattle.getopts.specs.Matches.{Matched, MatchedGroup, matches_of, matched_known, KeepsCount, KeepsCounts, IsCountFault, broken_count}
 use Rattle.getopts.specs.Parse.{IsAccepted, IsRefused}
-use Rattle.getopts.specs.Canon.{mention_of, Content, IsCountKeeping, content_of, main_at, HasPlainMain, IsPlain, canonical_line, HasCanonicalLine}
+use Rattle.getopts.specs.Canon.{mention_of, Content, IsCountKeeping, content_of, main_at, HasPlainMain, IsPlain, canonical_line, Says, HasCanonicalLine}
 use Rattle.getopts.specs.AcceptedLine.{IsAcceptedLine, line_content}
-use Rattle.getopts.specs.CanonAnswers.{IsAcceptedWith, IsWritten, IsUnwritable, EachPlainContent, IsParseAnswer, IsCanonicalAnswer}
+use Rattle.getopts.specs.CanonAnswers.{IsAcceptedWith, IsWritten, IsUnwritable, EachPlainContent, IsParseAnswer, IsCanonicalAnswer, AnsweredLinesTell}
 use Rattle.getopts.specs.declared.options.Opt.{Opt}
 use Rattle.getopts.specs.declared.scan.Occurrence.{Occurrence as Held}
 use Rattle.getopts.specs.declared.scan.Line.{Line}
-use Rattle.getopts.proofs.CanonLemmas.{mention_of-occurrences_of, HasCanonicalLine-says, HasUnwritable-content}
+use Rattle.getopts.proofs.CanonLemmas.{mention_of-occurrences_of, HasCanonicalLine-says, HasUnwritable-content, CanonicalLinesTell-lawful}
 use Rattle.getopts.proofs.ParseLemmas.{grammar_same, declared_named, reads_here, groups_are, IsAccepted-reading}
 use Rattle.getopts.proofs.ScanReadings.{only_reading}
 use Rattle.getopts.proofs.ScanTurns.{IsNamed}
@@ -111,6 +111,28 @@ module _ (options : Declared) (words : List Text) (opts : List Opt) (line : Line
   -- canonical lines by these options keep their laws
   pub HasCanonicalLine-line : EachPlainContent options (HasCanonicalLine options)
   HasCanonicalLine-line others content says plain = HasCanonicalLine-says options others content found.lawful IsNamed-line says plain
+
+-- the main theorem, of two answered lines
+pub AnsweredLinesTell-lawful : (options : Declared) → AreLawfullyNamed options.groups → IsNamed (grammar_of options) → AnsweredLinesTell options
+AnsweredLinesTell-lawful options lawful named style other_style long_only other_long_only words others line other written written_other =
+    let says : Says options words written.content = record {
+      style = style;
+      long_only = long_only;
+      reading = written.accepted.reading;
+      reads = written.accepted.reads;
+      content_is = written.accepted.content_is;
+    } in
+    let says_other : Says options others written_other.content = record {
+      style = other_style;
+      long_only = other_long_only;
+      reading = written_other.accepted.reading;
+      reads = written_other.accepted.reads;
+      content_is = written_other.accepted.content_is;
+    } in
+    let tell = (CanonicalLinesTell-lawful options lawful named words others written.content written_other.content says written.plain says_other written_other.plain).0 in (
+      λ same. tell.0 (sym written.line_is ∙ same ∙ written_other.line_is),
+      λ same. written.line_is ∙ tell.1 same ∙ sym written_other.line_is,
+    )
 
 -- what an answered line meets, and what holds where none is answered
 pub IfSome-weaker : {X : Type 0} (answer : Option X) (P Q : X → Type 0) → ((x : X) → P x → Q x) → IfSome answer P → IfSome answer Q

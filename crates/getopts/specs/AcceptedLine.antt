@@ -2,10 +2,9 @@
 use Rattle.std.specs.Prelude.{◌≡◌, List, map}
 use Rattle.getopts.specs.Names.{Text}
 use Rattle.getopts.specs.Options.{Declared, AreLawfullyNamed, known_of, opt_view, opts_grammar}
-use Rattle.getopts.specs.Line.{occurrences_view, ReadsLine}
+use Rattle.getopts.specs.Line.{texts, occurrences_view, ReadsLine}
 use Rattle.getopts.specs.Matches.{matched_known, KeepsCounts}
 use Rattle.getopts.specs.Canon.{mention_of, Content}
-use Rattle.getopts.specs.Line.{texts}
 use Rattle.getopts.specs.declared.options.Opt.{Opt}
 use Rattle.getopts.specs.declared.scan.Line.{Line}
 

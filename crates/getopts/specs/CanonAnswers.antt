@@ -1,12 +1,13 @@
 -- The answers of `canonical`: what it answers to accepted words, and what holds of contents.
-use Rattle.std.specs.Prelude.{◌≡◌, List, Option, MatchOption, Result, MatchResult}
+use Rattle.std.specs.Prelude.{◌≡◌, ◌↔◌, Bool, List, Option, MatchOption, Result, MatchResult}
 use Rattle.getopts.specs.Names.{Text}
 use Rattle.getopts.specs.Options.{Declared, grammar_of}
 use Rattle.getopts.specs.Scan.{Reading}
 use Rattle.getopts.specs.Fail.{Fault}
 use Rattle.getopts.specs.Matches.{Matched}
 use Rattle.getopts.specs.Parse.{IsOnlyReading, IsAccepted, IsRefused}
-use Rattle.getopts.specs.Canon.{Content, content_of, IsPlain, canonical_line, IsCountKeeping, Says, HasUnwritable}
+use Rattle.getopts.specs.Canon.{Content, content_of, IsPlain, canonical_line, with_setting, IsCountKeeping, Says, HasUnwritable}
+use Rattle.getopts.specs.declared.options.ParsingStyle.{ParsingStyle}
 
 -- The words are accepted with this content: they have a reading that keeps the counts, every reading of
 -- them is this one, and the content is what it says.
@@ -50,3 +51,11 @@ IsCanonicalAnswer options words answer =
 -- two answers are one
 abbrev pub HasOneAnswer : {X : Type 0} → (X → Type 0) → Type 0
 HasOneAnswer {X} IsAnswer = (answer other : X) → IsAnswer answer → IsAnswer other → answer ≡ other
+
+-- Two lines that `canonical` answers by the same groups, in styles and modes that may differ, are equal
+-- exactly if the words that they were made of are accepted with the same content.
+abbrev pub AnsweredLinesTell : Declared → Type 0
+AnsweredLinesTell options = (style other_style : ParsingStyle) (long_only other_long_only : Bool) (words others line other : List Text)
+    → (written : IsWritten (with_setting options style long_only) words line)
+    → (written_other : IsWritten (with_setting options other_style other_long_only) others other)
+    → (line ≡ other) ↔ (written.content ≡ written_other.content)

@@ -11,7 +11,7 @@ ghost use Rattle.getopts.specs.Options.{group_view, Declared, AreLawfullyNamed};
 ghost use Rattle.getopts.specs.Line.{texts};
 ghost use Rattle.getopts.specs.Scan.{holds_equals, long_word, two};
 ghost use Rattle.getopts.specs.Canon.{main_at, canonical_line, CanonicalLinesTell};
-ghost use Rattle.getopts.specs.CanonAnswers.{IsParseAnswer, IsCanonicalAnswer, HasOneAnswer};
+ghost use Rattle.getopts.specs.CanonAnswers.{IsParseAnswer, IsCanonicalAnswer, HasOneAnswer, AnsweredLinesTell};
 ghost use Rattle.getopts.specs.AcceptedLine.{line_content};
 
 use crate::fail::Fail;
@@ -147,7 +147,7 @@ impl Options {
 /// Equal input, equal answers: one set of options and one list of words have one answer of `parse`, and
 /// one of `canonical`. Want of memory, which may come in place of either, is no such answer.
 ///
-/// This is a law for proofs: nothing is left of it once built.
+/// This is a law to cite, which does nothing.
 pub fn equal_input_equal_answers()
     ensures parse { (options : Declared) (words : List Text) → HasOneAnswer (IsParseAnswer options words) }
     ensures canonical { (options : Declared) (words : List Text) → HasOneAnswer (IsCanonicalAnswer options words) }
@@ -160,10 +160,16 @@ pub fn equal_input_equal_answers()
 /// their positions may differ. The lines are those that have a canonical line. Either canonical line, in
 /// both styles and both modes, reads back to what its line said, and says nothing else.
 ///
-/// Options that the calls of this crate build are lawfully named, by texts. This is a law for proofs:
-/// nothing is left of it once built.
+/// Options that the calls of this crate build are lawfully named, by texts. This is a law to cite, which
+/// does nothing.
 pub fn canonical_lines_tell()
-    ensures { (options : Declared) → AreLawfullyNamed options.groups
-        → AllByRecursion (λ group. IsUtf8 group.names.short) options.groups
-        → CanonicalLinesTell options }
+    ensures said { (options : Declared) → AreLawfullyNamed options.groups
+        → AllByRecursion (λ group. IsUtf8 group.names.short) options.groups → CanonicalLinesTell options }
+
+    // The same of two answers of `canonical`.
+    ensures answered { (options : Declared) → AreLawfullyNamed options.groups
+        → AllByRecursion (λ group. IsUtf8 group.names.short) options.groups → AnsweredLinesTell options }
 {}
+
+#[cfg(test)]
+mod tests;
