@@ -109,12 +109,12 @@ impl Options {
     /// words stood among the options, are not kept.
     ///
     /// The answer is `None` where an option that the line gives has a main name that holds `=`: the
-    /// option `p=x` can't be written with two dashes, since `--p=x` is the option `p` with the value `x`.
-    /// An option that is declared and not given does no harm.
+    /// long name `p=x` can't be written with two dashes, since `--p=x` is the name `p` with the argument
+    /// `x`. Such an option does no harm where it is declared and not given.
     ///
-    /// Errors come where `parse` gives them, and are the same; `Fail::OutOfMemory` comes where memory was
-    /// refused. As in `parse`, the iterator has to end, and all its items are taken before any other
-    /// answer. The options stay as they are. The Rust has no such call.
+    /// Errors come where `parse` gives them, and are the same. `Fail::OutOfMemory` comes where memory was
+    /// refused, in place of any other answer. As in `parse`, the iterator has to end, all its items are
+    /// taken before any answer but that one, and the options stay as they are. The Rust has no such call.
     pub fn canonical<'a, I: Iterator<Item = &'a str> + Drop>(
         &self,
         alloc: Global,
