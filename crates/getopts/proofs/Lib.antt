@@ -1,4 +1,5 @@
 pub mod CanonLemmas
+pub mod CanonicalLemmas
 pub mod CountLemmas
 pub mod FailLemmas
 pub mod MatchesLemmas

@@ -107,11 +107,11 @@ module _ (options : Declared) (opts : List Opt) (copied : map opt_view opts ≡ 
     module _ (reading : Reading) (reads : IsReading (opts_grammar opts options.style options.long_only) reading words) (occurrences : List Occurrence)
         (occurrences_are : occurrences ≡ occurrences_of (opts_grammar opts options.style options.long_only) reading) where
       -- the reading by the declared grammar
-      reads_here : IsReading (grammar_of options) reading words
+      pub reads_here : IsReading (grammar_of options) reading words
       reads_here = subst (λ (g : Grammar). IsReading g reading words) grammar_same reads
 
       -- the matched groups of the reading
-      groups_are : matched_known 0 (map opt_view opts) occurrences ≡ (matches_of options reading).groups
+      pub groups_are : matched_known 0 (map opt_view opts) occurrences ≡ (matches_of options reading).groups
       groups_are = matched_same occurrences ∙ ap (matched_from 0 options.groups) (occurrences_are ∙ ap (λ (g : Grammar). occurrences_of g reading) grammar_same)
 
       -- a reading that keeps the counts is accepted

@@ -1,5 +1,7 @@
+pub mod AcceptedLine
 pub mod Accessors
 pub mod Canon
+pub mod CanonAnswers
 pub mod Fail
 pub mod Held
 pub mod Line

@@ -1,6 +1,7 @@
 //! Command-line options: declared groups, a list of words, and the one reading of those words.
 #![tactic(auto)]
 
+mod canon;
 mod fail;
 mod matches;
 mod names;
@@ -9,6 +10,7 @@ mod scan;
 mod usage;
 pub mod wrap;
 
+pub use canon::{canonical_lines_tell, equal_input_equal_answers};
 pub use fail::Fail;
 pub use matches::Matches;
 pub use names::{names_lawful, names_resolve};

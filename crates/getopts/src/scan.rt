@@ -395,13 +395,16 @@ impl Options {
     ghost use Rattle.getopts.specs.Options.{grammar_of};
     ghost use Rattle.getopts.specs.ScanLaws.{LongAttachedOrSeparate, ShortAttachedOrSeparate, ClusterSplits, OneDashOrTwo, LinesCompose, TrailingStartIsAfterStop, FreeWordsAreSubsequence, HavePositionsInOrder};
     ghost use Rattle.getopts.specs.Parse.{IsAccepted, IsRefused, KeepsReadingLaws};
+    ghost use Rattle.getopts.specs.AcceptedLine.{IsAcceptedLine};
 
-    /// Reads a line by these options.
-    fn parse_words(&self, alloc: Global, words: &[&str]) -> crate::Result
-        ensures accepted { IfOk result (λ matches. IsAccepted self.now (texts words.now) matches) }
+    /// Reads a line by copies of these options, and checks its counts.
+    pub(crate) fn accepted_line<'w>(
+        &self,
+        alloc: Global,
+        words: &[&'w str],
+    ) -> Result<(Vec<Opt>, Line<'w>), Fail>
+        ensures accepted { IfOk result (λ found. IsAcceptedLine self.now (texts words.now) found.0.items found.1) }
         ensures refused { IfErr result (λ fail. Tells fail (IsRefused self.now (texts words.now))) }
-        ensures counts { IfOk result (λ matches. KeepsCounts matches.groups × HavePositionsInOrder matches.groups) }
-        ensures laws { OnOk result (KeepsReadingLaws (grammar_of self.now)) }
     {
         are_texts(words);
         let opts = known_options(alloc, &self.groups)?;
@@ -412,6 +415,17 @@ impl Options {
         };
         let line = scanner.scan(alloc, words)?;
         check_counts(alloc, &opts, &line.occurrences)?;
+        Ok((opts, line))
+    }
+
+    /// What a line gives, read by these options.
+    fn parse_words(&self, alloc: Global, words: &[&str]) -> crate::Result
+        ensures accepted { IfOk result (λ matches. IsAccepted self.now (texts words.now) matches) }
+        ensures refused { IfErr result (λ fail. Tells fail (IsRefused self.now (texts words.now))) }
+        ensures counts { IfOk result (λ matches. KeepsCounts matches.groups × HavePositionsInOrder matches.groups) }
+        ensures laws { OnOk result (KeepsReadingLaws (grammar_of self.now)) }
+    {
+        let (opts, line) = self.accepted_line(alloc, words)?;
         Ok(Matches::from_line(alloc, opts, &line)?)
     }
 

@@ -1,0 +1,9 @@
+-- Readings, counts and faults are the only ones of their words.
+use Rattle.getopts.proofs.CanonicalLemmas.{only_parse_answer, only_canonical_answer}
+use Rattle.getopts.proofs.canon.equal_input_equal_answers.Goals as goal
+
+pub returns-clause-parse : goal.returns-clause-parse
+returns-clause-parse c options words = only_parse_answer options words
+
+pub returns-clause-canonical : goal.returns-clause-canonical
+returns-clause-canonical c options words = only_canonical_answer options words
