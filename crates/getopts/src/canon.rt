@@ -170,6 +170,3 @@ pub fn canonical_lines_tell()
     ensures answered { (options : Declared) → AreLawfullyNamed options.groups
         → AllByRecursion (λ group. IsUtf8 group.names.short) options.groups → AnsweredLinesTell options }
 {}
-
-#[cfg(test)]
-mod tests;

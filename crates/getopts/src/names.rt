@@ -30,8 +30,7 @@ pub fn names_resolve()
     ensures main_name { (groups : List NamesOfGroup) → MainNameResolves groups }
     ensures one_byte { (groups : List NamesOfGroup) → AllByRecursion IsLawfullyNamed groups → OneByteIsShort groups }
     ensures empty { (groups : List NamesOfGroup) → AllByRecursion IsLawfullyNamed groups → EmptyResolvesNot groups }
-{
-}
+{}
 
 /// The two names of a group, either of which may be empty.
 #[derive(Debug, Drop)]

@@ -104,9 +104,9 @@ IsHelpText text = IsTheOnly (IsUsageText program_options brief) text
 -- they are accepted with ask for help or not, or those of the fault that they are refused with.
 pub data IsProgramText (words : List Text) : Text → ℕ → Type 0 where
   helped : (matches : Matched) (text : Text) → IsAccepted program_options words matches → asks_help matches ≡ true
-    → IsHelpText text → IsProgramText words text 0
+      → IsHelpText text → IsProgramText words text 0
   accepted : (matches : Matched) → IsAccepted program_options words matches → asks_help matches ≡ false
-    → IsProgramText words (matches_text matches) 0
+      → IsProgramText words (matches_text matches) 0
   refused : (fault : Fault) → IsRefused program_options words fault → IsProgramText words (fault_line fault) 2
 
 -- the statuses: 0 where the program's help or the matches of accepted words were shown, 2 where the fault of refused words was,

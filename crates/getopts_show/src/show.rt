@@ -85,11 +85,7 @@ fn answer_to(alloc: Global, words: &[&str]) -> Result<Answer, AllocError>
 }
 
 /// The text of accepted words: the program's help where they ask for it, or else what they are.
-fn accepted_text(
-    alloc: Global,
-    options: &Options,
-    matches: &Matches,
-) -> Result<String, AllocError>
+fn accepted_text(alloc: Global, options: &Options, matches: &Matches) -> Result<String, AllocError>
     requires program { options.now ≡ program_options }
     requires groups { HasProgramGroups matches.now.groups }
     ensures help { IfOk result (λ text. asks_help matches.now ≡ true → IsHelpText (string_bytes text)) }

@@ -1,4 +1,4 @@
-//! The iterator that `parse` is given.
+//! The iterator that `parse` and `canonical` are given.
 
 ghost use Rattle.std.specs.Prelude.{◌-◌, length};
 ghost use Rattle.std.specs.Iterator.{at_most};
@@ -40,6 +40,24 @@ fn all_words_are_taken_before_a_fault_is_answered(rt: HostRuntime) -> Result<(),
         told: &told,
     };
     let Err(fail) = options.parse(alloc, words) else {
+        panic!(rt; "an option that isn't there is accepted");
+    };
+    assert_eq!(rt; fail, UnrecognizedOption("nope").fail(alloc)?);
+    assert_eq!(rt; told.get(), 3, "words taken");
+    Ok(())
+}
+
+#[test]
+fn all_words_are_taken_before_canonical_answers_a_fault(rt: HostRuntime) -> Result<(), Fail> {
+    let alloc = rt.alloc();
+    let options = declared(&rt, alloc, &[])?;
+    let told = Cell::new(0);
+    let words = Counted {
+        words: &["--nope", "x", "y"],
+        taken: 0,
+        told: &told,
+    };
+    let Err(fail) = options.canonical(alloc, words) else {
         panic!(rt; "an option that isn't there is accepted");
     };
     assert_eq!(rt; fail, UnrecognizedOption("nope").fail(alloc)?);

@@ -6,6 +6,8 @@
 #[cfg(test)]
 mod builder;
 #[cfg(test)]
+mod canonical_lines;
+#[cfg(test)]
 mod clusters;
 #[cfg(test)]
 mod colliding_names;
@@ -33,6 +35,8 @@ mod long_options;
 mod names;
 #[cfg(test)]
 mod odd_names;
+#[cfg(test)]
+mod refused_memory;
 #[cfg(test)]
 mod several_names;
 #[cfg(test)]
