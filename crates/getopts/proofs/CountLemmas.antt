@@ -1,8 +1,8 @@
 -- The counts of groups, one after the other.
-use Rattle.std.proofs.Common.{◌≡◌, ◌==◌, ◌<◌, ◌+◌, ℕ, zero, suc, Bool, true, false, cond, List, [], ◌∷◌, ◌++◌, length, map, take, drop, get_or, refl, ap, ◌∙◌, sym, subst, arith, add-one, add_assoc, add-zero, zero-add, zero-le, ◌≤◌, length-take}
-use Rattle.std.specs.List.{AllByRecursion, filter}
+use Rattle.std.proofs.Common.{◌≡◌, ◌==◌, ◌<◌, ◌+◌, ℕ, zero, suc, Bool, true, false, cond, List, [], ◌∷◌, ◌++◌, length, map, take, drop, get_or, refl, ap, ◌∙◌, sym, subst, arith, add-zero, zero-add, zero-le, ◌≤◌, length-take}
+use Rattle.std.specs.List.{filter}
 use Rattle.std.proofs.lemmas.List.{length-map, take-append-drop, get_or_default}
-use Rattle.getopts.specs.Options.{Known, known_of, opt_view}
+use Rattle.getopts.specs.Options.{opt_view}
 use Rattle.getopts.specs.Fail.{Fault}
 use Rattle.getopts.specs.Scan.{Occurrence}
 use Rattle.getopts.specs.Line.{occurrence_view, occurrences_view}

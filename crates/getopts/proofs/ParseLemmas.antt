@@ -1,12 +1,11 @@
 -- The options that a line is read by are those that were declared.
-use Rattle.std.proofs.Common.{◌≡◌, ◌⊎◌, ◌<◌, ◌+◌, ℕ, zero, suc, Bool, List, [], ◌∷◌, ◌++◌, length, map, slice_get, Option, Some, None, refl, ap, ◌∙◌, sym, subst, inl, inr, arith}
+use Rattle.std.proofs.Common.{◌≡◌, ℕ, Bool, List, [], ◌∷◌, map, slice_get, Option, Some, None, refl, ap, ◌∙◌, sym, subst}
 use Rattle.std.specs.List.{AllByRecursion}
 use Rattle.std.specs.Option.{option_and_then, option_map}
-use Rattle.std.specs.Str.{IsUtf8}
 use Rattle.std.proofs.lemmas.Option.{slice_get-map}
 use Rattle.std.proofs.lemmas.Simd.{map-map}
 use Rattle.getopts.specs.Names.{Text, Names, IsLawfullyNamed, names_view, resolution}
-use Rattle.getopts.specs.Options.{Group, Known, known_of, opt_view, Declared, AreLawfullyNamed, names_of, kind_of, Grammar, grammar_of, opt_kind_of, opts_grammar}
+use Rattle.getopts.specs.Options.{Group, Known, known_of, opt_view, Declared, AreLawfullyNamed, names_of, Grammar, grammar_of, opts_grammar}
 use Rattle.getopts.specs.Fail.{Fault}
 use Rattle.getopts.specs.Scan.{Reading, IsReading, IsScanFault, Occurrence, occurrences_of, free_words, trailing_start}
 use Rattle.getopts.specs.Matches.{Matched, MatchedGroup, matched_from, matched_known, matches_of, KeepsCounts, IsCountFault}

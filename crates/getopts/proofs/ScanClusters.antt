@@ -1,5 +1,5 @@
 -- What a cluster begins, by the flags that were read and the text that is left.
-use Rattle.std.proofs.Common.{◌≡◌, ◌≢◌, ◌<◌, ◌≤◌, ◌+◌, ◌⊎◌, ℕ, Bool, true, false, List, [], ◌∷◌, ◌++◌, length, map, take, drop, slice_index, Option, Some, None, refl, ap, ◌∙◌, sym, subst, inl, inr, append_assoc, zero-le, arith, encode_utf8, add-one, drop-cons}
+use Rattle.std.proofs.Common.{◌≡◌, ◌<◌, ◌≤◌, ◌+◌, ℕ, true, false, List, [], ◌∷◌, ◌++◌, length, map, take, drop, slice_index, Option, Some, None, refl, ap, ◌∙◌, sym, subst, inl, inr, append_assoc, zero-le, encode_utf8, add-one, drop-cons}
 use Rattle.std.specs.Prelude.{unwrap_or}
 use Rattle.std.specs.Char.{IsScalar}
 use Rattle.std.specs.List.{AllByRecursion}
@@ -11,10 +11,10 @@ use Rattle.std.proofs.lemmas.Str.{IsCharBoundary-start, IsCharBoundary-after_asc
 use Rattle.getopts.specs.Names.{Text}
 use Rattle.getopts.specs.Options.{Grammar}
 use Rattle.getopts.specs.Fail.{argument_missing, unrecognized_option}
-use Rattle.getopts.specs.Scan.{dash, Argument, none, attached, separate, flags, ends_in, cluster, attached_argument, value_of, FitsEnd, IsFlag, IsLawfulCluster, IsShortForm, IsFaultAt, begins_with_dash, Occurrence, occurrence_at, mention, is_bare, EndsOrIsDashed}
-use Rattle.getopts.specs.Line.{flag_occurrences, ReadsItem, AddsItem, IsEnding}
+use Rattle.getopts.specs.Scan.{dash, Argument, none, attached, separate, flags, ends_in, cluster, attached_argument, value_of, IsFlag, IsShortForm, IsFaultAt, begins_with_dash, Occurrence, occurrence_at, mention, is_bare}
+use Rattle.getopts.specs.Line.{flag_occurrences, AddsItem, IsEnding}
 use Rattle.getopts.specs.declared.options.HasArg.{HasArg}
-use Rattle.getopts.specs.declared.options.HasArg.TheVariants.{Yes, No, Maybe}
+use Rattle.getopts.specs.declared.options.HasArg.TheVariants.{Yes}
 use Rattle.getopts.proofs.ScanSteps.{flags_push}
 use Rattle.getopts.proofs.ScanTexts.{encode-ascii_byte, length-encode-wide}
 

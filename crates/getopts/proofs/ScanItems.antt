@@ -1,12 +1,9 @@
 -- The item that a word in long form begins, by its name, its kind and its argument.
-use Rattle.std.proofs.Common.{◌≡◌, ℕ, ◌≤◌, Bool, true, false, List, [], ◌∷◌, ◌++◌, length, take, drop, Option, Some, None, refl, ap, ◌∙◌, sym, subst, append_assoc, zero-le, slice_get, arith, Bor}
-use Rattle.std.specs.Prelude.{unwrap_or}
+use Rattle.std.proofs.Common.{◌≡◌, ℕ, ◌≤◌, Bool, false, List, [], ◌∷◌, ◌++◌, length, drop, Option, Some, None, refl, ap, ◌∙◌, subst, zero-le, slice_get, arith, Bor}
 use Rattle.getopts.specs.Names.{Text}
 use Rattle.getopts.specs.Options.{Grammar}
-use Rattle.getopts.specs.Scan.{Argument, none, attached, separate, Dashes, one, two, long, with_equals, attached_argument, argument_words, value_of, FitsLong, IsFlag, holds_equals, begins_with_dash, MayStandBefore, dash_text, long_word, Occurrence, mention}
-use Rattle.std.specs.List.{AllByRecursion}
-use Rattle.std.specs.Str.{IsCharBoundary}
-use Rattle.getopts.specs.Line.{texts, flag_occurrences, IsInLongForm, ReadsItem}
+use Rattle.getopts.specs.Scan.{Argument, none, attached, Dashes, one, two, long, with_equals, attached_argument, argument_words, value_of, FitsLong, holds_equals, MayStandBefore, dash_text, long_word}
+use Rattle.getopts.specs.Line.{texts, IsInLongForm, ReadsItem}
 use Rattle.getopts.specs.declared.options.HasArg.{HasArg}
 use Rattle.getopts.proofs.ScanWords.{begins_with_dash-front}
 

@@ -1,5 +1,5 @@
 -- A line that was read up to a place: its items so far, one more item, and each way in which it goes on.
-use Rattle.std.proofs.Common.{◌≡◌, ◌<◌, ◌≤◌, ◌+◌, ◌-◌, ℕ, Bool, true, false, List, [], ◌∷◌, ◌++◌, length, map, take, drop, slice_get, Option, Some, None, refl, ap, ◌∙◌, sym, subst, append_assoc, zero-le, arith, add-one, zero-add, add-zero, add_assoc, suc, length-drop, drop-drop, get_or, Bor, drop-cons, zero, not, eqb}
+use Rattle.std.proofs.Common.{◌≡◌, ◌<◌, ◌≤◌, ◌+◌, ◌-◌, ℕ, Bool, true, false, List, [], ◌∷◌, ◌++◌, length, map, take, drop, refl, ap, ◌∙◌, sym, subst, append_assoc, zero-le, arith, add-one, zero-add, add-zero, suc, length-drop, drop-drop, get_or, Bor, zero, not, eqb}
 use Rattle.std.specs.Bool.{then_some}
 use Rattle.std.specs.List.{AllByRecursion}
 use Rattle.std.proofs.lemmas.List.{append-nil, length-append, take_all, length-map}
@@ -9,7 +9,7 @@ use Rattle.getopts.specs.Options.{Grammar}
 use Rattle.getopts.specs.Fail.{Fault}
 use Rattle.getopts.specs.Line.{texts, AddsItem}
 use Rattle.getopts.specs.declared.options.ParsingStyle.TheVariants.{FloatingFrees, StopAtFirstFree}
-use Rattle.getopts.specs.Scan.{Item, free, long, cluster, spelled, spelled_all, IsLawfulItem, is_dashed, stop_word, is_bare, EndsOrIsDashed, AreWellFollowed, BeginsWith, Occurrence, occurrence_at, occurrences_after, mentions, free_items, Tail, line_end, stop, rest, tail_words, tail_frees, trailing_after, IsLawfulTail, Reading, IsReading, occurrences_of, free_words, trailing_start, IsFaultAt, IsScanFault, BeginsFree}
+use Rattle.getopts.specs.Scan.{Item, free, long, cluster, spelled, spelled_all, IsLawfulItem, is_dashed, stop_word, is_bare, EndsOrIsDashed, AreWellFollowed, BeginsWith, Occurrence, occurrence_at, occurrences_after, mentions, free_items, Tail, stop, rest, tail_words, trailing_after, IsLawfulTail, IsReading, IsFaultAt, IsScanFault, BeginsFree}
 use Rattle.getopts.proofs.ScanTexts.{AllByRecursion-append}
 use Rattle.getopts.proofs.ScanLawProofs.{free_items-append, spelled_all-append}
 use Rattle.getopts.proofs.ScanReadings.{spelled_all-append as words_after}

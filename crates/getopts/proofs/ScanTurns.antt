@@ -1,6 +1,6 @@
 -- A tool of the proofs: reading word by word. `read` is what the code computes; the definitions in
 -- `specs/Scan.antt` don't rest on it.
-use Rattle.std.proofs.Common.{◌≡◌, ◌==◌, ◌⊎◌, ℕ, ◌<◌, Bool, true, false, cond, List, [], ◌∷◌, ◌++◌, drop, Option, Some, None, Result, Ok, Err}
+use Rattle.std.proofs.Common.{◌≡◌, ◌==◌, ◌⊎◌, ℕ, ◌<◌, List, [], ◌∷◌, ◌++◌, Option, Some, None, Result, Ok, Err}
 use Rattle.std.specs.Prelude.{if◌then◌else◌, encode_utf8}
 use Rattle.std.specs.List.{before_first, after_first, AllByRecursion}
 use Rattle.std.specs.Str.{chars, bytes_eq, IsUtf8}

@@ -1,5 +1,5 @@
 -- Lemmas on single words.
-use Rattle.std.proofs.Common.{◌≡◌, ◌≢◌, ◌<◌, ◌≤◌, ◌+◌, ℕ, Bool, true, false, eqb, List, [], ◌∷◌, ◌++◌, length, get_or, slice_index, slice_range, take, drop, drop-cons, add-one, ◌-◌, refl, ap, ◌∙◌, sym, arith, lit<, MatchOption}
+use Rattle.std.proofs.Common.{◌≡◌, ◌≢◌, ◌<◌, ◌≤◌, ◌+◌, ℕ, Bool, true, false, eqb, [], ◌∷◌, ◌++◌, length, get_or, slice_index, slice_range, take, drop, drop-cons, add-one, ◌-◌, refl, ap, ◌∙◌, arith}
 use Rattle.std.proofs.lemmas.List.{get_or_default}
 use Rattle.std.proofs.lemmas.List.Folds.{list_any_none}
 use Rattle.std.specs.Char.{is_ascii}

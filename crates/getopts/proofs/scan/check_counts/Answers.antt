@@ -1,11 +1,11 @@
 -- Each group in order keeps its count, or is the first to break it.
-use Rattle.std.proofs.Common.{◌≡◌, ◌==◌, ◌<◌, length, map, take, sym, ap, subst, ◌∙◌, arith}
+use Rattle.std.proofs.Common.{◌≡◌, ◌==◌, ◌<◌, length, map, sym, ap, subst, ◌∙◌, arith}
 use Rattle.std.proofs.lemmas.List.{take_all}
 use Rattle.std.proofs.lemmas.Result.{err_from_is_err_and}
 use Rattle.getopts.specs.Names.{main_name, names_view}
 use Rattle.getopts.specs.Options.{opt_view}
 use Rattle.getopts.specs.Line.{occurrences_view}
-use Rattle.getopts.specs.Matches.{FitsCount, found_at, matched_known, count_fault, IsCountFault, KeepsCounts}
+use Rattle.getopts.specs.Matches.{FitsCount, found_at, matched_known, count_fault, IsCountFault}
 use Rattle.getopts.specs.declared.options.Opt.{Opt}
 use Rattle.std.specs.List.{filter}
 use Rattle.getopts.specs.declared.scan.Occurrence.{Occurrence as Held}

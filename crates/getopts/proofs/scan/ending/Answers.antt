@@ -1,7 +1,6 @@
 -- Each way in which a cluster ends in an option, with its argument.
-use Rattle.std.proofs.Common.{◌≡◌, ◌≢◌, Some, None, [], refl, rules, arith, zero-le}
+use Rattle.std.proofs.Common.{refl, rules, zero-le}
 use Rattle.getopts.specs.Scan.{attached, separate}
-use Rattle.getopts.specs.declared.options.HasArg.TheVariants.{Yes, No, Maybe}
 use Rattle.getopts.proofs.ScanItems.{texts-first}
 use Rattle.getopts.proofs.ScanWords.{FitsEnd-attached, filled-length, empty-length}
 use Rattle.getopts.proofs.scan.ending.Goals as goal

@@ -1,6 +1,6 @@
 -- The words that were collected are those that the iterator gives.
 use Rattle.std.proofs.Common.{List, ◌∙◌, subst, Bor}
-use Rattle.std.specs.Iterator.Runs.{Run, WholeRun}
+use Rattle.std.specs.Iterator.Runs.{WholeRun}
 use Rattle.std.proofs.lemmas.Result.{IfOk-weaker, IfErr-weaker}
 use Rattle.getopts.specs.Names.{Text}
 use Rattle.getopts.specs.Fail.{Fault, Tells}

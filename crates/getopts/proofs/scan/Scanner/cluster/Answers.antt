@@ -1,5 +1,5 @@
 -- Each name of a cluster is a flag, ends it, or is a fault.
-use Rattle.std.proofs.Common.{◌≡◌, ◌<◌, ◌≤◌, ◌+◌, ◌++◌, ◌∷◌, [], Some, None, slice_index, slice_range, length, drop, refl, sym, ap, ◌∙◌, arith, rules}
+use Rattle.std.proofs.Common.{◌++◌, ◌∷◌, [], sym, ap, ◌∙◌, arith}
 use Rattle.std.specs.Option.{option_copied}
 use Rattle.std.proofs.lemmas.List.{map-append}
 use Rattle.std.proofs.lemmas.Str.{IsCharBoundary-after_ascii}
@@ -7,8 +7,7 @@ use Rattle.getopts.specs.Fail.{unrecognized_option}
 use Rattle.getopts.specs.Scan.{IsFaultAt}
 use Rattle.getopts.proofs.FailLemmas.{Tells-one}
 use Rattle.getopts.specs.Line.{texts, occurrence_view, occurrences_view, scanner_grammar}
-use Rattle.getopts.proofs.ScanWords.{slice_range-one}
-use Rattle.getopts.proofs.ScanClusters.{FlagsRead-none, FlagsRead-more, AddsItem-flags, AddsItem-ends, IsFaultAt-unknown, IsFaultAt-missing}
+use Rattle.getopts.proofs.ScanClusters.{FlagsRead-none, FlagsRead-more, AddsItem-flags, AddsItem-ends, IsFaultAt-unknown}
 use Rattle.getopts.proofs.scan.Scanner.cluster.Goals as goal
 
 pub names-init : goal.names-init

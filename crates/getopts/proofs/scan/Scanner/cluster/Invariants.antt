@@ -1,9 +1,5 @@
 -- The names before this place are flags, one byte each, and their occurrences were added.
-use Rattle.std.proofs.Common.{◌≡◌, ◌++◌, take}
-use Rattle.std.specs.List.{AllByRecursion}
-use Rattle.std.specs.Str.{IsCharBoundary}
-use Rattle.getopts.specs.Line.{occurrences_view, scanner_grammar, flag_occurrences}
-use Rattle.getopts.specs.Scan.{IsFlag}
+use Rattle.getopts.specs.Line.{occurrences_view, scanner_grammar}
 use Rattle.getopts.proofs.ScanClusters.{FlagsRead}
 use Rattle.getopts.proofs.scan.Scanner.cluster.Given as goal
 

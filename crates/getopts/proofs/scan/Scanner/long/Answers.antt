@@ -1,5 +1,5 @@
 -- Each name of a known kind begins an item with its argument.
-use Rattle.std.proofs.Common.{◌≡◌, Some, None, List, ◌∷◌, drop, refl, sym, ap, arith, zero-le, rules}
+use Rattle.std.proofs.Common.{Some, None, rules}
 use Rattle.getopts.specs.Scan.{separate}
 use Rattle.getopts.specs.Line.{texts, scanner_grammar}
 use Rattle.getopts.specs.declared.options.HasArg.TheVariants.{Yes, No, Maybe}

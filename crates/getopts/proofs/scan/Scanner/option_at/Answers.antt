@@ -1,5 +1,5 @@
 -- One ASCII byte is a text of its own, and no other byte names an option.
-use Rattle.std.proofs.Common.{◌≡◌, ◌+◌, ◌∷◌, [], slice_index, slice_range, ◌∙◌, true, false}
+use Rattle.std.proofs.Common.{◌≡◌, ◌∷◌, [], slice_index, ◌∙◌, true, false}
 use Rattle.std.specs.Char.{is_ascii}
 use Rattle.std.proofs.lemmas.Str.{IsCharBoundary-after_ascii}
 use Rattle.getopts.proofs.OptLemmas.{wide_unknown}

@@ -1,13 +1,13 @@
 -- Each turn reads one more item, and each end is that of a reading or a fault.
-use Rattle.std.proofs.Common.{◌≡◌, ◌<◌, ◌≤◌, ◌+◌, ◌++◌, ◌∷◌, [], List, Some, None, drop, take, ◌-◌, eqb, map, length, Bor, refl, sym, ap, ◌∙◌, arith, rules}
+use Rattle.std.proofs.Common.{◌≡◌, ◌+◌, ◌++◌, ◌∷◌, [], List, drop, take, ◌-◌, eqb, length, Bor, refl, sym, ap, ◌∙◌, arith, rules}
 use Rattle.std.proofs.lemmas.List.{map-append, append-nil, drop_all}
 use Rattle.std.proofs.lemmas.Result.{err_from_is_err_and}
 use Rattle.getopts.specs.Scan.{dash, line_end, stop, rest, free_items, trailing_after, IsFaultAt, IsScanFault}
 use Rattle.getopts.specs.declared.options.ParsingStyle.TheVariants.{FloatingFrees, StopAtFirstFree}
 use Rattle.getopts.specs.Names.{Text}
-use Rattle.getopts.specs.Line.{texts, scanner_grammar, occurrences_view}
+use Rattle.getopts.specs.Line.{texts, scanner_grammar}
 use Rattle.getopts.proofs.FailLemmas.{Tells-weaker}
-use Rattle.getopts.proofs.ScanLoop.{ReadSoFar-free, ReadSoFar-added, IsReading-tail, IsReading-rest, IsReading-stop, IsScanFault-word, texts_from, texts-drop, length-texts, take-drop, trailing_after-stop}
+use Rattle.getopts.proofs.ScanLoop.{ReadSoFar-free, ReadSoFar-added, IsReading-tail, IsReading-rest, IsReading-stop, IsScanFault-word, texts-drop, length-texts, take-drop, trailing_after-stop}
 use Rattle.getopts.proofs.scan.Scanner.scan.Goals as goal
 
 pub returns-clause-ok : goal.returns-clause-ok
