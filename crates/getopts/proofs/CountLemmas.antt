@@ -1,7 +1,7 @@
 -- The counts of groups, one after the other.
-use Rattle.std.proofs.Common.{◌≡◌, ◌==◌, ◌<◌, ◌+◌, ℕ, zero, suc, Bool, true, false, cond, List, [], ◌∷◌, ◌++◌, length, map, take, drop, get_or, refl, ap, ◌∙◌, sym, subst, arith, add-one, add_assoc, add-zero, zero-add}
+use Rattle.std.proofs.Common.{◌≡◌, ◌==◌, ◌<◌, ◌+◌, ℕ, zero, suc, Bool, true, false, cond, List, [], ◌∷◌, ◌++◌, length, map, take, drop, get_or, refl, ap, ◌∙◌, sym, subst, arith, add-one, add_assoc, add-zero, zero-add, zero-le, ◌≤◌, length-take}
 use Rattle.std.specs.List.{AllByRecursion, filter}
-use Rattle.std.proofs.lemmas.List.{length-map, take-append-drop}
+use Rattle.std.proofs.lemmas.List.{length-map, take-append-drop, get_or_default}
 use Rattle.getopts.specs.Options.{Known, known_of, opt_view}
 use Rattle.getopts.specs.Fail.{Fault}
 use Rattle.getopts.specs.Scan.{Occurrence}
@@ -64,7 +64,7 @@ module _ (opts : List Opt) (held : List Held) (i : ℕ) (d : Opt) (within : i < 
       let at : drop i whole ≡ matched_at i (get_or opts i d) (occurrences_view held) ∷ drop (i + 1) whole = simp zero-add at (matched_known-from 0 opts (occurrences_view held) i d within) in
       subst KeepsCounts (sym (take-from whole (drop (i + 1) whole) (matched_at i (get_or opts i d) (occurrences_view held)) i at))
       (AllByRecursion-append KeepsCount (take i whole) (matched_at i (get_or opts i d) (occurrences_view held) ∷ []) kept
-          ((subst (FitsCount (get_or opts i d).occur) (counted ∙ sym (length-found_at i held)) fits), tt))
+      ((subst (FitsCount (get_or opts i d).occur) (counted ∙ sym (length-found_at i held)) fits), tt))
 
   -- the group there breaks its count
   pub IsCountFault-at : (count : ℕ) (fault : Fault) → count ≡ length (filter (λ (o : Held). o.group == i) held) → ¬ (FitsCount (get_or opts i d).occur count)
@@ -86,3 +86,23 @@ module _ (opts : List Opt) (held : List Held) (i : ℕ) (d : Opt) (within : i < 
 pub length-matched_known : (first : ℕ) (opts : List Opt) (occurrences : List Occurrence) → length (matched_known first (map opt_view opts) occurrences) ≡ length opts
 length-matched_known first [] occurrences = refl
 length-matched_known first (opt ∷ opts) occurrences = ap suc (length-matched_known (first + 1) opts occurrences)
+
+-- each of so many places counts the occurrences of its group
+pub record Counted (groups : ℕ) (counts : List ℕ) (held : List Held) : Type 0 where
+  pub size : length counts ≡ groups
+  pub each : (place : ℕ) → place < groups → get_or counts place 0 ≡ length (filter (λ (o : Held). o.group == place) held)
+
+-- no more elements pass than there are
+pub length-filter-le : {X : Type 0} (p : X → Bool) (xs : List X) → length (filter p xs) ≤ length xs
+length-filter-le p [] = zero-le
+length-filter-le {X} p (x ∷ xs) = let others = length-filter-le p xs in elim (p x) as (λ b. length (cond b (x ∷ filter p xs) (filter p xs)) ≤ suc (length xs)) [ true ↦ omega arith | false ↦ omega arith ]
+
+-- a count is at most the number of occurrences so far
+pub counted_below : (groups : ℕ) (counts : List ℕ) (held : List Held) (i place d : ℕ) → Counted groups counts (take i held) → place < groups → get_or counts place d ≤ i
+counted_below groups counts held i place d counted within =
+    let same : get_or counts place d ≡ get_or counts place 0 = get_or_default counts place d 0 (omega (arith, counted.size)) in
+    omega (arith, same, counted.each place within, length-filter-le (λ (o : Held). o.group == place) (take i held), length-take i held)
+
+-- the count that is read at a place
+pub counted_at : (counts : List ℕ) (place count n : ℕ) → place < length counts → count ≡ get_or counts place count → get_or counts place 0 ≡ n → count ≡ n
+counted_at counts place count n within read counted = read ∙ get_or_default counts place count 0 within ∙ counted

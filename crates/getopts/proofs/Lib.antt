@@ -16,6 +16,7 @@ pub mod ScanSteps
 pub mod ScanTexts
 pub mod ScanTurns
 pub mod ScanWords
+pub mod UsageLemmas
 pub mod WrapLemmas
 pub mod WrapLines
 pub mod WrapRows

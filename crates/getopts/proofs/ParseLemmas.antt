@@ -36,9 +36,9 @@ kind_through : {X : Type 0} (view : X → Known) (kind : X → HasArg) → ((x :
     → option_and_then (λ place. option_map kind (slice_get xs place)) place ≡ option_and_then (λ place. option_map (λ (k : Known). k.kind) (slice_get (map view xs) place)) place
 kind_through view kind same xs None = refl
 kind_through {X} view kind same xs (Some place) = here (slice_get xs place) ∙ ap (option_map (λ (k : Known). k.kind)) (sym (slice_get-map view xs place)) where
-    here : (x : Option X) → option_map kind x ≡ option_map (λ (k : Known). k.kind) (option_map view x)
-    here None = refl
-    here (Some x) = ap (λ k. Some k) (same x)
+  here : (x : Option X) → option_map kind x ≡ option_map (λ (k : Known). k.kind) (option_map view x)
+  here None = refl
+  here (Some x) = ap (λ k. Some k) (same x)
 
 -- the grammar of options as the code holds them
 opts_grammar-known : (opts : List Opt) (style : ParsingStyle) (long_only : Bool) → opts_grammar opts style long_only ≡ known_grammar (map opt_view opts) style long_only
@@ -50,7 +50,7 @@ opts_grammar-known opts style long_only =
     let known_by = λ (ns : List Names) (name : Text). option_and_then (λ place. option_map (λ (k : Known). k.kind) (slice_get (map opt_view opts) place)) (resolution ns name) in
     let kinds : kind_by seen ≡ known_by seen = λ i name. kind_through opt_view (λ (opt : Opt). opt.hasarg) (λ opt. refl) opts (resolution seen name) i in
     let by_names : opts_grammar opts style long_only ≡ record { place_of = resolution seen; kind_of = kind_by seen; style = style; long_only = long_only } =
-        ap (λ (ns : List Names). record { place_of = resolution ns; kind_of = kind_by ns; style = style; long_only = long_only }) names in
+    ap (λ (ns : List Names). record { place_of = resolution ns; kind_of = kind_by ns; style = style; long_only = long_only }) names in
     by_names ∙ ap (λ (kind : Text → Option HasArg). record { place_of = resolution seen; kind_of = kind; style = style; long_only = long_only }) kinds
 
 -- the grammar of declared groups
@@ -63,7 +63,7 @@ grammar_of-known options =
     let known_by = λ (ns : List Names) (name : Text). option_and_then (λ place. option_map (λ (k : Known). k.kind) (slice_get (map known_of options.groups) place)) (resolution ns name) in
     let kinds : kind_by seen ≡ known_by seen = λ i name. kind_through known_of (λ (group : Group). group.kind) (λ group. refl) options.groups (resolution seen name) i in
     let by_names : grammar_of options ≡ record { place_of = resolution seen; kind_of = kind_by seen; style = options.style; long_only = options.long_only } =
-        ap (λ (ns : List Names). record { place_of = resolution ns; kind_of = kind_by ns; style = options.style; long_only = options.long_only }) names in
+    ap (λ (ns : List Names). record { place_of = resolution ns; kind_of = kind_by ns; style = options.style; long_only = options.long_only }) names in
     by_names ∙ ap (λ (kind : Text → Option HasArg). record { place_of = resolution seen; kind_of = kind; style = options.style; long_only = options.long_only }) kinds
 
 -- what holds of all that a map gives

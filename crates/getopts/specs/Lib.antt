@@ -10,4 +10,5 @@ pub mod Parse
 pub mod SameMatches
 pub mod Scan
 pub mod ScanLaws
+pub mod Usage
 pub mod Wrap

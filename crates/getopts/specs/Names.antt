@@ -1,5 +1,5 @@
 -- Names of options: the two names of a group, which pairs are lawful, and what a name resolves to.
-use Rattle.std.specs.Prelude.{◌≢◌, ◌==◌, ℕ, ◌+◌, ◌<◌, ◌≤◌, Bool, ◌&&◌, not, List, length, Option, if◌then◌else◌}
+use Rattle.std.specs.Prelude.{◌≢◌, ◌==◌, ℕ, ◌+◌, ◌<◌, ◌≤◌, Bool, ◌&&◌, not, List, length, Option, if◌then◌else◌, ◌≡◌, Some, None, [], ◌∷◌, slice_get}
 use Rattle.std.specs.List.{find, position}
 use Rattle.std.specs.Option.{option_and_then, option_or}
 use Rattle.std.specs.Cmp.Lexicographic.{pointwise}
@@ -60,3 +60,16 @@ resolution groups name = option_or (main_place groups name)
 -- whether the short names and the long names are the same
 abbrev pub same_names : Names → Names → Bool
 same_names = eq_of_both (on (λ names. names.short) (pointwise ◌==◌)) (on (λ names. names.long) (pointwise ◌==◌))
+
+-- the main name of a resolved group resolves to that same group
+abbrev pub MainNameResolves : List Names → Type 0
+MainNameResolves groups = (name : Text) (place : ℕ) (names : Names) → resolution groups name ≡ Some place → slice_get groups place ≡ Some names
+    → resolution groups (main_name names) ≡ Some place
+
+-- a name of one byte that resolves is the short name of some group
+abbrev pub OneByteIsShort : List Names → Type 0
+OneByteIsShort groups = (byte place : ℕ) → resolution groups (byte ∷ []) ≡ Some place → (other : ℕ) × (names : Names) × (slice_get groups other ≡ Some names) × (names.short ≡ byte ∷ [])
+
+-- the empty name doesn't resolve
+abbrev pub EmptyResolvesNot : List Names → Type 0
+EmptyResolvesNot groups = resolution groups [] ≡ None

@@ -90,7 +90,8 @@ impl Given {
 
     /// Occurrences with copies of their values.
     fn all_copied(alloc: Global, occurrences: &[Occurrence<'_>]) -> Result<Vec<Given>, AllocError>
-        ensures { IfOk result (λ given. map given_view given.items ≡ occurrences_view occurrences.now) }
+        ensures { IfOk result (λ given. map given_view given.items
+            ≡ occurrences_view occurrences.now) }
     {
         let mut given = Vec::new(alloc);
         for occurrence in occurrences {
@@ -123,7 +124,8 @@ impl Matches {
     ) -> Result<Matches, AllocError>
         requires { AreLawful opts.items }
         ensures { IfOk result (λ matches. matches ≡ record {
-          groups = matched_known 0 (map opt_view opts.items) (occurrences_view line.now.occurrences.items);
+          groups = matched_known 0 (map opt_view opts.items)
+              (occurrences_view line.now.occurrences.items);
           free = texts line.now.free.items;
           trailing_start = line.now.trailing_start;
         }) }
@@ -152,14 +154,16 @@ impl<'m> OfGroup<'m> {
     }
 
     fn first(&self) -> Option<&'m Given>
-        ensures { option_copied result ≡ find (λ given. given.group == self.now.group) self.now.given.now }
+        ensures { option_copied result
+            ≡ find (λ given. given.group == self.now.group) self.now.given.now }
     {
         let group = self.group;
         self.given.iter().find(|given| given.group == group)
     }
 
     fn positions(&self, alloc: Global) -> Result<Vec<usize>, AllocError>
-        ensures { IfOk result (λ positions. positions.items ≡ map (λ given. given.position) (givens self.now)) }
+        ensures { IfOk result (λ positions. positions.items
+            ≡ map (λ given. given.position) (givens self.now)) }
     {
         let group = self.group;
         self.given
@@ -181,7 +185,8 @@ impl<'m> OfGroup<'m> {
     }
 
     fn values(&self, alloc: Global) -> Result<Vec<String>, AllocError>
-        ensures { IfOk result (λ values. map string_bytes values.items ≡ values_of (founds self.now)) }
+        ensures { IfOk result (λ values. map string_bytes values.items
+            ≡ values_of (founds self.now)) }
     {
         let mut values = Vec::new(alloc);
         for given in self.given {
@@ -226,7 +231,8 @@ impl OfGroup<'_> {
     /// Whether an occurrence of the group stands at this place or after it.
     fn has_from(&self, start: usize) -> bool
         requires { start ≤ length self.now.given.now }
-        ensures { result ≡ list_any (λ given. given.group == self.now.group) (drop start self.now.given.now) }
+        ensures { result
+            ≡ list_any (λ given. given.group == self.now.group) (drop start self.now.given.now) }
     {
         holds_group(&self.given[start..], self.group)
     }
@@ -265,7 +271,8 @@ fn holds_group(given: &[Given], group: usize) -> bool
 
 /// Whether two lists of words are the same.
 fn same_words(words: &[String], others: &[String]) -> bool
-    ensures { result ≡ pointwise (pointwise ◌==◌) (map string_bytes words.now) (map string_bytes others.now) }
+    ensures { result
+        ≡ pointwise (pointwise ◌==◌) (map string_bytes words.now) (map string_bytes others.now) }
 {
     words == others
 }
@@ -280,7 +287,9 @@ fn same_opt(opt: &Opt, other: &Opt) -> bool
 /// Whether two lists of options, each with one list of occurrences, are the same group by group. Each
 /// list of occurrences is read once for each group.
 fn same_groups(opts: &[Opt], given: &[Given], other_opts: &[Opt], other_given: &[Given]) -> bool
-    ensures { result ≡ pointwise same_matched_group (groups_of opts.now given.now) (groups_of other_opts.now other_given.now) }
+    ensures { result
+        ≡ pointwise same_matched_group (groups_of opts.now given.now)
+        (groups_of other_opts.now other_given.now) }
 {
     if opts.len() != other_opts.len() {
         return false;
@@ -373,8 +382,10 @@ impl Matches {
     /// the positions of `v` are 0, 2 and 2. An error comes only where memory was refused.
     pub fn opt_positions(&self, alloc: Global, name: &str) -> Result<Vec<usize>, AllocError>
         requires { IsDefined self.now.groups name.now }
-        ensures positions { IfOk result (λ positions. positions.items ≡ positions_of (found_of self.now.groups name.now)) }
-        ensures count { IfOk result (λ positions. vec_len positions ≡ length (found_of self.now.groups name.now)) }
+        ensures positions { IfOk result (λ positions. positions.items
+            ≡ positions_of (found_of self.now.groups name.now)) }
+        ensures count { IfOk result (λ positions. vec_len positions
+            ≡ length (found_of self.now.groups name.now)) }
     {
         self.given_of(name).positions(alloc)
     }
@@ -385,7 +396,8 @@ impl Matches {
     /// An error comes only where memory was refused.
     pub fn opt_strs(&self, alloc: Global, name: &str) -> Result<Vec<String>, AllocError>
         requires { IsDefined self.now.groups name.now }
-        ensures { IfOk result (λ values. map string_bytes values.items ≡ values_of (found_of self.now.groups name.now)) }
+        ensures { IfOk result (λ values. map string_bytes values.items
+            ≡ values_of (found_of self.now.groups name.now)) }
     {
         self.given_of(name).values(alloc)
     }
@@ -401,8 +413,10 @@ impl Matches {
         name: &str,
     ) -> Result<Vec<(usize, String)>, AllocError>
         requires { IsDefined self.now.groups name.now }
-        ensures pairs { IfOk result (λ pairs. map pair_view pairs.items ≡ pairs_of (found_of self.now.groups name.now)) }
-        ensures texts { IfOk result (λ pairs. map (λ pair. string_bytes pair.1) pairs.items ≡ values_of (found_of self.now.groups name.now)) }
+        ensures pairs { IfOk result (λ pairs. map pair_view pairs.items
+            ≡ pairs_of (found_of self.now.groups name.now)) }
+        ensures texts { IfOk result (λ pairs. map (λ pair. string_bytes pair.1) pairs.items
+            ≡ values_of (found_of self.now.groups name.now)) }
     {
         self.given_of(name).pairs(alloc)
     }
@@ -414,7 +428,8 @@ impl Matches {
     /// refused.
     pub fn opt_str(&self, alloc: Global, name: &str) -> Result<Option<String>, AllocError>
         requires { IsDefined self.now.groups name.now }
-        ensures { IfOk result (λ value. option_map string_bytes value ≡ first_value (found_of self.now.groups name.now)) }
+        ensures { IfOk result (λ value. option_map string_bytes value
+            ≡ first_value (found_of self.now.groups name.now)) }
     {
         copied(alloc, self.given_of(name).first_value())
     }
@@ -430,7 +445,8 @@ impl Matches {
         def: &str,
     ) -> Result<Option<String>, AllocError>
         requires { IsDefined self.now.groups name.now }
-        ensures { IfOk result (λ value. option_map string_bytes value ≡ first_value_or (found_of self.now.groups name.now) def.now) }
+        ensures { IfOk result (λ value. option_map string_bytes value
+            ≡ first_value_or (found_of self.now.groups name.now) def.now) }
     {
         copied(alloc, self.given_of(name).first_value_or(def))
     }
@@ -441,7 +457,8 @@ impl Matches {
     /// gives. The text is lent to the reading, where the Rust copies it first.
     pub fn opt_get<T: FromStr>(&self, name: &str) -> Result<Option<T>, T::Err>
         requires { IsDefined self.now.groups name.now }
-        ensures { IsReadAs T.from_str_gives (first_value (found_of self.now.groups name.now)) result }
+        ensures { IsReadAs T.from_str_gives
+            (first_value (found_of self.now.groups name.now)) result }
     {
         match self.given_of(name).first_value() {
             Some(text) => Ok(Some(text.parse()?)),
@@ -455,7 +472,8 @@ impl Matches {
     /// The text is lent to the reading, where the Rust copies it first.
     pub fn opt_get_default<T: FromStr + Drop>(&self, name: &str, def: T) -> Result<T, T::Err>
         requires { IsDefined self.now.groups name.now }
-        ensures { IsReadOr T.from_str_gives (first_value (found_of self.now.groups name.now)) def result }
+        ensures { IsReadOr T.from_str_gives
+            (first_value (found_of self.now.groups name.now)) def result }
     {
         match self.given_of(name).first_value() {
             Some(text) => text.parse(),
@@ -478,7 +496,8 @@ impl Matches {
     ///
     /// A name that no option has counts as not given.
     pub fn opts_present(&self, names: &[String]) -> bool
-        ensures { result ≡ list_any (λ name. is_present self.now.groups (string_bytes name)) names.now }
+        ensures { result
+            ≡ list_any (λ name. is_present self.now.groups (string_bytes name)) names.now }
     {
         names.iter().any(|name| self.has(name.as_str()))
     }
@@ -499,7 +518,8 @@ impl Matches {
     /// comes only where memory was refused.
     pub fn opts_str(&self, alloc: Global, names: &[String]) -> Result<Option<String>, AllocError>
         requires { AreDefined self.now.groups (map string_bytes names.now) }
-        ensures { IfOk result (λ value. option_map string_bytes value ≡ first_value_among self.now.groups (map string_bytes names.now)) }
+        ensures { IfOk result (λ value. option_map string_bytes value
+            ≡ first_value_among self.now.groups (map string_bytes names.now)) }
     {
         for name in names {
             if let Some(value) = self.given_of(name.as_str()).first_value() {
@@ -519,7 +539,8 @@ impl Matches {
         names: &[&str],
     ) -> Result<Option<String>, AllocError>
         requires { AreDefined self.now.groups (texts names.now) }
-        ensures { IfOk result (λ value. option_map string_bytes value ≡ first_value_among self.now.groups (texts names.now)) }
+        ensures { IfOk result (λ value. option_map string_bytes value
+            ≡ first_value_among self.now.groups (texts names.now)) }
     {
         for name in names {
             if let Some(value) = self.given_of(name).first_value() {

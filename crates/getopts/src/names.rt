@@ -1,10 +1,12 @@
-//! Names of options, and the search for the group that a name resolves to.
+//! Names of options: which pairs are lawful, and how they are held.
 
-ghost use Rattle.std.specs.Prelude.{◌≡◌, ◌↔◌, IsTrue, map, IfOk};
+ghost use Rattle.std.specs.Prelude.{List, ◌≡◌, ◌↔◌, IsTrue, map, IfOk};
 ghost use Rattle.std.specs.Cmp.Rules.{comparing};
 ghost use Rattle.std.specs.Ordering.{on};
 ghost use Rattle.std.proofs.Common.{rules};
-ghost use Rattle.getopts.specs.Names.{AreLawful};
+ghost use Rattle.std.specs.List.{AllByRecursion};
+ghost use Rattle.getopts.specs.Names.{AreLawful, IsLawfullyNamed, MainNameResolves, OneByteIsShort, EmptyResolvesNot};
+ghost use Rattle.getopts.specs.Names.{Names as NamesOfGroup};
 
 use std::alloc::{AllocError, Global};
 
@@ -20,6 +22,15 @@ pub fn names_lawful(short: &str, long: &str) -> bool
     ensures { IsTrue result ↔ AreLawful short.now long.now }
 {
     short.len() <= 1 && long.len() != 1 && !(short.is_empty() && long.is_empty())
+}
+
+/// Three facts of how names resolve, where each group is lawfully named: a law to cite, which does
+/// nothing.
+pub fn names_resolve()
+    ensures main_name { (groups : List NamesOfGroup) → MainNameResolves groups }
+    ensures one_byte { (groups : List NamesOfGroup) → AllByRecursion IsLawfullyNamed groups → OneByteIsShort groups }
+    ensures empty { (groups : List NamesOfGroup) → AllByRecursion IsLawfullyNamed groups → EmptyResolvesNot groups }
+{
 }
 
 /// The two names of a group, either of which may be empty.

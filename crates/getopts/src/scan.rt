@@ -1,6 +1,6 @@
 //! Reading words as items, from the first to the last.
 
-ghost use Rattle.std.specs.Prelude.{◌≡◌, ◌≢◌, ◌<◌, ◌∷◌, ◌++◌, [], ℕ, List, length, MatchOption, OnSome, Some, None, true, false, IfOk, IfErr, OnOk, OnErr, ◌==◌, map, slice_get, slice_index, encode_utf8};
+ghost use Rattle.std.specs.Prelude.{◌≡◌, ◌≢◌, ◌<◌, ◌∷◌, ◌++◌, [], ℕ, List, length, vec_len, MatchOption, OnSome, Some, None, true, false, IfOk, IfErr, OnOk, OnErr, ◌==◌, map, slice_get, slice_index, encode_utf8};
 ghost use Rattle.std.specs.Char.{IsScalar};
 ghost use Rattle.std.specs.Str.{IsCharBoundary, IsUtf8};
 ghost use Rattle.getopts.specs.Fail.{Tells, argument_missing};
@@ -15,7 +15,7 @@ ghost use Rattle.getopts.specs.Scan.{dash, is_dashed, holds_equals, with_equals,
 use crate::fail::Fail;
 use crate::matches::Matches;
 use crate::options::{HasArg, Occur, Opt, Options, ParsingStyle, known_options, resolve};
-use std::alloc::Global;
+use std::alloc::{AllocError, Global};
 
 /// One option that the words give: the place of its group, the position of its item, and its value.
 #[derive(Clone, Copy, Debug)]
@@ -323,11 +323,24 @@ impl<'o> Scanner<'o> {
     }
 }
 
-/// How many of the occurrences are of the group at this place.
-fn count_of(occurrences: &[Occurrence<'_>], place: usize) -> usize
-    ensures { result ≡ length (filter (λ o. o.group == place) occurrences.now) }
+/// How many of the occurrences are of each group, in one pass.
+fn counts_of(
+    alloc: Global,
+    occurrences: &[Occurrence<'_>],
+    groups: usize,
+) -> Result<Vec<usize>, AllocError>
+    ensures len { IfOk result (λ counts. vec_len counts ≡ groups) }
+    ensures counts { IfOk result (λ counts. (place : ℕ) → place < groups
+        → slice_index counts.items place ≡ length (filter (λ o. o.group == place) occurrences.now)) }
 {
-    occurrences.iter().filter(|o| o.group == place).count()
+    let mut counts = vec![in alloc; 0; groups]?;
+    for occurrence in occurrences {
+        let group = occurrence.group;
+        if group < groups {
+            counts[group] += 1;
+        }
+    }
+    Ok(counts)
 }
 
 /// Tests how often an option came.
@@ -355,8 +368,9 @@ fn check_counts(alloc: Global, opts: &[Opt], occurrences: &[Occurrence<'_>]) -> 
     ensures ok { OnOk result (KeepsCounts (matched_known 0 (map opt_view opts.now) (occurrences_view occurrences.now))) }
     ensures err { IfErr result (λ fail. Tells fail (IsCountFault (matched_known 0 (map opt_view opts.now) (occurrences_view occurrences.now)))) }
 {
+    let counts = counts_of(alloc, occurrences, opts.len())?;
     for (place, opt) in opts.iter().enumerate() {
-        check_count(alloc, opt, count_of(occurrences, place))?;
+        check_count(alloc, opt, counts[place])?;
     }
     Ok(())
 }
@@ -364,8 +378,7 @@ fn check_counts(alloc: Global, opts: &[Opt], occurrences: &[Occurrence<'_>]) -> 
 /// A `&str` is a text.
 fn is_text(word: &str)
     ensures { IsUtf8 word.now }
-{
-}
+{}
 
 /// Each word is a text, as its type says. It is for the proofs alone: nothing is left of it once built.
 fn are_texts(words: &[&str])

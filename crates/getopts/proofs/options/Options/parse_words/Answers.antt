@@ -37,7 +37,7 @@ accepted_here c =
     let read = rw c.deref-2.ensures.value at c.in_ok-line.ensures.ok in
     let kept = rw (c.deref-3.ensures.value, c.deref-4.ensures.value) at c.in_ok-check_counts.ensures.ok in
     let accepted = IsAccepted-reading options opts copied c.self.invariant (texts c.args.words.now) read.reading read.reads (occurrences_view line.occurrences.items) read.occurrences
-        (texts line.free.items) line.trailing_start kept read.free read.trailing in
+    (texts line.free.items) line.trailing_start kept read.free read.trailing in
     subst (λ (o : Declared). IsAccepted o (texts c.args.words.now) c.in_ok-from_line.field-0) c.self.view_is (rw c.in_ok-from_line.ensures accepted)
 
 pub returns-clause-accepted : goal.returns-clause-accepted
@@ -60,7 +60,7 @@ returns-in_err-line-clause-refused c =
     let left = err_from_is_err_and c.from_residual-in_err-line.result c.from_residual-in_err-line.ensures.1 in
     let told = rw c.deref-2.ensures.value at c.in_err-line.ensures.err in
     rw (left.1, left.2) (Tells-weaker c.in_err-line.field-0.0 (IsScanFault (opts_grammar opts c.self.inside.style c.self.inside.long_only) (texts c.args.words.now)) (IsRefused c.args.self.now (texts c.args.words.now)) told
-        (λ fault is. subst (λ (o : Declared). IsRefused o (texts c.args.words.now) fault) c.self.view_is (inl (HasNoReading-fault options opts copied c.self.invariant (texts c.args.words.now) c.are_texts.ensures fault is))))
+    (λ fault is. subst (λ (o : Declared). IsRefused o (texts c.args.words.now) fault) c.self.view_is (inl (HasNoReading-fault options opts copied c.self.invariant (texts c.args.words.now) c.are_texts.ensures fault is))))
 
 pub returns-in_err-check_counts-clause-refused : goal.returns-in_err-check_counts-clause-refused
 returns-in_err-check_counts-clause-refused c =
@@ -72,5 +72,5 @@ returns-in_err-check_counts-clause-refused c =
     let left = err_from_is_err_and c.from_residual-in_err-check_counts.result c.from_residual-in_err-check_counts.ensures.1 in
     let told = rw (c.deref-3.ensures.value, c.deref-4.ensures.value) at c.in_err-check_counts.ensures.err in
     rw (left.1, left.2) (Tells-weaker c.in_err-check_counts.field-0.0 (IsCountFault (matched_known 0 (map opt_view opts) (occurrences_view line.occurrences.items))) (IsRefused c.args.self.now (texts c.args.words.now)) told
-        (λ fault is. subst (λ (o : Declared). IsRefused o (texts c.args.words.now) fault) c.self.view_is
-            (inr (BreaksCounts-reading options opts copied c.self.invariant (texts c.args.words.now) read.reading read.reads (occurrences_view line.occurrences.items) read.occurrences fault is))))
+    (λ fault is. subst (λ (o : Declared). IsRefused o (texts c.args.words.now) fault) c.self.view_is
+    (inr (BreaksCounts-reading options opts copied c.self.invariant (texts c.args.words.now) read.reading read.reads (occurrences_view line.occurrences.items) read.occurrences fault is))))
