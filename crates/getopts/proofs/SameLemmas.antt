@@ -1,5 +1,5 @@
 -- The walks of `==` over two matches answer whether these are the same.
-use Rattle.std.proofs.Common.{◌≡◌, ◌≢◌, ◌==◌, ◌⊎◌, ℕ, suc, ◌+◌, ◌<◌, ◌≤◌, Bool, true, false, not, ◌&&◌, ◌||◌, cond, List, [], ◌∷◌, map, length, drop, get_or, Option, Some, None, refl, ap, sym, ◌∙◌, inl, inr}
+use Rattle.std.proofs.Common.{◌≡◌, ◌≢◌, ◌==◌, ◌⊎◌, ℕ, ◌+◌, ◌<◌, ◌≤◌, Bool, true, false, not, ◌&&◌, ◌||◌, cond, List, [], ◌∷◌, map, length, drop, get_or, Option, Some, None, refl, ap, sym, ◌∙◌, inl, inr}
 use Rattle.std.specs.Bool.{Decides}
 use Rattle.std.specs.Cmp.Lexicographic.{pointwise, as_long, pointwise_decides, bytes_decides}
 use Rattle.std.specs.List.{list_any}
@@ -15,6 +15,7 @@ use Rattle.getopts.specs.declared.options.Opt.{Opt}
 use Rattle.getopts.specs.declared.matches.Given.{Given}
 use Rattle.getopts.proofs.MatchesLemmas.{found_at-given}
 use Rattle.getopts.proofs.OptionsLemmas.{same_group-decides}
+use Rattle.getopts.proofs.CountLemmas.{length-matched_known}
 
 -- the occurrences of a group from a place on
 abbrev pub founds_from : ℕ → List Given → ℕ → List Found
@@ -58,17 +59,12 @@ pub same_at_end : (group : ℕ) (given : List Given) (start other_group : ℕ) (
 same_at_end group given start other_group other_given other_start (inl past) = rw (drop_all start given past) (none_left other_group (drop other_start other_given))
 same_at_end group given start other_group other_given other_start (inr past) = rw (drop_all other_start other_given past) (none_right group (drop start given) ∙ and_true _)
 
--- how many groups there are
-length-matched_known : (place : ℕ) (opts : List Opt) (given : List Given) → length (matched_known place (map opt_view opts) (map given_view given)) ≡ length opts
-length-matched_known place [] given = refl
-length-matched_known place (opt ∷ opts) given = ap suc (length-matched_known (place + 1) opts given)
-
 -- lists of different lengths aren't the same
 pub differ_by_length : (opts : List Opt) (given : List Given) (other_opts : List Opt) (other_given : List Given) → length opts ≢ length other_opts → false ≡ same_groups_from 0 opts given other_opts other_given
 differ_by_length opts given other_opts other_given differ = elim (cases_Bool (same_groups_from 0 opts given other_opts other_given)) [
   | inl same ↦
       let as_many = as_long same_matched_group (groups_of opts given) (groups_of other_opts other_given) same in
-      absurd (differ (sym (length-matched_known 0 opts given) ∙ as_many ∙ length-matched_known 0 other_opts other_given))
+      absurd (differ (sym (length-matched_known 0 opts (map given_view given)) ∙ as_many ∙ length-matched_known 0 other_opts (map given_view other_given)))
   | inr other ↦ sym other
 ]
 

@@ -1,16 +1,11 @@
 -- The item that a word in long form begins, by its name, its kind and its argument.
-use Rattle.std.proofs.Common.{◌≡◌, ℕ, ◌≤◌, Bool, false, List, [], ◌∷◌, ◌++◌, length, drop, Option, Some, None, refl, ap, ◌∙◌, subst, zero-le, slice_get, arith, Bor}
+use Rattle.std.proofs.Common.{◌≡◌, ℕ, ◌≤◌, false, List, [], ◌∷◌, ◌++◌, length, drop, Option, Some, None, refl, ap, ◌∙◌, subst, zero-le, slice_get, arith, Bor}
 use Rattle.getopts.specs.Names.{Text}
 use Rattle.getopts.specs.Options.{Grammar}
-use Rattle.getopts.specs.Scan.{Argument, none, attached, Dashes, one, two, long, with_equals, attached_argument, argument_words, value_of, FitsLong, holds_equals, MayStandBefore, dash_text, long_word}
+use Rattle.getopts.specs.Scan.{Argument, none, attached, long, with_equals, attached_argument, argument_words, value_of, FitsLong, holds_equals, MayStandBefore, dash_text, long_word}
 use Rattle.getopts.specs.Line.{texts, IsInLongForm, ReadsItem}
 use Rattle.getopts.specs.declared.options.HasArg.{HasArg}
-use Rattle.getopts.proofs.ScanWords.{begins_with_dash-front}
-
--- what may stand before a text may stand before the name that it begins with
-pub MayStandBefore-front : (long_only : Bool) (dashes : Dashes) (name more : Text) → MayStandBefore long_only dashes (name ++ more) → MayStandBefore long_only dashes name
-MayStandBefore-front long_only one name more h = (h.0, begins_with_dash-front name more h.1)
-MayStandBefore-front long_only two name more h = h
+use Rattle.getopts.proofs.ScanSteps.{before_front}
 
 -- a name and an argument that its kind may have make an item in long form
 pub ReadsItem-long : (grammar : Grammar) (word text name : Text) (argument : Argument) (kind : HasArg) (place : ℕ) (after : List Text) (position used : ℕ) →
@@ -24,7 +19,7 @@ ReadsItem-long grammar word text name argument kind place after position used fo
   begins = record {
     spells = ap (λ w. w ∷ after) (form.word_is ∙ ap (λ t. dash_text form.dashes ++ t) text_is) ∙ ap (λ words. long_word form.dashes name (attached_argument argument) ∷ words) after_is;
     lawful = record {
-      before = MayStandBefore-front grammar.long_only form.dashes name (with_equals (attached_argument argument)) (subst (λ t. MayStandBefore grammar.long_only form.dashes t) text_is form.before);
+      before = before_front grammar.long_only form.dashes name (with_equals (attached_argument argument)) (subst (λ t. MayStandBefore grammar.long_only form.dashes t) text_is form.before);
       cut_once = cut_once;
       resolves = (kind, kind_is, fits);
     };

@@ -9,11 +9,8 @@ use Rattle.getopts.specs.Scan.{dash, is_dashed, begins_with_dash, Argument, none
 use Rattle.getopts.specs.Matches.{Found, found_at, matched_from}
 use Rattle.getopts.specs.ScanLaws.{ReadsAlike, ReadsAlikeButForPositions, MayStandFor, LongAttachedOrSeparate, ShortAttachedOrSeparate, ClusterSplits, OneDashOrTwo, is_last_bare, joined_reading, HasContentOfBoth, LinesCompose, IsAfterStop, TrailingStartIsAfterStop, IsSubsequence, empty, kept, left_out, FreeWordsAreSubsequence, NeverDecrease, PositionsAreInOrder, HavePositionsInOrder}
 use Rattle.getopts.specs.declared.options.HasArg.TheVariants.{Yes}
-
--- what holds of each element of two lists, and of both joined
-AllByRecursion-append : {X : Type 0} (P : X → Type 0) (xs ys : List X) → AllByRecursion P xs → AllByRecursion P ys → AllByRecursion P (xs ++ ys)
-AllByRecursion-append P [] ys left right = right
-AllByRecursion-append P (x ∷ xs) ys left right = (left.0, AllByRecursion-append P xs ys left.1 right)
+use Rattle.getopts.proofs.ScanTexts.{AllByRecursion-append}
+use Rattle.getopts.proofs.ScanReadings.{spelled_all-append as spelled_all-before_both}
 
 AllByRecursion-left : {X : Type 0} (P : X → Type 0) (xs ys : List X) → AllByRecursion P (xs ++ ys) → AllByRecursion P xs
 AllByRecursion-left P [] ys each = tt
@@ -285,22 +282,6 @@ MayStandFor-split grammar flag names end filled plain front back tail words read
 -- a cluster splits
 pub ClusterSplits_lem : (grammar : Grammar) → ClusterSplits grammar
 ClusterSplits_lem grammar = record { after_flag = MayStandFor-split grammar }
-
--- the words of an item, before two lists of words
-spelled-append : (item : Item) (words more : List Text) → spelled item (words ++ more) ≡ spelled item words ++ more
-spelled-append (free word) words more = refl
-spelled-append (long dashes name none) words more = refl
-spelled-append (long dashes name (attached argument)) words more = refl
-spelled-append (long dashes name (separate word)) words more = refl
-spelled-append (cluster names flags) words more = refl
-spelled-append (cluster names (ends_in option none)) words more = refl
-spelled-append (cluster names (ends_in option (attached argument))) words more = refl
-spelled-append (cluster names (ends_in option (separate word))) words more = refl
-
--- the words of items, before two lists of words
-spelled_all-before_both : (items : List Item) (words more : List Text) → spelled_all items (words ++ more) ≡ spelled_all items words ++ more
-spelled_all-before_both [] words more = refl
-spelled_all-before_both (item ∷ items) words more = ap (spelled item) (spelled_all-before_both items words more) ∙ spelled-append item (spelled_all items words) more
 
 -- the words of two lists of items
 pub spelled_all-append : (items others : List Item) (more : List Text) → spelled_all (items ++ others) more ≡ spelled_all items (spelled_all others more)

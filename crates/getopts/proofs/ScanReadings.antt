@@ -94,7 +94,7 @@ reading_read grammar named reading words is =
     ∙ with_items-tail reading.items reading.tail
 
 -- words after what an item spells
-spelled-append : (item : Item) (xs ys : List Text) → spelled item (xs ++ ys) ≡ spelled item xs ++ ys
+pub spelled-append : (item : Item) (xs ys : List Text) → spelled item (xs ++ ys) ≡ spelled item xs ++ ys
 spelled-append (free word) xs ys = refl
 spelled-append (long dashes name none) xs ys = refl
 spelled-append (long dashes name (attached argument)) xs ys = refl

@@ -31,7 +31,7 @@ pub record HasDashes (grammar : Grammar) (dashes : Dashes) (word text : Text) : 
   pub no_stop : word ≢ stop_word
 
 -- dashes that may stand before a text may stand before a name at its front
-before_front : (long_only : Bool) (dashes : Dashes) (name more : Text) → MayStandBefore long_only dashes (name ++ more) → MayStandBefore long_only dashes name
+pub before_front : (long_only : Bool) (dashes : Dashes) (name more : Text) → MayStandBefore long_only dashes (name ++ more) → MayStandBefore long_only dashes name
 before_front long_only one name more before = (before.0, begins_with_dash-front name more before.1)
 before_front long_only two name more before = tt
 

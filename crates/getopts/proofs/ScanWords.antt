@@ -1,5 +1,5 @@
 -- Lemmas on single words.
-use Rattle.std.proofs.Common.{◌≡◌, ◌≢◌, ◌<◌, ◌≤◌, ◌+◌, ℕ, Bool, true, false, eqb, [], ◌∷◌, ◌++◌, length, get_or, slice_index, slice_range, take, drop, drop-cons, add-one, ◌-◌, refl, ap, ◌∙◌, arith}
+use Rattle.std.proofs.Common.{◌≡◌, ◌≢◌, ◌<◌, ◌≤◌, ◌+◌, ℕ, Bool, true, false, eqb, [], ◌∷◌, length, get_or, slice_index, slice_range, take, drop, drop-cons, add-one, ◌-◌, refl, ap, ◌∙◌, arith}
 use Rattle.std.proofs.lemmas.List.{get_or_default}
 use Rattle.std.proofs.lemmas.List.Folds.{list_any_none}
 use Rattle.std.specs.Char.{is_ascii}
@@ -26,11 +26,6 @@ holds_equals-none text h = list_any_none (λ c. eqb c equals_sign) text (λ k d 
   other : (b : Bool) → b ≢ true → b ≡ false
   other true no_equals = absurd (no_equals refl)
   other false no_equals = refl
-
--- a name begins with `-` only where the text that it begins does
-pub begins_with_dash-front : (name more : Text) → begins_with_dash (name ++ more) ≡ false → begins_with_dash name ≡ false
-begins_with_dash-front [] more h = refl
-begins_with_dash-front (c ∷ name) more h = h
 
 -- one byte of a text, as a text
 pub slice_range-one : (text : Text) (i : ℕ) → i < length text → slice_range text i (i + 1) ≡ slice_index text i ∷ []

@@ -7,6 +7,7 @@ use Rattle.getopts.specs.Names.{Text}
 use Rattle.getopts.specs.Options.{Group, Declared}
 use Rattle.getopts.specs.Usage.{IsTheOnly, joined, head, row_text, IsUsageRow, AreUsageRows, usage_text, IsUsageText}
 use Rattle.getopts.specs.Wrap.{IsDescriptionRows}
+use Rattle.getopts.proofs.WrapLines.{all_zip_push}
 
 -- what holds anyway holds where the answer is `Ok`
 pub on_ok : {T E P : Type 0} (r : Result T E) → P → OnOk r P
@@ -52,13 +53,6 @@ each_is_the_only {X} {Y} R (x ∷ xs) (y ∷ ys) all = λ other. (same_as (each_
     same_as : IsTheOnly (AllZip R xs) ys → (other : List Y) → AllZip R (x ∷ xs) other → other ≡ y ∷ ys
     same_as rest [] each = absurd each
     same_as rest (z ∷ zs) each = let head = (all.0 z).0 each.0 in let tail = (rest zs).0 each.1 in cc
-
--- one more pair at the end of two lists
-all_zip_push : {X Y : Type 0} (R : X → Y → Type 0) (xs : List X) (ys : List Y) (x : X) (y : Y) → AllZip R xs ys → R x y → AllZip R (xs ++ x ∷ []) (ys ++ y ∷ [])
-all_zip_push R [] [] x y all last = (last, tt)
-all_zip_push R [] (z ∷ ys) x y all last = absurd all
-all_zip_push R (z ∷ xs) [] x y all last = absurd all
-all_zip_push R (u ∷ xs) (v ∷ ys) x y all last = (all.0, all_zip_push R xs ys x y all.1 last)
 
 -- one more element of one list, and what is made of it, at the end of the other
 pub all_zip_more : {A B X Y : Type 0} (R : X → Y → Type 0) (f : A → X) (g : B → Y) (xs : List A) (i : ℕ) (x : A) (ys : List B) (y : B) → i < length xs → x ≡ get_or xs i x → AllZip R (map f (take i xs)) (map g ys) → R (f x) (g y) → AllZip R (map f (take (i + 1) xs)) (map g (ys ++ y ∷ []))

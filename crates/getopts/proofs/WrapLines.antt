@@ -8,7 +8,7 @@ use Rattle.getopts.specs.Wrap.{Word, Run, text_of, IsTightBreaking, IsFewestBrea
 use Rattle.getopts.proofs.WrapLemmas.{runs_of, runs_of-only, runs_of-is_fewest}
 
 -- one more pair at the end of two lists
-all_zip_push : {A B : Type 0} (R : A → B → Type 0) (xs : List A) (ys : List B) (x : A) (y : B) → AllZip R xs ys → R x y → AllZip R (xs ++ x ∷ []) (ys ++ y ∷ [])
+pub all_zip_push : {A B : Type 0} (R : A → B → Type 0) (xs : List A) (ys : List B) (x : A) (y : B) → AllZip R xs ys → R x y → AllZip R (xs ++ x ∷ []) (ys ++ y ∷ [])
 all_zip_push R [] [] x y all last = (last, tt)
 all_zip_push R [] (z ∷ ys) x y all last = absurd all
 all_zip_push R (z ∷ xs) [] x y all last = absurd all
