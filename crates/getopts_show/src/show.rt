@@ -1,15 +1,16 @@
 //! The program's work over words and a writer.
 
-ghost use Rattle.std.specs.Prelude.{◌≡◌, ◌++◌, true, false, map, IfOk, IsSomeAnd, OnOk};
+ghost use Rattle.std.specs.Prelude.{◌≡◌, ◌++◌, ℕ, List, true, false, map, IfOk, IsSomeAnd, OnOk};
 ghost use Rattle.std.specs.List.{flat_map};
 ghost use Rattle.std.specs.String.{string_bytes};
 ghost use Rattle.std.specs.Io.KnownBytes.{Appends};
 ghost use Rattle.getopts.specs.Accessors.{AreDefined, IsDefined, found_of};
 ghost use Rattle.getopts.specs.Fail.{fault_of};
 ghost use Rattle.getopts.specs.Line.{texts};
-ghost use Rattle.getopts_show.specs.Program.{IsProgramText, IsHelpText, HasProgramGroups, IsStatus, IsDone, ShowsText, asks_help, fault_line, free_line, matches_text, named_lines, program_options};
+ghost use Rattle.getopts.specs.Names.{Text};
+ghost use Rattle.getopts_show.specs.Program.{IsProgramText, IsOnlyText, IsHelpText, HasProgramGroups, IsStatus, IsDone, ShowsText, asks_help, fault_line, free_line, matches_text, named_lines, program_options};
 
-use getopts::{Fail, Matches, Options};
+use getopts::{Fail, Matches, Options, equal_input_equal_answers};
 use std::alloc::{AllocError, Global};
 use std::io;
 use std::io::Write;
@@ -44,12 +45,12 @@ struct Answer {
 /// free word. The answer to accepted words is 0. Of refused words, also where they ask for help, the
 /// fault is shown, after the program's name, and the answer is 2. Where memory is refused nothing is
 /// written and the answer is 3, and where a write or the flush fails it is 4.
-#[tactic(auto, using(crate::proofs::OneText::only_text))]
 pub fn show<W: Write>(alloc: Global, words: &[&str], out: &mut W) -> u8
     ensures status { IsStatus result }
     ensures shown { IsDone result → ShowsText (W.contents out.old) (W.contents out.new) (texts words.now) result }
     ensures nothing_written { result ≡ 3 → out.new ≡ out.old }
 {
+    words_have_one_text();
     match answer_to(alloc, words) {
         Ok(answer) => match print(out, answer.text.as_str()) {
             Ok(()) => answer.status,
@@ -57,6 +58,13 @@ pub fn show<W: Write>(alloc: Global, words: &[&str], out: &mut W) -> u8
         },
         Err(_) => NO_MEMORY,
     }
+}
+
+/// Words have one text and one status. It is for the proofs alone: nothing is left of it once built.
+fn words_have_one_text()
+    ensures { (words : List Text) (text : Text) (status : ℕ) → IsProgramText words text status → IsOnlyText words text status }
+{
+    equal_input_equal_answers();
 }
 
 /// Writes a text, and flushes it.
