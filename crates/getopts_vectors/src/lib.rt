@@ -18,6 +18,8 @@ mod equality;
 #[cfg(test)]
 mod faults;
 #[cfg(test)]
+mod first_example;
+#[cfg(test)]
 mod fixtures;
 #[cfg(test)]
 mod free_words;
