@@ -8,9 +8,10 @@ use Rattle.std.proofs.lemmas.Bool.{cases_Bool, false≢true}
 use Rattle.std.proofs.lemmas.Bool.Decides.{Decides-and, Decides-like, Decides-eqb}
 use Rattle.std.proofs.lemmas.List.{at_drop_more, drop_all}
 use Rattle.getopts.specs.Options.{Group, Known, known_of, opt_view}
-use Rattle.getopts.specs.Matches.{Found, MatchedGroup, Matched, matched_known}
+use Rattle.getopts.specs.Matches.{Found, found_at, MatchedGroup, Matched, matched_known}
+use Rattle.getopts.specs.Scan.{Occurrence}
 use Rattle.getopts.specs.Held.{given_found, given_view, givens_of, groups_of}
-use Rattle.getopts.specs.SameMatches.{same_known, same_found, same_matched_group, same_matches}
+use Rattle.getopts.specs.SameMatches.{same_known, same_found, found_part, same_occurrence, same_matched_group, same_matches}
 use Rattle.getopts.specs.declared.options.Opt.{Opt}
 use Rattle.getopts.specs.declared.matches.Given.{Given}
 use Rattle.getopts.proofs.MatchesLemmas.{found_at-given}
@@ -115,6 +116,21 @@ same_found-decides a b = Decides-like (same_found a b)
     (λ h. λ i. record { position = h.0 i; value = h.1 i })
     (λ e. (ap (λ f. f.position) e, ap (λ f. f.value) e))
     (Decides-and _ _ (Decides-eqb a.position b.position) (options_decide (pointwise ◌==◌) bytes_decides a.value b.value))
+
+-- the same of two occurrences with their groups
+same_occurrence-decides : (a b : Occurrence) → Decides (same_occurrence a b) (a ≡ b)
+same_occurrence-decides a b = Decides-like (same_occurrence a b)
+    (λ h. λ i. record { group = h.0 i; value = (h.1 i).value; position = (h.1 i).position })
+    (λ e. (ap (λ o. o.group) e, ap found_part e))
+    (Decides-and _ _ (Decides-eqb a.group b.group) (same_found-decides _ _))
+
+-- lists that hold the same in order hold the same of each group
+pub same_found-in_order : (group : ℕ) (given other_given : List Given) → pointwise same_occurrence (map given_view given) (map given_view other_given) ≡ true
+    → pointwise same_found (map given_found (givens_of group given)) (map given_found (givens_of group other_given)) ≡ true
+same_found-in_order group given other_given same =
+    let equal = (pointwise_decides same_occurrence-decides (map given_view given) (map given_view other_given)).0 same in
+    (pointwise_decides same_found-decides (map given_found (givens_of group given)) (map given_found (givens_of group other_given))).1
+    (sym (found_at-given group given) ∙ ap (found_at group) equal ∙ found_at-given group other_given)
 
 -- the test of two groups says exactly that they are equal
 same_matched_group-decides : (a b : MatchedGroup) → Decides (same_matched_group a b) (a ≡ b)

@@ -6,6 +6,7 @@ use Rattle.std.specs.Ordering.{on, eq_of_both}
 use Rattle.getopts.specs.Names.{same_names}
 use Rattle.getopts.specs.Options.{Known, kind_index, occurrence_index}
 use Rattle.getopts.specs.Matches.{Found, MatchedGroup, Matched}
+use Rattle.getopts.specs.Scan.{Occurrence}
 
 -- whether the names and the two kinds of two groups are the same
 abbrev pub same_known : Known → Known → Bool
@@ -15,6 +16,14 @@ same_known = eq_of_both (on (λ known. known.names) same_names)
 -- whether the positions and the values of two occurrences are the same
 abbrev pub same_found : Found → Found → Bool
 same_found = eq_of_both (on (λ found. found.position) ◌==◌) (on (λ found. found.value) (option_eq (pointwise ◌==◌)))
+
+-- an occurrence without its group
+abbrev pub found_part : Occurrence → Found
+found_part occurrence = record { position = occurrence.position; value = occurrence.value }
+
+-- whether the groups, the positions and the values of two occurrences are the same
+abbrev pub same_occurrence : Occurrence → Occurrence → Bool
+same_occurrence = eq_of_both (on (λ occurrence. occurrence.group) ◌==◌) (on found_part same_found)
 
 -- a group without its occurrences
 abbrev pub known_part : MatchedGroup → Known

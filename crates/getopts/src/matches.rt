@@ -9,8 +9,8 @@ ghost use Rattle.std.specs.Cmp.Rules.{comparing};
 ghost use Rattle.std.proofs.Common.{rules};
 ghost use Rattle.getopts.specs.Line.{texts, occurrence_view, occurrences_view};
 ghost use Rattle.getopts.specs.Options.{opt_view};
-ghost use Rattle.getopts.specs.Held.{groups_of};
-ghost use Rattle.getopts.specs.SameMatches.{same_known, same_matched_group};
+ghost use Rattle.getopts.specs.Held.{given_found, given_view, givens_of, groups_of};
+ghost use Rattle.getopts.specs.SameMatches.{same_found, same_known, same_matched_group, same_occurrence};
 
 use crate::options::{Opt, resolve};
 use crate::scan::{Line, Occurrence};
@@ -98,6 +98,18 @@ impl Given {
             given.push(Given::copied(alloc, occurrence)?)?;
         }
         Ok(given)
+    }
+}
+
+impl PartialEq for Given {
+    ghost use Rattle.std.specs.Ordering.{on};
+
+    ghost eq = { on given_view same_occurrence };
+
+    ghost laws = { Prim.search (comparing, rules) depth 12 };
+
+    fn eq(&self, other: &Given) -> bool {
+        self.group == other.group && self.same(other)
     }
 }
 
@@ -284,8 +296,32 @@ fn same_opt(opt: &Opt, other: &Opt) -> bool
     opt.names == other.names && opt.hasarg == other.hasarg && opt.occur == other.occur
 }
 
-/// Whether two lists of options, each with one list of occurrences, are the same group by group. Each
-/// list of occurrences is read once for each group.
+/// Whether two lists hold the same occurrences in the same order.
+fn same_in_order(given: &[Given], other_given: &[Given]) -> bool
+    ensures { result
+        ≡ pointwise same_occurrence (map given_view given.now) (map given_view other_given.now) }
+{
+    given == other_given
+}
+
+/// Whether two lists hold the same occurrences of one group. Where they hold the same in order, there
+/// is nothing to compare.
+fn same_of_group(group: usize, given: &[Given], other_given: &[Given], in_order: bool) -> bool
+    requires { in_order
+        ≡ pointwise same_occurrence (map given_view given.now) (map given_view other_given.now) }
+    ensures { result ≡ pointwise same_found (map given_found (givens_of group given.now))
+        (map given_found (givens_of group other_given.now)) }
+{
+    let mine = OfGroup { group, given };
+    let theirs = OfGroup {
+        group,
+        given: other_given,
+    };
+    in_order || mine.same(&theirs)
+}
+
+/// Whether two lists of options, each with one list of occurrences, are the same group by group. Where
+/// the lists of occurrences differ in order, each is read once for each group.
 fn same_groups(opts: &[Opt], given: &[Given], other_opts: &[Opt], other_given: &[Given]) -> bool
     ensures { result
         ≡ pointwise same_matched_group (groups_of opts.now given.now)
@@ -294,13 +330,11 @@ fn same_groups(opts: &[Opt], given: &[Given], other_opts: &[Opt], other_given: &
     if opts.len() != other_opts.len() {
         return false;
     }
+    let in_order = same_in_order(given, other_given);
     for group in 0..opts.len() {
-        let mine = OfGroup { group, given };
-        let theirs = OfGroup {
-            group,
-            given: other_given,
-        };
-        if !same_opt(&opts[group], &other_opts[group]) || !mine.same(&theirs) {
+        if !same_opt(&opts[group], &other_opts[group])
+            || !same_of_group(group, given, other_given, in_order)
+        {
             return false;
         }
     }
@@ -606,7 +640,7 @@ impl PartialEq for Matches {
     ///
     /// Hints and descriptions don't count, nor does the order between options of different groups in
     /// one cluster: after `-ab` and after `-ba` the matches are equal. Takes no memory; reads the
-    /// occurrences of both once for each group.
+    /// occurrences of both once, and where their orders differ once more for each group.
     fn eq(&self, other: &Matches) -> bool
         ensures answer { result ≡ same_matches self.now other.now }
         ensures same { IsTrue result ↔ (self.now ≡ other.now) }
