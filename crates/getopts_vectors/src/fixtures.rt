@@ -269,7 +269,8 @@ pub fn strings(alloc: Global, texts: &[&str]) -> Result<Vec<String>, AllocError>
         .try_collect(alloc)
 }
 
-fn expect_answer(
+/// Stops unless the matches give this answer.
+pub fn expect_answer(
     rt: &impl Abort,
     alloc: Global,
     matches: &Matches,
