@@ -93,7 +93,7 @@ impl Given {
         ensures { IfOk result (λ given. map given_view given.items
             ≡ occurrences_view occurrences.now) }
     {
-        let mut given = Vec::new(alloc);
+        let mut given = Vec::with_capacity(alloc, occurrences.len())?;
         for occurrence in occurrences {
             given.push(Given::copied(alloc, occurrence)?)?;
         }
@@ -117,7 +117,7 @@ impl PartialEq for Given {
 fn words_copied(alloc: Global, words: &[&str]) -> Result<Vec<String>, AllocError>
     ensures { IfOk result (λ copies. map string_bytes copies.items ≡ texts words.now) }
 {
-    let mut copies = Vec::new(alloc);
+    let mut copies = Vec::with_capacity(alloc, words.len())?;
     for word in words {
         copies.push(String::from_str(alloc, word)?)?;
     }

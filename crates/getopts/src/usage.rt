@@ -177,7 +177,7 @@ fn rows_of(alloc: Global, layout: Layout, groups: &[OptGroup]) -> Result<Vec<Str
         AllZip (λ group row. IsTheOnly (IsUsageRow layout.long_only layout.any_short group) row)
         (map group_view groups.now) (map string_bytes rows.items)) }
 {
-    let mut rows = Vec::new(alloc);
+    let mut rows = Vec::with_capacity(alloc, groups.len())?;
     for group in groups {
         rows.push(row_of(alloc, layout, group)?)?;
     }
@@ -281,7 +281,7 @@ fn option_texts(alloc: Global, groups: &[OptGroup]) -> Result<Vec<String>, Alloc
     ensures { IfOk result (λ texts.
         map string_bytes texts.items ≡ map option_text (map group_view groups.now)) }
 {
-    let mut texts = Vec::new(alloc);
+    let mut texts = Vec::with_capacity(alloc, groups.len())?;
     for group in groups {
         texts.push(text_of_option(alloc, group)?)?;
     }
