@@ -8,15 +8,16 @@ use Rattle.std.specs.Prelude.{slice_get}
 use Rattle.std.specs.List.{AllByRecursion, Contains, filter, flat_map}
 use Rattle.std.specs.Option.{option_and_then, unwrap_or}
 use Rattle.getopts.specs.Names.{Text, Names, IsLawfullyNamed, main_name, resolution}
-use Rattle.getopts.specs.Options.{Group, Declared, AreLawfullyNamed, names_of, Grammar, kind_of, grammar_of}
-use Rattle.getopts.specs.Scan.{dash, equals_sign, begins_with_dash, holds_equals, stop_word, Argument, none, attached, separate, one, two, flags, ends_in, end_text, attached_argument, argument_words, value_of, with_equals, Item, free, long, cluster, spelled_all, FitsLong, FitsEnd, IsFlag, IsLawfulItem, AreWellFollowed, Reading, IsReading, Mention, mention, mentions, Occurrence, occurrence_at, occurrences_after, occurrences_of, free_items}
+use Rattle.getopts.specs.Options.{Known, Group, Declared, AreLawfullyNamed, names_of, knowns_of, Grammar, kind_of, grammar_of}
+use Rattle.getopts.specs.Scan.{dash, equals_sign, begins_with_dash, holds_equals, stop_word, Argument, none, attached, separate, one, two, flags, ends_in, end_text, attached_argument, argument_words, value_of, with_equals, Item, free, long, cluster, spelled_all, FitsLong, FitsEnd, IsFlag, IsLawfulItem, AreWellFollowed, Reading, IsReading, Mention, mention, mentions, Occurrence, occurrence_at, word_count, occurrences_after, occurrences_of, free_items}
 use Rattle.getopts.specs.ScanLaws.{mentions_of}
-use Rattle.getopts.specs.Matches.{found_at, matched_from, FitsCount, KeepsCounts}
-use Rattle.getopts.specs.Canon.{mention_of, Content, content_of, main_at, kind_at, HasPlainMain, AnswersMain, FitsKind, FitsGroup, IsPlain, IsSound, IsFitting, canonical_word, canonical_line, attached_value, canonical_item, canonical_reading, with_setting, IsCountKeeping, Says, ReadsBackEverywhere, SaysNothingElse, IsOnlyContent, HasCanonicalLine, HasNoItem, HasUnwritable, CanonicalLinesTell}
-use Rattle.getopts.specs.declared.options.HasArg.{HasArg}
-use Rattle.getopts.specs.declared.options.HasArg.TheVariants.{Yes, No, Maybe}
-use Rattle.getopts.specs.declared.options.ParsingStyle.{ParsingStyle}
-use Rattle.getopts.proofs.NamesLemmas.{AllByRecursion-map, resolution-main_name, resolution-nil, resolution_within}
+use Rattle.getopts.specs.Matches.{found_at, matched, FitsCount, KeepsCounts}
+use Rattle.getopts.specs.Canon.{mention_of, Content, content_of, main_at, kind_at, HasPlainMain, AnswersMain, FitsKind, FitsGroup, IsPlain, IsSound, IsFitting, canonical_word, canonical_line, attached_value, canonical_item, canonical_reading, with_setting, IsCountKeeping, Says, ReadsBackEverywhere, SaysNothingElse, IsOnlyContent, HasCanonicalLine, HasNoItem, HasUnwritable}
+use Rattle.getopts.specs.Theorem.{CanonicalLinesTell}
+use Rattle.getopts.specs.declared.groups.HasArg.{HasArg}
+use Rattle.getopts.specs.declared.groups.HasArg.TheVariants.{Yes, No, Maybe}
+use Rattle.getopts.specs.declared.groups.ParsingStyle.{ParsingStyle}
+use Rattle.getopts.proofs.NamesLemmas.{AllByRecursion-map, AllByRecursion-follows, resolution-main_name, resolution-nil, resolution_within}
 use Rattle.getopts.proofs.ScanReadings.{only_reading}
 use Rattle.getopts.proofs.ScanTexts.{AllByRecursion-append, begins_with_dash-append, long_argument-append, long_name-append}
 use Rattle.getopts.proofs.ScanTurns.{IsNamed, long_argument, long_name}
@@ -24,7 +25,7 @@ use Rattle.getopts.proofs.ScanTurns.{IsNamed, long_argument, long_name}
 -- the main name at a place, where a group is there
 main_at-Some : (groups : List Group) (place : ℕ) (names : Names) → slice_get (names_of groups) place ≡ Some names → main_at groups place ≡ main_name names
 main_at-Some [] place names there = cc there
-main_at-Some (group ∷ groups) zero names there = ap main_name (same_Some group.names names there)
+main_at-Some (group ∷ groups) zero names there = ap main_name (same_Some group.known.names names there)
 main_at-Some (group ∷ groups) (suc place) names there = main_at-Some groups place names there
 
 -- the group that a name resolves to is what its own main name resolves to
@@ -37,13 +38,8 @@ AnswersMain-resolution groups name place resolves =
 -- the main name of such a group isn't empty
 main_at-filled : (groups : List Group) (place : ℕ) → AreLawfullyNamed groups → AnswersMain groups place → main_at groups place ≢ []
 main_at-filled groups place lawful own empty =
-    let no_name = resolution-nil (names_of groups) (AllByRecursion-map IsLawfullyNamed (λ group. group.names) groups lawful) in
+    let no_name = resolution-nil (names_of groups) (AllByRecursion-map IsLawfullyNamed (λ group. group.known.names) groups lawful) in
     none-some place (sym no_name ∙ (rw empty at own))
-
--- what follows from what holds of each element holds of each
-AllByRecursion-weaker : {X : Type 0} (P Q : X → Type 0) → ((x : X) → P x → Q x) → (xs : List X) → AllByRecursion P xs → AllByRecursion Q xs
-AllByRecursion-weaker P Q follows [] each = each
-AllByRecursion-weaker P Q follows (x ∷ xs) each = (follows x each.0, AllByRecursion-weaker P Q follows xs each.1)
 
 -- a mention as a lawful item may have it
 record IsGood (groups : List Group) (m : Mention) : Type 0 where
@@ -85,7 +81,7 @@ IsGood-flags : (options : Declared) (names : List ℕ) → AllByRecursion (IsFla
     → AllByRecursion (IsGood options.groups) (map (λ name. mention (grammar_of options) (name ∷ []) None) names)
 IsGood-flags options names each =
     AllByRecursion-map (IsGood options.groups) (λ name. mention (grammar_of options) (name ∷ []) None) names
-    (AllByRecursion-weaker (IsFlag (grammar_of options)) _ (λ name flag. IsGood-mention options (name ∷ []) No None flag tt) names each)
+    (AllByRecursion-follows (IsFlag (grammar_of options)) _ (λ name flag. IsGood-mention options (name ∷ []) No None flag tt) names each)
 
 IsGood-item : (options : Declared) (item : Item) → IsLawfulItem (grammar_of options) item → AllByRecursion (IsGood options.groups) (mentions (grammar_of options) item)
 IsGood-item options (free word) lawful = tt
@@ -108,13 +104,13 @@ IsGood-items options (item ∷ items) lawful =
 pub IsSound-reading : (options : Declared) (reading : Reading) (words : List Text) → IsReading (grammar_of options) reading words
     → IsSound options.groups (content_of (grammar_of options) reading)
 IsSound-reading options reading words reads =
-    AllByRecursion-weaker (IsGood options.groups) (λ m. AnswersMain options.groups m.group) (λ m good. good.own) _ (IsGood-items options reading.items reads.items)
+    AllByRecursion-follows (IsGood options.groups) (λ m. AnswersMain options.groups m.group) (λ m good. good.own) _ (IsGood-items options reading.items reads.items)
 
 -- the content of any reading is fitting
 pub IsFitting-reading : (options : Declared) (reading : Reading) (words : List Text) → IsReading (grammar_of options) reading words
     → IsFitting options.groups (content_of (grammar_of options) reading)
 IsFitting-reading options reading words reads =
-    AllByRecursion-weaker (IsGood options.groups) (FitsGroup options.groups) (λ m good. good.fits) _ (IsGood-items options reading.items reads.items)
+    AllByRecursion-follows (IsGood options.groups) (FitsGroup options.groups) (λ m good. good.fits) _ (IsGood-items options reading.items reads.items)
 
 -- what a value gives as an attached argument
 attached_argument-attached_value : (value : Option Text) → attached_argument (attached_value value) ≡ value
@@ -205,7 +201,7 @@ mention_of-occurrences_after : (before : ℕ) (grammar : Grammar) (items : List 
 mention_of-occurrences_after before grammar [] = refl
 mention_of-occurrences_after before grammar (item ∷ items) =
     let here = mention_of-occurrence_at before (mentions grammar item) in
-    let after = mention_of-occurrences_after (before + 1) grammar items in
+    let after = mention_of-occurrences_after (before + word_count (item ∷ [])) grammar items in
     simp (map-append, here, after)
 
 pub mention_of-occurrences_of : (grammar : Grammar) (reading : Reading) → map mention_of (occurrences_of grammar reading) ≡ mentions_of grammar reading
@@ -232,19 +228,19 @@ length-found_at place grammar reading =
     ∙ ap (count_at place) (mention_of-occurrences_of grammar reading)
 
 -- the counts depend on the number of occurrences for each place
-KeepsCounts-numbers : (groups : List Group) (place : ℕ) (old new : List Occurrence)
+KeepsCounts-numbers : (knowns : List Known) (place : ℕ) (old new : List Occurrence)
     → ((k : ℕ) → length (found_at k old) ≡ length (found_at k new))
-    → KeepsCounts (matched_from place groups old) → KeepsCounts (matched_from place groups new)
+    → KeepsCounts (matched place knowns old) → KeepsCounts (matched place knowns new)
 KeepsCounts-numbers [] place old new same keeps = tt
-KeepsCounts-numbers (group ∷ groups) place old new same keeps =
-    (subst (λ (count : ℕ). FitsCount group.occurrence count) (same place) keeps.0, KeepsCounts-numbers groups (place + 1) old new same keeps.1)
+KeepsCounts-numbers (known ∷ knowns) place old new same keeps =
+    (subst (λ (count : ℕ). FitsCount known.occurrence count) (same place) keeps.0, KeepsCounts-numbers knowns (place + 1) old new same keeps.1)
 
 -- readings with equal mentions keep the counts alike
-pub KeepsCounts-mentions : (groups : List Group) (grammar other_grammar : Grammar) (reading other : Reading)
+pub KeepsCounts-mentions : (knowns : List Known) (grammar other_grammar : Grammar) (reading other : Reading)
     → mentions_of grammar reading ≡ mentions_of other_grammar other
-    → KeepsCounts (matched_from 0 groups (occurrences_of grammar reading)) → KeepsCounts (matched_from 0 groups (occurrences_of other_grammar other))
-KeepsCounts-mentions groups grammar other_grammar reading other same keeps =
-    KeepsCounts-numbers groups 0 _ _
+    → KeepsCounts (matched 0 knowns (occurrences_of grammar reading)) → KeepsCounts (matched 0 knowns (occurrences_of other_grammar other))
+KeepsCounts-mentions knowns grammar other_grammar reading other same keeps =
+    KeepsCounts-numbers knowns 0 _ _
     (λ k. length-found_at k grammar reading ∙ ap (count_at k) same ∙ sym (length-found_at k other_grammar other)) keeps
 
 -- a reading that keeps the counts says its content
@@ -274,7 +270,7 @@ ReadsBackEverywhere-says options words content says plain style long_only =
     record {
       reads = record {
         reads = IsReading-canonical set content good plain;
-        keeps = KeepsCounts-mentions options.groups (grammar_of said) (grammar_of set) says.reading (canonical_reading options.groups content) told says.reads.keeps;
+        keeps = KeepsCounts-mentions (knowns_of options.groups) (grammar_of said) (grammar_of set) says.reading (canonical_reading options.groups content) told says.reads.keeps;
       };
       same = back;
     }
@@ -376,19 +372,10 @@ HasCanonicalLine-says options words content lawful named says plain =
       only = IsOnlyContent-sound options.groups content lawful sound plain;
     }
 
--- the main theorem of canonical lines
-pub CanonicalLinesTell-lawful : (options : Declared) → AreLawfullyNamed options.groups → IsNamed (grammar_of options) → CanonicalLinesTell options
-CanonicalLinesTell-lawful options lawful named words others content other says plain says_other plain_other =
-    let sound = IsSound-says options words content says in
-    let sound_other = IsSound-says options others other says_other in
-    let back = ReadsBackEverywhere-says options words content says plain in
-    let back_other = ReadsBackEverywhere-says options others other says_other plain_other in (
-      canonical_line-same options.groups content other lawful sound plain sound_other plain_other,
-      back,
-      back_other,
-      SaysNothingElse-reads_back options content named back,
-      SaysNothingElse-reads_back options other named back_other,
-    )
+-- two canonical lines are equal exactly if they say the same
+pub CanonicalLinesTell-lawful : (options : Declared) → AreLawfullyNamed options.groups → CanonicalLinesTell options
+CanonicalLinesTell-lawful options lawful words others content other says plain says_other plain_other =
+    canonical_line-same options.groups content other lawful (IsSound-says options words content says) plain (IsSound-says options others other says_other) plain_other
 
 -- a text whose front holds `=` holds it
 holds_equals-append : (a b : Text) → holds_equals a ≡ true → holds_equals (a ++ b) ≡ true

@@ -3,23 +3,21 @@ use Rattle.std.proofs.Common.{◌≡◌, ◌==◌, ◌<◌, ℕ, Bool, true, fal
 use Rattle.std.proofs.lemmas.Bool.{and_parts, and_from, not-true, not_from_false, true≢false}
 use Rattle.std.proofs.lemmas.List.Folds.{list_any_at}
 use Rattle.std.specs.List.{AllByRecursion, list_all}
-use Rattle.getopts.specs.Names.{Text}
-use Rattle.getopts.specs.Options.{Group, Declared, AreLawfullyNamed, Grammar, grammar_of, opt_view, opts_grammar}
+use Rattle.getopts.specs.Names.{Text, texts}
+use Rattle.getopts.specs.Options.{Group, Declared, AreLawfullyNamed, grammar_of, knowns_of}
 use Rattle.getopts.specs.Fail.{Fault}
-use Rattle.getopts.specs.Scan.{equals_sign, holds_equals, Reading, Mention}
+use Rattle.getopts.specs.Scan.{equals_sign, holds_equals, Reading, IsScanFault, Occurrence}
 use Rattle.getopts.specs.ScanLaws.{mentions_of}
-use Rattle.getopts.specs.Line.{texts, occurrences_view}
-use Rattle.getopts.specs.Matches.{Matched, MatchedGroup, matches_of, matched_known, KeepsCount, KeepsCounts, IsCountFault, broken_count}
-use Rattle.getopts.specs.Parse.{IsAccepted, IsRefused}
-use Rattle.getopts.specs.Canon.{mention_of, Content, IsCountKeeping, content_of, main_at, HasPlainMain, IsPlain, canonical_line, Says, HasCanonicalLine}
-use Rattle.getopts.specs.AcceptedLine.{IsAcceptedLine, line_content}
-use Rattle.getopts.specs.CanonAnswers.{IsAcceptedWith, IsWritten, IsUnwritable, EachPlainContent, IsParseAnswer, IsCanonicalAnswer, AnsweredLinesTell}
-use Rattle.getopts.specs.declared.options.Opt.{Opt}
-use Rattle.getopts.specs.declared.scan.Occurrence.{Occurrence as Held}
-use Rattle.getopts.specs.declared.scan.Line.{Line}
+use Rattle.getopts.specs.Line.{line_content}
+use Rattle.getopts.specs.Matches.{Matched, MatchedGroup, matches_of, matched, KeepsCount, KeepsCounts, IsCountFault, broken_count}
+use Rattle.getopts.specs.Parse.{Reads, IsAccepted, BreaksCounts, IsRefused}
+use Rattle.getopts.specs.Canon.{mention_of, Content, IsCountKeeping, content_of, main_at, HasPlainMain, IsPlain, canonical_line, with_setting, Says}
+use Rattle.getopts.specs.AcceptedLine.{IsAcceptedLine}
+use Rattle.getopts.specs.CanonAnswers.{IsAcceptedWith, IsWritten, IsUnwritable, IsParseAnswer, IsCanonicalAnswer, AnsweredLinesTell}
+use Rattle.getopts.specs.declared.line.AcceptedLine.{AcceptedLine}
 use Rattle.getopts.proofs.CanonLemmas.{mention_of-occurrences_of, HasCanonicalLine-says, HasUnwritable-content, CanonicalLinesTell-lawful}
-use Rattle.getopts.proofs.ParseLemmas.{grammar_same, declared_named, reads_here, groups_are, IsAccepted-reading}
-use Rattle.getopts.proofs.ScanReadings.{only_reading}
+use Rattle.getopts.proofs.OnlyLemmas.{meets}
+use Rattle.getopts.proofs.ParseLemmas.{only_reads, named_here, groups_are, IsAccepted-reading}
 use Rattle.getopts.proofs.ScanTurns.{IsNamed}
 use Rattle.getopts.proofs.ScanWords.{holds_equals-none}
 
@@ -32,85 +30,88 @@ holds_equals-found text true there at =
 holds_equals-found text false there at = sym (holds_equals-none text (λ k within is. true≢false (sym (at k within is))))
 
 -- occurrences of groups whose main names hold no `=`
-pub plain-list_all : (groups : List Group) (held : List Held) → list_all (λ o. not (holds_equals (main_at groups o.group))) held ≡ true
-    → AllByRecursion (λ m. HasPlainMain groups m.group) (map mention_of (occurrences_view held))
+pub plain-list_all : (groups : List Group) (found : List Occurrence) → list_all (λ o. not (holds_equals (main_at groups o.group))) found ≡ true
+    → AllByRecursion (λ m. HasPlainMain groups m.group) (map mention_of found)
 plain-list_all groups [] all = tt
-plain-list_all groups (o ∷ held) all =
-    let parts = and_parts (not (holds_equals (main_at groups o.group))) (list_all (λ p. not (holds_equals (main_at groups p.group))) held) all in
-    (not-true (holds_equals (main_at groups o.group)) parts.0, plain-list_all groups held parts.1)
+plain-list_all groups (o ∷ found) all =
+    let parts = and_parts (not (holds_equals (main_at groups o.group))) (list_all (λ p. not (holds_equals (main_at groups p.group))) found) all in
+    (not-true (holds_equals (main_at groups o.group)) parts.0, plain-list_all groups found parts.1)
 
-list_all-plain : (groups : List Group) (held : List Held) → AllByRecursion (λ m. HasPlainMain groups m.group) (map mention_of (occurrences_view held))
-    → list_all (λ o. not (holds_equals (main_at groups o.group))) held ≡ true
+list_all-plain : (groups : List Group) (found : List Occurrence) → AllByRecursion (λ m. HasPlainMain groups m.group) (map mention_of found)
+    → list_all (λ o. not (holds_equals (main_at groups o.group))) found ≡ true
 list_all-plain groups [] plain = refl
-list_all-plain groups (o ∷ held) plain =
-    and_from (not (holds_equals (main_at groups o.group))) (list_all (λ p. not (holds_equals (main_at groups p.group))) held)
-    (not_from_false (holds_equals (main_at groups o.group)) plain.0) (list_all-plain groups held plain.1)
+list_all-plain groups (o ∷ found) plain =
+    and_from (not (holds_equals (main_at groups o.group))) (list_all (λ p. not (holds_equals (main_at groups p.group))) found)
+    (not_from_false (holds_equals (main_at groups o.group)) plain.0) (list_all-plain groups found plain.1)
 
 -- an occurrence of a group whose main name holds `=`
-pub not_plain-list_all : (groups : List Group) (held : List Held) → list_all (λ o. not (holds_equals (main_at groups o.group))) held ≡ false
-    → ¬ (AllByRecursion (λ m. HasPlainMain groups m.group) (map mention_of (occurrences_view held)))
-not_plain-list_all groups held some plain = true≢false (sym (list_all-plain groups held plain) ∙ some)
+pub not_plain-list_all : (groups : List Group) (found : List Occurrence) → list_all (λ o. not (holds_equals (main_at groups o.group))) found ≡ false
+    → ¬ (AllByRecursion (λ m. HasPlainMain groups m.group) (map mention_of found))
+not_plain-list_all groups found some plain = true≢false (sym (list_all-plain groups found plain) ∙ some)
 
-module _ (options : Declared) (words : List Text) (opts : List Opt) (line : Line) (found : IsAcceptedLine options words opts line) where
+-- what words are accepted with is what a reading says that keeps the counts
+pub count_keeping : (options : Declared) (words : List Text) (content : Content) (is : IsAcceptedWith options words content) → IsCountKeeping options is.reading words
+count_keeping options words content is = record { reads = meets (Reads options words) is.reading is.only; keeps = is.counts }
+
+module _ (options : Declared) (words : List Text) (accepted : AcceptedLine) (is : IsAcceptedLine options words accepted) where
   -- the names of the options are names
   pub IsNamed-line : IsNamed (grammar_of options)
-  IsNamed-line = declared_named options opts found.copied found.lawful
+  IsNamed-line = named_here options is.lawful is.shorts
 
   -- the matches of the line are accepted
   pub IsAccepted-line : IsAccepted options words (record {
-    groups = matched_known 0 (map opt_view opts) (occurrences_view line.occurrences.items);
-    free = texts line.free.items;
-    trailing_start = line.trailing_start;
+    groups = matched 0 (knowns_of options.groups) accepted.line.found;
+    free = texts accepted.line.free.items;
+    trailing_start = accepted.line.trailing_start;
   })
-  IsAccepted-line = IsAccepted-reading options opts found.copied found.lawful words found.reads.reading found.reads.reads
-      (occurrences_view line.occurrences.items) found.reads.occurrences (texts line.free.items) line.trailing_start found.keeps found.reads.free found.reads.trailing
+  IsAccepted-line = IsAccepted-reading options is.lawful is.shorts words is.reads.reading is.reads.reads
+      accepted.line.found is.reads.occurrences (texts accepted.line.free.items) accepted.line.trailing_start is.keeps is.reads.free is.reads.trailing
 
   -- the words are accepted with what the line says
-  pub IsAcceptedWith-line : IsAcceptedWith options words (line_content line)
+  pub IsAcceptedWith-line : IsAcceptedWith options words (line_content accepted.line)
   IsAcceptedWith-line =
-      let code = opts_grammar opts options.style options.long_only in
-      let reading = found.reads.reading in
-      let occurrences = occurrences_view line.occurrences.items in
-      let reads = reads_here options opts found.copied found.lawful words reading found.reads.reads occurrences found.reads.occurrences in
-      let told : map mention_of occurrences ≡ mentions_of (grammar_of options) reading =
-      ap (map mention_of) found.reads.occurrences ∙ mention_of-occurrences_of code reading
-      ∙ ap (λ (g : Grammar). mentions_of g reading) (grammar_same options opts found.copied found.lawful) in
+      let reading = is.reads.reading in
+      let told : map mention_of accepted.line.found ≡ mentions_of (grammar_of options) reading =
+      ap (map mention_of) is.reads.occurrences ∙ mention_of-occurrences_of (grammar_of options) reading in
       record {
         reading = reading;
-        reads = record {
-          reads = reads;
-          keeps = subst KeepsCounts (groups_are options opts found.copied found.lawful words reading found.reads.reads occurrences found.reads.occurrences) found.keeps;
-        };
-        only = λ other other_reads. only_reading (grammar_of options) IsNamed-line words other reading other_reads reads;
-        content_is =
-            ap (λ (ms : List Mention). record { mentions = ms; free = texts line.free.items }) told
-            ∙ ap (λ (ws : List Text). record { mentions = mentions_of (grammar_of options) reading; free = ws }) found.reads.free;
+        only = only_reads options is.lawful is.shorts words reading is.reads.reads;
+        counts = subst KeepsCounts (groups_are options is.lawful is.shorts words reading is.reads.reads accepted.line.found is.reads.occurrences) is.keeps;
+        content_is = λ i. record { mentions = told i; free = is.reads.free i };
       }
 
+  -- and the line says it
+  Says-line : Says options words (line_content accepted.line)
+  Says-line = record {
+    style = options.style;
+    long_only = options.long_only;
+    reading = IsAcceptedWith-line.reading;
+    reads = count_keeping options words (line_content accepted.line) IsAcceptedWith-line;
+    content_is = IsAcceptedWith-line.content_is;
+  }
+
   -- where they hold no group whose main name holds `=`, the line that is made is theirs
-  pub IsWritten-line : list_all (λ o. not (holds_equals (main_at options.groups o.group))) line.occurrences.items ≡ true
-      → (answer : List Text) → answer ≡ canonical_line options.groups (line_content line) → IsWritten options words answer
+  pub IsWritten-line : list_all (λ o. not (holds_equals (main_at options.groups o.group))) accepted.line.found ≡ true
+      → (answer : List Text) → answer ≡ canonical_line options.groups (line_content accepted.line) → IsWritten options words answer
   IsWritten-line plain answer answer_is = record {
-    content = line_content line;
+    content = line_content accepted.line;
     accepted = IsAcceptedWith-line;
-    plain = plain-list_all options.groups line.occurrences.items plain;
+    plain = plain-list_all options.groups accepted.line.found plain;
     line_is = answer_is;
+    laws = HasCanonicalLine-says options words (line_content accepted.line) is.lawful IsNamed-line
+        Says-line (plain-list_all options.groups accepted.line.found plain);
   }
 
   -- else some mention can't be written
-  pub IsUnwritable-line : list_all (λ o. not (holds_equals (main_at options.groups o.group))) line.occurrences.items ≡ false → IsUnwritable options words
+  pub IsUnwritable-line : list_all (λ o. not (holds_equals (main_at options.groups o.group))) accepted.line.found ≡ false → IsUnwritable options words
   IsUnwritable-line some =
-      let not_plain = not_plain-list_all options.groups line.occurrences.items some in
+      let not_plain = not_plain-list_all options.groups accepted.line.found some in
       record {
-        content = line_content line;
+        content = line_content accepted.line;
         accepted = IsAcceptedWith-line;
         not_plain = not_plain;
-        unwritable = HasUnwritable-content options (line_content line) not_plain;
+        unwritable = HasUnwritable-content options (line_content accepted.line) not_plain;
       }
-
-  -- canonical lines by these options keep their laws
-  pub HasCanonicalLine-line : EachPlainContent options (HasCanonicalLine options)
-  HasCanonicalLine-line others content says plain = HasCanonicalLine-says options others content found.lawful IsNamed-line says plain
 
 -- the main theorem, of two answered lines
 pub AnsweredLinesTell-lawful : (options : Declared) → AreLawfullyNamed options.groups → IsNamed (grammar_of options) → AnsweredLinesTell options
@@ -119,17 +120,17 @@ AnsweredLinesTell-lawful options lawful named style other_style long_only other_
       style = style;
       long_only = long_only;
       reading = written.accepted.reading;
-      reads = written.accepted.reads;
+      reads = count_keeping (with_setting options style long_only) words written.content written.accepted;
       content_is = written.accepted.content_is;
     } in
     let says_other : Says options others written_other.content = record {
       style = other_style;
       long_only = other_long_only;
       reading = written_other.accepted.reading;
-      reads = written_other.accepted.reads;
+      reads = count_keeping (with_setting options other_style other_long_only) others written_other.content written_other.accepted;
       content_is = written_other.accepted.content_is;
     } in
-    let tell = (CanonicalLinesTell-lawful options lawful named words others written.content written_other.content says written.plain says_other written_other.plain).0 in (
+    let tell = CanonicalLinesTell-lawful options lawful words others written.content written_other.content says written.plain says_other written_other.plain in (
       λ same. tell.0 (sym written.line_is ∙ same ∙ written_other.line_is),
       λ same. written.line_is ∙ tell.1 same ∙ sym written_other.line_is,
     )
@@ -171,40 +172,47 @@ no_count_fault : (groups : List MatchedGroup) (fault : Fault) → KeepsCounts gr
 no_count_fault groups fault keeps is = is.broken (KeepsCount-at is.before is.group is.after (subst KeepsCounts is.groups_are keeps))
 
 module _ (options : Declared) (words : List Text) where
-  only_matches : (m n : Matched) → IsAccepted options words m → IsAccepted options words n → m ≡ n
+  -- accepted words, and those that break the counts, have their reading
+  pub accepted_reads : (m : Matched) (is : IsAccepted options words m) → Reads options words is.reading
+  accepted_reads m is = meets (Reads options words) is.reading is.only
+
+  pub breaking_reads : (fault : Fault) (is : BreaksCounts options words fault) → Reads options words is.reading
+  breaking_reads fault is = meets (Reads options words) is.reading is.only
+
+  pub only_matches : (m n : Matched) → IsAccepted options words m → IsAccepted options words n → m ≡ n
   only_matches m n is is_other =
-      is.matches_are ∙ ap (matches_of options) (is_other.only is.reading is.reads) ∙ sym is_other.matches_are
+      is.matches_are ∙ ap (matches_of options) ((is_other.only is.reading).0 (accepted_reads m is)) ∙ sym is_other.matches_are
 
   only_refusal : (fault other : Fault) → IsRefused options words fault → IsRefused options words other → fault ≡ other
-  only_refusal fault other (inl is) (inl is_other) = is_other.only fault is.fault_is
-  only_refusal fault other (inl is) (inr is_other) = absurd (is.no_reading is_other.reading is_other.reads)
-  only_refusal fault other (inr is) (inl is_other) = absurd (is_other.no_reading is.reading is.reads)
+  only_refusal fault other (inl is) (inl is_other) = (is_other.only fault).0 (meets (IsScanFault (grammar_of options) words) fault is.only)
+  only_refusal fault other (inl is) (inr is_other) = absurd (is.no_reading is_other.reading (breaking_reads other is_other))
+  only_refusal fault other (inr is) (inl is_other) = absurd (is_other.no_reading is.reading (breaking_reads fault is))
   only_refusal fault other (inr is) (inr is_other) =
-      let same : is.reading ≡ is_other.reading = is_other.only is.reading is.reads in
+      let same : is.reading ≡ is_other.reading = (is_other.only is.reading).0 (breaking_reads fault is) in
       only_count_fault (matches_of options is_other.reading).groups fault other
       (subst (λ (r : Reading). IsCountFault (matches_of options r).groups fault) same is.breaks) is_other.breaks
 
   -- words with a reading that keeps the counts aren't refused
-  not_refused : (reading : Reading) (fault : Fault) → IsCountKeeping options reading words → IsRefused options words fault → ⊥
+  pub not_refused : (reading : Reading) (fault : Fault) → IsCountKeeping options reading words → IsRefused options words fault → ⊥
   not_refused reading fault keeps (inl is) = is.no_reading reading keeps.reads
   not_refused reading fault keeps (inr is) =
-      let same : reading ≡ is.reading = is.only reading keeps.reads in
+      let same : reading ≡ is.reading = (is.only reading).0 keeps.reads in
       no_count_fault (matches_of options is.reading).groups fault
       (subst (λ (r : Reading). KeepsCounts (matches_of options r).groups) same keeps.keeps) is.breaks
 
   -- words have one answer of `parse`
   pub only_parse_answer : (answer other : Result Matched Fault) → IsParseAnswer options words answer → IsParseAnswer options words other → answer ≡ other
   only_parse_answer (Ok m) (Ok n) is is_other = ap Ok (only_matches m n is is_other)
-  only_parse_answer (Ok m) (Err other) is is_other = absurd (not_refused is.reading other (record { reads = is.reads; keeps = is.counts }) is_other)
-  only_parse_answer (Err fault) (Ok n) is is_other = absurd (not_refused is_other.reading fault (record { reads = is_other.reads; keeps = is_other.counts }) is)
+  only_parse_answer (Ok m) (Err other) is is_other = absurd (not_refused is.reading other (record { reads = accepted_reads m is; keeps = is.counts }) is_other)
+  only_parse_answer (Err fault) (Ok n) is is_other = absurd (not_refused is_other.reading fault (record { reads = accepted_reads n is_other; keeps = is_other.counts }) is)
   only_parse_answer (Err fault) (Err other) is is_other = ap Err (only_refusal fault other is is_other)
 
   -- words are accepted with one content
-  only_content : (content other : Content) → IsAcceptedWith options words content → IsAcceptedWith options words other → content ≡ other
+  pub only_content : (content other : Content) → IsAcceptedWith options words content → IsAcceptedWith options words other → content ≡ other
   only_content content other is is_other =
-      is.content_is ∙ ap (content_of (grammar_of options)) (is_other.only is.reading is.reads.reads) ∙ sym is_other.content_is
+      is.content_is ∙ ap (content_of (grammar_of options)) ((is_other.only is.reading).0 (count_keeping options words content is).reads) ∙ sym is_other.content_is
 
-  only_line : (line other : List Text) → IsWritten options words line → IsWritten options words other → line ≡ other
+  pub only_line : (line other : List Text) → IsWritten options words line → IsWritten options words other → line ≡ other
   only_line line other is is_other =
       is.line_is ∙ ap (canonical_line options.groups) (only_content is.content is_other.content is.accepted is_other.accepted) ∙ sym is_other.line_is
 
@@ -218,8 +226,8 @@ module _ (options : Declared) (words : List Text) where
   only_canonical_answer (Ok (Some line)) (Ok None) is is_other = absurd (not_both line is is_other)
   only_canonical_answer (Ok None) (Ok (Some other)) is is_other = absurd (not_both other is_other is)
   only_canonical_answer (Ok None) (Ok None) is is_other = refl
-  only_canonical_answer (Ok (Some line)) (Err other) is is_other = absurd (not_refused is.accepted.reading other is.accepted.reads is_other)
-  only_canonical_answer (Ok None) (Err other) is is_other = absurd (not_refused is.accepted.reading other is.accepted.reads is_other)
-  only_canonical_answer (Err fault) (Ok (Some other)) is is_other = absurd (not_refused is_other.accepted.reading fault is_other.accepted.reads is)
-  only_canonical_answer (Err fault) (Ok None) is is_other = absurd (not_refused is_other.accepted.reading fault is_other.accepted.reads is)
+  only_canonical_answer (Ok (Some line)) (Err other) is is_other = absurd (not_refused is.accepted.reading other (count_keeping options words is.content is.accepted) is_other)
+  only_canonical_answer (Ok None) (Err other) is is_other = absurd (not_refused is.accepted.reading other (count_keeping options words is.content is.accepted) is_other)
+  only_canonical_answer (Err fault) (Ok (Some other)) is is_other = absurd (not_refused is_other.accepted.reading fault (count_keeping options words is_other.content is_other.accepted) is)
+  only_canonical_answer (Err fault) (Ok None) is is_other = absurd (not_refused is_other.accepted.reading fault (count_keeping options words is_other.content is_other.accepted) is)
   only_canonical_answer (Err fault) (Err other) is is_other = ap Err (only_refusal fault other is is_other)

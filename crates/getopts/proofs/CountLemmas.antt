@@ -1,38 +1,37 @@
 -- The counts of groups, one after the other.
-use Rattle.std.proofs.Common.{◌≡◌, ◌==◌, ◌<◌, ◌+◌, ℕ, zero, suc, Bool, true, false, cond, List, [], ◌∷◌, ◌++◌, length, map, take, drop, get_or, refl, ap, ◌∙◌, sym, subst, arith, add-zero, zero-add, zero-le, ◌≤◌, length-take}
-use Rattle.std.specs.List.{filter}
-use Rattle.std.proofs.lemmas.List.{length-map, take-append-drop, get_or_default}
-use Rattle.getopts.specs.Options.{opt_view}
+use Rattle.std.proofs.Common.{◌≡◌, ◌==◌, ◌&&◌, ◌<◌, ◌+◌, ℕ, zero, suc, Bool, true, false, cond, List, [], ◌∷◌, ◌++◌, length, map, take, drop, slice_get, unwrap_or, Option, Some, None, ◌≤◌, zero-le, refl, ap, ◌∙◌, sym, subst, inl, inr, arith, add-zero, zero-add}
+use Rattle.std.specs.List.{filter, list_all}
+use Rattle.std.proofs.lemmas.Bool.{and_from, cases_eq, eq-eqb, ne_eqb}
+use Rattle.std.proofs.lemmas.List.{length-map, take-append-drop}
+use Rattle.getopts.specs.Options.{Known}
 use Rattle.getopts.specs.Fail.{Fault}
 use Rattle.getopts.specs.Scan.{Occurrence}
-use Rattle.getopts.specs.Line.{occurrence_view, occurrences_view}
-use Rattle.getopts.specs.Matches.{MatchedGroup, found_at, matched_known, KeepsCount, KeepsCounts, FitsCount, broken_count, IsCountFault}
-use Rattle.getopts.specs.declared.options.Opt.{Opt}
-use Rattle.getopts.specs.declared.scan.Occurrence.{Occurrence as Held}
+use Rattle.getopts.specs.Matches.{Found, MatchedGroup, found_at, matched, KeepsCount, KeepsCounts, FitsCount, broken_count, IsCountFault}
+use Rattle.getopts.specs.Names.{Text}
+use Rattle.getopts.specs.Held.Accepted.{index_of}
+use Rattle.getopts.specs.Held.Found.{given_view}
+use Rattle.getopts.specs.declared.line.Given.{Given}
+use Rattle.getopts.proofs.IndexLemmas.{length-places_of, slice_get-places_by_group}
 use Rattle.getopts.proofs.ScanTexts.{AllByRecursion-append}
 
--- an option with its occurrences, at this place
-abbrev pub matched_at : ℕ → Opt → List Occurrence → MatchedGroup
-matched_at place opt occurrences = record {
-  names = (opt_view opt).names;
-  kind = (opt_view opt).kind;
-  occurrence = (opt_view opt).occurrence;
-  found = found_at place occurrences;
-}
+-- a known group with its occurrences, at this place
+abbrev pub matched_at : ℕ → Known → List Occurrence → MatchedGroup
+matched_at place known occurrences = record { known = known; found = found_at place occurrences }
 
 -- the matched groups from a place on
-pub matched_known-from : (first : ℕ) (opts : List Opt) (occurrences : List Occurrence) (i : ℕ) (d : Opt) → i < length opts →
-    drop i (matched_known first (map opt_view opts) occurrences) ≡ matched_at (first + i) (get_or opts i d) occurrences ∷ drop (i + 1) (matched_known first (map opt_view opts) occurrences)
-matched_known-from first [] occurrences i d within = absurd (omega arith)
-matched_known-from first (opt ∷ opts) occurrences zero d within =
-    ap (λ n. matched_at n opt occurrences ∷ matched_known (first + 1) (map opt_view opts) occurrences) (sym (add-zero first))
-matched_known-from first (opt ∷ opts) occurrences (suc i) d within =
+pub matched-from : (first : ℕ) (knowns : List Known) (occurrences : List Occurrence) (i : ℕ) (known : Known) → slice_get knowns i ≡ Some known →
+    drop i (matched first knowns occurrences) ≡ matched_at (first + i) known occurrences ∷ drop (i + 1) (matched first knowns occurrences)
+matched-from first [] occurrences i known there = cc there
+matched-from first (k ∷ knowns) occurrences zero known there =
+    let same : k ≡ known = cc in
+    ap (λ n. matched_at n k occurrences ∷ matched (first + 1) knowns occurrences) (sym (add-zero first)) ∙ ap (λ x. matched_at (first + 0) x occurrences ∷ matched (first + 1) knowns occurrences) same
+matched-from first (k ∷ knowns) occurrences (suc i) known there =
     let place : first + 1 + i ≡ first + suc i = omega arith in
     let later : suc i + 1 ≡ suc (i + 1) = omega arith in
-    let whole = matched_known first (map opt_view (opt ∷ opts)) occurrences in
-    matched_known-from (first + 1) opts occurrences i d (omega arith)
-    ∙ ap (λ n. matched_at n (get_or opts i d) occurrences ∷ drop (i + 1) (matched_known (first + 1) (map opt_view opts) occurrences)) place
-    ∙ ap (λ n. matched_at (first + suc i) (get_or opts i d) occurrences ∷ drop n whole) (sym later)
+    let whole = matched first (k ∷ knowns) occurrences in
+    matched-from (first + 1) knowns occurrences i known there
+    ∙ ap (λ n. matched_at n known occurrences ∷ drop (i + 1) (matched (first + 1) knowns occurrences)) place
+    ∙ ap (λ n. matched_at (first + suc i) known occurrences ∷ drop n whole) (sym later)
 
 -- one more element of a front
 pub take-from : {X : Type 0} (xs ys : List X) (x : X) (i : ℕ) → drop i xs ≡ x ∷ ys → take (i + 1) xs ≡ take i xs ++ x ∷ []
@@ -49,60 +48,74 @@ filter-map f p [] = refl
 filter-map {X} {Y} f p (x ∷ xs) = elim (p (f x)) as (λ b. cond b (f x ∷ filter p (map f xs)) (filter p (map f xs)) ≡ map f (cond b (x ∷ filter (λ x. p (f x)) xs) (filter (λ x. p (f x)) xs)))
     [ true ↦ ap (λ ys. f x ∷ ys) (filter-map f p xs) | false ↦ filter-map f p xs ]
 
--- how many occurrences of a group there are, as the code counts them
-pub length-found_at : (place : ℕ) (held : List Held) → length (found_at place (occurrences_view held)) ≡ length (filter (λ (o : Held). o.group == place) held)
-length-found_at place held =
-    let founds : length (found_at place (occurrences_view held)) ≡ length (filter (λ (o : Occurrence). o.group == place) (occurrences_view held)) = simp length-map in
-    let views : length (map occurrence_view (filter (λ (o : Held). o.group == place) held)) ≡ length (filter (λ (o : Held). o.group == place) held) = simp length-map in
-    founds ∙ ap length (filter-map occurrence_view (λ (o : Occurrence). o.group == place) held) ∙ views
+-- how many occurrences of a group there are, by the index
+pub length-found_at : (knowns : List Known) (occurrences : List Occurrence) (i : ℕ) → i < length knowns → length (unwrap_or (slice_get (index_of knowns occurrences) i) []) ≡ length (found_at i occurrences)
+length-found_at knowns occurrences i within =
+    let founds : length (found_at i occurrences) ≡ length (filter (λ (o : Occurrence). o.group == i) occurrences) = simp length-map in
+    ap (λ (o : Option (List ℕ)). length (unwrap_or o [])) (slice_get-places_by_group (length knowns) i (map (λ (o : Occurrence). o.group) occurrences) within)
+    ∙ length-places_of (λ (o : Occurrence). o.group) i occurrences ∙ sym founds
 
-module _ (opts : List Opt) (held : List Held) (i : ℕ) (d : Opt) (within : i < length opts) (kept : KeepsCounts (take i (matched_known 0 (map opt_view opts) (occurrences_view held)))) where
+-- as many matched groups as known ones
+pub length-matched : (first : ℕ) (knowns : List Known) (occurrences : List Occurrence) → length (matched first knowns occurrences) ≡ length knowns
+length-matched first [] occurrences = refl
+length-matched first (known ∷ knowns) occurrences = ap suc (length-matched (first + 1) knowns occurrences)
+
+module _ (knowns : List Known) (occurrences : List Occurrence) (i : ℕ) (known : Known) (there : slice_get knowns i ≡ Some known) (kept : KeepsCounts (take i (matched 0 knowns occurrences)))
+    (count : ℕ) (counted : count ≡ length (found_at i occurrences)) where
+  here : drop i (matched 0 knowns occurrences) ≡ matched_at i known occurrences ∷ drop (i + 1) (matched 0 knowns occurrences)
+  here = simp zero-add at (matched-from 0 knowns occurrences i known there)
+
   -- the groups up to a place and the one there keep their counts
-  pub KeepsCounts-more : (count : ℕ) → count ≡ length (filter (λ (o : Held). o.group == i) held) → FitsCount (get_or opts i d).occur count → KeepsCounts (take (i + 1) (matched_known 0 (map opt_view opts) (occurrences_view held)))
-  KeepsCounts-more count counted fits =
-      let whole = matched_known 0 (map opt_view opts) (occurrences_view held) in
-      let at : drop i whole ≡ matched_at i (get_or opts i d) (occurrences_view held) ∷ drop (i + 1) whole = simp zero-add at (matched_known-from 0 opts (occurrences_view held) i d within) in
-      subst KeepsCounts (sym (take-from whole (drop (i + 1) whole) (matched_at i (get_or opts i d) (occurrences_view held)) i at))
-      (AllByRecursion-append KeepsCount (take i whole) (matched_at i (get_or opts i d) (occurrences_view held) ∷ []) kept
-      ((subst (FitsCount (get_or opts i d).occur) (counted ∙ sym (length-found_at i held)) fits), tt))
+  pub KeepsCounts-more : FitsCount known.occurrence count → KeepsCounts (take (i + 1) (matched 0 knowns occurrences))
+  KeepsCounts-more fits =
+      let whole = matched 0 knowns occurrences in
+      subst KeepsCounts (sym (take-from whole (drop (i + 1) whole) (matched_at i known occurrences) i here))
+      (AllByRecursion-append KeepsCount (take i whole) (matched_at i known occurrences ∷ []) kept ((subst (FitsCount known.occurrence) counted fits), tt))
 
   -- the group there breaks its count
-  pub IsCountFault-at : (count : ℕ) (fault : Fault) → count ≡ length (filter (λ (o : Held). o.group == i) held) → ¬ (FitsCount (get_or opts i d).occur count)
-      → fault ≡ broken_count (matched_at i (get_or opts i d) (occurrences_view held)) → IsCountFault (matched_known 0 (map opt_view opts) (occurrences_view held)) fault
-  IsCountFault-at count fault counted broken fault_is =
-      let whole = matched_known 0 (map opt_view opts) (occurrences_view held) in
-      let at : drop i whole ≡ matched_at i (get_or opts i d) (occurrences_view held) ∷ drop (i + 1) whole = simp zero-add at (matched_known-from 0 opts (occurrences_view held) i d within) in
+  pub IsCountFault-at : (fault : Fault) → ¬ (FitsCount known.occurrence count) → fault ≡ broken_count (matched_at i known occurrences) → IsCountFault (matched 0 knowns occurrences) fault
+  IsCountFault-at fault broken fault_is =
+      let whole = matched 0 knowns occurrences in
       record {
         before = take i whole;
-        group = matched_at i (get_or opts i d) (occurrences_view held);
+        group = matched_at i known occurrences;
         after = drop (i + 1) whole;
-        groups_are = sym (take-append-drop i whole) ∙ ap (λ (gs : List MatchedGroup). take i whole ++ gs) at;
+        groups_are = sym (take-append-drop i whole) ∙ ap (λ (gs : List MatchedGroup). take i whole ++ gs) here;
         kept = kept;
-        broken = λ keeps. broken (subst (FitsCount (get_or opts i d).occur) (length-found_at i held ∙ sym counted) keeps);
+        broken = λ keeps. broken (subst (FitsCount known.occurrence) (sym counted) keeps);
         fault_is = fault_is;
       }
 
--- as many matched groups as options
-pub length-matched_known : (first : ℕ) (opts : List Opt) (occurrences : List Occurrence) → length (matched_known first (map opt_view opts) occurrences) ≡ length opts
-length-matched_known first [] occurrences = refl
-length-matched_known first (opt ∷ opts) occurrences = ap suc (length-matched_known (first + 1) opts occurrences)
+-- where there is nothing at a place, the list ends before it
+pub none_past : {X : Type 0} (xs : List X) (i : ℕ) → None ≡ slice_get xs i → length xs ≤ i
+none_past [] i none = zero-le
+none_past (x ∷ xs) zero none = cc none
+none_past (x ∷ xs) (suc i) none = omega (arith, none_past xs i none)
 
--- each of so many places counts the occurrences of its group
-pub record Counted (groups : ℕ) (counts : List ℕ) (held : List Held) : Type 0 where
-  pub size : length counts ≡ groups
-  pub each : (place : ℕ) → place < groups → get_or counts place 0 ≡ length (filter (λ (o : Held). o.group == place) held)
+-- the groups of occurrences, whatever their values
+pub groups-given : (values : List Text) (given : List Given) → map (λ (g : Given). g.group) given ≡ map (λ (o : Occurrence). o.group) (map (given_view values) given)
+groups-given values [] = refl
+groups-given values (g ∷ given) = ap (λ (more : List ℕ). g.group ∷ more) (groups-given values given)
 
--- no more elements pass than there are
-pub length-filter-le : {X : Type 0} (p : X → Bool) (xs : List X) → length (filter p xs) ≤ length xs
-length-filter-le p [] = zero-le
-length-filter-le {X} p (x ∷ xs) = let others = length-filter-le p xs in elim (p x) as (λ b. length (cond b (x ∷ filter p xs) (filter p xs)) ≤ suc (length xs)) [ true ↦ omega arith | false ↦ omega arith ]
+-- a test of groups that passes for each group with occurrences passes for each occurrence
+pub list_all-by_group : (p : ℕ → Bool) (occurrences : List Occurrence) → ((group : ℕ) → 0 < length (found_at group occurrences) → p group ≡ true)
+    → list_all (λ o. p o.group) occurrences ≡ true
+list_all-by_group p [] each = refl
+list_all-by_group p (o ∷ occurrences) each =
+    let founds : ℕ → Bool → List Found = λ group b. map (λ (o : Occurrence). record { position = o.position; value = o.value }) (cond b (o ∷ filter (λ (o : Occurrence). o.group == group) occurrences) (filter (λ (o : Occurrence). o.group == group) occurrences)) in
+    let same : (o.group == o.group) ≡ true = eq-eqb o.group o.group refl in
+    let here : 0 < length (found_at o.group (o ∷ occurrences)) = rw same (omega arith) in
+    and_from (p o.group) (list_all (λ o. p o.group) occurrences) (each o.group here)
+    (list_all-by_group p occurrences (λ group some. each group (elim (o.group == group) as (λ b. 0 < length (founds group b)) [ true ↦ omega arith | false ↦ some ])))
 
--- a count is at most the number of occurrences so far
-pub counted_below : (groups : ℕ) (counts : List ℕ) (held : List Held) (i place d : ℕ) → Counted groups counts (take i held) → place < groups → get_or counts place d ≤ i
-counted_below groups counts held i place d counted within =
-    let same : get_or counts place d ≡ get_or counts place 0 = get_or_default counts place d 0 (omega (arith, counted.size)) in
-    omega (arith, same, counted.each place within, length-filter-le (λ (o : Held). o.group == place) (take i held), length-take i held)
-
--- the count that is read at a place
-pub counted_at : (counts : List ℕ) (place count n : ℕ) → place < length counts → count ≡ get_or counts place count → get_or counts place 0 ≡ n → count ≡ n
-counted_at counts place count n within read counted = read ∙ get_or_default counts place count 0 within ∙ counted
+-- a test that fails for a group with occurrences fails for one of them
+pub list_all-fails_by_group : (p : ℕ → Bool) (group : ℕ) (occurrences : List Occurrence) → p group ≡ false → 0 < length (found_at group occurrences)
+    → list_all (λ o. p o.group) occurrences ≡ false
+list_all-fails_by_group p group [] fails some = absurd (omega arith)
+list_all-fails_by_group p group (o ∷ occurrences) fails some = elim (cases_eq o.group group) [
+  | inl same ↦ rw (same, fails) refl
+  | inr other ↦
+      let apart : (o.group == group) ≡ false = ne_eqb o.group group other in
+      let rest = list_all-fails_by_group p group occurrences fails (rw apart at some) in
+      elim (p o.group) as (λ b. (b && list_all (λ o. p o.group) occurrences) ≡ false) [ true ↦ rest | false ↦ refl ]
+]

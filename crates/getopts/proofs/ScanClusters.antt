@@ -12,11 +12,15 @@ use Rattle.getopts.specs.Names.{Text}
 use Rattle.getopts.specs.Options.{Grammar}
 use Rattle.getopts.specs.Fail.{argument_missing, unrecognized_option}
 use Rattle.getopts.specs.Scan.{dash, Argument, none, attached, separate, flags, ends_in, cluster, attached_argument, value_of, IsFlag, IsShortForm, IsFaultAt, begins_with_dash, Occurrence, occurrence_at, mention, is_bare}
-use Rattle.getopts.specs.Line.{flag_occurrences, AddsItem, IsEnding}
-use Rattle.getopts.specs.declared.options.HasArg.{HasArg}
-use Rattle.getopts.specs.declared.options.HasArg.TheVariants.{Yes}
+use Rattle.getopts.specs.Line.{AddsItem, IsEnding}
+use Rattle.getopts.specs.declared.groups.HasArg.{HasArg}
+use Rattle.getopts.specs.declared.groups.HasArg.TheVariants.{Yes}
 use Rattle.getopts.proofs.ScanSteps.{flags_push}
 use Rattle.getopts.proofs.ScanTexts.{encode-ascii_byte, length-encode-wide}
+
+-- the occurrences of flags, all at one position
+abbrev pub flag_occurrences : Grammar → ℕ → List ℕ → List Occurrence
+flag_occurrences grammar position names = map (λ name. occurrence_at position (mention grammar (name ∷ []) None)) names
 
 -- The names before this place in a cluster are flags of one byte each, and their occurrences were added.
 pub record FlagsRead (grammar : Grammar) (position : ℕ) (text : Text) (at : ℕ) (old new : List Occurrence) : Type 0 where

@@ -3,8 +3,9 @@ use Rattle.std.proofs.Common.{◌≡◌, ℕ, ◌≤◌, false, List, [], ◌∷
 use Rattle.getopts.specs.Names.{Text}
 use Rattle.getopts.specs.Options.{Grammar}
 use Rattle.getopts.specs.Scan.{Argument, none, attached, long, with_equals, attached_argument, argument_words, value_of, FitsLong, holds_equals, MayStandBefore, dash_text, long_word}
-use Rattle.getopts.specs.Line.{texts, IsInLongForm, ReadsItem}
-use Rattle.getopts.specs.declared.options.HasArg.{HasArg}
+use Rattle.getopts.specs.Names.{texts}
+use Rattle.getopts.specs.Line.{IsInLongForm, ReadsItem}
+use Rattle.getopts.specs.declared.groups.HasArg.{HasArg}
 use Rattle.getopts.proofs.ScanSteps.{before_front}
 
 -- a name and an argument that its kind may have make an item in long form

@@ -1,15 +1,16 @@
 -- The laws of readings, proved of every grammar.
-use Rattle.std.proofs.Common.{◌≡◌, ◌≢◌, ◌==◌, ℕ, zero, suc, ◌+◌, ◌<◌, ◌≤◌, Bool, true, false, cond, List, [], ◌∷◌, ◌++◌, length, map, drop, get_or, Some, None, refl, ap, ◌∙◌, subst, arith}
+use Rattle.std.proofs.Common.{◌≡◌, ◌≢◌, ◌==◌, ℕ, zero, suc, ◌+◌, ◌<◌, ◌≤◌, Bool, true, false, cond, List, [], ◌∷◌, ◌++◌, length, map, drop, get_or, Some, refl, sym, ap, ◌∙◌, subst, arith}
 use Rattle.std.specs.List.{AllByRecursion, flat_map}
 use Rattle.std.proofs.lemmas.List.{append-nil, append_assoc, length-append}
 use Rattle.std.proofs.lemmas.Grind.{flat_map-append}
 use Rattle.getopts.specs.Names.{Text}
-use Rattle.getopts.specs.Options.{Group, Grammar}
-use Rattle.getopts.specs.Scan.{dash, is_dashed, begins_with_dash, Argument, none, attached, separate, Dashes, one, two, End, flags, ends_in, Item, free, long, cluster, dash_text, value_of, end_text, spelled, spelled_all, MayStandBefore, FitsLong, FitsEnd, IsLawfulEnd, IsLawfulLong, IsLawfulCluster, IsLawfulItem, is_bare, EndsOrIsDashed, AreWellFollowed, Tail, line_end, stop, rest, tail_words, Reading, IsReading, Mention, mention, mentions, Occurrence, occurrence_at, occurrences_after, occurrences_of, free_items, tail_frees, free_words, trailing_after}
-use Rattle.getopts.specs.Matches.{Found, found_at, matched_from}
-use Rattle.getopts.specs.ScanLaws.{ReadsAlike, ReadsAlikeButForPositions, MayStandFor, LongAttachedOrSeparate, ShortAttachedOrSeparate, ClusterSplits, OneDashOrTwo, is_last_bare, joined_reading, HasContentOfBoth, LinesCompose, IsAfterStop, TrailingStartIsAfterStop, IsSubsequence, empty, kept, left_out, FreeWordsAreSubsequence, NeverDecrease, PositionsAreInOrder, HavePositionsInOrder}
-use Rattle.getopts.specs.declared.options.HasArg.TheVariants.{Yes}
+use Rattle.getopts.specs.Options.{Known, Grammar}
+use Rattle.getopts.specs.Scan.{dash, is_dashed, begins_with_dash, Argument, none, attached, separate, Dashes, one, two, End, flags, ends_in, Item, free, long, cluster, dash_text, end_text, spelled, spelled_all, MayStandBefore, FitsLong, FitsEnd, IsLawfulEnd, IsLawfulLong, IsLawfulCluster, IsLawfulItem, is_bare, EndsOrIsDashed, AreWellFollowed, Tail, line_end, stop, rest, tail_words, Reading, IsReading, Mention, mentions, Occurrence, occurrence_at, word_count, occurrences_after, occurrences_of, free_items, tail_frees, free_words, trailing_after}
+use Rattle.getopts.specs.Matches.{Found, found_at, matched}
+use Rattle.getopts.specs.ScanLaws.{ReadsAlike, ReadsOneHigherAfter, ReadsOneLowerAfter, ReadsAlikeButForPositions, MayStandFor, MayStandForAt, LongAttachedOrSeparate, ShortAttachedOrSeparate, ClusterSplits, OneDashOrTwo, is_last_bare, joined_reading, HasContentOfBoth, LinesCompose, IsAfterStop, TrailingStartIsAfterStop, IsSubsequence, empty, kept, left_out, FreeWordsAreSubsequence, NeverDecrease, HavePositionsInOrder}
+use Rattle.getopts.specs.declared.groups.HasArg.TheVariants.{Yes}
 use Rattle.getopts.proofs.ScanTexts.{AllByRecursion-append}
+use Rattle.getopts.proofs.ScanPositions.{occurrences_of-one_higher}
 use Rattle.getopts.proofs.ScanReadings.{spelled_all-append as spelled_all-before_both}
 
 AllByRecursion-left : {X : Type 0} (P : X → Type 0) (xs ys : List X) → AllByRecursion P (xs ++ ys) → AllByRecursion P xs
@@ -103,7 +104,7 @@ occurrences_after-in_place : (grammar : Grammar) (front old new : List Item) →
     → (before : ℕ) → occurrences_after before grammar (front ++ new) ≡ occurrences_after before grammar (front ++ old)
 occurrences_after-in_place grammar [] old new same before = same before
 occurrences_after-in_place grammar (item ∷ front) old new same before =
-    ap (λ later. map (occurrence_at before) (mentions grammar item) ++ later) (occurrences_after-in_place grammar front old new same (before + 1))
+    ap (λ later. map (occurrence_at before) (mentions grammar item) ++ later) (occurrences_after-in_place grammar front old new same (before + word_count (item ∷ [])))
 
 -- the free items of two lists
 pub free_items-append : (items others : List Item) → free_items (items ++ others) ≡ free_items items ++ free_items others
@@ -146,22 +147,43 @@ ReadsAlikeButForPositions-in_place grammar front old new tail words fit same sam
       trailing = ap (λ frees. trailing_after (length frees) tail) same_words;
     }
 
--- a long item may stand for one with the same name and value, where it is lawful
-MayStandFor-long : (grammar : Grammar) (dashes other : Dashes) (name : Text) (argument new_argument : Argument) → value_of new_argument ≡ value_of argument
-    → (IsLawfulLong grammar dashes name argument → IsLawfulLong grammar other name new_argument)
-    → MayStandFor ReadsAlike grammar (long other name new_argument ∷ []) (long dashes name argument)
-MayStandFor-long grammar dashes other name argument new_argument same_value lawful front back tail words reads =
-    ReadsAlike-in_place grammar front (long dashes name argument ∷ back) (long other name new_argument ∷ back) tail words fit same refl reads
-  where
-    fit : FitInPlace grammar (long dashes name argument ∷ back) (long other name new_argument ∷ back) (tail_words tail)
-    fit = record {
-      lawful = λ each. (lawful each.0, each.1);
-      dashed = λ each ordinary. is_dashed-long grammar other name _ each.0.before ordinary;
-      followed = λ each. (λ bare. cc bare, each.1);
-    }
+-- Of two items with the same mentions and no free word, one spells one word more: either may stand for the
+-- other where it fits, and later occurrences are one higher with the longer one.
+module _ (grammar : Grammar) (item longer : Item) (same : mentions grammar longer ≡ mentions grammar item) (same_free : free_items (longer ∷ []) ≡ free_items (item ∷ []))
+    (one_more : word_count (longer ∷ []) ≡ word_count (item ∷ []) + 1) where
+  -- the longer one for the other
+  MayStandForAt-longer : ((back : List Item) (more : List Text) → FitInPlace grammar (item ∷ back) (longer ∷ back) more) → MayStandForAt ReadsOneHigherAfter grammar (longer ∷ []) item
+  MayStandForAt-longer fit front back tail words reads =
+      let same_words : free_items (front ++ longer ∷ back) ≡ free_items (front ++ item ∷ back) =
+      free_items-in_place front (item ∷ back) (longer ∷ back) (free_items-append (longer ∷ []) back ∙ ap (λ frees. frees ++ free_items back) same_free ∙ sym (free_items-append (item ∷ []) back)) in
+      record {
+        reads = IsReading-in_place grammar front (item ∷ back) (longer ∷ back) tail words (fit back (tail_words tail)) reads;
+        occurrences = occurrences_of-one_higher grammar item longer back same one_more front tail;
+        free = ap (λ frees. frees ++ tail_frees tail) same_words;
+        trailing = ap (λ frees. trailing_after (length frees) tail) same_words;
+      }
 
-    same : (before : ℕ) → occurrences_after before grammar (long other name new_argument ∷ back) ≡ occurrences_after before grammar (long dashes name argument ∷ back)
-    same before = ap (λ value. occurrence_at before (mention grammar name value) ∷ occurrences_after (before + 1) grammar back) same_value
+  -- the other for the longer one
+  MayStandForAt-shorter : ((back : List Item) (more : List Text) → FitInPlace grammar (longer ∷ back) (item ∷ back) more) → MayStandForAt ReadsOneLowerAfter grammar (item ∷ []) longer
+  MayStandForAt-shorter fit front back tail words reads =
+      let same_words : free_items (front ++ item ∷ back) ≡ free_items (front ++ longer ∷ back) =
+      free_items-in_place front (longer ∷ back) (item ∷ back) (free_items-append (item ∷ []) back ∙ ap (λ frees. frees ++ free_items back) (sym same_free) ∙ sym (free_items-append (longer ∷ []) back)) in
+      record {
+        reads = IsReading-in_place grammar front (longer ∷ back) (item ∷ back) tail words (fit back (tail_words tail)) reads;
+        occurrences = occurrences_of-one_higher grammar item longer back same one_more front tail;
+        free = ap (λ frees. frees ++ tail_frees tail) same_words;
+        trailing = ap (λ frees. trailing_after (length frees) tail) same_words;
+      }
+
+-- a lawful long item fits in place of one with the same name
+FitInPlace-long : (grammar : Grammar) (dashes other : Dashes) (name : Text) (argument new_argument : Argument) (back : List Item) (more : List Text)
+    → (IsLawfulLong grammar dashes name argument → IsLawfulLong grammar other name new_argument)
+    → FitInPlace grammar (long dashes name argument ∷ back) (long other name new_argument ∷ back) more
+FitInPlace-long grammar dashes other name argument new_argument back more lawful = record {
+  lawful = λ each. (lawful each.0, each.1);
+  dashed = λ each ordinary. is_dashed-long grammar other name _ each.0.before ordinary;
+  followed = λ each. (λ bare. cc bare, each.1);
+}
 
 -- a lawful long item of kind Yes stays lawful with another argument that Yes may have
 IsLawfulLong-yes : (grammar : Grammar) (dashes : Dashes) (name : Text) (argument new_argument : Argument) → grammar.kind_of name ≡ Some Yes
@@ -178,9 +200,11 @@ IsLawfulLong-yes grammar dashes name argument new_argument kind fits lawful = re
 pub LongAttachedOrSeparate_lem : (grammar : Grammar) → LongAttachedOrSeparate grammar
 LongAttachedOrSeparate_lem grammar = record {
   to_separate = λ dashes name argument kind.
-      MayStandFor-long grammar dashes dashes name (attached argument) (separate argument) refl (IsLawfulLong-yes grammar dashes name (attached argument) (separate argument) kind tt);
+      MayStandForAt-longer grammar (long dashes name (attached argument)) (long dashes name (separate argument)) refl refl refl
+      (λ back more. FitInPlace-long grammar dashes dashes name _ _ back more (IsLawfulLong-yes grammar dashes name (attached argument) (separate argument) kind tt));
   to_attached = λ dashes name argument kind.
-      MayStandFor-long grammar dashes dashes name (separate argument) (attached argument) refl (IsLawfulLong-yes grammar dashes name (separate argument) (attached argument) kind tt);
+      MayStandForAt-shorter grammar (long dashes name (attached argument)) (long dashes name (separate argument)) refl refl refl
+      (λ back more. FitInPlace-long grammar dashes dashes name _ _ back more (IsLawfulLong-yes grammar dashes name (separate argument) (attached argument) kind tt));
 }
 
 -- in long-only mode either dashes may stand before a name that doesn't begin with `-`
@@ -191,11 +215,13 @@ MayStandBefore-long_only long_only two name only plain = tt
 -- one dash or two
 pub OneDashOrTwo_lem : (grammar : Grammar) → OneDashOrTwo grammar
 OneDashOrTwo_lem grammar = record {
-  other_dashes = λ dashes other name argument only plain. MayStandFor-long grammar dashes other name argument argument refl (λ lawful. record {
-    before = MayStandBefore-long_only grammar.long_only other name only plain;
-    cut_once = lawful.cut_once;
-    resolves = lawful.resolves;
-  });
+  other_dashes = λ dashes other name argument only plain front back tail words reads.
+      ReadsAlike-in_place grammar front (long dashes name argument ∷ back) (long other name argument ∷ back) tail words
+      (FitInPlace-long grammar dashes other name argument argument back (tail_words tail) (λ lawful. record {
+        before = MayStandBefore-long_only grammar.long_only other name only plain;
+        cut_once = lawful.cut_once;
+        resolves = lawful.resolves;
+      })) (λ before. refl) refl reads;
 }
 
 -- an argument doesn't change how a cluster begins after its dash
@@ -203,38 +229,35 @@ begins_with_dash-argument : (names : List ℕ) (option : ℕ) (text other : Text
 begins_with_dash-argument [] option text other = refl
 begins_with_dash-argument (name ∷ names) option text other = refl
 
--- a cluster that ends in an option of kind Yes may stand for one with the same value
-MayStandFor-cluster : (grammar : Grammar) (names : List ℕ) (option : ℕ) (argument new_argument : Argument) → value_of new_argument ≡ value_of argument
+-- a cluster that ends in an option of kind Yes fits in place of one with another argument
+FitInPlace-cluster : (grammar : Grammar) (names : List ℕ) (option : ℕ) (argument new_argument : Argument) (back : List Item) (more : List Text)
     → grammar.kind_of (option ∷ []) ≡ Some Yes
     → FitsEnd Yes new_argument
     → is_bare (cluster names (ends_in option new_argument)) ≡ false
-    → MayStandFor ReadsAlike grammar (cluster names (ends_in option new_argument) ∷ []) (cluster names (ends_in option argument))
-MayStandFor-cluster grammar names option argument new_argument same_value kind fits filled front back tail words reads =
-    ReadsAlike-in_place grammar front (cluster names (ends_in option argument) ∷ back) (cluster names (ends_in option new_argument) ∷ back) tail words fit same refl reads
-  where
-    fit : FitInPlace grammar (cluster names (ends_in option argument) ∷ back) (cluster names (ends_in option new_argument) ∷ back) (tail_words tail)
-    fit = record {
-      lawful = λ each. (
-        record {
-          ordinary = each.0.ordinary;
-          short_form = begins_with_dash-argument names option _ _ ∙ each.0.short_form;
-          each = each.0.each;
-          last = (Yes, kind, fits);
-        },
-        each.1,
-      );
-      dashed = λ each ordinary. is_dashed-cluster grammar names (ends_in option new_argument) each.0;
-      followed = λ each. (λ bare. cc (bare, filled), each.1);
-    }
-
-    same : (before : ℕ) → occurrences_after before grammar (cluster names (ends_in option new_argument) ∷ back) ≡ occurrences_after before grammar (cluster names (ends_in option argument) ∷ back)
-    same before = ap (λ value. map (occurrence_at before) (map (λ name. mention grammar (name ∷ []) None) names ++ mention grammar (option ∷ []) value ∷ []) ++ occurrences_after (before + 1) grammar back) same_value
+    → FitInPlace grammar (cluster names (ends_in option argument) ∷ back) (cluster names (ends_in option new_argument) ∷ back) more
+FitInPlace-cluster grammar names option argument new_argument back more kind fits filled = record {
+  lawful = λ each. (
+    record {
+      ordinary = each.0.ordinary;
+      short_form = begins_with_dash-argument names option _ _ ∙ each.0.short_form;
+      each = each.0.each;
+      last = (Yes, kind, fits);
+    },
+    each.1,
+  );
+  dashed = λ each ordinary. is_dashed-cluster grammar names (ends_in option new_argument) each.0;
+  followed = λ each. (λ bare. cc (bare, filled), each.1);
+}
 
 -- a short argument attached or separate
 pub ShortAttachedOrSeparate_lem : (grammar : Grammar) → ShortAttachedOrSeparate grammar
 ShortAttachedOrSeparate_lem grammar = record {
-  to_separate = λ names option argument kind. MayStandFor-cluster grammar names option (attached argument) (separate argument) refl kind tt refl;
-  to_attached = λ names option argument kind filled. MayStandFor-cluster grammar names option (separate argument) (attached argument) refl kind filled refl;
+  to_separate = λ names option argument kind.
+      MayStandForAt-longer grammar (cluster names (ends_in option (attached argument))) (cluster names (ends_in option (separate argument))) refl refl refl
+      (λ back more. FitInPlace-cluster grammar names option (attached argument) (separate argument) back more kind tt refl);
+  to_attached = λ names option argument kind filled.
+      MayStandForAt-shorter grammar (cluster names (ends_in option (attached argument))) (cluster names (ends_in option (separate argument))) refl refl refl
+      (λ back more. FitInPlace-cluster grammar names option (separate argument) (attached argument) back more kind filled refl);
 }
 
 -- a cluster whose rest is bare is bare
@@ -417,15 +440,14 @@ RiseFrom-item place position (first ∷ told) later rise = RiseFrom-more (first.
 -- the occurrences of items rise from the first position
 RiseFrom-items : (grammar : Grammar) (place before : ℕ) (items : List Item) → RiseFrom before (found_at place (occurrences_after before grammar items))
 RiseFrom-items grammar place before [] = tt
-RiseFrom-items grammar place before (item ∷ items) = RiseFrom-item place before (mentions grammar item) (occurrences_after (before + 1) grammar items) (RiseFrom-lower before (before + 1) _ (omega arith) (RiseFrom-items grammar place (before + 1) items))
+RiseFrom-items grammar place before (item ∷ items) = RiseFrom-item place before (mentions grammar item) (occurrences_after (before + word_count (item ∷ [])) grammar items)
+    (RiseFrom-lower before (before + word_count (item ∷ [])) _ (omega arith) (RiseFrom-items grammar place (before + word_count (item ∷ [])) items))
 
--- positions in order
-pub PositionsAreInOrder_lem : (grammar : Grammar) → PositionsAreInOrder grammar
-PositionsAreInOrder_lem grammar = record {
-  of_group = λ reading words place reads. NeverDecrease-from_rise 0 _ (RiseFrom-items grammar place 0 reading.items);
-}
+-- the positions of each group's occurrences never decrease
+pub NeverDecrease-reading : (grammar : Grammar) (reading : Reading) (place : ℕ) → NeverDecrease (found_at place (occurrences_of grammar reading))
+NeverDecrease-reading grammar reading place = NeverDecrease-from_rise 0 _ (RiseFrom-items grammar place 0 reading.items)
 
 -- positions in order, of the groups that matches of a reading hold
-pub HavePositionsInOrder-matched_from : (grammar : Grammar) (reading : Reading) (place : ℕ) (groups : List Group) → HavePositionsInOrder (matched_from place groups (occurrences_of grammar reading))
-HavePositionsInOrder-matched_from grammar reading place [] = tt
-HavePositionsInOrder-matched_from grammar reading place (group ∷ groups) = (NeverDecrease-from_rise 0 _ (RiseFrom-items grammar place 0 reading.items), HavePositionsInOrder-matched_from grammar reading (place + 1) groups)
+pub HavePositionsInOrder-matched : (grammar : Grammar) (reading : Reading) (place : ℕ) (knowns : List Known) → HavePositionsInOrder (matched place knowns (occurrences_of grammar reading))
+HavePositionsInOrder-matched grammar reading place [] = tt
+HavePositionsInOrder-matched grammar reading place (known ∷ knowns) = (NeverDecrease-reading grammar reading place, HavePositionsInOrder-matched grammar reading (place + 1) knowns)

@@ -2,39 +2,39 @@
 use Rattle.std.proofs.Common.{◌≡◌, ◌<◌, ◌≤◌, ◌+◌, ◌-◌, ℕ, Bool, true, false, List, [], ◌∷◌, ◌++◌, length, map, take, drop, refl, ap, ◌∙◌, sym, subst, append_assoc, zero-le, arith, add-one, zero-add, add-zero, suc, length-drop, drop-drop, get_or, Bor, zero, not, eqb}
 use Rattle.std.specs.Bool.{then_some}
 use Rattle.std.specs.List.{AllByRecursion}
-use Rattle.std.proofs.lemmas.List.{append-nil, length-append, take_all, length-map}
+use Rattle.std.proofs.lemmas.List.{append-nil, take_all, length-map}
 use Rattle.std.proofs.lemmas.Bool.Decides.{nat_tests}
-use Rattle.getopts.specs.Names.{Text}
+use Rattle.getopts.specs.Names.{Text, texts}
 use Rattle.getopts.specs.Options.{Grammar}
 use Rattle.getopts.specs.Fail.{Fault}
-use Rattle.getopts.specs.Line.{texts, AddsItem}
-use Rattle.getopts.specs.declared.options.ParsingStyle.TheVariants.{FloatingFrees, StopAtFirstFree}
-use Rattle.getopts.specs.Scan.{Item, free, long, cluster, spelled, spelled_all, IsLawfulItem, is_dashed, stop_word, is_bare, EndsOrIsDashed, AreWellFollowed, BeginsWith, Occurrence, occurrence_at, occurrences_after, mentions, free_items, Tail, stop, rest, tail_words, trailing_after, IsLawfulTail, IsReading, IsFaultAt, IsScanFault, BeginsFree}
+use Rattle.getopts.specs.Line.{AddsItem}
+use Rattle.getopts.specs.declared.groups.ParsingStyle.TheVariants.{FloatingFrees, StopAtFirstFree}
+use Rattle.getopts.specs.Scan.{Item, free, long, cluster, spelled, spelled_all, IsLawfulItem, is_dashed, stop_word, is_bare, EndsOrIsDashed, AreWellFollowed, BeginsWith, Occurrence, occurrence_at, word_count, occurrences_after, mentions, free_items, Tail, stop, rest, tail_words, trailing_after, IsLawfulTail, IsReading, IsFaultAt, IsScanFault, BeginsFree}
 use Rattle.getopts.proofs.ScanTexts.{AllByRecursion-append}
 use Rattle.getopts.proofs.ScanLawProofs.{free_items-append, spelled_all-append}
+use Rattle.getopts.proofs.ScanPositions.{word_count-cons, length-spelled_all}
 use Rattle.getopts.proofs.ScanReadings.{spelled_all-append as words_after}
 
--- The words before this place spell items, so many of them, with these occurrences and free words.
-pub record ReadSoFar (grammar : Grammar) (words : List Text) (at position : ℕ) (occurrences : List Occurrence) (frees : List Text) : Type 0 where
+-- The words before this place spell items, with these occurrences and free words.
+pub record ReadSoFar (grammar : Grammar) (words : List Text) (at : ℕ) (occurrences : List Occurrence) (frees : List Text) : Type 0 where
   pub items : List Item
   pub spells : spelled_all items (drop at words) ≡ words
   pub lawful : AllByRecursion (IsLawfulItem grammar) items
   pub followed : AreWellFollowed items (drop at words)
   pub occurrences_are : occurrences ≡ occurrences_after 0 grammar items
   pub free_are : frees ≡ free_items items
-  pub position_is : position ≡ length items
-  pub position_below : position ≤ at
   pub within : at ≤ length words
 
 -- the occurrences of items and of one more
 occurrences_after-push : (before : ℕ) (grammar : Grammar) (items : List Item) (item : Item) →
-    occurrences_after before grammar (items ++ item ∷ []) ≡ occurrences_after before grammar items ++ map (occurrence_at (before + length items)) (mentions grammar item)
+    occurrences_after before grammar (items ++ item ∷ []) ≡ occurrences_after before grammar items ++ map (occurrence_at (before + word_count items)) (mentions grammar item)
 occurrences_after-push before grammar [] item = append-nil _ ∙ ap (λ n. map (occurrence_at n) (mentions grammar item)) (sym (add-zero before))
 occurrences_after-push before grammar (first ∷ items) item =
-    let later : before + 1 + length items ≡ before + suc (length items) = omega arith in
-    ap (λ (os : List Occurrence). map (occurrence_at before) (mentions grammar first) ++ os) (occurrences_after-push (before + 1) grammar items item
-    ∙ ap (λ n. occurrences_after (before + 1) grammar items ++ map (occurrence_at n) (mentions grammar item)) later)
-    ∙ sym (append_assoc (map (occurrence_at before) (mentions grammar first)) (occurrences_after (before + 1) grammar items) (map (occurrence_at (before + suc (length items))) (mentions grammar item)))
+    let here = before + word_count (first ∷ []) in
+    let later : here + word_count items ≡ before + word_count (first ∷ items) = omega (arith, word_count-cons first items) in
+    ap (λ (os : List Occurrence). map (occurrence_at before) (mentions grammar first) ++ os) (occurrences_after-push here grammar items item
+    ∙ ap (λ n. occurrences_after here grammar items ++ map (occurrence_at n) (mentions grammar item)) later)
+    ∙ sym (append_assoc (map (occurrence_at before) (mentions grammar first)) (occurrences_after here grammar items) (map (occurrence_at (before + word_count (first ∷ items))) (mentions grammar item)))
 
 -- items are well followed, and one more that follows them
 followed-push : (items : List Item) (item : Item) (more : List Text) → AreWellFollowed items (spelled item more) → (is_bare item ≡ true → EndsOrIsDashed more) → AreWellFollowed (items ++ item ∷ []) more
@@ -56,7 +56,7 @@ followed-none (item ∷ next ∷ items) more followed =
     ((λ bare. ends_alike next (spelled_all items more) (spelled_all items []) (followed.0 bare)), followed-none (next ∷ items) more followed.1)
 
 -- at the start no item was read
-pub ReadSoFar-none : (grammar : Grammar) (words : List Text) → ReadSoFar grammar words 0 0 [] []
+pub ReadSoFar-none : (grammar : Grammar) (words : List Text) → ReadSoFar grammar words 0 [] []
 ReadSoFar-none grammar words = record {
   items = [];
   spells = refl;
@@ -64,8 +64,6 @@ ReadSoFar-none grammar words = record {
   followed = tt;
   occurrences_are = refl;
   free_are = refl;
-  position_is = refl;
-  position_below = zero-le;
   within = zero-le;
 }
 
@@ -75,15 +73,16 @@ drop_past words after word at used left =
     let place : at + (1 + used) ≡ at + suc used = omega arith in
     ap (λ n. drop n words) place ∙ sym (drop-drop (suc used) at words) ∙ ap (drop (suc used)) left
 
-module _ (grammar : Grammar) (words : List Text) (at position : ℕ) (occurrences : List Occurrence) (frees : List Text) (before : ReadSoFar grammar words at position occurrences frees) where
+module _ (grammar : Grammar) (words : List Text) (at : ℕ) (occurrences : List Occurrence) (frees : List Text) (before : ReadSoFar grammar words at occurrences frees) where
   -- one more item
   pub ReadSoFar-item : (word : Text) (after : List Text) (item : Item) (used : ℕ) (newer : List Occurrence) (new_frees : List Text) → drop at words ≡ word ∷ after → used ≤ length after
       → BeginsWith grammar (word ∷ after) item (drop used after)
-      → newer ≡ occurrences ++ map (occurrence_at position) (mentions grammar item) → new_frees ≡ frees ++ free_items (item ∷ [])
-      → ReadSoFar grammar words (at + (1 + used)) (position + 1) newer new_frees
+      → newer ≡ occurrences ++ map (occurrence_at at) (mentions grammar item) → new_frees ≡ frees ++ free_items (item ∷ [])
+      → ReadSoFar grammar words (at + (1 + used)) newer new_frees
   ReadSoFar-item word after item used newer new_frees left short begins added freed =
       let next : drop (at + (1 + used)) words ≡ drop used after = drop_past words after word at used left in
       let size : length (drop at words) ≡ suc (length after) = ap length left in
+      let place : at ≡ word_count before.items = omega (arith, ap length before.spells, length-spelled_all before.items (drop at words), length-drop at words, before.within) in
       let spells_next : drop at words ≡ spelled item (drop (at + (1 + used)) words) = left ∙ begins.spells ∙ ap (spelled item) (sym next) in
       record {
         items = before.items ++ item ∷ [];
@@ -91,12 +90,10 @@ module _ (grammar : Grammar) (words : List Text) (at position : ℕ) (occurrence
         lawful = AllByRecursion-append (IsLawfulItem grammar) before.items (item ∷ []) before.lawful (begins.lawful, tt);
         followed = followed-push before.items item (drop (at + (1 + used)) words) (subst (AreWellFollowed before.items) spells_next before.followed)
             (λ bare. subst EndsOrIsDashed (sym next) (begins.followed bare));
-        occurrences_are = added ∙ ap (λ (os : List Occurrence). os ++ map (occurrence_at position) (mentions grammar item)) before.occurrences_are
-            ∙ ap (λ n. occurrences_after 0 grammar before.items ++ map (occurrence_at n) (mentions grammar item)) (before.position_is ∙ sym (zero-add (length before.items)))
+        occurrences_are = added ∙ ap (λ (os : List Occurrence). os ++ map (occurrence_at at) (mentions grammar item)) before.occurrences_are
+            ∙ ap (λ n. occurrences_after 0 grammar before.items ++ map (occurrence_at n) (mentions grammar item)) (place ∙ sym (zero-add (word_count before.items)))
             ∙ sym (occurrences_after-push 0 grammar before.items item);
         free_are = freed ∙ ap (λ (ws : List Text). ws ++ free_items (item ∷ [])) before.free_are ∙ sym (free_items-append before.items (item ∷ []));
-        position_is = let longer : length (before.items ++ item ∷ []) ≡ length before.items + 1 = length-append before.items (item ∷ []) in omega (arith, longer, before.position_is);
-        position_below = omega (arith, before.position_below);
         within = omega (arith, size, length-drop at words);
       }
 
@@ -164,23 +161,23 @@ no_free grammar word after more (long dashes name argument) begins dashed = refl
 no_free grammar word after more (cluster names end) begins dashed = refl
 
 -- A line of borrowed words that was read up to a place where a word stands.
-module _ (grammar : Grammar) (words : List (Bor Text)) (at position : ℕ) (occurrences : List Occurrence) (frees : List Text) (before : ReadSoFar grammar (texts words) at position occurrences frees) (d : Bor Text) (within : at < length words) where
+module _ (grammar : Grammar) (words : List (Bor Text)) (at : ℕ) (occurrences : List Occurrence) (frees : List Text) (before : ReadSoFar grammar (texts words) at occurrences frees) (d : Bor Text) (within : at < length words) where
   -- a free word
   pub ReadSoFar-free : (new_frees : List Text) → is_dashed (get_or words at d).now ≡ false → grammar.style ≡ FloatingFrees → new_frees ≡ frees ++ (get_or words at d).now ∷ []
-      → ReadSoFar grammar (texts words) (at + 1) (position + 1) occurrences new_frees
+      → ReadSoFar grammar (texts words) (at + 1) occurrences new_frees
   ReadSoFar-free new_frees plain floating pushed =
-      ReadSoFar-item grammar (texts words) at position occurrences frees before (get_or words at d).now (texts (drop (at + 1) words)) (free (get_or words at d).now) 0 occurrences new_frees
+      ReadSoFar-item grammar (texts words) at occurrences frees before (get_or words at d).now (texts (drop (at + 1) words)) (free (get_or words at d).now) 0 occurrences new_frees
       (texts_from words d at within) zero-le
       (record { spells = refl; lawful = (plain, floating); followed = λ bare. cc })
       (sym (append-nil occurrences)) pushed
 
   -- an item that a dashed word begins
   pub ReadSoFar-added : (word : Text) (used : ℕ) (newer : List Occurrence) → (get_or words at d).now ≡ word → is_dashed word ≡ true
-      → AddsItem grammar word (texts (drop (at + 1) words)) position used occurrences newer
-      → ReadSoFar grammar (texts words) (at + (1 + used)) (position + 1) newer frees
+      → AddsItem grammar word (texts (drop (at + 1) words)) at used occurrences newer
+      → ReadSoFar grammar (texts words) (at + (1 + used)) newer frees
   ReadSoFar-added word used newer word_is dashed adds =
       let none_free : free_items (adds.reads.item ∷ []) ≡ [] = no_free grammar word (texts (drop (at + 1) words)) (drop used (texts (drop (at + 1) words))) adds.reads.item adds.reads.begins dashed in
-      ReadSoFar-item grammar (texts words) at position occurrences frees before word (texts (drop (at + 1) words)) adds.reads.item used newer frees
+      ReadSoFar-item grammar (texts words) at occurrences frees before word (texts (drop (at + 1) words)) adds.reads.item used newer frees
       (texts_from words d at within ∙ ap (λ (w : Text). w ∷ texts (drop (at + 1) words)) word_is) adds.reads.within adds.reads.begins
       (adds.added ∙ ap (λ (os : List Occurrence). occurrences ++ os) adds.reads.found)
       (sym (append-nil frees) ∙ ap (λ (ws : List Text). frees ++ ws) (sym none_free))
@@ -189,17 +186,17 @@ module _ (grammar : Grammar) (words : List (Bor Text)) (at position : ℕ) (occu
   pub IsReading-rest : is_dashed (get_or words at d).now ≡ false → grammar.style ≡ StopAtFirstFree
       → IsReading grammar (record { items = before.items; tail = rest (drop at (texts words)) }) (texts words)
   IsReading-rest plain stops =
-      IsReading-tail grammar (texts words) at position occurrences frees before (rest (drop at (texts words)))
+      IsReading-tail grammar (texts words) at occurrences frees before (rest (drop at (texts words)))
       ((subst BeginsFree (sym (texts_from words d at within)) plain), stops) refl
 
   -- the stop, and the words after it
   pub IsReading-stop : (get_or words at d).now ≡ stop_word → IsReading grammar (record { items = before.items; tail = stop (texts (drop (at + 1) words)) }) (texts words)
   IsReading-stop stops =
-      IsReading-tail grammar (texts words) at position occurrences frees before (stop (texts (drop (at + 1) words))) tt
+      IsReading-tail grammar (texts words) at occurrences frees before (stop (texts (drop (at + 1) words))) tt
       (ap (λ (w : Text). w ∷ texts (drop (at + 1) words)) (sym stops) ∙ sym (texts_from words d at within))
 
   -- a fault of the word here
   pub IsScanFault-word : (word : Text) (fault : Fault) → (get_or words at d).now ≡ word → IsFaultAt grammar word (texts (drop (at + 1) words)) fault → IsScanFault grammar (texts words) fault
   IsScanFault-word word fault word_is fault_at =
-      IsScanFault-here grammar (texts words) at position occurrences frees before word (texts (drop (at + 1) words)) fault
+      IsScanFault-here grammar (texts words) at occurrences frees before word (texts (drop (at + 1) words)) fault
       (texts_from words d at within ∙ ap (λ (w : Text). w ∷ texts (drop (at + 1) words)) word_is) fault_at

@@ -2,12 +2,12 @@
 use Rattle.std.proofs.Common.{◌≡◌, ◌⊎◌, List, [], ◌∷◌, ◌++◌, drop, Result, Ok, Err, refl, sym, ap, ◌∙◌, subst, inl, inr}
 use Rattle.std.specs.List.{AllByRecursion}
 use Rattle.std.specs.Str.{IsUtf8}
-use Rattle.getopts.specs.Names.{Text}
+use Rattle.getopts.specs.Names.{Text, AreTexts}
 use Rattle.getopts.specs.Options.{Grammar}
 use Rattle.getopts.specs.Fail.{Fault}
 use Rattle.getopts.specs.Scan.{stop_word, none, attached, separate, flags, ends_in, Item, free, long, cluster, spelled, spelled_all, IsLawfulItem, EndsOrIsDashed, AreWellFollowed, Tail, line_end, stop, rest, tail_words, IsLawfulTail, Reading, IsReading, BeginsWith, IsFaultAt, IsScanFault}
-use Rattle.getopts.specs.declared.options.ParsingStyle.{ParsingStyle}
-use Rattle.getopts.proofs.ScanTurns.{IsNamed, AreTexts, Turn, ends, takes_one, takes_two, faults, turn, free_turn, with_item, after_turn, read_both, read}
+use Rattle.getopts.specs.declared.groups.ParsingStyle.{ParsingStyle}
+use Rattle.getopts.proofs.ScanTurns.{IsNamed, Turn, ends, takes_one, takes_two, faults, turn, free_turn, with_item, after_turn, read_both, read}
 use Rattle.getopts.proofs.ScanTexts.{AllByRecursion-rest}
 use Rattle.getopts.proofs.ScanSteps.{TakesItem, spelled_turn, begins_turn, fault_turn, fault_dashed, turn_free, turn_stop, IsSoundTurn, turn_sound}
 

@@ -8,10 +8,10 @@ use Rattle.getopts.specs.Names.{Text}
 use Rattle.getopts.specs.Options.{Grammar}
 use Rattle.getopts.specs.Fail.{Fault, argument_missing, unrecognized_option, option_missing, option_duplicated, unexpected_argument}
 use Rattle.getopts.specs.Scan.{dash, is_dashed, holds_equals, stop_word, Argument, none, attached, separate, Dashes, one, two, End, flags, ends_in, Item, free, long, cluster, dash_text, with_equals, long_word, attached_argument, argument_words, end_text, end_words, spelled, MayStandBefore, FitsLong, FitsEnd, IsFlag, IsLawfulEnd, IsLawfulCluster, IsLawfulItem, is_bare, EndsOrIsDashed, Tail, stop, tail_words, IsLawfulTail, BeginsWith, IsLongForm, IsShortForm, HasUnknownFlag, EndsInYes, IsFaultAt}
-use Rattle.getopts.specs.declared.options.HasArg.{HasArg}
-use Rattle.getopts.specs.declared.options.HasArg.TheVariants.{Yes, No, Maybe}
-use Rattle.getopts.specs.declared.options.ParsingStyle.{ParsingStyle}
-use Rattle.getopts.specs.declared.options.ParsingStyle.TheVariants.{FloatingFrees, StopAtFirstFree}
+use Rattle.getopts.specs.declared.groups.HasArg.{HasArg}
+use Rattle.getopts.specs.declared.groups.HasArg.TheVariants.{Yes, No, Maybe}
+use Rattle.getopts.specs.declared.groups.ParsingStyle.{ParsingStyle}
+use Rattle.getopts.specs.declared.groups.ParsingStyle.TheVariants.{FloatingFrees, StopAtFirstFree}
 use Rattle.getopts.proofs.ScanTurns.{IsNamed, Turn, ends, takes_one, takes_two, faults, first_char, named_turn, long_name, long_argument, long_turn, maybe_turn, option_turn, byte_turn, cluster_turn, item_turn, free_turn, turn}
 use Rattle.getopts.proofs.ScanTexts.{name-append-argument, holds_equals-long_name, long_name-append, long_argument-append, begins_with_dash-append, begins_with_dash-front, filled-append, AllByRecursion-append, IsUtf8-past_ascii, IsUtf8-past_asciis, begins_with_char, encode-ascii_byte, length-encode-wide, first_char-append}
 use Rattle.std.proofs.lemmas.Str.{length-encode, len_utf8_bounds}

@@ -2,25 +2,21 @@
 -- `specs/Scan.antt` don't rest on it.
 use Rattle.std.proofs.Common.{◌≡◌, ◌==◌, ◌⊎◌, ℕ, ◌<◌, List, [], ◌∷◌, ◌++◌, Option, Some, None, Result, Ok, Err}
 use Rattle.std.specs.Prelude.{if◌then◌else◌, encode_utf8}
-use Rattle.std.specs.List.{before_first, after_first, AllByRecursion}
-use Rattle.std.specs.Str.{chars, bytes_eq, IsUtf8}
+use Rattle.std.specs.List.{before_first, after_first}
+use Rattle.std.specs.Str.{chars, bytes_eq}
 use Rattle.getopts.specs.Names.{Text}
 use Rattle.getopts.specs.Options.{Grammar}
 use Rattle.getopts.specs.Fail.{Fault, argument_missing, unrecognized_option, unexpected_argument}
 use Rattle.getopts.specs.Scan.{dash, equals_sign, is_dashed, holds_equals, stop_word, Dashes, one, two, none, attached, separate, flags, ends_in, Item, free, long, cluster, Tail, line_end, stop, rest, Reading}
-use Rattle.getopts.specs.declared.options.HasArg.{HasArg}
-use Rattle.getopts.specs.declared.options.HasArg.TheVariants.{Yes, No, Maybe}
-use Rattle.getopts.specs.declared.options.ParsingStyle.{ParsingStyle}
-use Rattle.getopts.specs.declared.options.ParsingStyle.TheVariants.{FloatingFrees, StopAtFirstFree}
+use Rattle.getopts.specs.declared.groups.HasArg.{HasArg}
+use Rattle.getopts.specs.declared.groups.HasArg.TheVariants.{Yes, No, Maybe}
+use Rattle.getopts.specs.declared.groups.ParsingStyle.{ParsingStyle}
+use Rattle.getopts.specs.declared.groups.ParsingStyle.TheVariants.{FloatingFrees, StopAtFirstFree}
 
 -- Names are texts: the empty one doesn't resolve, nor does a byte that is no ASCII.
 pub record IsNamed (grammar : Grammar) : Type 0 where
   pub empty : grammar.kind_of [] ≡ None
   pub ascii : (byte : ℕ) → byte < 128 ⊎ (grammar.kind_of (byte ∷ []) ≡ None)
-
--- each word is UTF-8
-abbrev pub AreTexts : List Text → Type 0
-AreTexts words = AllByRecursion IsUtf8 words
 
 -- What the first word of a line gives, with the words after it: a tail that ends the line; an item of
 -- this word, or of this word and the next; or a fault.

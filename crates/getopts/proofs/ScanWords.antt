@@ -4,8 +4,8 @@ use Rattle.std.proofs.lemmas.List.{get_or_default}
 use Rattle.std.proofs.lemmas.List.Folds.{list_any_none}
 use Rattle.std.specs.Char.{is_ascii}
 use Rattle.std.proofs.lemmas.Bool.Decides.{Decides-eqb, nat_tests}
-use Rattle.getopts.specs.declared.options.HasArg.{HasArg}
-use Rattle.getopts.specs.declared.options.HasArg.TheVariants.{Yes, No, Maybe}
+use Rattle.getopts.specs.declared.groups.HasArg.{HasArg}
+use Rattle.getopts.specs.declared.groups.HasArg.TheVariants.{Yes, No, Maybe}
 use Rattle.getopts.specs.Names.{Text}
 use Rattle.getopts.specs.Scan.{dash, equals_sign, is_dashed, begins_with_dash, holds_equals, attached, FitsEnd, one, two, IsShortForm}
 use Rattle.getopts.specs.Options.{Grammar}

@@ -1,11 +1,13 @@
 -- The rows of a description, line after line, and what holds of all of them.
-use Rattle.std.proofs.Common.{◌≡◌, ℕ, List, [], ◌∷◌, ◌++◌, map, sym, refl, ap, ◌∙◌, subst, append-nil}
-use Rattle.std.specs.Prelude.{◌↔◌}
+use Rattle.std.proofs.Common.{◌≡◌, ℕ, ◌+◌, Bool, false, List, [], ◌∷◌, ◌++◌, length, map, sym, refl, ap, ◌∙◌, subst, append_assoc, append-nil, arith, length-append}
+use Rattle.std.specs.Prelude.{◌↔◌, ◌||◌, nat_lt}
 use Rattle.std.specs.List.{AllZip, flat_map}
+use Rattle.std.proofs.lemmas.Bool.Decides.{nat_tests}
 use Rattle.std.proofs.lemmas.List.{map-append}
 use Rattle.std.proofs.lemmas.List.Concat.{flat_map-append}
-use Rattle.getopts.specs.Wrap.{Word, Run, text_of, IsTightBreaking, IsFewestBreaking, words_of, words_of_lines, BreaksInto, IsDescriptionRows, AddsLine}
+use Rattle.getopts.specs.Wrap.{Word, Run, text_of, IsTightBreaking, IsFewestBreaking, words_of, words_of_lines, BreaksInto, IsDescriptionRows, joined, continued, AddsDescription, AddsLine}
 use Rattle.getopts.proofs.WrapLemmas.{runs_of, runs_of-only, runs_of-is_fewest}
+use Rattle.getopts.proofs.WrapTexts.{joined-append}
 
 -- one more pair at the end of two lists
 pub all_zip_push : {A B : Type 0} (R : A → B → Type 0) (xs : List A) (ys : List B) (x : A) (y : B) → AllZip R xs ys → R x y → AllZip R (xs ++ x ∷ []) (ys ++ y ∷ [])
@@ -28,31 +30,57 @@ all_zip_only R f only [] (z ∷ ys) all = absurd all
 all_zip_only R f only (z ∷ xs) [] all = absurd all
 all_zip_only R f only (u ∷ xs) (v ∷ ys) all = let head = only u v all.0 in let rest = all_zip_only R f only xs ys all.1 in cc
 
--- the rows of the lines so far
-pub record LinesSoFar (limit : ℕ) (lines rows : List (List ℕ)) : Type 0 where
+-- The text has grown by the rows of the lines so far, and the flag tells whether there is any.
+pub record LinesSoFar (limit : ℕ) (separator : List ℕ) (lines : List (List ℕ)) (begun : Bool) (old text : List ℕ) : Type 0 where
   pub breakings : List (List Run)
+  pub rows : List (List ℕ)
   pub each_line : AllZip (IsTightBreaking limit) (map words_of lines) breakings
   pub texts : rows ≡ map text_of (flat_map (λ runs. runs) breakings)
+  pub begun_is : begun ≡ nat_lt 0 (length rows)
+  pub text_is : text ≡ old ++ joined separator rows
+
+-- before the first line
+pub lines_none : (limit : ℕ) (separator text : List ℕ) → LinesSoFar limit separator [] false text text
+lines_none limit separator text = record { breakings = []; rows = []; each_line = tt; texts = refl; begun_is = refl; text_is = sym (append-nil text) }
 
 -- one more line, with the rows that it adds
-pub lines_add : (limit : ℕ) (lines rows : List (List ℕ)) (line : List ℕ) (new_rows : List (List ℕ)) → LinesSoFar limit lines rows → AddsLine limit line rows new_rows → LinesSoFar limit (lines ++ line ∷ []) new_rows
-lines_add limit lines rows line new_rows so_far adds = record {
-  breakings = so_far.breakings ++ adds.0 ∷ [];
-  each_line = subst (λ (words : List (List Word)). AllZip (IsTightBreaking limit) words (so_far.breakings ++ adds.0 ∷ [])) (sym (map-append words_of lines (line ∷ []))) (all_zip_push (IsTightBreaking limit) (map words_of lines) so_far.breakings (words_of line) adds.0 so_far.each_line adds.1);
-  texts =
-      adds.2
-      ∙ ap (λ (old : List (List ℕ)). old ++ map text_of adds.0) so_far.texts
-      ∙ sym (map-append text_of (flat_map (λ runs. runs) so_far.breakings) adds.0)
-      ∙ ap (map text_of) (sym (flat_map-append (λ runs. runs) so_far.breakings (adds.0 ∷ []) ∙ ap (λ (last : List Run). flat_map (λ runs. runs) so_far.breakings ++ last) (append-nil adds.0)));
-}
+pub lines_add : (limit : ℕ) (separator : List ℕ) (lines : List (List ℕ)) (line : List ℕ) (begun now_begun : Bool) (old text new_text : List ℕ) → LinesSoFar limit separator lines begun old text → AddsLine limit separator line begun now_begun text new_text → LinesSoFar limit separator (lines ++ line ∷ []) now_begun old new_text
+lines_add limit separator lines line begun now_begun old text new_text so_far adds =
+    let rows = so_far.rows in
+    let more = adds.0 in
+    let runs = adds.1.0 in
+    record {
+      breakings = so_far.breakings ++ runs ∷ [];
+      rows = rows ++ more;
+      each_line = subst (λ (words : List (List Word)). AllZip (IsTightBreaking limit) words (so_far.breakings ++ runs ∷ [])) (sym (map-append words_of lines (line ∷ []))) (all_zip_push (IsTightBreaking limit) (map words_of lines) so_far.breakings (words_of line) runs so_far.each_line adds.1.1);
+      texts =
+          ap (λ (more : List (List ℕ)). rows ++ more) adds.1.2
+          ∙ ap (λ (old : List (List ℕ)). old ++ map text_of runs) so_far.texts
+          ∙ sym (map-append text_of (flat_map (λ runs. runs) so_far.breakings) runs)
+          ∙ ap (map text_of) (sym (flat_map-append (λ runs. runs) so_far.breakings (runs ∷ []) ∙ ap (λ (last : List Run). flat_map (λ runs. runs) so_far.breakings ++ last) (append-nil runs)));
+      begun_is = adds.2 ∙ ap (λ begun. begun || nat_lt 0 (length more)) so_far.begun_is ∙ some_of_both (length rows) (length more) ∙ ap (nat_lt 0) (sym (length-append rows more));
+      text_is =
+          adds.3
+          ∙ ap (λ begun. text ++ continued begun separator more) so_far.begun_is
+          ∙ ap (λ (text : List ℕ). text ++ continued (nat_lt 0 (length rows)) separator more) so_far.text_is
+          ∙ append_assoc old (joined separator rows) (continued (nat_lt 0 (length rows)) separator more)
+          ∙ ap (λ (added : List ℕ). old ++ added) (sym (joined-append separator rows more));
+    }
+  where
+    some_of_both : (m n : ℕ) → (nat_lt 0 m || nat_lt 0 n) ≡ nat_lt 0 (m + n)
+    some_of_both m n = grind (arith, nat_tests)
 
 -- with the last line done, these are the description's rows
-pub lines_end : (limit : ℕ) (desc : List ℕ) (lines rows : List (List ℕ)) → LinesSoFar limit lines rows → map words_of lines ≡ words_of_lines desc → IsDescriptionRows limit desc rows
-lines_end limit desc lines rows so_far all = record {
-  breakings = so_far.breakings;
-  each_line = subst (λ (words : List (List Word)). AllZip (IsTightBreaking limit) words so_far.breakings) all so_far.each_line;
-  texts = so_far.texts;
-}
+pub lines_end : (limit : ℕ) (separator desc : List ℕ) (lines : List (List ℕ)) (begun : Bool) (old text : List ℕ) → LinesSoFar limit separator lines begun old text → map words_of lines ≡ words_of_lines desc → AddsDescription limit separator desc old text
+lines_end limit separator desc lines begun old text so_far all = (
+  so_far.rows,
+  record {
+    breakings = so_far.breakings;
+    each_line = subst (λ (words : List (List Word)). AllZip (IsTightBreaking limit) words so_far.breakings) all so_far.each_line;
+    texts = so_far.texts;
+  },
+  so_far.text_is,
+)
 
 -- a description has one list of rows for a limit
 pub rows_only : (limit : ℕ) (desc : List ℕ) (rows others : List (List ℕ)) → IsDescriptionRows limit desc rows → IsDescriptionRows limit desc others → others ≡ rows

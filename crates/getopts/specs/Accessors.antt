@@ -7,7 +7,7 @@ use Rattle.getopts.specs.Matches.{Found, MatchedGroup}
 
 -- the place of the group that a name resolves to
 abbrev pub place_of : List MatchedGroup → Text → Option ℕ
-place_of groups name = resolution (map (λ group. group.names) groups) name
+place_of groups name = resolution (map (λ group. group.known.names) groups) name
 
 -- a name is defined: it resolves to a group
 abbrev pub IsDefined : List MatchedGroup → Text → Type 0
@@ -19,11 +19,12 @@ AreDefined groups names = AllByRecursion (IsDefined groups) names
 
 -- each group that matches hold is lawfully named
 abbrev pub AreHeldLawfully : List MatchedGroup → Type 0
-AreHeldLawfully groups = AllByRecursion (λ group. IsLawfullyNamed group.names) groups
+AreHeldLawfully groups = AllByRecursion (λ group. IsLawfullyNamed group.known.names) groups
 
 -- the occurrences of the group at this place; where there is no such group, none
 abbrev pub found_in : List MatchedGroup → Option ℕ → List Found
-found_in groups place = option_map_or (λ group. group.found) (option_and_then (λ i. slice_get groups i) place) []
+found_in groups place =
+    option_map_or (λ group. group.found) (option_and_then (λ i. slice_get groups i) place) []
 
 -- the occurrences of the group that a name resolves to; of an undefined name there are none
 abbrev pub found_of : List MatchedGroup → Text → List Found
@@ -62,20 +63,25 @@ first_value_or (found ∷ founds) fallback = Some (unwrap_or found.value fallbac
 -- the value for the first of these names whose group's first occurrence has a value
 abbrev pub first_value_among : List MatchedGroup → List Text → Option Text
 first_value_among groups [] = None
-first_value_among groups (name ∷ names) = option_or (first_value (found_of groups name)) (first_value_among groups names)
+first_value_among groups (name ∷ names) =
+    option_or (first_value (found_of groups name)) (first_value_among groups names)
 
 -- What a value is read as: where there is one, what this reading gives for it; else nothing.
-abbrev pub IsReadAs : {T E : Type 0} → (Text → Result T E → Type 0) → Option Text → Result (Option T) E → Type 0
+abbrev pub IsReadAs : {T E : Type 0} → (Text → Result T E → Type 0)
+    → Option Text → Result (Option T) E → Type 0
 IsReadAs gives None answer = answer ≡ Ok None
 IsReadAs gives (Some text) (Ok None) = ⊥
 IsReadAs gives (Some text) (Ok (Some value)) = gives text (Ok value)
 IsReadAs gives (Some text) (Err error) = gives text (Err error)
 
 -- What a value is read as: where there is one, what this reading gives for it; else this default.
-abbrev pub IsReadOr : {T E : Type 0} → (Text → Result T E → Type 0) → Option Text → T → Result T E → Type 0
+abbrev pub IsReadOr : {T E : Type 0} → (Text → Result T E → Type 0)
+    → Option Text → T → Result T E → Type 0
 IsReadOr gives None default answer = answer ≡ Ok default
 IsReadOr gives (Some text) default answer = gives text answer
 
 -- One group, one answer: a name that resolves to the same group has the same occurrences.
 abbrev pub OneGroupOneAnswer : List MatchedGroup → Text → Type 0
-OneGroupOneAnswer groups name = (other : Text) → place_of groups other ≡ place_of groups name → found_of groups other ≡ found_of groups name
+OneGroupOneAnswer groups name = (other : Text)
+    → place_of groups other ≡ place_of groups name
+    → found_of groups other ≡ found_of groups name

@@ -1,5 +1,5 @@
--- The canonical line: what a line says, written again with main names alone; what such a line tells, and
--- where there is none.
+-- The canonical line: what a line says, written again with main names alone; what such a line
+-- tells, and where there is none.
 use Rattle.std.specs.Prelude.{◌≡◌, ◌↔◌, ⊤, ℕ, Bool, false, List, [], ◌∷◌, ◌++◌, map, Option, Some, None, slice_get}
 use Rattle.std.specs.List.{AllByRecursion, Contains}
 use Rattle.std.specs.Option.{option_map, option_map_or}
@@ -8,9 +8,9 @@ use Rattle.getopts.specs.Options.{Group, Declared, names_of, Grammar, grammar_of
 use Rattle.getopts.specs.Scan.{holds_equals, stop_word, Argument, none, attached, two, Item, long, long_word, spelled, IsLawfulItem, stop, Reading, IsReading, Mention, mentions, Occurrence, free_words}
 use Rattle.getopts.specs.ScanLaws.{mentions_of}
 use Rattle.getopts.specs.Matches.{matches_of, KeepsCounts}
-use Rattle.getopts.specs.declared.options.HasArg.{HasArg}
-use Rattle.getopts.specs.declared.options.HasArg.TheVariants.{Yes, No, Maybe}
-use Rattle.getopts.specs.declared.options.ParsingStyle.{ParsingStyle}
+use Rattle.getopts.specs.declared.groups.HasArg.{HasArg}
+use Rattle.getopts.specs.declared.groups.HasArg.TheVariants.{Yes, No, Maybe}
+use Rattle.getopts.specs.declared.groups.ParsingStyle.{ParsingStyle}
 
 -- an occurrence without its position
 abbrev pub mention_of : Occurrence → Mention
@@ -23,15 +23,19 @@ pub record Content : Type 0 where
 
 -- the content of a reading
 abbrev pub content_of : Grammar → Reading → Content
-content_of grammar reading = record { mentions = mentions_of grammar reading; free = free_words reading }
+content_of grammar reading = record {
+  mentions = mentions_of grammar reading;
+  free = free_words reading;
+}
 
 -- the main name of the group at this place; past the last group, the empty text
 abbrev pub main_at : List Group → ℕ → Text
-main_at groups place = option_map_or (λ group. main_name group.names) (slice_get groups place) []
+main_at groups place =
+    option_map_or (λ group. main_name group.known.names) (slice_get groups place) []
 
 -- the kind of argument of the group at this place
 abbrev pub kind_at : List Group → ℕ → Option HasArg
-kind_at groups place = option_map (λ group. group.kind) (slice_get groups place)
+kind_at groups place = option_map (λ group. group.known.kind) (slice_get groups place)
 
 -- the group at this place has a main name that holds no `=`
 abbrev pub HasPlainMain : List Group → ℕ → Type 0
@@ -72,7 +76,8 @@ canonical_word groups m = long_word two (main_at groups m.group) m.value
 
 -- the canonical line of a content: the words of its mentions, then `--`, then its free words
 abbrev pub canonical_line : List Group → Content → List Text
-canonical_line groups content = map (canonical_word groups) content.mentions ++ stop_word ∷ content.free
+canonical_line groups content =
+    map (canonical_word groups) content.mentions ++ stop_word ∷ content.free
 
 -- a value as an attached argument
 abbrev pub attached_value : Option Text → Argument
@@ -85,18 +90,23 @@ canonical_item groups m = long two (main_at groups m.group) (attached_value m.va
 
 -- the canonical reading of a content: the items of its mentions, and the stop with its free words
 abbrev pub canonical_reading : List Group → Content → Reading
-canonical_reading groups content = record { items = map (canonical_item groups) content.mentions; tail = stop content.free }
+canonical_reading groups content = record {
+  items = map (canonical_item groups) content.mentions;
+  tail = stop content.free;
+}
 
 -- options with the same groups, in this style and mode
 abbrev pub with_setting : Declared → ParsingStyle → Bool → Declared
 with_setting options style long_only = record options { style = style; long_only = long_only }
 
 -- a reading of a line that keeps the counts
-pub record IsCountKeeping (options : Declared) (reading : Reading) (words : List Text) : Type 0 where
+pub record IsCountKeeping (options : Declared) (reading : Reading) (words : List Text)
+    : Type 0 where
   pub reads : IsReading (grammar_of options) reading words
   pub keeps : KeepsCounts (matches_of options reading).groups
 
--- A line says a content: in some style and mode it has a reading with this content that keeps the counts.
+-- A line says a content: in some style and mode it has a reading with this content that keeps the
+-- counts.
 pub record Says (options : Declared) (words : List Text) (content : Content) : Type 0 where
   pub style : ParsingStyle
   pub long_only : Bool
@@ -104,25 +114,33 @@ pub record Says (options : Declared) (words : List Text) (content : Content) : T
   pub reads : IsCountKeeping (with_setting options style long_only) reading words
   pub content_is : content ≡ content_of (grammar_of (with_setting options style long_only)) reading
 
--- The canonical line of a content reads back: its canonical reading keeps the counts and has that content.
+-- The canonical line of a content reads back: its canonical reading keeps the counts and has that
+-- content.
 pub record ReadsBack (options : Declared) (content : Content) : Type 0 where
-  pub reads : IsCountKeeping options (canonical_reading options.groups content) (canonical_line options.groups content)
+  pub reads : IsCountKeeping options (canonical_reading options.groups content)
+      (canonical_line options.groups content)
   pub same : content_of (grammar_of options) (canonical_reading options.groups content) ≡ content
 
 -- the canonical line reads back in both styles and both modes
 abbrev pub ReadsBackEverywhere : Declared → Content → Type 0
-ReadsBackEverywhere options content = (style : ParsingStyle) (long_only : Bool) → ReadsBack (with_setting options style long_only) content
+ReadsBackEverywhere options content = (style : ParsingStyle) (long_only : Bool)
+    → ReadsBack (with_setting options style long_only) content
 
 -- in both styles and both modes the canonical line of a content says that content alone
 abbrev pub SaysNothingElse : Declared → Content → Type 0
-SaysNothingElse options content = (other : Content) → Says options (canonical_line options.groups content) other → other ≡ content
+SaysNothingElse options content = (other : Content)
+    → Says options (canonical_line options.groups content) other
+    → other ≡ content
 
--- A canonical line is its own: in both styles and both modes, the canonical line of what it says is that line.
+-- A canonical line is its own: in both styles and both modes, the canonical line of what it says is
+-- that line.
 abbrev pub IsItsOwn : Declared → Content → Type 0
-IsItsOwn options content = (other : Content) → Says options (canonical_line options.groups content) other
+IsItsOwn options content = (other : Content)
+    → Says options (canonical_line options.groups content) other
     → canonical_line options.groups other ≡ canonical_line options.groups content
 
--- a sound and plain content of these groups has this content's canonical line exactly if it is this content
+-- a sound and plain content of these groups has this content's canonical line exactly if it is this
+-- content
 abbrev pub IsOnlyContent : List Group → Content → Type 0
 IsOnlyContent groups content = (other : Content) → IsSound groups other → IsPlain groups other
     → (canonical_line groups other ≡ canonical_line groups content) ↔ (other ≡ content)
@@ -136,10 +154,11 @@ pub record HasCanonicalLine (options : Declared) (content : Content) : Type 0 wh
   pub its_own : IsItsOwn options content
   pub only : IsOnlyContent options.groups content
 
--- in neither style and neither mode does the canonical word of this mention begin a lawful item with just
--- this mention
+-- in neither style and neither mode does the canonical word of this mention begin a lawful item
+-- with just this mention
 abbrev pub HasNoItem : Declared → Mention → Type 0
-HasNoItem options m = (style : ParsingStyle) (long_only : Bool) (item : Item) (after others : List Text)
+HasNoItem options m = (style : ParsingStyle) (long_only : Bool)
+    (item : Item) (after others : List Text)
     → IsLawfulItem (grammar_of (with_setting options style long_only)) item
     → mentions (grammar_of (with_setting options style long_only)) item ≡ m ∷ []
     → spelled item after ≡ canonical_word options.groups m ∷ others
@@ -150,16 +169,3 @@ pub record HasUnwritable (options : Declared) (content : Content) : Type 0 where
   pub unwritable : Mention
   pub mentioned : Contains content.mentions unwritable
   pub no_item : HasNoItem options unwritable
-
--- The main theorem of canonical lines: let two lines say contents that are plain, each line in a style and
--- mode of its own. Then their canonical lines are equal exactly if their contents are; and in both styles
--- and both modes each canonical line reads back to its content, and says nothing else.
-abbrev pub CanonicalLinesTell : Declared → Type 0
-CanonicalLinesTell options = (words others : List Text) (content other : Content)
-    → Says options words content → IsPlain options.groups content
-    → Says options others other → IsPlain options.groups other
-    → ((canonical_line options.groups content ≡ canonical_line options.groups other) ↔ (content ≡ other))
-    × ReadsBackEverywhere options content
-    × ReadsBackEverywhere options other
-    × SaysNothingElse options content
-    × SaysNothingElse options other

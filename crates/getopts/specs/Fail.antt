@@ -1,5 +1,6 @@
 -- The faults that a line may have, and their printed texts.
 use Rattle.std.specs.Prelude.{Option, Some, None, ◌++◌, codes, MatchOption, ⊤}
+use Rattle.std.specs.Option.{option_map_or}
 use Rattle.std.specs.String.{string_bytes}
 use Rattle.getopts.specs.Names.{Text}
 use Rattle.getopts.specs.declared.fail.Fail.{Fail}
@@ -22,14 +23,17 @@ fault_of (fail.OptionDuplicated name) = Some (option_duplicated (string_bytes na
 fault_of (fail.UnexpectedArgument name) = Some (unexpected_argument (string_bytes name))
 fault_of fail.OutOfMemory = None
 
--- the printed text of a refusal
+-- the printed text of a fault
+abbrev pub fault_text : Fault → Text
+fault_text (argument_missing name) = codes "Argument to option '" ++ (name ++ codes "' missing")
+fault_text (unrecognized_option name) = codes "Unrecognized option: '" ++ (name ++ codes "'")
+fault_text (option_missing name) = codes "Required option '" ++ (name ++ codes "' missing")
+fault_text (option_duplicated name) = codes "Option '" ++ (name ++ codes "' given more than once")
+fault_text (unexpected_argument name) = codes "Option '" ++ (name ++ codes "' does not take an argument")
+
+-- the printed text of a refusal: that of the fault that it tells, or that memory was refused
 abbrev pub fail_text : Fail → Text
-fail_text (fail.ArgumentMissing name) = codes "Argument to option '" ++ (string_bytes name ++ codes "' missing")
-fail_text (fail.UnrecognizedOption name) = codes "Unrecognized option: '" ++ (string_bytes name ++ codes "'")
-fail_text (fail.OptionMissing name) = codes "Required option '" ++ (string_bytes name ++ codes "' missing")
-fail_text (fail.OptionDuplicated name) = codes "Option '" ++ (string_bytes name ++ codes "' given more than once")
-fail_text (fail.UnexpectedArgument name) = codes "Option '" ++ (string_bytes name ++ codes "' does not take an argument")
-fail_text fail.OutOfMemory = codes "Out of memory"
+fail_text fail = option_map_or fault_text (fault_of fail) (codes "Out of memory")
 
 -- what a refusal tells meets this, unless it tells that memory was refused
 abbrev pub Tells : Fail → (Fault → Type 0) → Type 0

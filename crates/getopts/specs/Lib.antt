@@ -1,16 +1,54 @@
-pub mod AcceptedLine
-pub mod Accessors
-pub mod Canon
-pub mod CanonAnswers
-pub mod Fail
-pub mod Held
-pub mod Line
-pub mod Matches
+-- What a caller must believe, in reading order.
+
+-- a value, and no other
+pub mod Only
+-- names, which pairs are lawful, and how they resolve
 pub mod Names
+-- groups, options, and what reading asks of them
 pub mod Options
-pub mod Parse
-pub mod SameMatches
+-- faults and their printed texts
+pub mod Fail
+-- items, readings, occurrences and scan faults
 pub mod Scan
+-- the matches of a reading, and counts
+pub mod Matches
+-- the answers of `parse`
+pub mod Parse
+-- what holds of all readings
 pub mod ScanLaws
-pub mod Usage
+-- what accessors answer
+pub mod Accessors
+-- what accepted matches tell of declared names
+pub mod Told
+-- what canonical lines are, and what they tell
+pub mod Canon
+-- the answers of `canonical`
+pub mod CanonAnswers
+-- the main theorem
+pub mod Theorem
+-- when options, matches and refusals are equal
+pub mod Same
+-- descriptions in rows
 pub mod Wrap
+-- usage texts
+pub mod Usage
+-- Cited by private clauses alone.
+
+-- lists cut at places
+pub mod Pieces
+-- texts held as one
+pub mod Texts
+-- the table of names
+pub mod Table
+-- where the occurrences of groups stand
+pub mod Index
+-- texts in pairs beside a list
+pub mod Pairs
+-- what is seen of what is held
+pub mod Held
+-- what scanning finds
+pub mod Line
+-- what is found in accepted words
+pub mod AcceptedLine
+-- wrong answers, which the public clauses refute
+pub mod Refuted

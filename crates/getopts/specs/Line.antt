@@ -1,40 +1,35 @@
 -- What the functions of `scan` find in the words that they are given.
-use Rattle.std.specs.Prelude.{◌≡◌, ◌≢◌, ℕ, ◌≤◌, true, List, [], ◌∷◌, ◌++◌, length, map, drop, Option, None}
-use Rattle.std.specs.Borrow.{Bor}
-use Rattle.std.specs.List.{AllByRecursion}
+use Rattle.std.specs.Prelude.{◌≡◌, ◌≢◌, ℕ, ◌≤◌, true, List, [], ◌∷◌, ◌++◌, length, map, drop, Option}
 use Rattle.std.specs.Option.{option_copied, unwrap_or}
-use Rattle.getopts.specs.Names.{Text, IsLawfullyNamed, names_view}
-use Rattle.getopts.specs.Options.{Grammar, opts_grammar}
-use Rattle.getopts.specs.Scan.{dash_text, Dashes, MayStandBefore, Argument, none, FitsEnd, value_of, attached_argument, argument_words, EndsOrIsDashed, mention, is_dashed, stop_word, Item, BeginsWith, Occurrence, occurrence_at, mentions, Reading, IsReading, occurrences_of, free_words, trailing_start}
-use Rattle.getopts.specs.declared.options.HasArg.{HasArg}
-use Rattle.getopts.specs.declared.options.Opt.{Opt}
-use Rattle.getopts.specs.declared.scan.Occurrence.{Occurrence as Held}
-use Rattle.getopts.specs.declared.scan.Line.{Line}
+use Rattle.getopts.specs.Names.{Text, texts}
+use Rattle.getopts.specs.Options.{Grammar, AreLawfullyNamed, knowns_of, grammar_of}
+use Rattle.getopts.specs.Held.Groups.{HaveTextsForShorts}
+use Rattle.getopts.specs.Pairs.{name_texts}
+use Rattle.getopts.specs.Table.{IsTableOf}
+use Rattle.getopts.specs.Canon.{mention_of, Content}
+use Rattle.getopts.specs.Scan.{dash_text, Dashes, MayStandBefore, Argument, none, FitsEnd, value_of, attached_argument, argument_words, EndsOrIsDashed, is_dashed, stop_word, Item, BeginsWith, Occurrence, occurrence_at, mentions, Reading, IsReading, occurrences_of, free_words, trailing_start}
+use Rattle.getopts.specs.declared.groups.HasArg.{HasArg}
+use Rattle.getopts.specs.declared.line.Occurrence.{Occurrence as Held}
+use Rattle.getopts.specs.declared.line.Line.{Line}
 use Rattle.getopts.specs.declared.scan.Scanner.{Scanner}
-
--- the texts of borrowed words
-abbrev pub texts : List (Bor Text) → List Text
-texts words = map (λ word. word.now) words
 
 -- an occurrence as the code holds it
 abbrev pub occurrence_view : Held → Occurrence
-occurrence_view held = record { group = held.group; value = option_copied held.value; position = held.position }
+occurrence_view held = record {
+  group = held.group;
+  value = option_copied held.value;
+  position = held.position;
+}
 
--- the occurrences as the code holds them
-abbrev pub occurrences_view : List Held → List Occurrence
-occurrences_view held = map occurrence_view held
-
--- the occurrences of flags, all at one position
-abbrev pub flag_occurrences : Grammar → ℕ → List ℕ → List Occurrence
-flag_occurrences grammar position names = map (λ name. occurrence_at position (mention grammar (name ∷ []) None)) names
-
--- the grammar of a scanner's options, style and mode
+-- the grammar of a scanner's options
 abbrev pub scanner_grammar : Scanner → Grammar
-scanner_grammar scanner = opts_grammar scanner.opts.now scanner.style scanner.long_only
+scanner_grammar scanner = grammar_of scanner.options.now
 
--- the options of a scanner are lawfully named
-abbrev pub IsLawfulScanner : Scanner → Type 0
-IsLawfulScanner scanner = AllByRecursion (λ (opt : Opt). IsLawfullyNamed (names_view opt.names)) scanner.opts.now
+-- the options of a scanner are lawfully named, by texts, and its table is that of their names
+pub record IsLawfulScanner (scanner : Scanner) : Type 0 where
+  pub lawful : AreLawfullyNamed scanner.options.now.groups
+  pub shorts : HaveTextsForShorts scanner.options.now.groups
+  pub table : IsTableOf (name_texts (knowns_of scanner.options.now.groups)) scanner.table.now
 
 -- a word in long form, which is its dashes and this text
 pub record IsInLongForm (grammar : Grammar) (word text : Text) : Type 0 where
@@ -45,21 +40,25 @@ pub record IsInLongForm (grammar : Grammar) (word text : Text) : Type 0 where
   pub no_stop : word ≢ stop_word
 
 -- The line begins with an item that uses so many words after its first, and has these occurrences.
-pub record ReadsItem (grammar : Grammar) (word : Text) (after : List Text) (position used : ℕ) (occurrences : List Occurrence) : Type 0 where
+pub record ReadsItem (grammar : Grammar) (word : Text) (after : List Text) (position used : ℕ)
+    (occurrences : List Occurrence) : Type 0 where
   pub item : Item
   pub within : used ≤ length after
   pub begins : BeginsWith grammar (word ∷ after) item (drop used after)
   pub found : occurrences ≡ map (occurrence_at position) (mentions grammar item)
 
--- The line begins with an item that uses so many words after its first, and its occurrences are added.
-pub record AddsItem (grammar : Grammar) (word : Text) (after : List Text) (position used : ℕ) (old new : List Occurrence) : Type 0 where
+-- The line begins with an item that uses so many words after its first, and its occurrences are
+-- added.
+pub record AddsItem (grammar : Grammar) (word : Text) (after : List Text) (position used : ℕ)
+    (old new : List Occurrence) : Type 0 where
   pub occurrences : List Occurrence
   pub reads : ReadsItem grammar word after position used occurrences
   pub added : new ≡ old ++ occurrences
 
 -- How an option of this kind ends a cluster: the rest of the word and the words after it are its
 -- argument and what follows, with this value.
-pub record IsEnding (kind : HasArg) (rest : Text) (after : List Text) (value : Option Text) (used : ℕ) : Type 0 where
+pub record IsEnding (kind : HasArg) (rest : Text) (after : List Text) (value : Option Text)
+    (used : ℕ) : Type 0 where
   pub argument : Argument
   pub fits : FitsEnd kind argument
   pub value_is : value ≡ value_of argument
@@ -72,6 +71,10 @@ pub record IsEnding (kind : HasArg) (rest : Text) (after : List Text) (value : O
 pub record ReadsLine (grammar : Grammar) (words : List Text) (line : Line) : Type 0 where
   pub reading : Reading
   pub reads : IsReading grammar reading words
-  pub occurrences : occurrences_view line.occurrences.items ≡ occurrences_of grammar reading
+  pub occurrences : line.found ≡ occurrences_of grammar reading
   pub free : texts line.free.items ≡ free_words reading
   pub trailing : line.trailing_start ≡ trailing_start reading
+
+-- what a line says
+abbrev pub line_content : Line → Content
+line_content line = record { mentions = map mention_of line.found; free = texts line.free.items }

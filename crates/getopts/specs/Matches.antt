@@ -1,13 +1,12 @@
 -- What the matches of a reading hold, and whether the counts are kept.
 use Rattle.std.specs.Prelude.{◌≡◌, ◌==◌, if◌then◌else◌, ℕ, ◌+◌, ◌≤◌, ⊤, List, [], ◌∷◌, ◌++◌, length, map, Option}
 use Rattle.std.specs.List.{AllByRecursion, filter}
-use Rattle.getopts.specs.Names.{Text, Names, main_name}
-use Rattle.getopts.specs.Options.{Group, Declared, grammar_of, Known}
+use Rattle.getopts.specs.Names.{Text, main_name}
+use Rattle.getopts.specs.Options.{Known, Declared, knowns_of, grammar_of}
 use Rattle.getopts.specs.Fail.{Fault, option_missing, option_duplicated}
 use Rattle.getopts.specs.Scan.{Reading, Occurrence, occurrences_of, free_words, trailing_start}
-use Rattle.getopts.specs.declared.options.HasArg.{HasArg}
-use Rattle.getopts.specs.declared.options.Occur.{Occur}
-use Rattle.getopts.specs.declared.options.Occur.TheVariants.{Req, Optional, Multi}
+use Rattle.getopts.specs.declared.groups.Occur.{Occur}
+use Rattle.getopts.specs.declared.groups.Occur.TheVariants.{Req, Optional, Multi}
 
 -- one occurrence of a known group: its position, and the value if there is one
 pub record Found : Type 0 where
@@ -16,9 +15,7 @@ pub record Found : Type 0 where
 
 -- a group as matches hold it, with its occurrences in the order of the line
 pub record MatchedGroup : Type 0 where
-  pub names : Names
-  pub kind : HasArg
-  pub occurrence : Occur
+  pub known : Known
   pub found : List Found
 
 -- what matches hold: the groups, the free words, and where the words after a stop begin among them
@@ -29,32 +26,21 @@ pub record Matched : Type 0 where
 
 -- the occurrences of the group at this place
 abbrev pub found_at : ℕ → List Occurrence → List Found
-found_at place occurrences = map (λ o. record { position = o.position; value = o.value }) (filter (λ o. o.group == place) occurrences)
+found_at place occurrences =
+    map (λ o. record { position = o.position; value = o.value })
+    (filter (λ o. o.group == place) occurrences)
 
 -- each group with its occurrences, where the first group has this place
-abbrev pub matched_from : ℕ → List Group → List Occurrence → List MatchedGroup
-matched_from place [] occurrences = []
-matched_from place (group ∷ groups) occurrences = record {
-  names = group.names;
-  kind = group.kind;
-  occurrence = group.occurrence;
-  found = found_at place occurrences;
-} ∷ matched_from (place + 1) groups occurrences
-
--- each known group with its occurrences, where the first group has this place
-abbrev pub matched_known : ℕ → List Known → List Occurrence → List MatchedGroup
-matched_known place [] occurrences = []
-matched_known place (group ∷ groups) occurrences = record {
-  names = group.names;
-  kind = group.kind;
-  occurrence = group.occurrence;
-  found = found_at place occurrences;
-} ∷ matched_known (place + 1) groups occurrences
+abbrev pub matched : ℕ → List Known → List Occurrence → List MatchedGroup
+matched place [] occurrences = []
+matched place (known ∷ knowns) occurrences =
+    record { known = known; found = found_at place occurrences }
+    ∷ matched (place + 1) knowns occurrences
 
 -- the matches of a reading
 abbrev pub matches_of : Declared → Reading → Matched
 matches_of options reading = record {
-  groups = matched_from 0 options.groups (occurrences_of (grammar_of options) reading);
+  groups = matched 0 (knowns_of options.groups) (occurrences_of (grammar_of options) reading);
   free = free_words reading;
   trailing_start = trailing_start reading;
 }
@@ -67,7 +53,7 @@ FitsCount Multi count = ⊤
 
 -- a group keeps its count
 abbrev pub KeepsCount : MatchedGroup → Type 0
-KeepsCount group = FitsCount group.occurrence (length group.found)
+KeepsCount group = FitsCount group.known.occurrence (length group.found)
 
 -- each group keeps its count
 abbrev pub KeepsCounts : List MatchedGroup → Type 0
@@ -79,7 +65,7 @@ count_fault main count = if count == 0 then option_missing main else option_dupl
 
 -- the fault of a group that breaks its count
 abbrev pub broken_count : MatchedGroup → Fault
-broken_count group = count_fault (main_name group.names) (length group.found)
+broken_count group = count_fault (main_name group.known.names) (length group.found)
 
 -- the count fault: that of the first group in order of definition that breaks its count
 pub record IsCountFault (groups : List MatchedGroup) (fault : Fault) : Type 0 where

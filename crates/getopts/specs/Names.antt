@@ -1,23 +1,29 @@
 -- Names of options: the two names of a group, which pairs are lawful, and what a name resolves to.
-use Rattle.std.specs.Prelude.{◌≢◌, ◌==◌, ℕ, ◌+◌, ◌<◌, ◌≤◌, Bool, ◌&&◌, not, List, length, Option, if◌then◌else◌, ◌≡◌, Some, None, [], ◌∷◌, slice_get}
-use Rattle.std.specs.List.{find, position}
+use Rattle.std.specs.Prelude.{◌≢◌, ◌==◌, ℕ, ◌+◌, ◌<◌, ◌≤◌, Bool, ◌&&◌, not, List, length, map, Option, if◌then◌else◌, ◌≡◌, Some, None, [], ◌∷◌, slice_get}
+use Rattle.std.specs.Borrow.{Bor}
+use Rattle.std.specs.List.{AllByRecursion, Any, find, position}
 use Rattle.std.specs.Option.{option_and_then, option_or}
-use Rattle.std.specs.Cmp.Lexicographic.{pointwise}
-use Rattle.std.specs.Ordering.{on, eq_of_both}
-use Rattle.std.specs.Str.{bytes_eq}
-use Rattle.std.specs.String.{string_bytes}
-use Rattle.getopts.specs.declared.names.Names.{Names as Held}
+use Rattle.std.specs.Str.{IsUtf8, bytes_eq}
 
 -- a text, as its bytes
 abbrev pub Text : Type 0
 Text = List ℕ
+
+-- the texts of borrowed words
+abbrev pub texts : List (Bor Text) → List Text
+texts words = map (λ word. word.now) words
+
+-- each text is UTF-8
+abbrev pub AreTexts : List Text → Type 0
+AreTexts words = AllByRecursion IsUtf8 words
 
 -- the short and the long name of a group; either may be empty
 pub record Names : Type 0 where
   pub short : Text
   pub long : Text
 
--- the short name has at most one byte, the long name doesn't have exactly one, and not both are empty
+-- the short name has at most one byte, the long name doesn't have exactly one, and not both are
+-- empty
 pub record AreLawful (short long : Text) : Type 0 where
   pub short_fits : length short ≤ 1
   pub long_fits : length long ≢ 1
@@ -35,40 +41,39 @@ is_empty text = length text == 0
 abbrev pub main_name : Names → Text
 main_name names = if is_empty names.long then names.short else names.long
 
--- the two names as the code holds them
-abbrev pub names_view : Held → Names
-names_view held = record { short = string_bytes held.short; long = string_bytes held.long }
-
 -- whether this is the group's main name
 abbrev pub is_main : Text → Names → Bool
 is_main name names = bytes_eq (main_name names) name
 
 -- whether this is the group's alias: its short name, where it has both
 abbrev pub is_alias : Text → Names → Bool
-is_alias name names = not (is_empty names.long) && not (is_empty names.short) && bytes_eq names.short name
+is_alias name names =
+    not (is_empty names.long) && not (is_empty names.short) && bytes_eq names.short name
 
 -- the place of the first group with this main name
 abbrev pub main_place : List Names → Text → Option ℕ
 main_place groups name = position (is_main name) groups
 
--- The place of the group that a name resolves to: the first with this main name; where there is none,
--- the first whose main name is that of the first group with this alias.
+-- The place of the group that a name resolves to: the first with this main name; where there is
+-- none, the first whose main name is that of the first group with this alias.
 abbrev pub resolution : List Names → Text → Option ℕ
 resolution groups name = option_or (main_place groups name)
-    (option_and_then (λ declarer. main_place groups (main_name declarer)) (find (is_alias name) groups))
-
--- whether the short names and the long names are the same
-abbrev pub same_names : Names → Names → Bool
-same_names = eq_of_both (on (λ names. names.short) (pointwise ◌==◌)) (on (λ names. names.long) (pointwise ◌==◌))
+    (option_and_then (λ declarer. main_place groups (main_name declarer))
+    (find (is_alias name) groups))
 
 -- the main name of a resolved group resolves to that same group
 abbrev pub MainNameResolves : List Names → Type 0
-MainNameResolves groups = (name : Text) (place : ℕ) (names : Names) → resolution groups name ≡ Some place → slice_get groups place ≡ Some names
+MainNameResolves groups = (name : Text) (place : ℕ) (names : Names)
+    → resolution groups name ≡ Some place
+    → slice_get groups place ≡ Some names
     → resolution groups (main_name names) ≡ Some place
 
--- a name of one byte that resolves is the short name of some group
+-- a name of one byte that resolves is the short name of some group, and the long name of none
 abbrev pub OneByteIsShort : List Names → Type 0
-OneByteIsShort groups = (byte place : ℕ) → resolution groups (byte ∷ []) ≡ Some place → (other : ℕ) × (names : Names) × (slice_get groups other ≡ Some names) × (names.short ≡ byte ∷ [])
+OneByteIsShort groups = (byte place : ℕ)
+    → resolution groups (byte ∷ []) ≡ Some place
+    → Any (λ names. names.short ≡ byte ∷ []) groups
+    × AllByRecursion (λ names. names.long ≢ byte ∷ []) groups
 
 -- the empty name doesn't resolve
 abbrev pub EmptyResolvesNot : List Names → Type 0

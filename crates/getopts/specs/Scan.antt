@@ -1,5 +1,5 @@
--- How words are read: items, their spelling, when they are lawful, readings of a line, the occurrences
--- and free words of a reading, and the faults of a line that has none.
+-- How words are read: items, their spelling, when they are lawful, readings of a line, the
+-- occurrences and free words of a reading, and the faults of a line that has none.
 use Rattle.std.specs.Prelude.{◌≡◌, ◌≢◌, ◌==◌, ◌⊎◌, ⊤, ℕ, ◌+◌, ◌<◌, Bool, true, false, List, [], ◌∷◌, ◌++◌, length, map, Option, Some, None, encode_utf8}
 use Rattle.std.specs.Char.{IsScalar}
 use Rattle.std.specs.List.{AllByRecursion, list_any}
@@ -7,9 +7,9 @@ use Rattle.std.specs.Option.{unwrap_or}
 use Rattle.getopts.specs.Names.{Text}
 use Rattle.getopts.specs.Options.{Grammar}
 use Rattle.getopts.specs.Fail.{Fault, argument_missing, unrecognized_option, option_missing, option_duplicated, unexpected_argument}
-use Rattle.getopts.specs.declared.options.HasArg.{HasArg}
-use Rattle.getopts.specs.declared.options.HasArg.TheVariants.{Yes, No, Maybe}
-use Rattle.getopts.specs.declared.options.ParsingStyle.TheVariants.{FloatingFrees, StopAtFirstFree}
+use Rattle.getopts.specs.declared.groups.HasArg.{HasArg}
+use Rattle.getopts.specs.declared.groups.HasArg.TheVariants.{Yes, No, Maybe}
+use Rattle.getopts.specs.declared.groups.ParsingStyle.TheVariants.{FloatingFrees, StopAtFirstFree}
 
 -- the byte `-`
 abbrev pub dash : ℕ
@@ -106,7 +106,8 @@ end_words (ends_in option argument) more = argument_words argument more
 -- the words that an item spells, before those that follow
 abbrev pub spelled : Item → List Text → List Text
 spelled (free word) more = word ∷ more
-spelled (long dashes name argument) more = long_word dashes name (attached_argument argument) ∷ argument_words argument more
+spelled (long dashes name argument) more =
+    long_word dashes name (attached_argument argument) ∷ argument_words argument more
 spelled (cluster names end) more = (dash ∷ (names ++ end_text end)) ∷ end_words end more
 
 -- the words that items spell one after the other, before those that follow
@@ -114,7 +115,8 @@ abbrev pub spelled_all : List Item → List Text → List Text
 spelled_all [] more = more
 spelled_all (item ∷ items) more = spelled item (spelled_all items more)
 
--- which dashes may stand before a name: two; in long-only mode one too, where the name begins with no dash
+-- which dashes may stand before a name: two; in long-only mode one too, where the name begins with
+-- no dash
 abbrev pub MayStandBefore : Bool → Dashes → Text → Type 0
 MayStandBefore long_only one name = (long_only ≡ true) × (begins_with_dash name ≡ false)
 MayStandBefore long_only two name = ⊤
@@ -132,8 +134,8 @@ FitsLong Maybe none = ⊤
 FitsLong Maybe (attached argument) = ⊤
 FitsLong Maybe (separate word) = ⊥
 
--- The arguments that a kind may have at the end of a cluster: an attached one is not empty; for Yes a
--- separate one is any word; for Maybe it isn't dashed, and there may be none.
+-- The arguments that a kind may have at the end of a cluster: an attached one is not empty; for Yes
+-- a separate one is any word; for Maybe it isn't dashed, and there may be none.
 abbrev pub FitsEnd : HasArg → Argument → Type 0
 FitsEnd No argument = ⊥
 FitsEnd Yes none = ⊥
@@ -150,10 +152,13 @@ IsFlag grammar name = grammar.kind_of (name ∷ []) ≡ Some No
 -- a lawful end of a cluster with these flags
 abbrev pub IsLawfulEnd : Grammar → List ℕ → End → Type 0
 IsLawfulEnd grammar names flags = names ≢ []
-IsLawfulEnd grammar names (ends_in option argument) = (kind : HasArg) × (grammar.kind_of (option ∷ []) ≡ Some kind) × FitsEnd kind argument
+IsLawfulEnd grammar names (ends_in option argument) = (kind : HasArg)
+    × (grammar.kind_of (option ∷ []) ≡ Some kind)
+    × FitsEnd kind argument
 
 -- a lawful item in long form
-pub record IsLawfulLong (grammar : Grammar) (dashes : Dashes) (name : Text) (argument : Argument) : Type 0 where
+pub record IsLawfulLong (grammar : Grammar) (dashes : Dashes) (name : Text) (argument : Argument)
+    : Type 0 where
   pub before : MayStandBefore grammar.long_only dashes name
   pub cut_once : holds_equals name ≡ false
   pub resolves : (kind : HasArg) × (grammar.kind_of name ≡ Some kind) × FitsLong kind argument
@@ -188,10 +193,11 @@ EndsOrIsDashed (word ∷ words) = is_dashed word ≡ true
 -- after each bare cluster the line ends or its next word is dashed
 abbrev pub AreWellFollowed : List Item → List Text → Type 0
 AreWellFollowed [] more = ⊤
-AreWellFollowed (item ∷ items) more = (is_bare item ≡ true → EndsOrIsDashed (spelled_all items more)) × AreWellFollowed items more
+AreWellFollowed (item ∷ items) more =
+    (is_bare item ≡ true → EndsOrIsDashed (spelled_all items more)) × AreWellFollowed items more
 
--- What follows the items: the end of the line; the stop `--` and the words after it; or, from the first free word
--- on, the rest.
+-- What follows the items: the end of the line; the stop `--` and the words after it; or, from the
+-- first free word on, the rest.
 pub data Tail : Type 0 where
   line_end : Tail
   stop : List Text → Tail
@@ -208,7 +214,8 @@ abbrev pub BeginsFree : List Text → Type 0
 BeginsFree [] = ⊥
 BeginsFree (word ∷ words) = is_dashed word ≡ false
 
--- a lawful tail; a rest begins with a word that isn't dashed, and stands only under `StopAtFirstFree`
+-- a lawful tail; a rest begins with a word that isn't dashed, and stands only under
+-- `StopAtFirstFree`
 abbrev pub IsLawfulTail : Grammar → Tail → Type 0
 IsLawfulTail grammar line_end = ⊤
 IsLawfulTail grammar (stop words) = ⊤
@@ -228,7 +235,8 @@ pub record IsReading (grammar : Grammar) (reading : Reading) (words : List Text)
   pub followed : AreWellFollowed reading.items (tail_words reading.tail)
 
 -- a line begins with this item, and these words follow it
-pub record BeginsWith (grammar : Grammar) (words : List Text) (item : Item) (more : List Text) : Type 0 where
+pub record BeginsWith (grammar : Grammar) (words : List Text) (item : Item) (more : List Text)
+    : Type 0 where
   pub spells : words ≡ spelled item more
   pub lawful : IsLawfulItem grammar item
   pub followed : is_bare item ≡ true → EndsOrIsDashed more
@@ -245,15 +253,18 @@ mention grammar name value = record { group = unwrap_or (grammar.place_of name) 
 -- what the end of a cluster mentions
 abbrev pub end_mentions : Grammar → End → List Mention
 end_mentions grammar flags = []
-end_mentions grammar (ends_in option argument) = mention grammar (option ∷ []) (value_of argument) ∷ []
+end_mentions grammar (ends_in option argument) =
+    mention grammar (option ∷ []) (value_of argument) ∷ []
 
 -- what an item mentions, in the order of its spelling
 abbrev pub mentions : Grammar → Item → List Mention
 mentions grammar (free word) = []
 mentions grammar (long dashes name argument) = mention grammar name (value_of argument) ∷ []
-mentions grammar (cluster names end) = map (λ name. mention grammar (name ∷ []) None) names ++ end_mentions grammar end
+mentions grammar (cluster names end) =
+    map (λ name. mention grammar (name ∷ []) None) names ++ end_mentions grammar end
 
--- an occurrence of a group: its place, the value if there is one, and the position in the line
+-- an occurrence of a group: its place, the value if there is one, and the position in the line,
+-- which is the index of the word in which its item begins
 pub record Occurrence : Type 0 where
   pub group : ℕ
   pub value : Option Text
@@ -263,10 +274,17 @@ pub record Occurrence : Type 0 where
 abbrev pub occurrence_at : ℕ → Mention → Occurrence
 occurrence_at position m = record { group = m.group; value = m.value; position = position }
 
--- the occurrences of items, where so many items stand before them: a position is the number of items before
+-- the number of words that items spell
+abbrev pub word_count : List Item → ℕ
+word_count items = length (spelled_all items [])
+
+-- the occurrences of items, where so many words stand before them: a position is the number of
+-- words that the items before spell
 abbrev pub occurrences_after : ℕ → Grammar → List Item → List Occurrence
 occurrences_after before grammar [] = []
-occurrences_after before grammar (item ∷ items) = map (occurrence_at before) (mentions grammar item) ++ occurrences_after (before + 1) grammar items
+occurrences_after before grammar (item ∷ items) =
+    map (occurrence_at before) (mentions grammar item)
+    ++ occurrences_after (before + word_count (item ∷ [])) grammar items
 
 -- the occurrences of a reading
 abbrev pub occurrences_of : Grammar → Reading → List Occurrence
@@ -300,7 +318,8 @@ trailing_after before (rest words) = None
 abbrev pub trailing_start : Reading → Option ℕ
 trailing_start reading = trailing_after (length (free_items reading.items)) reading.tail
 
--- a word in long form, with this name and this attached argument, which is neither the stop nor undashed
+-- a word in long form, with this name and this attached argument, which is neither the stop nor
+-- undashed
 pub record IsLongForm (grammar : Grammar) (word name : Text) (argument : Option Text) : Type 0 where
   pub dashes : Dashes
   pub before : MayStandBefore grammar.long_only dashes name
@@ -309,7 +328,8 @@ pub record IsLongForm (grammar : Grammar) (word name : Text) (argument : Option 
   pub dashed : is_dashed word ≡ true
   pub no_stop : word ≢ stop_word
 
--- a word in short form: in ordinary mode, `-` and this text, which isn't empty and doesn't begin with `-`
+-- a word in short form: in ordinary mode, `-` and this text, which isn't empty and doesn't begin
+-- with `-`
 pub record IsShortForm (grammar : Grammar) (word text : Text) : Type 0 where
   pub ordinary : grammar.long_only ≡ false
   pub word_is : word ≡ dash ∷ text
@@ -336,16 +356,26 @@ pub record EndsInYes (grammar : Grammar) (word name : Text) : Type 0 where
   pub name_is : name ≡ option ∷ []
   pub kind : grammar.kind_of name ≡ Some Yes
 
--- The faults of a word where an item begins, with these words after it: a name that doesn't resolve;
--- an attached argument for kind No; no argument for kind Yes at the end of the line.
+-- The faults of a word where an item begins, with these words after it: a name that doesn't
+-- resolve; an attached argument for kind No; no argument for kind Yes at the end of the line.
 abbrev pub IsFaultAt : Grammar → Text → List Text → Fault → Type 0
-IsFaultAt grammar word after (unrecognized_option name) = ((argument : Option Text) × IsLongForm grammar word name argument × (grammar.kind_of name ≡ None)) ⊎ HasUnknownFlag grammar word name
-IsFaultAt grammar word after (unexpected_argument name) = (argument : Text) × IsLongForm grammar word name (Some argument) × (grammar.kind_of name ≡ Some No)
-IsFaultAt grammar word after (argument_missing name) = ((IsLongForm grammar word name None × (grammar.kind_of name ≡ Some Yes)) ⊎ EndsInYes grammar word name) × (after ≡ [])
+IsFaultAt grammar word after (unrecognized_option name) =
+    ((argument : Option Text)
+    × IsLongForm grammar word name argument
+    × (grammar.kind_of name ≡ None))
+    ⊎ HasUnknownFlag grammar word name
+IsFaultAt grammar word after (unexpected_argument name) = (argument : Text)
+    × IsLongForm grammar word name (Some argument)
+    × (grammar.kind_of name ≡ Some No)
+IsFaultAt grammar word after (argument_missing name) =
+    ((IsLongForm grammar word name None × (grammar.kind_of name ≡ Some Yes))
+    ⊎ EndsInYes grammar word name)
+    × (after ≡ [])
 IsFaultAt grammar word after (option_missing name) = ⊥
 IsFaultAt grammar word after (option_duplicated name) = ⊥
 
--- A scan fault of a line: the fault of a word, where the words before it have a reading that ends there.
+-- A scan fault of a line: the fault of a word, where the words before it have a reading that ends
+-- there.
 pub record IsScanFault (grammar : Grammar) (words : List Text) (fault : Fault) : Type 0 where
   pub before : List Text
   pub word : Text

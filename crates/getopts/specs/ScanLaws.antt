@@ -1,13 +1,13 @@
 -- Laws of readings: which items may stand for others, how lines compose, and what free words, the
 -- trailing start and positions keep to. Each is about every reading of every line.
-use Rattle.std.specs.Prelude.{◌≡◌, ◌≢◌, ℕ, ◌<◌, Bool, false, true, List, [], ◌∷◌, ◌++◌, length, drop, Some}
+use Rattle.std.specs.Prelude.{◌≡◌, ◌≢◌, ℕ, ◌+◌, ◌<◌, nat_le, if◌then◌else◌, Bool, false, true, List, [], ◌∷◌, ◌++◌, length, map, drop, slice_get, Contains, Some}
 use Rattle.std.specs.List.{AllByRecursion, flat_map}
 use Rattle.std.specs.List.Sorted.{IsNonDecreasingBy}
 use Rattle.getopts.specs.Names.{Text}
 use Rattle.getopts.specs.Options.{Grammar}
-use Rattle.getopts.specs.Scan.{begins_with_dash, Argument, attached, separate, Dashes, End, flags, ends_in, Item, long, cluster, end_text, spelled_all, is_bare, Tail, line_end, stop, tail_words, Reading, IsReading, Mention, mentions, occurrences_of, free_words, trailing_start}
-use Rattle.getopts.specs.Matches.{Found, found_at, MatchedGroup}
-use Rattle.getopts.specs.declared.options.HasArg.TheVariants.{Yes}
+use Rattle.getopts.specs.Scan.{begins_with_dash, Argument, attached, separate, Dashes, End, flags, ends_in, Item, long, cluster, end_text, spelled, spelled_all, is_bare, Tail, line_end, stop, tail_words, Reading, IsReading, Mention, mentions, Occurrence, occurrence_at, word_count, occurrences_of, free_words, trailing_start}
+use Rattle.getopts.specs.Matches.{Found, MatchedGroup}
+use Rattle.getopts.specs.declared.groups.HasArg.TheVariants.{Yes}
 
 -- what a reading mentions, in the order of the line: its occurrences without their positions
 abbrev pub mentions_of : Grammar → Reading → List Mention
@@ -21,58 +21,103 @@ words_of reading = spelled_all reading.items (tail_words reading.tail)
 abbrev pub reading_of : List Item → List Item → List Item → Tail → Reading
 reading_of front middle back tail = record { items = front ++ (middle ++ back); tail = tail }
 
--- The new reading is one of the words that it spells, and has the old one's occurrences, positions too,
--- free words and trailing start.
+-- The new reading is one of the words that it spells, and has the old one's occurrences, positions
+-- too, free words and trailing start.
 pub record ReadsAlike (grammar : Grammar) (old new : Reading) : Type 0 where
   pub reads : IsReading grammar new (words_of new)
   pub occurrences : occurrences_of grammar new ≡ occurrences_of grammar old
   pub free : free_words new ≡ free_words old
   pub trailing : trailing_start new ≡ trailing_start old
 
--- The new reading is one of the words that it spells, and has the old one's mentions, free words and
--- trailing start: positions alone may differ.
+-- the occurrence, one position higher where it stands after this one
+abbrev pub one_higher_after : ℕ → Occurrence → Occurrence
+one_higher_after position o = record {
+  group = o.group;
+  value = o.value;
+  position = if nat_le o.position position then o.position else o.position + 1;
+}
+
+-- The new reading is one of the words that it spells, and has the old one's occurrences, those
+-- after this position one higher, free words and trailing start.
+pub record ReadsOneHigherAfter (grammar : Grammar) (position : ℕ) (old new : Reading) : Type 0 where
+  pub reads : IsReading grammar new (words_of new)
+  pub occurrences :
+      occurrences_of grammar new ≡ map (one_higher_after position) (occurrences_of grammar old)
+  pub free : free_words new ≡ free_words old
+  pub trailing : trailing_start new ≡ trailing_start old
+
+-- The same the other way round: the old reading's occurrences after this position are one higher.
+pub record ReadsOneLowerAfter (grammar : Grammar) (position : ℕ) (old new : Reading) : Type 0 where
+  pub reads : IsReading grammar new (words_of new)
+  pub occurrences :
+      occurrences_of grammar old ≡ map (one_higher_after position) (occurrences_of grammar new)
+  pub free : free_words new ≡ free_words old
+  pub trailing : trailing_start new ≡ trailing_start old
+
+-- The new reading is one of the words that it spells, and has the old one's mentions, free words
+-- and trailing start: positions alone may differ.
 pub record ReadsAlikeButForPositions (grammar : Grammar) (old new : Reading) : Type 0 where
   pub reads : IsReading grammar new (words_of new)
   pub mentions : mentions_of grammar new ≡ mentions_of grammar old
   pub free : free_words new ≡ free_words old
   pub trailing : trailing_start new ≡ trailing_start old
 
--- wherever the item stands in a reading of a line, the reading with the others in its place is alike
-abbrev pub MayStandFor : (Grammar → Reading → Reading → Type 0) → Grammar → List Item → Item → Type 0
+-- wherever the item stands in a reading of a line, the reading with the others in its place is
+-- alike
+abbrev pub MayStandFor : (Grammar → Reading → Reading → Type 0)
+    → Grammar → List Item → Item → Type 0
 MayStandFor Alike grammar others item = (front back : List Item) (tail : Tail) (words : List Text)
     → IsReading grammar (reading_of front (item ∷ []) back tail) words
     → Alike grammar (reading_of front (item ∷ []) back tail) (reading_of front others back tail)
 
--- A long argument attached or separate: `--name=argument` and `--name`, `argument` read alike, where
--- the name's kind is Yes.
+-- the same, where alike asks for the item's position too
+abbrev pub MayStandForAt : (Grammar → ℕ → Reading → Reading → Type 0)
+    → Grammar → List Item → Item → Type 0
+MayStandForAt Alike grammar others item = (front back : List Item) (tail : Tail) (words : List Text)
+    → IsReading grammar (reading_of front (item ∷ []) back tail) words
+    → Alike grammar (word_count front) (reading_of front (item ∷ []) back tail)
+    (reading_of front others back tail)
+
+-- A long argument attached or separate: `--name=argument` and `--name`, `argument` read alike,
+-- where the name's kind is Yes, but that positions of later items are one higher with the latter.
 pub record LongAttachedOrSeparate (grammar : Grammar) : Type 0 where
   pub to_separate : (dashes : Dashes) (name argument : Text)
       → grammar.kind_of name ≡ Some Yes
-      → MayStandFor ReadsAlike grammar (long dashes name (separate argument) ∷ []) (long dashes name (attached argument))
+      → MayStandForAt ReadsOneHigherAfter grammar (long dashes name (separate argument) ∷ [])
+      (long dashes name (attached argument))
   pub to_attached : (dashes : Dashes) (name argument : Text)
       → grammar.kind_of name ≡ Some Yes
-      → MayStandFor ReadsAlike grammar (long dashes name (attached argument) ∷ []) (long dashes name (separate argument))
+      → MayStandForAt ReadsOneLowerAfter grammar (long dashes name (attached argument) ∷ [])
+      (long dashes name (separate argument))
 
--- A short argument attached or separate: `-xargument` and `-x`, `argument` read alike, also after flags,
--- where the kind of `x` is Yes and the argument isn't empty.
+-- A short argument attached or separate: `-xargument` and `-x`, `argument` read alike, also after
+-- flags, where the kind of `x` is Yes and the argument isn't empty, but that positions of later
+-- items are one higher with the latter.
 pub record ShortAttachedOrSeparate (grammar : Grammar) : Type 0 where
   pub to_separate : (names : List ℕ) (option : ℕ) (argument : Text)
       → grammar.kind_of (option ∷ []) ≡ Some Yes
-      → MayStandFor ReadsAlike grammar (cluster names (ends_in option (separate argument)) ∷ []) (cluster names (ends_in option (attached argument)))
+      → MayStandForAt ReadsOneHigherAfter grammar
+      (cluster names (ends_in option (separate argument)) ∷ [])
+      (cluster names (ends_in option (attached argument)))
   pub to_attached : (names : List ℕ) (option : ℕ) (argument : Text)
       → grammar.kind_of (option ∷ []) ≡ Some Yes
       → argument ≢ []
-      → MayStandFor ReadsAlike grammar (cluster names (ends_in option (attached argument)) ∷ []) (cluster names (ends_in option (separate argument)))
+      → MayStandForAt ReadsOneLowerAfter grammar
+      (cluster names (ends_in option (attached argument)) ∷ [])
+      (cluster names (ends_in option (separate argument)))
 
--- A cluster splits: `-xs` and `-x`, `-s` read alike but for positions, where `x` is a flag and `s` isn't
--- empty and doesn't begin with `-`.
+-- A cluster splits: `-xs` and `-x`, `-s` read alike but for positions, where `x` is a flag and `s`
+-- isn't empty and doesn't begin with `-`.
 pub record ClusterSplits (grammar : Grammar) : Type 0 where
   pub after_flag : (flag : ℕ) (names : List ℕ) (end : End)
       → names ++ end_text end ≢ []
       → begins_with_dash (names ++ end_text end) ≡ false
-      → MayStandFor ReadsAlikeButForPositions grammar (cluster (flag ∷ []) flags ∷ cluster names end ∷ []) (cluster (flag ∷ names) end)
+      → MayStandFor ReadsAlikeButForPositions grammar
+      (cluster (flag ∷ []) flags ∷ cluster names end ∷ [])
+      (cluster (flag ∷ names) end)
 
--- One dash or two: in long-only mode `-name` and `--name` read alike, where the name doesn't begin with `-`.
+-- One dash or two: in long-only mode `-name` and `--name` read alike, where the name doesn't begin
+-- with `-`.
 pub record OneDashOrTwo (grammar : Grammar) : Type 0 where
   pub other_dashes : (dashes other : Dashes) (name : Text) (argument : Argument)
       → grammar.long_only ≡ true
@@ -94,9 +139,9 @@ pub record HasContentOfBoth (grammar : Grammar) (first second whole : Reading) :
   pub mentions : mentions_of grammar whole ≡ mentions_of grammar first ++ mentions_of grammar second
   pub free : free_words whole ≡ free_words first ++ free_words second
 
--- Lines compose, in both styles: where a first line is read to its end by items of which the last isn't a
--- bare cluster, and a second line has a reading, the readings joined are one of the lines joined, and each
--- reading of these has the content of both.
+-- Lines compose, in both styles: where a first line is read to its end by items of which the last
+-- isn't a bare cluster, and a second line has a reading, the readings joined are one of the lines
+-- joined, and each reading of these has the content of both.
 pub record LinesCompose (grammar : Grammar) : Type 0 where
   pub joined : (first second : Reading) (words more : List Text)
       → IsReading grammar first words
@@ -119,8 +164,8 @@ pub record IsAfterStop (reading : Reading) (start : ℕ) : Type 0 where
   pub tail_is : reading.tail ≡ stop words
   pub free_from : drop start (free_words reading) ≡ words
 
--- The trailing start: where there is one, it is a place among the free words, and these are from there on
--- the words after the stop.
+-- The trailing start: where there is one, it is a place among the free words, and these are from
+-- there on the words after the stop.
 pub record TrailingStartIsAfterStop (grammar : Grammar) : Type 0 where
   pub after_stop : (reading : Reading) (words : List Text) (start : ℕ)
       → IsReading grammar reading words
@@ -130,23 +175,51 @@ pub record TrailingStartIsAfterStop (grammar : Grammar) : Type 0 where
 -- the texts are the words with some left out, in the same order
 pub data IsSubsequence : List Text → List Text → Type 0 where
   empty : IsSubsequence [] []
-  kept : {texts words : List Text} (word : Text) → IsSubsequence texts words → IsSubsequence (word ∷ texts) (word ∷ words)
-  left_out : {texts words : List Text} (word : Text) → IsSubsequence texts words → IsSubsequence texts (word ∷ words)
+  kept : {texts words : List Text} (word : Text)
+      → IsSubsequence texts words → IsSubsequence (word ∷ texts) (word ∷ words)
+  left_out : {texts words : List Text} (word : Text)
+      → IsSubsequence texts words → IsSubsequence texts (word ∷ words)
 
 -- Free words are a subsequence of the words.
 pub record FreeWordsAreSubsequence (grammar : Grammar) : Type 0 where
-  pub subsequence : (reading : Reading) (words : List Text) → IsReading grammar reading words → IsSubsequence (free_words reading) words
+  pub subsequence : (reading : Reading) (words : List Text)
+      → IsReading grammar reading words
+      → IsSubsequence (free_words reading) words
 
 -- the positions of a group's occurrences never decrease
 abbrev pub NeverDecrease : List Found → Type 0
 NeverDecrease founds = IsNonDecreasingBy (λ found. found.position) founds
 
--- Positions in order: those of each group's occurrences never decrease.
-pub record PositionsAreInOrder (grammar : Grammar) : Type 0 where
-  pub of_group : (reading : Reading) (words : List Text) (place : ℕ)
-      → IsReading grammar reading words
-      → NeverDecrease (found_at place (occurrences_of grammar reading))
-
 -- each group that matches hold has its positions in order
 abbrev pub HavePositionsInOrder : List MatchedGroup → Type 0
 HavePositionsInOrder groups = AllByRecursion (λ group. NeverDecrease group.found) groups
+
+-- An occurrence stands in an item: it is one of the item's mentions, and its position is the number
+-- of words that the items before spell; the word there is the item's first.
+pub record StandsInItem (grammar : Grammar) (reading : Reading) (words : List Text)
+    (occurrence : Occurrence) : Type 0 where
+  pub before : List Item
+  pub item : Item
+  pub after : List Item
+  pub items_are : reading.items ≡ before ++ item ∷ after
+  pub mentioned :
+      Contains (map (occurrence_at (word_count before)) (mentions grammar item)) occurrence
+  pub below : occurrence.position < length words
+  pub first_word : slice_get words occurrence.position ≡ slice_get (spelled item []) 0
+
+-- Positions are indexes of words: each occurrence of a reading stands in an item, at its first
+-- word.
+pub record PositionsAreWords (grammar : Grammar) : Type 0 where
+  pub of_occurrence : (reading : Reading) (words : List Text) (occurrence : Occurrence)
+      → IsReading grammar reading words
+      → Contains (occurrences_of grammar reading) occurrence
+      → StandsInItem grammar reading words occurrence
+
+-- each position that matches hold is below the number of words
+abbrev pub HavePositionsBelow : ℕ → List MatchedGroup → Type 0
+HavePositionsBelow count groups =
+    AllByRecursion (λ group. AllByRecursion (λ found. found.position < count) group.found) groups
+
+-- the words end in these
+abbrev pub EndIn : List Text → List Text → Type 0
+EndIn words last = (front : List Text) × (words ≡ front ++ last)

@@ -1,17 +1,19 @@
 -- What usage texts say: the line of all options, and the rows of options with their descriptions.
-use Rattle.std.specs.Prelude.{◌≡◌, ◌↔◌, ℕ, ◌-◌, Bool, not, nat_lt, List, [], ◌++◌, map, codes, if◌then◌else◌}
-use Rattle.std.specs.List.{AllZip, join_by, list_any, repeat}
+use Rattle.std.specs.Prelude.{◌≡◌, ◌↔◌, ℕ, ◌-◌, Bool, not, nat_lt, List, [], ◌++◌, map}
+use Rattle.std.specs.Prelude.{codes, if◌then◌else◌}
+use Rattle.std.specs.List.{AllZip, list_any, repeat}
+use Rattle.getopts.specs.Only.{IsTheOnly}
 use Rattle.getopts.specs.Names.{Text, Names, is_empty}
 use Rattle.getopts.specs.Options.{Group, Declared}
-use Rattle.getopts.specs.Wrap.{width_of, IsDescriptionRows}
-use Rattle.getopts.specs.declared.options.HasArg.{HasArg}
-use Rattle.getopts.specs.declared.options.HasArg.TheVariants as argument
-use Rattle.getopts.specs.declared.options.Occur.{Occur}
-use Rattle.getopts.specs.declared.options.Occur.TheVariants as occurrence
+use Rattle.getopts.specs.Wrap.{width_of, IsDescriptionRows, joined}
+use Rattle.getopts.specs.declared.groups.HasArg.{HasArg}
+use Rattle.getopts.specs.declared.groups.HasArg.TheVariants as argument
+use Rattle.getopts.specs.declared.groups.Occur.{Occur}
+use Rattle.getopts.specs.declared.groups.Occur.TheVariants as occurrence
 
--- the value meets the fact, and no other value does
-abbrev pub IsTheOnly : {X : Type 0} → (X → Type 0) → X → Type 0
-IsTheOnly {X} Fact value = (other : X) → Fact other ↔ (other ≡ value)
+-- the text grows by what alone meets the fact
+abbrev pub AddsTheOnly : (Text → Type 0) → Text → Text → Type 0
+AddsTheOnly Fact old new = (added : Text) × IsTheOnly Fact added × (new ≡ old ++ added)
 
 -- ---- texts
 
@@ -19,25 +21,29 @@ IsTheOnly {X} Fact value = (other : X) → Fact other ↔ (other ≡ value)
 abbrev pub spaces : ℕ → Text
 spaces count = repeat count (codes " ")
 
--- the texts in order, with the separator between each two
-abbrev pub joined : Text → List Text → Text
-joined separator texts = join_by (λ text. text) separator texts
-
 -- whether the text takes at least one column
 abbrev pub has_columns : Text → Bool
 has_columns text = nat_lt 0 (width_of text)
+
+-- ---- arguments
+
+-- the hint, which stands in brackets where the argument may be left out
+abbrev pub argument_part : HasArg → Text → Text
+argument_part argument.Yes hint = hint
+argument_part argument.No hint = []
+argument_part argument.Maybe hint = codes "[" ++ (hint ++ codes "]")
 
 -- ---- the short usage
 
 -- the short name with one dash, or where there is none the long name with two
 abbrev pub option_name : Names → Text
-option_name names = if is_empty names.short then codes "--" ++ names.long else codes "-" ++ names.short
+option_name names =
+    if is_empty names.short then codes "--" ++ names.long else codes "-" ++ names.short
 
--- a space and the hint, which stands in brackets where the argument may be left out
+-- an argument in the short usage: a space, and the hint as it stands in a head
 abbrev pub option_argument : HasArg → Text → Text
-option_argument argument.Yes hint = codes " " ++ hint
 option_argument argument.No hint = []
-option_argument argument.Maybe hint = codes " [" ++ (hint ++ codes "]")
+option_argument kind hint = codes " " ++ argument_part kind hint
 
 -- brackets round what may be left out, and two dots after what may come again
 abbrev pub bracketed : Occur → Text → Text
@@ -47,19 +53,24 @@ bracketed occurrence.Multi text = codes "[" ++ (text ++ codes "]..")
 
 -- an option in the short usage
 abbrev pub option_text : Group → Text
-option_text group = bracketed group.occurrence (option_name group.names ++ option_argument group.kind group.hint)
+option_text group =
+    bracketed group.known.occurrence
+    (option_name group.known.names ++ option_argument group.known.kind group.hint)
 
 -- the short usage of a program with these options
 abbrev pub short_usage_text : Declared → Text → Text
-short_usage_text options program = codes "Usage: " ++ (program ++ (codes " " ++ joined (codes " ") (map option_text options.groups)))
+short_usage_text options program =
+    codes "Usage: "
+    ++ (program ++ (codes " " ++ joined (codes " ") (map option_text options.groups)))
 
 -- ---- rows
 
 -- whether any group has a short name
 abbrev pub any_short : List Group → Bool
-any_short groups = list_any (λ group. not (is_empty group.names.short)) groups
+any_short groups = list_any (λ group. not (is_empty group.known.names.short)) groups
 
--- the short name with a dash, and what parts it from what follows; where there is none, four spaces if another group has one
+-- the short name with a dash, and what parts it from what follows; where there is none, four spaces
+-- if another group has one
 abbrev pub short_part : Bool → Names → Text
 short_part among_shorts names =
     if is_empty names.short
@@ -73,21 +84,19 @@ long_part long_only long =
     then (if long_only then codes "-" else codes "--") ++ (long ++ codes " ")
     else []
 
--- the hint, which stands in brackets where the argument may be left out
-abbrev pub argument_part : HasArg → Text → Text
-argument_part argument.Yes hint = hint
-argument_part argument.No hint = []
-argument_part argument.Maybe hint = codes "[" ++ (hint ++ codes "]")
-
 -- what stands before the description of a group
 abbrev pub head : Bool → Bool → Group → Text
-head long_only among_shorts group = spaces 4 ++ (short_part among_shorts group.names ++ (long_part long_only group.names.long ++ argument_part group.kind group.hint))
+head long_only among_shorts group =
+    spaces 4
+    ++ (short_part among_shorts group.known.names
+    ++ (long_part long_only group.known.names.long ++ argument_part group.known.kind group.hint))
 
 -- a line end, and the spaces under a head
 abbrev pub next_row : Text
 next_row = codes "\n" ++ spaces 24
 
--- what stands between a head and its description: the spaces that its columns lack to 24, or else the next row
+-- what stands between a head and its description: the spaces that its columns lack to 24, or else
+-- the next row
 abbrev pub padding : Text → Text
 padding head = if nat_lt (width_of head) 24 then spaces (24 - width_of head) else next_row
 
@@ -97,18 +106,29 @@ row_text head description = head ++ (padding head ++ joined next_row description
 
 -- a group's row: its head, its padding, and the rows of its description within 54 columns
 abbrev pub IsUsageRow : Bool → Bool → Group → Text → Type 0
-IsUsageRow long_only among_shorts group row = (description : List Text) × IsDescriptionRows 54 group.description description × (row ≡ row_text (head long_only among_shorts group) description)
+IsUsageRow long_only among_shorts group row =
+    (description : List Text) × IsDescriptionRows 54 group.description description
+    × (row ≡ row_text (head long_only among_shorts group) description)
 
 -- each group's row, in order of definition
 abbrev pub AreUsageRows : Declared → List Text → Type 0
-AreUsageRows options rows = AllZip (IsUsageRow options.long_only (any_short options.groups)) options.groups rows
+AreUsageRows options rows =
+    AllZip (IsUsageRow options.long_only (any_short options.groups)) options.groups rows
+
+-- the text grows by these rows, parted by line ends, and no other rows are the options' rows
+abbrev pub AddsRows : Declared → Text → Text → Type 0
+AddsRows options old new =
+    (rows : List Text) × IsTheOnly (AreUsageRows options) rows
+    × (new ≡ old ++ joined (codes "\n") rows)
 
 -- ---- the usage text
 
--- the brief, an empty line, a line that says `Options:`, the rows parted by line ends, and a line end
+-- the brief, an empty line, a line that says `Options:`, the rows parted by line ends, a line end
 abbrev pub usage_text : Text → List Text → Text
-usage_text brief rows = brief ++ (codes "\n\nOptions:\n" ++ (joined (codes "\n") rows ++ codes "\n"))
+usage_text brief rows =
+    brief ++ (codes "\n\nOptions:\n" ++ (joined (codes "\n") rows ++ codes "\n"))
 
 -- the usage text of these options
 abbrev pub IsUsageText : Declared → Text → Text → Type 0
-IsUsageText options brief text = (rows : List Text) × AreUsageRows options rows × (text ≡ usage_text brief rows)
+IsUsageText options brief text =
+    (rows : List Text) × AreUsageRows options rows × (text ≡ usage_text brief rows)

@@ -1,6 +1,8 @@
--- How a description stands in rows: its lines, their words, and the ways to break a line's words into rows.
-use Rattle.std.specs.Prelude.{◌≡◌, ℕ, ◌+◌, ◌-◌, ◌<◌, ◌≤◌, ◌==◌, nat_lt, false, ◌⊎◌, List, [], ◌∷◌, ◌++◌, length, take, map, filter, sum_by, All, chars, encode_utf8_all}
-use Rattle.std.specs.List.{AllZip, flat_map, join_with_byte, slice_split}
+-- How a description stands in rows: its lines, their words, and the ways to break a line's words.
+use Rattle.std.specs.Prelude.{◌≡◌, ℕ, ◌+◌, ◌-◌, ◌<◌, ◌≤◌, ◌==◌, nat_lt, Bool, false, ◌||◌, ◌⊎◌}
+use Rattle.std.specs.Prelude.{List, [], ◌∷◌, ◌++◌, length, take, map, filter, sum_by, All}
+use Rattle.std.specs.Prelude.{chars, encode_utf8_all, if◌then◌else◌}
+use Rattle.std.specs.List.{AllZip, flat_map, join_by, join_with_byte, slice_split}
 use Rattle.std.specs.Char.{is_whitespace}
 use Rattle.unicode_width.specs.Width.{str_width}
 
@@ -42,7 +44,8 @@ pub record IsFittingBreaking (limit : ℕ) (words : List Word) (runs : List Run)
 abbrev pub NoneTakesMore : ℕ → List Run → Type 0
 NoneTakesMore limit [] = Unit {0}
 NoneTakesMore limit (run ∷ []) = Unit {0}
-NoneTakesMore limit (run ∷ next ∷ more) = (¬ FitsIn limit (run ++ take 1 next)) × NoneTakesMore limit (next ∷ more)
+NoneTakesMore limit (run ∷ next ∷ more) =
+    (¬ FitsIn limit (run ++ take 1 next)) × NoneTakesMore limit (next ∷ more)
 
 -- a fitting breaking in which no run could take in the word that comes next
 pub record IsTightBreaking (limit : ℕ) (words : List Word) (runs : List Run) : Type 0 where
@@ -52,7 +55,8 @@ pub record IsTightBreaking (limit : ℕ) (words : List Word) (runs : List Run) :
 -- a tight breaking, and no fitting breaking of the same words has fewer runs
 pub record IsFewestBreaking (limit : ℕ) (words : List Word) (runs : List Run) : Type 0 where
   pub tight : IsTightBreaking limit words runs
-  pub fewest : (others : List Run) → IsFittingBreaking limit words others → length runs ≤ length others
+  pub fewest : (others : List Run) → IsFittingBreaking limit words others
+      → length runs ≤ length others
 
 -- the words have a tight breaking, and no other
 pub record HasOneTightBreaking (limit : ℕ) (words : List Word) : Type 0 where
@@ -66,18 +70,21 @@ pub record HasOneTightBreaking (limit : ℕ) (words : List Word) : Type 0 where
 abbrev pub lines_of : List ℕ → List (List ℕ)
 lines_of desc = slice_split (λ byte. byte == 10) desc
 
--- the words of a line: it is cut at each character of white space, and the pieces that are not empty are its words,
--- so each word is a run of other characters that is as long as it can be
+-- the words of a line: it is cut at each character of white space, and the pieces that are not
+-- empty are its words, so each word is a run of other characters that is as long as it can be
 abbrev pub words_of : List ℕ → List Word
-words_of line = map encode_utf8_all (filter (λ piece. nat_lt 0 (length piece)) (slice_split is_whitespace (chars line)))
+words_of line =
+    map encode_utf8_all
+    (filter (λ piece. nat_lt 0 (length piece)) (slice_split is_whitespace (chars line)))
 
 -- the words of each line of a description
 abbrev pub words_of_lines : List ℕ → List (List Word)
 words_of_lines desc = map words_of (lines_of desc)
 
--- the description breaks into the rows, where `IsBroken` says how a line's words may be broken: the rows are the texts
--- of the runs of each line in turn
-pub record BreaksInto (IsBroken : List Word → List Run → Type 0) (desc : List ℕ) (rows : List (List ℕ)) : Type 0 where
+-- the description breaks into the rows, where `IsBroken` says how a line's words may be broken: the
+-- rows are the texts of the runs of each line in turn
+pub record BreaksInto (IsBroken : List Word → List Run → Type 0) (desc : List ℕ)
+    (rows : List (List ℕ)) : Type 0 where
   pub breakings : List (List Run)
   pub each_line : AllZip IsBroken (words_of_lines desc) breakings
   pub texts : rows ≡ map text_of (flat_map (λ runs. runs) breakings)
@@ -86,6 +93,35 @@ pub record BreaksInto (IsBroken : List Word → List Run → Type 0) (desc : Lis
 abbrev pub IsDescriptionRows : ℕ → List ℕ → List (List ℕ) → Type 0
 IsDescriptionRows limit desc rows = BreaksInto (IsTightBreaking limit) desc rows
 
--- the rows that a line adds are the texts of the runs of its tight breaking
-abbrev pub AddsLine : ℕ → List ℕ → List (List ℕ) → List (List ℕ) → Type 0
-AddsLine limit line old new = (runs : List Run) × IsTightBreaking limit (words_of line) runs × (new ≡ old ++ map text_of runs)
+-- ---- rows in one text
+
+-- the texts in order, with the separator between each two
+abbrev pub joined : List ℕ → List (List ℕ) → List ℕ
+joined separator texts = join_by (λ text. text) separator texts
+
+-- what stands between a text and those before it, where the flag tells whether any came
+abbrev pub parting : Bool → List ℕ → List ℕ
+parting begun separator = if begun then separator else []
+
+-- the texts in order, each after the separator, but for the first where none came before it
+abbrev pub continued : Bool → List ℕ → List (List ℕ) → List ℕ
+continued begun separator texts =
+    if begun then flat_map (λ text. separator ++ text) texts else joined separator texts
+
+-- the text grows by the rows of a description, with the separator between each two
+abbrev pub AddsDescription : ℕ → List ℕ → List ℕ → List ℕ → List ℕ → Type 0
+AddsDescription limit separator desc old new =
+    (rows : List (List ℕ)) × IsDescriptionRows limit desc rows
+    × (new ≡ old ++ joined separator rows)
+
+-- the rows of a line are the texts of the runs of its tight breaking
+abbrev pub IsLineRows : ℕ → List ℕ → List (List ℕ) → Type 0
+IsLineRows limit line rows =
+    (runs : List Run) × IsTightBreaking limit (words_of line) runs × (rows ≡ map text_of runs)
+
+-- The text grows by the rows of a line, with the separator between each two. The flags tell whether
+-- any row, of this line or another, stands in the text before and after.
+abbrev pub AddsLine : ℕ → List ℕ → List ℕ → Bool → Bool → List ℕ → List ℕ → Type 0
+AddsLine limit separator line before after old new =
+    (rows : List (List ℕ)) × IsLineRows limit line rows
+    × (after ≡ before || nat_lt 0 (length rows)) × (new ≡ old ++ continued before separator rows)

@@ -1,6 +1,8 @@
 //! The refusals of `parse`.
 
-ghost use Rattle.std.specs.Prelude.{◌≡◌, Some, IfOk};
+ghost use Rattle.std.specs.Prelude.{◌≡◌, ◌↔◌, Some, IfOk, IsTrue};
+ghost use Rattle.std.specs.Cmp.Rules.{comparing};
+ghost use Rattle.std.proofs.Common.{rules};
 ghost use Rattle.getopts.specs.declared.fail.Fail.TheVariants.{OutOfMemory};
 
 use std::alloc::{AllocError, AllocFailed, Global};
@@ -13,7 +15,7 @@ use std::fmt;
 /// `UnrecognizedOption` and `UnexpectedArgument`, with the name as typed. Count faults come after a
 /// whole scan, and the first group in order of definition is named: `OptionMissing` and
 /// `OptionDuplicated`, with the main name.
-#[derive(Debug, PartialEq, Eq, Drop)]
+#[derive(Debug, Drop)]
 pub enum Fail {
     /// The option needs an argument, and the line ends. Tells the name as typed.
     ArgumentMissing(String),
@@ -48,6 +50,34 @@ impl Clone for Fail {
             Fail::OutOfMemory => Fail::OutOfMemory,
         })
     }
+}
+
+impl PartialEq for Fail {
+    ghost use Rattle.getopts.specs.Fail.{fault_of};
+    ghost use Rattle.getopts.specs.Same.{same_fail};
+
+    ghost eq = { same_fail };
+
+    ghost laws = { Prim.search (comparing, rules) depth 12 };
+
+    /// Whether both are of one variant, with the same name.
+    fn eq(&self, other: &Fail) -> bool
+        ensures same { IsTrue result ↔ (fault_of self.now ≡ fault_of other.now) }
+    {
+        match (self, other) {
+            (Fail::ArgumentMissing(name), Fail::ArgumentMissing(named)) => name == named,
+            (Fail::UnrecognizedOption(name), Fail::UnrecognizedOption(named)) => name == named,
+            (Fail::OptionMissing(name), Fail::OptionMissing(named)) => name == named,
+            (Fail::OptionDuplicated(name), Fail::OptionDuplicated(named)) => name == named,
+            (Fail::UnexpectedArgument(name), Fail::UnexpectedArgument(named)) => name == named,
+            (Fail::OutOfMemory, Fail::OutOfMemory) => true,
+            _ => false,
+        }
+    }
+}
+
+impl Eq for Fail {
+    ghost laws = { Prim.search (comparing, rules) depth 12 };
 }
 
 impl fmt::Display for Fail {

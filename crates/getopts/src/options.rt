@@ -1,178 +1,60 @@
-//! Option groups, the parsing style and the mode.
+//! Options: the groups that a caller declares, a parsing style and a mode.
 
-ghost use Rattle.std.specs.Prelude.{◌≡◌, ◌++◌, ◌∷◌, [], ◌↔◌, false, map, IfOk, IsTrue, OnOk, OnErr, IsOkAnd};
-ghost use Rattle.std.specs.List.{find, position};
-ghost use Rattle.std.specs.Option.{option_copied};
+ghost use Rattle.std.specs.Prelude.{◌≡◌, ◌↔◌, [], false, length, map, slice_get, unwrap_or, IfOk, IsTrue, OnOk, OnErr};
+ghost use Rattle.std.specs.Option.{option_map, option_map_or};
+ghost use Rattle.std.specs.Cmp.Lexicographic.{pointwise};
 ghost use Rattle.std.specs.Cmp.Rules.{comparing};
-ghost use Rattle.std.specs.Ordering.{on};
 ghost use Rattle.std.proofs.Common.{rules};
-ghost use Rattle.getopts.specs.Options.{group_view, known_of, opt_view};
-ghost use Rattle.getopts.specs.Names.{is_alias, is_main, names_view, resolution, AreLawful};
+ghost use Rattle.getopts.specs.Names.{AreLawful};
+ghost use Rattle.getopts.specs.Options.{group_of, with_group, knowns_of, AreLawfullyNamed};
+ghost use Rattle.getopts.specs.Pairs.{name_texts};
 
-use crate::names::Names;
+use crate::groups::{Group, Groups, HasArg, Kinds, Occur, ParsingStyle};
+use crate::texts::Texts;
 use std::alloc::{AllocError, Global};
 use std::marker::Model;
-
-/// What the first free word does to the words after it.
-#[derive(Debug, Clone, Copy, PartialEq, Eq)]
-pub enum ParsingStyle {
-    /// Options and free words may stand in any order.
-    FloatingFrees,
-    /// All words from the first free one on are free.
-    StopAtFirstFree,
-}
-
-/// Whether an option takes an argument.
-#[derive(Debug, Clone, Copy, PartialEq, Eq)]
-pub enum HasArg {
-    /// The option needs an argument.
-    Yes,
-    /// The option takes no argument.
-    No,
-    /// The option may have an argument.
-    Maybe,
-}
-
-/// How often an option may come.
-#[derive(Debug, Clone, Copy, PartialEq, Eq)]
-pub enum Occur {
-    /// The option comes exactly once.
-    Req,
-    /// The option comes at most once.
-    Optional,
-    /// The option may come any number of times.
-    Multi,
-}
-
-/// One option group: its names, and what usage texts show of it.
-#[derive(Debug, Drop)]
-pub(crate) struct OptGroup {
-    pub names: Names,
-    pub hint: String,
-    pub desc: String,
-    pub hasarg: HasArg,
-    pub occur: Occur,
-}
-
-impl Clone for OptGroup {
-    ghost use Rattle.getopts.specs.Options.{group_view};
-
-    ghost is_clone = { λ a b. group_view b ≡ group_view a };
-
-    fn clone(&self) -> Result<OptGroup, AllocError> {
-        Ok(OptGroup {
-            names: self.names.clone()?,
-            hint: self.hint.clone()?,
-            desc: self.desc.clone()?,
-            hasarg: self.hasarg,
-            occur: self.occur,
-        })
-    }
-}
-
-impl PartialEq for OptGroup {
-    ghost use Rattle.getopts.specs.Options.{group_view, same_group};
-
-    ghost eq = { on group_view same_group };
-
-    ghost laws = { Prim.search (comparing, rules) depth 12 };
-
-    fn eq(&self, other: &OptGroup) -> bool {
-        self.names == other.names
-            && self.hint == other.hint
-            && self.desc == other.desc
-            && self.hasarg == other.hasarg
-            && self.occur == other.occur
-    }
-}
-
-/// What reading asks of a group.
-#[derive(Debug, Drop)]
-pub(crate) struct Opt {
-    pub names: Names,
-    pub hasarg: HasArg,
-    pub occur: Occur,
-}
-
-/// What reading asks of groups, copied.
-pub(crate) fn known_options(alloc: Global, groups: &[OptGroup]) -> Result<Vec<Opt>, AllocError>
-    ensures { IfOk result (λ opts. map opt_view opts.items ≡ map known_of (map group_view groups.now)) }
-{
-    let mut opts = Vec::with_capacity(alloc, groups.len())?;
-    for group in groups {
-        opts.push(Opt {
-            names: Names::copied(alloc, group.names.short.as_str(), group.names.long.as_str())?,
-            hasarg: group.hasarg,
-            occur: group.occur,
-        })?;
-    }
-    Ok(opts)
-}
-
-/// The place of the group that a name resolves to.
-pub(crate) fn resolve(opts: &[Opt], name: &str) -> Option<usize>
-    ensures { result ≡ resolution (map (λ opt. names_view opt.names) opts.now) name.now }
-{
-    match place_of_main(opts, name) {
-        Some(place) => Some(place),
-        None => {
-            let declarer = declarer_of(opts, name)?;
-            place_of_main(opts, declarer.names.main())
-        }
-    }
-}
-
-/// The place of the first group with this main name.
-fn place_of_main(opts: &[Opt], name: &str) -> Option<usize>
-    ensures { result ≡ position (λ opt. is_main name.now (names_view opt.names)) opts.now }
-{
-    opts.iter().position(|opt| opt.names.is_main(name))
-}
-
-/// The first group with this alias.
-fn declarer_of<'o>(opts: &'o [Opt], name: &str) -> Option<&'o Opt>
-    ensures { option_copied result ≡ find (λ opt. is_alias name.now (names_view opt.names)) opts.now }
-{
-    opts.iter().find(|opt| opt.names.is_alias(name))
-}
 
 /// A list of option groups, a parsing style and a mode.
 #[derive(Debug, Drop)]
 pub struct Options {
     alloc: Global,
-    pub(crate) groups: Vec<OptGroup>,
-    pub(crate) style: ParsingStyle,
-    pub(crate) long_only: bool,
+    groups: Groups,
+    help: Texts,
+    style: ParsingStyle,
+    long_only: bool,
 }
 
 impl Model for Options {
-    ghost use Rattle.std.specs.Prelude.{map};
-    ghost use Rattle.getopts.specs.Options.{Declared, group_view, AreLawfullyNamed};
+    ghost use Rattle.getopts.specs.Options.{Declared};
+    ghost use Rattle.getopts.specs.Held.Options.{options_view, KeepsOptions};
 
     ghost Value = { Declared };
 
-    ghost view = { λ a. record { groups = map group_view a.groups.items; style = a.style; long_only = a.long_only } };
+    ghost view = { options_view };
 
-    ghost invariant = { λ a. AreLawfullyNamed (map group_view a.groups.items) };
+    ghost invariant = { KeepsOptions };
 }
 
 impl Options {
-    ghost use Rattle.getopts.specs.Options.{with_group};
-
     /// Options with no groups, in `FloatingFrees` and ordinary mode. Takes no memory; the calls that
     /// add a group grow the options with this allocator.
     pub fn new(alloc: Global) -> Options
-        ensures { result ≡ record { groups = []; style = ParsingStyle.FloatingFrees; long_only = false } }
+        ensures { result ≡ record {
+          groups = [];
+          style = ParsingStyle.FloatingFrees;
+          long_only = false;
+        } }
     {
         Options {
             alloc,
-            groups: Vec::new(alloc),
+            groups: Groups::new(alloc),
+            help: Texts::new(alloc),
             style: ParsingStyle::FloatingFrees,
             long_only: false,
         }
     }
 
-    /// Adds a group as the last one.
+    /// Adds a group as the last one. An error leaves the options as they were.
     fn push_group(
         &mut self,
         short_name: &str,
@@ -183,24 +65,20 @@ impl Options {
         occur: Occur,
     ) -> Result<(), AllocError>
         requires { AreLawful short_name.now long_name.now }
-        ensures ok { OnOk result (self.new ≡ with_group self.old (record {
-          names = record { short = short_name.now; long = long_name.now };
-          hint = hint.now;
-          description = desc.now;
-          kind = hasarg;
-          occurrence = occur;
-        })) }
+        ensures ok { OnOk result (self.new ≡ with_group self.old
+            (group_of short_name.now long_name.now desc.now hint.now hasarg occur)) }
         ensures err { OnErr result (self.new ≡ self.old) }
     {
-        let group = OptGroup {
-            names: Names::copied(self.alloc, short_name, long_name)?,
-            hint: String::from_str(self.alloc, hint)?,
-            desc: String::from_str(self.alloc, desc)?,
-            hasarg,
-            occur,
-        };
-        self.groups.push(group)?;
-        Ok(())
+        let kinds = Kinds { hasarg, occur };
+        let texts = self.help.len();
+        self.help.push_pair(hint, desc)?;
+        match self.groups.push(short_name, long_name, kinds) {
+            Ok(()) => Ok(()),
+            Err(error) => {
+                self.help.truncate(texts);
+                Err(error)
+            }
+        }
     }
 
     /// Adds an option with any kind of argument and any kind of occurrence, as the last group.
@@ -212,9 +90,9 @@ impl Options {
     /// What differs from the Rust: the names have to be lawful, which `names_lawful` tests. The Rust
     /// panics in this call where one is too long or too short, and takes two empty names, on which
     /// `parse` then panics. The answer is a `Result`, so calls are chained with `?`: in it is a reference
-    /// to the same options. An error comes only where memory was refused, and leaves the options
-    /// unchanged. No clause here can say so, since the answer borrows from the options: the clause `err`
-    /// of `push_group` does.
+    /// to the same options. An error comes only where memory was refused, and leaves the options as they
+    /// were. A clause can say so of this call, but this toolchain doesn't prove it, since the answer borrows
+    /// from the options: it is proved of `push_group`, by its clause `err`.
     pub fn opt(
         &mut self,
         short_name: &str,
@@ -225,14 +103,10 @@ impl Options {
         occur: Occur,
     ) -> Result<&mut Options, AllocError>
         requires { AreLawful short_name.now long_name.now }
-        ensures added { IfOk result (λ options. options.now ≡ with_group self.old (record {
-          names = record { short = short_name.now; long = long_name.now };
-          hint = hint.now;
-          description = desc.now;
-          kind = hasarg;
-          occurrence = occur;
-        })) }
-        ensures same_options { IfOk result (λ options. options.ghost_name ≡ self.entry.ghost_name) }
+        ensures added { IfOk result (λ options. options.now ≡ with_group self.old
+            (group_of short_name.now long_name.now desc.now hint.now hasarg occur)) }
+        ensures same_options { IfOk result (λ options.
+            options.ghost_name ≡ self.entry.ghost_name) }
     {
         self.push_group(short_name, long_name, desc, hint, hasarg, occur)?;
         Ok(self)
@@ -250,14 +124,10 @@ impl Options {
         desc: &str,
     ) -> Result<&mut Options, AllocError>
         requires { AreLawful short_name.now long_name.now }
-        ensures added { IfOk result (λ options. options.now ≡ with_group self.old (record {
-          names = record { short = short_name.now; long = long_name.now };
-          hint = [];
-          description = desc.now;
-          kind = HasArg.No;
-          occurrence = Occur.Optional;
-        })) }
-        ensures same_options { IfOk result (λ options. options.ghost_name ≡ self.entry.ghost_name) }
+        ensures added { IfOk result (λ options. options.now ≡ with_group self.old
+            (group_of short_name.now long_name.now desc.now [] HasArg.No Occur.Optional)) }
+        ensures same_options { IfOk result (λ options.
+            options.ghost_name ≡ self.entry.ghost_name) }
     {
         self.opt(short_name, long_name, desc, "", HasArg::No, Occur::Optional)
     }
@@ -274,14 +144,10 @@ impl Options {
         desc: &str,
     ) -> Result<&mut Options, AllocError>
         requires { AreLawful short_name.now long_name.now }
-        ensures added { IfOk result (λ options. options.now ≡ with_group self.old (record {
-          names = record { short = short_name.now; long = long_name.now };
-          hint = [];
-          description = desc.now;
-          kind = HasArg.No;
-          occurrence = Occur.Multi;
-        })) }
-        ensures same_options { IfOk result (λ options. options.ghost_name ≡ self.entry.ghost_name) }
+        ensures added { IfOk result (λ options. options.now ≡ with_group self.old
+            (group_of short_name.now long_name.now desc.now [] HasArg.No Occur.Multi)) }
+        ensures same_options { IfOk result (λ options.
+            options.ghost_name ≡ self.entry.ghost_name) }
     {
         self.opt(short_name, long_name, desc, "", HasArg::No, Occur::Multi)
     }
@@ -290,7 +156,9 @@ impl Options {
     ///
     /// `options.optflagopt("c", "color", "colour the output", "WHEN")?` reads `--color`, `--color=auto`,
     /// `-cauto`, and `-c auto`. A long name has its argument after `=` alone, so `--color auto` leaves `auto`
-    /// as a free word. The condition on the names, the answer and an error are those of `opt`.
+    /// as a free word. A short name leaves a next word that begins with a dash and goes on: after `-c -v`
+    /// the option has no argument, and `-v` is an option of its own; `-c -` has the argument `-`. The
+    /// condition on the names, the answer and an error are those of `opt`.
     pub fn optflagopt(
         &mut self,
         short_name: &str,
@@ -299,14 +167,10 @@ impl Options {
         hint: &str,
     ) -> Result<&mut Options, AllocError>
         requires { AreLawful short_name.now long_name.now }
-        ensures added { IfOk result (λ options. options.now ≡ with_group self.old (record {
-          names = record { short = short_name.now; long = long_name.now };
-          hint = hint.now;
-          description = desc.now;
-          kind = HasArg.Maybe;
-          occurrence = Occur.Optional;
-        })) }
-        ensures same_options { IfOk result (λ options. options.ghost_name ≡ self.entry.ghost_name) }
+        ensures added { IfOk result (λ options. options.now ≡ with_group self.old
+            (group_of short_name.now long_name.now desc.now hint.now HasArg.Maybe Occur.Optional)) }
+        ensures same_options { IfOk result (λ options.
+            options.ghost_name ≡ self.entry.ghost_name) }
     {
         self.opt(
             short_name,
@@ -330,14 +194,10 @@ impl Options {
         hint: &str,
     ) -> Result<&mut Options, AllocError>
         requires { AreLawful short_name.now long_name.now }
-        ensures added { IfOk result (λ options. options.now ≡ with_group self.old (record {
-          names = record { short = short_name.now; long = long_name.now };
-          hint = hint.now;
-          description = desc.now;
-          kind = HasArg.Yes;
-          occurrence = Occur.Multi;
-        })) }
-        ensures same_options { IfOk result (λ options. options.ghost_name ≡ self.entry.ghost_name) }
+        ensures added { IfOk result (λ options. options.now ≡ with_group self.old
+            (group_of short_name.now long_name.now desc.now hint.now HasArg.Yes Occur.Multi)) }
+        ensures same_options { IfOk result (λ options.
+            options.ghost_name ≡ self.entry.ghost_name) }
     {
         self.opt(short_name, long_name, desc, hint, HasArg::Yes, Occur::Multi)
     }
@@ -354,14 +214,10 @@ impl Options {
         hint: &str,
     ) -> Result<&mut Options, AllocError>
         requires { AreLawful short_name.now long_name.now }
-        ensures added { IfOk result (λ options. options.now ≡ with_group self.old (record {
-          names = record { short = short_name.now; long = long_name.now };
-          hint = hint.now;
-          description = desc.now;
-          kind = HasArg.Yes;
-          occurrence = Occur.Optional;
-        })) }
-        ensures same_options { IfOk result (λ options. options.ghost_name ≡ self.entry.ghost_name) }
+        ensures added { IfOk result (λ options. options.now ≡ with_group self.old
+            (group_of short_name.now long_name.now desc.now hint.now HasArg.Yes Occur.Optional)) }
+        ensures same_options { IfOk result (λ options.
+            options.ghost_name ≡ self.entry.ghost_name) }
     {
         self.opt(
             short_name,
@@ -386,14 +242,10 @@ impl Options {
         hint: &str,
     ) -> Result<&mut Options, AllocError>
         requires { AreLawful short_name.now long_name.now }
-        ensures added { IfOk result (λ options. options.now ≡ with_group self.old (record {
-          names = record { short = short_name.now; long = long_name.now };
-          hint = hint.now;
-          description = desc.now;
-          kind = HasArg.Yes;
-          occurrence = Occur.Req;
-        })) }
-        ensures same_options { IfOk result (λ options. options.ghost_name ≡ self.entry.ghost_name) }
+        ensures added { IfOk result (λ options. options.now ≡ with_group self.old
+            (group_of short_name.now long_name.now desc.now hint.now HasArg.Yes Occur.Req)) }
+        ensures same_options { IfOk result (λ options.
+            options.ghost_name ≡ self.entry.ghost_name) }
     {
         self.opt(short_name, long_name, desc, hint, HasArg::Yes, Occur::Req)
     }
@@ -425,6 +277,88 @@ impl Options {
     }
 }
 
+// What the other modules read of options.
+impl Options {
+    ghost use Rattle.getopts.specs.Canon.{main_at};
+    ghost use Rattle.getopts.specs.Held.Groups.{HaveTextsForShorts, group_view};
+    ghost use Rattle.getopts.specs.Same.{same_group};
+
+    /// Whether all six parts of each group in order are the same.
+    fn same_groups(&self, other: &Options) -> bool
+        ensures { result ≡ pointwise same_group self.now.groups other.now.groups }
+    {
+        self.groups == other.groups && self.help == other.help
+    }
+
+    pub(crate) fn style(&self) -> ParsingStyle
+        ensures { result ≡ self.now.style }
+    {
+        self.style
+    }
+
+    pub(crate) fn is_long_only(&self) -> bool
+        ensures { result ≡ self.now.long_only }
+    {
+        self.long_only
+    }
+
+    /// What reading asks of the groups. They are lawfully named, by texts.
+    pub(crate) fn groups(&self) -> &Groups
+        ensures groups { result.now ≡ knowns_of self.now.groups }
+        ensures lawful { AreLawfullyNamed self.now.groups }
+        ensures shorts { HaveTextsForShorts self.now.groups }
+    {
+        &self.groups
+    }
+
+    /// The names of all groups, two of each.
+    pub(crate) fn names(&self) -> &Texts
+        ensures { result.now ≡ name_texts (knowns_of self.now.groups) }
+    {
+        self.groups.names()
+    }
+
+    /// The kind of argument of the group at a place.
+    pub(crate) fn hasarg(&self, place: usize) -> Option<HasArg>
+        ensures { result
+            ≡ option_map (λ group. group.known.kind) (slice_get self.now.groups place) }
+    {
+        self.groups.hasarg(place)
+    }
+
+    /// How many groups there are.
+    pub(crate) fn group_count(&self) -> usize
+        ensures { result ≡ length self.now.groups }
+    {
+        self.groups.len()
+    }
+
+    /// The group at a place, if there is one.
+    pub(crate) fn group(&self, place: usize) -> Option<Group<'_>>
+        ensures { option_map group_view result ≡ slice_get self.now.groups place }
+    {
+        let known = self.groups.get(place)?;
+        let (hint, desc) = self.help.pair(place)?;
+        Some(Group {
+            names: known.names,
+            hint,
+            desc,
+            hasarg: known.kinds.hasarg,
+            occur: known.kinds.occur,
+        })
+    }
+
+    /// The main name of the group at a place. Past the last group it is empty.
+    pub(crate) fn main(&self, place: usize) -> &str
+        ensures { result.now ≡ main_at self.now.groups place }
+    {
+        match self.groups.get(place) {
+            Some(known) => known.names.main(),
+            None => "",
+        }
+    }
+}
+
 impl Clone for Options {
     ghost is_clone = { λ a b. b ≡ a };
 
@@ -436,6 +370,7 @@ impl Clone for Options {
         Ok(Options {
             alloc: self.alloc,
             groups: self.groups.clone()?,
+            help: self.help.clone()?,
             style: self.style,
             long_only: self.long_only,
         })
@@ -443,7 +378,7 @@ impl Clone for Options {
 }
 
 impl PartialEq for Options {
-    ghost use Rattle.getopts.specs.Options.{same_options};
+    ghost use Rattle.getopts.specs.Same.{same_options};
 
     ghost eq = { same_options };
 
@@ -454,9 +389,7 @@ impl PartialEq for Options {
         ensures answer { result ≡ same_options self.now other.now }
         ensures same { IsTrue result ↔ (self.now ≡ other.now) }
     {
-        self.groups == other.groups
-            && self.style == other.style
-            && self.long_only == other.long_only
+        self.same_groups(other) && self.style == other.style && self.long_only == other.long_only
     }
 }
 

@@ -1,20 +1,24 @@
 //! Descriptions in rows: the lines of a text, each broken into as few rows as its words allow.
-ghost use Rattle.std.specs.Prelude.{◌≡◌, ℕ, ◌↔◌, List, map, string_bytes, IfOk, OnOk};
-ghost use Rattle.getopts.specs.Wrap.{IsTightBreaking, IsFewestBreaking, HasOneTightBreaking, BreaksInto, IsDescriptionRows, AddsLine};
+ghost use Rattle.std.specs.Prelude.{◌≡◌, ◌++◌, ℕ, ◌↔◌, List, map, string_bytes, IfOk, OnOk};
+ghost use Rattle.std.specs.Str.Lines.{lines};
+ghost use Rattle.getopts.specs.Wrap.{IsTightBreaking, IsFewestBreaking, HasOneTightBreaking};
+ghost use Rattle.getopts.specs.Wrap.{BreaksInto, IsDescriptionRows, AddsDescription, AddsLine};
+ghost use Rattle.getopts.specs.Wrap.{parting};
 
 use std::alloc::{AllocError, Global};
 use unicode_width::UnicodeWidthStr;
 
 /// The rows in which a description is printed where `lim` columns are free.
 ///
-/// The description is cut into lines at U+000A, and each line into its words at white space. The words of a
-/// line fill its rows in order, parted by one space: a word joins the row where the row's columns stay within
-/// `lim`, and else begins a row. A word that is wider than `lim` has a row of its own, and with a `lim` of 0
-/// each word has one. A line with no word gives no row. No other way to break a line into rows that fit has
-/// fewer of them.
+/// The description is cut into lines at U+000A, and each line into its words at white space. The
+/// words of a line fill its rows in order, parted by one space: a word joins the row where the
+/// row's columns stay within `lim`, and else begins a row. A word that is wider than `lim` has a
+/// row of its own, and with a `lim` of 0 each word has one. A line with no word gives no row. No
+/// other way to break a line into rows that fit has fewer of them.
 ///
-/// Columns are those of `unicode_width`, each word measured by itself, plus one for each joining space. They
-/// are not bytes: `日本` has six bytes and four columns. Any `lim` will do, up to `usize::MAX`.
+/// Columns are those of `unicode_width`, each word measured by itself, plus one for each joining
+/// space. They are not bytes: `日本` has six bytes and four columns. Any `lim` will do, up to
+/// `usize::MAX`.
 ///
 /// ```
 /// let rows = each_split_within(alloc, "\nMary had a little lamb\nLittle lamb\n", 15)?;
@@ -23,8 +27,8 @@ use unicode_width::UnicodeWidthStr;
 ///
 /// The only error is `AllocError`, where memory for the rows was refused.
 ///
-/// In Rust this function is private, cannot fail, and measures the row so far as one text. Here it is public
-/// and measures word by word, and nothing is said of the width of a row as one text.
+/// In Rust this function is private, cannot fail, and measures the row so far as one text. Here it
+/// is public and measures word by word, and nothing is said of the width of a row as one text.
 pub fn each_split_within(alloc: Global, desc: &str, lim: usize) -> Result<Vec<String>, AllocError>
     // These are the description's rows, byte for byte, and no other list is.
     ensures rows { IfOk result (λ rows. (others : List (List ℕ)) →
@@ -41,41 +45,86 @@ pub fn each_split_within(alloc: Global, desc: &str, lim: usize) -> Result<Vec<St
     // A law of these definitions: whatever words a line has, they have one tight breaking.
     ensures one_tight { OnOk result ((words : List (List ℕ)) → HasOneTightBreaking lim words) }
 {
+    // A row holds no line end, and all rows together are no longer than the description.
+    let mut text = String::with_capacity(alloc, desc.len())?;
+    push_description(&mut text, desc, lim, "\n")?;
+    lines_of(alloc, text.as_str())
+}
+
+/// The lines of a text.
+fn lines_of(alloc: Global, text: &str) -> Result<Vec<String>, AllocError>
+    ensures { IfOk result (λ rows. map string_bytes rows.items ≡ lines text.now) }
+{
     let mut rows = Vec::new(alloc);
-    for line in desc.split('\n') {
-        push_line(&mut rows, alloc, line, lim)?;
+    for line in text.lines() {
+        rows.push(String::from_str(alloc, line)?)?;
     }
     Ok(rows)
 }
 
-// Adds the rows of one line. Where memory fails, the contract says nothing of `rows`.
+/// Adds the rows of a description, with the separator between each two. Where memory fails, the
+/// contract says nothing of the text.
+pub(crate) fn push_description(
+    text: &mut String,
+    desc: &str,
+    lim: usize,
+    separator: &str,
+) -> Result<(), AllocError>
+    ensures { OnOk result (AddsDescription lim separator.now desc.now
+        (string_bytes text.old) (string_bytes text.new)) }
+{
+    let mut begun = false;
+    for line in desc.split('\n') {
+        begun = push_line(text, begun, line, lim, separator)?;
+    }
+    Ok(())
+}
+
+/// Adds the rows of one line, where `begun` tells whether any row came before them. The answer is
+/// whether any has come now.
 fn push_line(
-    rows: &mut Vec<String>,
-    alloc: Global,
+    text: &mut String,
+    begun: bool,
     line: &str,
     lim: usize,
-) -> Result<(), AllocError>
-    ensures { OnOk result (
-        AddsLine lim line.now (map string_bytes rows.old.items) (map string_bytes rows.new.items)) }
+    separator: &str,
+) -> Result<bool, AllocError>
+    ensures { IfOk result (λ now_begun. AddsLine lim separator.now line.now begun now_begun
+        (string_bytes text.old) (string_bytes text.new)) }
 {
     let mut words = line.split_whitespace();
     let Some(first) = words.next() else {
-        return Ok(());
+        return Ok(begun);
     };
-    let mut row = String::from_str(alloc, first)?;
+    push_parting(text, begun, separator)?;
+    text.push_str(first)?;
     let mut columns = first.width();
     for word in words {
         let width = word.width();
         if columns < lim && width < lim - columns {
-            row.push(' ')?;
+            text.push(' ')?;
             columns += 1 + width;
         } else {
-            rows.push(row)?;
-            row = String::new(alloc);
+            text.push_str(separator)?;
             columns = width;
         }
-        row.push_str(word)?;
+        text.push_str(word)?;
     }
-    rows.push(row)?;
-    Ok(())
+    Ok(true)
+}
+
+/// Adds the separator, where `begun` tells that anything came before.
+pub(crate) fn push_parting(
+    text: &mut String,
+    begun: bool,
+    separator: &str,
+) -> Result<(), AllocError>
+    ensures { OnOk result (string_bytes text.new ≡ string_bytes text.old
+        ++ parting begun separator.now) }
+{
+    if begun {
+        text.push_str(separator)
+    } else {
+        Ok(())
+    }
 }

@@ -1,15 +1,20 @@
 -- What the program's names and groups give.
-use Rattle.std.proofs.Common.{◌≡◌, ℕ, Bool, true, false, zero, suc, ◌<◌, List, [], ◌∷◌, length, get_or, map, refl, sym, subst, arith}
+use Rattle.std.proofs.Common.{◌≡◌, ℕ, false, zero, suc, ◌<◌, List, [], ◌∷◌, ◌++◌, length, get_or, map, refl, ap, ◌∙◌, sym, subst, arith}
 use Rattle.std.specs.Prelude.{⊤, Option, Some, None, MatchOption, IsSomeAnd}
 use Rattle.std.specs.Borrow.{Bor}
 use Rattle.std.specs.List.{AllByRecursion, flat_map}
-use Rattle.getopts.specs.Line.{texts}
-use Rattle.getopts.specs.Fail.{Fault}
+use Rattle.getopts.specs.Canon.{HasPlainMain}
+use Rattle.getopts.specs.CanonAnswers.{HasOneAnswer, IsParseAnswer, IsUnwritable, IsWritten}
+use Rattle.getopts.specs.Fail.{Fault, Tells}
+use Rattle.getopts.specs.declared.fail.Fail.{Fail}
+use Rattle.getopts.specs.declared.fail.Fail.TheVariants as fail
 use Rattle.getopts.specs.Matches.{Matched, MatchedGroup}
-use Rattle.getopts.specs.Names.{Text, main_name}
+use Rattle.getopts.specs.Names.{Text, main_name, texts}
 use Rattle.getopts.specs.Options.{Declared, Group}
 use Rattle.getopts.specs.Parse.{IsAccepted, IsRefused}
-use Rattle.getopts_show.specs.Program.{HasProgramGroups, IsHelpText, IsProgramText, accepted, asks_help, fault_line, group_lines, helped, matches_text, named_lines, program_groups, program_options, refused}
+use Rattle.getopts.specs.Scan.{Mention}
+use Rattle.getopts_show.proofs.OneText.{accepted_not_refused}
+use Rattle.getopts_show.specs.Program.{AreAccepted, HasProgramGroups, IsProgramText, asks_help, fault_line, group_lines, matches_text, named_lines, program_groups, program_options, refused, shown, word_line}
 
 -- what holds of each text holds of the text at a place
 pub text_at : (P : Text → Type 0) (words : List (Bor Text)) → AllByRecursion P (texts words)
@@ -20,30 +25,59 @@ text_at P (word ∷ words) each (suc k) default below = text_at P words each.1 k
 
 -- the main names of the program's groups
 abbrev pub main_names : List Text
-main_names = map (λ (group : Group). main_name group.names) program_groups
+main_names = map (λ (group : Group). main_name group.known.names) program_groups
 
 -- the lines of the program's main names are the lines of its groups
 pub lines_of_names : (groups : List MatchedGroup) → HasProgramGroups groups
     → flat_map (named_lines groups) main_names ≡ flat_map group_lines groups
 lines_of_names groups (occurrences, is) = subst (λ (gs : List MatchedGroup). flat_map (named_lines gs) main_names ≡ flat_map group_lines gs) (sym is) refl
 
--- the text of accepted words, where it is known for help and for the rest
-text_of_matches : (words : List Text) (matches : Matched) (text : Text) (asks : Bool) → asks_help matches ≡ asks
-    → IsAccepted program_options words matches → (asks_help matches ≡ true → IsHelpText text) → (asks_help matches ≡ false → text ≡ matches_text matches)
+-- the text of accepted words that don't ask for help, by their canonical line
+pub text_of_matches : {words line : List Text} {matches : Matched} {text : Text} → IsWritten program_options words line
+    → IsAccepted program_options words matches → asks_help matches ≡ false → text ≡ matches_text matches ++ flat_map word_line line
     → IsProgramText words text 0
-text_of_matches words matches text true asks is help shown = helped matches text is asks (help asks)
-text_of_matches words matches text false asks is help shown =
-    subst (λ (t : Text). IsProgramText words t 0) (sym (shown asks)) (accepted matches is asks)
+text_of_matches {words} {line} {matches} {text} written accepted plain is =
+    subst (λ (t : Text). IsProgramText words t 0)
+    (sym (is ∙ ap (λ (l : List Text). matches_text matches ++ flat_map word_line l) written.line_is))
+    (shown matches written.content accepted plain written.accepted)
 
--- words that are accepted, and their text
-pub accepted_text : (options : Declared) (words items : List (Bor Text)) (matches : Matched) (text : Text)
-    → options ≡ program_options → items ≡ words → IsAccepted options (texts items) matches
-    → (asks_help matches ≡ true → IsHelpText text) → (asks_help matches ≡ false → text ≡ matches_text matches)
-    → IsProgramText (texts words) text 0
-accepted_text options words items matches text options_are items_are is help shown =
-    text_of_matches (texts words) matches text (asks_help matches) refl
-    (subst (λ (o : Declared). IsAccepted o (texts words) matches) options_are
-    (subst (λ (ws : List (Bor Text)). IsAccepted options (texts ws) matches) items_are is)) help shown
+-- no main name of the program's groups holds `=`
+plain_main : (place : ℕ) → HasPlainMain program_groups place
+plain_main zero = refl
+plain_main (suc zero) = refl
+plain_main (suc (suc zero)) = refl
+plain_main (suc (suc (suc zero))) = refl
+plain_main (suc (suc (suc (suc zero)))) = refl
+plain_main (suc (suc (suc (suc (suc place))))) = refl
+
+-- each content is plain
+always_plain : (mentioned : List Mention) → AllByRecursion (λ (m : Mention). HasPlainMain program_groups m.group) mentioned
+always_plain [] = tt
+always_plain (m ∷ mentioned) = (plain_main m.group, always_plain mentioned)
+
+-- there are no words whose content can't be written
+pub never_unwritable : (options : Declared) (words : List Text) → options ≡ program_options → IsUnwritable options words → ⊥
+never_unwritable options words options_are is =
+    let unwritable = subst (λ (o : Declared). IsUnwritable o words) options_are is in
+    unwritable.not_plain (always_plain unwritable.content.mentions)
+
+-- where this can hold of no fault, a refusal that tells it tells that memory was refused
+pub tells_none : (P : Fault → Type 0) (refusal : Fail) → Tells refusal P → ((fault : Fault) → P fault → ⊥) → ¬ (refusal ≡ fail.OutOfMemory) → ⊥
+tells_none P (fail.ArgumentMissing name) told never other = never _ told
+tells_none P (fail.UnrecognizedOption name) told never other = never _ told
+tells_none P (fail.OptionMissing name) told never other = never _ told
+tells_none P (fail.OptionDuplicated name) told never other = never _ told
+tells_none P (fail.UnexpectedArgument name) told never other = never _ told
+tells_none P fail.OutOfMemory told never other = other refl
+
+-- words that are accepted are not refused
+pub never_refused : (options : Declared) (words items : List (Bor Text)) (fault : Fault)
+    → HasOneAnswer (IsParseAnswer program_options (texts words)) → options ≡ program_options → items ≡ words
+    → AreAccepted (texts words) → IsRefused options (texts items) fault → ⊥
+never_refused options words items fault one options_are items_are accepted is =
+    accepted_not_refused (texts words) one accepted.0 fault accepted.1
+    (subst (λ (o : Declared). IsRefused o (texts words) fault) options_are
+    (subst (λ (ws : List (Bor Text)). IsRefused options (texts ws) fault) items_are is))
 
 -- words that are refused, and the text of their fault
 pub refused_text : (options : Declared) (words items : List (Bor Text)) (fault : Fault) (text : Text)
@@ -57,5 +91,5 @@ refused_text options words items fault text options_are items_are is text_is =
 -- what follows from what a refusal tells of a fault, where it tells one
 pub told_fault : (P Q : Fault → Type 0) (R : Type 0) (fault : Option Fault) → MatchOption fault ⊤ P → IsSomeAnd fault Q
     → ((f : Fault) → P f → Q f → R) → R
-told_fault P Q R None told shown follows = absurd shown
-told_fault P Q R (Some fault) told shown follows = follows fault told shown
+told_fault P Q R None told is follows = absurd is
+told_fault P Q R (Some fault) told is follows = follows fault told is

@@ -2,38 +2,29 @@
 use Rattle.std.specs.Prelude.{◌≡◌, ◌⊎◌, ℕ, Bool, true, false, Option, List, [], ◌∷◌, ◌++◌, length, codes, decimal}
 use Rattle.std.specs.List.{flat_map}
 use Rattle.std.specs.Io.KnownBytes.{Appends}
-use Rattle.getopts.specs.Accessors.{found_of, is_present, values_of}
-use Rattle.getopts.specs.Fail.{Fault, argument_missing, unrecognized_option, option_missing, option_duplicated, unexpected_argument}
-use Rattle.getopts.specs.Matches.{Found, Matched, MatchedGroup, matched_from}
+use Rattle.getopts.specs.Accessors.{found_of, is_present, pairs_of, positions_of}
+use Rattle.getopts.specs.Canon.{Content, canonical_line}
+use Rattle.getopts.specs.CanonAnswers.{IsAcceptedWith}
+use Rattle.getopts.specs.Fail.{Fault, fault_text}
+use Rattle.getopts.specs.Matches.{Found, Matched, MatchedGroup, matched}
 use Rattle.getopts.specs.Names.{Text, main_name}
-use Rattle.getopts.specs.Options.{Group, Declared}
+use Rattle.getopts.specs.Options.{Group, Declared, group_of, knowns_of}
 use Rattle.getopts.specs.Scan.{Occurrence}
 use Rattle.getopts.specs.Parse.{IsAccepted, IsRefused}
-use Rattle.getopts.specs.Usage.{IsTheOnly, IsUsageText}
-use Rattle.getopts.specs.declared.options.HasArg.{HasArg}
-use Rattle.getopts.specs.declared.options.HasArg.TheVariants.{Yes, No, Maybe}
-use Rattle.getopts.specs.declared.options.Occur.{Occur}
-use Rattle.getopts.specs.declared.options.Occur.TheVariants.{Optional, Multi}
-use Rattle.getopts.specs.declared.options.ParsingStyle.TheVariants.{FloatingFrees}
-
--- a group by its six parts
-abbrev pub group_of : Text → Text → HasArg → Occur → Text → Text → Group
-group_of short long kind occurrence hint description = record {
-  names = record { short = short; long = long };
-  hint = hint;
-  description = description;
-  kind = kind;
-  occurrence = occurrence;
-}
+use Rattle.getopts.specs.Only.{IsTheOnly}
+use Rattle.getopts.specs.Usage.{IsUsageText}
+use Rattle.getopts.specs.declared.groups.HasArg.TheVariants.{Yes, No, Maybe}
+use Rattle.getopts.specs.declared.groups.Occur.TheVariants.{Optional, Multi}
+use Rattle.getopts.specs.declared.groups.ParsingStyle.TheVariants.{FloatingFrees}
 
 -- the program's groups
 abbrev pub program_groups : List Group
 program_groups =
-    group_of (codes "o") (codes "output") Yes Optional (codes "NAME") (codes "set output file name")
-    ∷ group_of (codes "h") (codes "help") No Optional [] (codes "print this help menu")
-    ∷ group_of (codes "v") (codes "verbose") No Multi [] (codes "say more")
-    ∷ group_of (codes "L") [] Yes Multi (codes "DIR") (codes "add a folder")
-    ∷ group_of (codes "c") (codes "color") Maybe Optional (codes "WHEN") (codes "colour the output")
+    group_of (codes "o") (codes "output") (codes "set output file name") (codes "NAME") Yes Optional
+    ∷ group_of (codes "h") (codes "help") (codes "print this help menu") [] No Optional
+    ∷ group_of (codes "v") (codes "verbose") (codes "say more") [] No Multi
+    ∷ group_of (codes "L") [] (codes "add a folder") (codes "DIR") Yes Multi
+    ∷ group_of (codes "c") (codes "color") (codes "colour the output") (codes "WHEN") Maybe Optional
     ∷ []
 
 -- the program's options: its groups, in the default style and mode
@@ -44,21 +35,33 @@ program_options = record { groups = program_groups; style = FloatingFrees; long_
 abbrev pub line_end : Text
 line_end = 10 ∷ []
 
--- the line `name: count`
-abbrev pub count_line : Text → ℕ → Text
-count_line name count = name ++ (codes ": " ++ (decimal count ++ line_end))
+-- the mark of a position: a space, `@` and the number
+abbrev pub position_mark : ℕ → Text
+position_mark position = codes " @" ++ decimal position
 
--- the line `name = value`
-abbrev pub value_line : Text → Text → Text
-value_line name value = name ++ (codes " = " ++ (value ++ line_end))
+-- the line `name: count` of some occurrences, with the mark of each one's position after the count
+abbrev pub count_line : Text → List Found → Text
+count_line name founds =
+    name ++ (codes ": " ++ (decimal (length founds)
+    ++ (flat_map position_mark (positions_of founds) ++ line_end)))
+
+-- the line `name @position = value`
+abbrev pub value_line : Text → ℕ × Text → Text
+value_line name pair =
+    name ++ (codes " @" ++ (decimal pair.0 ++ (codes " = " ++ (pair.1 ++ line_end))))
 
 -- the line `free: word`
 abbrev pub free_line : Text → Text
 free_line word = codes "free: " ++ (word ++ line_end)
 
--- the lines of an option with this name and these occurrences: how many they are, and each value
+-- the line `line: word`
+abbrev pub word_line : Text → Text
+word_line word = codes "line: " ++ (word ++ line_end)
+
+-- the lines of an option with this name and these occurrences: how many they are and where, and each
+-- value with its position
 abbrev pub option_lines : Text → List Found → Text
-option_lines name founds = count_line name (length founds) ++ flat_map (value_line name) (values_of founds)
+option_lines name founds = count_line name founds ++ flat_map (value_line name) (pairs_of founds)
 
 -- the lines of the option that this name resolves to, under this name
 abbrev pub named_lines : List MatchedGroup → Text → Text
@@ -66,27 +69,28 @@ named_lines groups name = option_lines name (found_of groups name)
 
 -- the groups are the program's, each with its share of some occurrences
 abbrev pub HasProgramGroups : List MatchedGroup → Type 0
-HasProgramGroups groups = (occurrences : List Occurrence) × (groups ≡ matched_from 0 program_groups occurrences)
+HasProgramGroups groups =
+    (occurrences : List Occurrence) × (groups ≡ matched 0 (knowns_of program_groups) occurrences)
 
 -- the lines of a group, under its main name
 abbrev pub group_lines : MatchedGroup → Text
-group_lines group = option_lines (main_name group.names) group.found
+group_lines group = option_lines (main_name group.known.names) group.found
 
 -- the text of matches: the lines of each option in order, and the line of each free word
 abbrev pub matches_text : Matched → Text
 matches_text matches = flat_map group_lines matches.groups ++ flat_map free_line matches.free
 
--- what a fault says
-abbrev pub fault_text : Fault → Text
-fault_text (argument_missing name) = codes "Argument to option '" ++ (name ++ codes "' missing")
-fault_text (unrecognized_option name) = codes "Unrecognized option: '" ++ (name ++ codes "'")
-fault_text (option_missing name) = codes "Required option '" ++ (name ++ codes "' missing")
-fault_text (option_duplicated name) = codes "Option '" ++ (name ++ codes "' given more than once")
-fault_text (unexpected_argument name) = codes "Option '" ++ (name ++ codes "' does not take an argument")
+-- the text of a content: the line of each word of its canonical line
+abbrev pub content_text : Content → Text
+content_text content = flat_map word_line (canonical_line program_groups content)
 
 -- the line of a fault: the program's name, and what the fault says
 abbrev pub fault_line : Fault → Text
 fault_line fault = codes "getopts_show: " ++ (fault_text fault ++ line_end)
+
+-- words are accepted by the program's options
+abbrev pub AreAccepted : List Text → Type 0
+AreAccepted words = (matches : Matched) × IsAccepted program_options words matches
 
 -- whether matches ask for help
 abbrev pub asks_help : Matched → Bool
@@ -100,17 +104,20 @@ brief = codes "Usage: getopts_show [options] FILE"
 abbrev pub IsHelpText : Text → Type 0
 IsHelpText text = IsTheOnly (IsUsageText program_options brief) text
 
--- The text and the status of words: the program's help or the text of their matches, as the matches that
--- they are accepted with ask for help or not, or those of the fault that they are refused with.
+-- The text and the status of words. Where they are accepted, and the matches ask for help, that is
+-- the program's help; where the matches don't, the text of the matches and of the content that the
+-- words are accepted with. Where they are refused, it is the line of the fault.
 pub data IsProgramText (words : List Text) : Text → ℕ → Type 0 where
-  helped : (matches : Matched) (text : Text) → IsAccepted program_options words matches → asks_help matches ≡ true
-      → IsHelpText text → IsProgramText words text 0
-  accepted : (matches : Matched) → IsAccepted program_options words matches → asks_help matches ≡ false
-      → IsProgramText words (matches_text matches) 0
-  refused : (fault : Fault) → IsRefused program_options words fault → IsProgramText words (fault_line fault) 2
+  helped : (matches : Matched) (text : Text) → IsAccepted program_options words matches
+      → asks_help matches ≡ true → IsHelpText text → IsProgramText words text 0
+  shown : (matches : Matched) (content : Content) → IsAccepted program_options words matches
+      → asks_help matches ≡ false → IsAcceptedWith program_options words content
+      → IsProgramText words (matches_text matches ++ content_text content) 0
+  refused : (fault : Fault) → IsRefused program_options words fault
+      → IsProgramText words (fault_line fault) 2
 
--- the statuses: 0 where the program's help or the matches of accepted words were shown, 2 where the fault of refused words was,
--- 3 where memory was refused, 4 where a write or the flush failed
+-- the statuses: 0 where the program's help or what accepted words say was shown, 2 where the fault of
+-- refused words was, 3 where memory was refused, 4 where a write or the flush failed
 abbrev pub IsStatus : ℕ → Type 0
 IsStatus status = (status ≡ 0) ⊎ (status ≡ 2) ⊎ (status ≡ 3) ⊎ (status ≡ 4)
 
@@ -120,7 +127,8 @@ IsDone status = (status ≡ 0) ⊎ (status ≡ 2)
 
 -- the words have no other text, and no other status
 abbrev pub IsOnlyText : List Text → Text → ℕ → Type 0
-IsOnlyText words text status = (other : Text) (another : ℕ) → IsProgramText words other another → (other ≡ text) × (another ≡ status)
+IsOnlyText words text status =
+    (other : Text) (another : ℕ) → IsProgramText words other another → (other ≡ text) × (another ≡ status)
 
 -- what a writer holds has grown by the one text of these words, which have this status
 pub record ShowsText (old new : Option (List ℕ)) (words : List Text) (status : ℕ) : Type 0 where

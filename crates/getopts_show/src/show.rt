@@ -6,9 +6,11 @@ ghost use Rattle.std.specs.String.{string_bytes};
 ghost use Rattle.std.specs.Io.KnownBytes.{Appends};
 ghost use Rattle.getopts.specs.Accessors.{AreDefined, IsDefined, found_of};
 ghost use Rattle.getopts.specs.Fail.{fault_of};
-ghost use Rattle.getopts.specs.Line.{texts};
-ghost use Rattle.getopts.specs.Names.{Text};
-ghost use Rattle.getopts_show.specs.Program.{IsProgramText, IsOnlyText, IsHelpText, HasProgramGroups, IsStatus, IsDone, ShowsText, asks_help, fault_line, free_line, matches_text, named_lines, program_options};
+ghost use Rattle.getopts.specs.Names.{Text, texts};
+ghost use Rattle.getopts.specs.Parse.{IsAccepted};
+ghost use Rattle.getopts.specs.CanonAnswers.{IsWritten};
+ghost use Rattle.getopts_show.specs.Program.{AreAccepted, IsProgramText, IsOnlyText, HasProgramGroups, IsStatus, IsDone, ShowsText};
+ghost use Rattle.getopts_show.specs.Program.{asks_help, count_line, fault_line, free_line, matches_text, named_lines, program_options, word_line};
 
 use getopts::{Fail, Matches, Options, equal_input_equal_answers};
 use std::alloc::{AllocError, Global};
@@ -39,15 +41,18 @@ struct Answer {
 
 /// Reads words by the program's options, and writes what they are.
 ///
-/// The text is made whole, and then written once and flushed. Accepted words that hold `-h` or `--help`
-/// are answered by the program's help alone. Other accepted words are shown: for each option the line
-/// `main: count` and a line `main = value` for each of its values, then a line `free: word` for each
-/// free word. The answer to accepted words is 0. Of refused words, also where they ask for help, the
-/// fault is shown, after the program's name, and the answer is 2. Where memory is refused nothing is
-/// written and the answer is 3, and where a write or the flush fails it is 4.
+/// The text is made whole, and then written once and flushed. Accepted words that hold `-h` or
+/// `--help` are answered by the program's help alone. Other accepted words are shown: for each option
+/// the line `main: count`, with ` @position` after it for each occurrence, and a line
+/// `main @position = value` for each of its values; then a line `free: word` for each free word, and a
+/// line `line: word` for each word of the canonical line. The answer to accepted words is 0. Of refused
+/// words, also where they ask for help, the fault is shown, after the program's name, and the answer is
+/// 2. Where memory is refused nothing is written and the answer is 3, and where a write or the flush
+/// fails it is 4.
 pub fn show<W: Write>(alloc: Global, words: &[&str], out: &mut W) -> u8
     ensures status { IsStatus result }
-    ensures shown { IsDone result → ShowsText (W.contents out.old) (W.contents out.new) (texts words.now) result }
+    ensures shown { IsDone result
+        → ShowsText (W.contents out.old) (W.contents out.new) (texts words.now) result }
     ensures nothing_written { result ≡ 3 → out.new ≡ out.old }
 {
     words_have_one_text();
@@ -60,9 +65,11 @@ pub fn show<W: Write>(alloc: Global, words: &[&str], out: &mut W) -> u8
     }
 }
 
-/// Words have one text and one status. It is for the proofs alone: nothing is left of it once built.
+/// Words have one text and one status. It is for the proofs alone: once built, nothing
+/// is left of it.
 fn words_have_one_text()
-    ensures { (words : List Text) (text : Text) (status : ℕ) → IsProgramText words text status → IsOnlyText words text status }
+    ensures { (words : List Text) (text : Text) (status : ℕ)
+        → IsProgramText words text status → IsOnlyText words text status }
 {
     equal_input_equal_answers();
 }
@@ -77,12 +84,13 @@ fn print<W: Write>(out: &mut W, text: &str) -> io::Result<()>
 
 /// What the program says to words.
 fn answer_to(alloc: Global, words: &[&str]) -> Result<Answer, AllocError>
-    ensures { IfOk result (λ answer. IsProgramText (texts words.now) (string_bytes answer.text) answer.status) }
+    ensures { IfOk result (λ answer.
+        IsProgramText (texts words.now) (string_bytes answer.text) answer.status) }
 {
     let options = program_options(alloc)?;
     match options.parse(alloc, words.iter().copied()) {
         Ok(matches) => Ok(Answer {
-            text: accepted_text(alloc, &options, &matches)?,
+            text: accepted_text(alloc, &options, words, &matches)?,
             status: SHOWN,
         }),
         Err(fail) => Ok(Answer {
@@ -92,24 +100,72 @@ fn answer_to(alloc: Global, words: &[&str]) -> Result<Answer, AllocError>
     }
 }
 
-/// The text of accepted words: the program's help where they ask for it, or else what they are.
-fn accepted_text(alloc: Global, options: &Options, matches: &Matches) -> Result<String, AllocError>
+/// The text of words that are accepted with these matches: the program's help where they ask for it,
+/// or else what they are.
+fn accepted_text(
+    alloc: Global,
+    options: &Options,
+    words: &[&str],
+    matches: &Matches,
+) -> Result<String, AllocError>
     requires program { options.now ≡ program_options }
-    requires groups { HasProgramGroups matches.now.groups }
-    ensures help { IfOk result (λ text. asks_help matches.now ≡ true → IsHelpText (string_bytes text)) }
-    ensures shown { IfOk result (λ text. asks_help matches.now ≡ false → string_bytes text ≡ matches_text matches.now) }
+    requires accepted { IsAccepted program_options (texts words.now) matches.now }
+    ensures { IfOk result (λ text. IsProgramText (texts words.now) (string_bytes text) 0) }
 {
     if matches.opt_present("help") {
         options.usage(alloc, BRIEF)
     } else {
-        matches_text(alloc, matches)
+        shown_text(alloc, options, words, matches)
+    }
+}
+
+/// What words are that are accepted with these matches: the text of the matches, and the line of
+/// each word of the canonical line.
+fn shown_text(
+    alloc: Global,
+    options: &Options,
+    words: &[&str],
+    matches: &Matches,
+) -> Result<String, AllocError>
+    requires program { options.now ≡ program_options }
+    requires accepted { IsAccepted program_options (texts words.now) matches.now }
+    requires no_help { asks_help matches.now ≡ false }
+    ensures { IfOk result (λ text. IsProgramText (texts words.now) (string_bytes text) 0) }
+{
+    let mut text = matches_text(alloc, matches)?;
+    let line = canonical_line(alloc, options, words)?;
+    push_line(&mut text, &line)?;
+    Ok(text)
+}
+
+/// The canonical line of accepted words. They have one, since no main name of the program's options
+/// holds `=`, and `canonical` refuses them only for want of memory.
+fn canonical_line(
+    alloc: Global,
+    options: &Options,
+    words: &[&str],
+) -> Result<Vec<String>, AllocError>
+    requires program { options.now ≡ program_options }
+    requires accepted { AreAccepted (texts words.now) }
+    ensures { IfOk result (λ line.
+        IsWritten program_options (texts words.now) (map string_bytes line.items)) }
+{
+    equal_input_equal_answers();
+    match options.canonical(alloc, words.iter().copied()) {
+        Ok(Some(line)) => Ok(line),
+        Ok(None) => unreachable!(),
+        Err(fail) => match fail {
+            Fail::OutOfMemory => Err(AllocError),
+            _ => unreachable!(),
+        },
     }
 }
 
 /// The line of the fault that a refusal tells. An error comes also where it tells that memory was
 /// refused.
 fn fault_line(alloc: Global, fail: &Fail) -> Result<String, AllocError>
-    ensures { IfOk result (λ text. IsSomeAnd (fault_of fail.now) (λ fault. string_bytes text ≡ fault_line fault)) }
+    ensures { IfOk result (λ text.
+        IsSomeAnd (fault_of fail.now) (λ fault. string_bytes text ≡ fault_line fault)) }
 {
     match fail {
         Fail::OutOfMemory => Err(AllocError),
@@ -144,13 +200,33 @@ fn matches_text(alloc: Global, matches: &Matches) -> Result<String, AllocError>
 /// The lines of the options with these names, in order.
 fn options_text(alloc: Global, matches: &Matches, names: &[&str]) -> Result<String, AllocError>
     requires { AreDefined matches.now.groups (texts names.now) }
-    ensures { IfOk result (λ text. string_bytes text ≡ flat_map (named_lines matches.now.groups) (texts names.now)) }
+    ensures { IfOk result (λ text.
+        string_bytes text ≡ flat_map (named_lines matches.now.groups) (texts names.now)) }
 {
     let mut text = String::new(alloc);
     for name in names {
         push_option(alloc, &mut text, matches, name)?;
     }
     Ok(text)
+}
+
+/// Adds the line that tells how often the option with this name was given, and where.
+fn push_count(
+    alloc: Global,
+    text: &mut String,
+    matches: &Matches,
+    name: &str,
+) -> Result<(), AllocError>
+    requires { IsDefined matches.now.groups name.now }
+    ensures { OnOk result (string_bytes text.new
+        ≡ string_bytes text.old ++ count_line name.now (found_of matches.now.groups name.now)) }
+{
+    let count = matches.opt_count(name);
+    write!(text, "{name}: {count}")?;
+    for position in &matches.opt_positions(alloc, name)? {
+        write!(text, " @{position}")?;
+    }
+    text.push('\n')
 }
 
 /// Adds the lines of the option with this name.
@@ -161,22 +237,34 @@ fn push_option(
     name: &str,
 ) -> Result<(), AllocError>
     requires { IsDefined matches.now.groups name.now }
-    ensures { OnOk result (string_bytes text.new ≡ string_bytes text.old ++ named_lines matches.now.groups name.now) }
+    ensures { OnOk result (string_bytes text.new
+        ≡ string_bytes text.old ++ named_lines matches.now.groups name.now) }
 {
-    let count = matches.opt_count(name);
-    writeln!(text, "{name}: {count}")?;
-    for value in &matches.opt_strs(alloc, name)? {
-        writeln!(text, "{name} = {value}")?;
+    push_count(alloc, text, matches, name)?;
+    for (position, value) in &matches.opt_strs_pos(alloc, name)? {
+        writeln!(text, "{name} @{position} = {value}")?;
     }
     Ok(())
 }
 
 /// Adds the line of each free word.
 fn push_free(text: &mut String, free: &[String]) -> Result<(), AllocError>
-    ensures { OnOk result (string_bytes text.new ≡ string_bytes text.old ++ flat_map free_line (map string_bytes free.now)) }
+    ensures { OnOk result (string_bytes text.new
+        ≡ string_bytes text.old ++ flat_map free_line (map string_bytes free.now)) }
 {
     for word in free {
         writeln!(text, "free: {word}")?;
+    }
+    Ok(())
+}
+
+/// Adds the line of each word of the canonical line.
+fn push_line(text: &mut String, line: &[String]) -> Result<(), AllocError>
+    ensures { OnOk result (string_bytes text.new
+        ≡ string_bytes text.old ++ flat_map word_line (map string_bytes line.now)) }
+{
+    for word in line {
+        writeln!(text, "line: {word}")?;
     }
     Ok(())
 }

@@ -20,10 +20,10 @@ struct Memory {
 
 impl Memory {
     /// A writer that takes all bytes. It takes memory here alone, for texts that are not longer than
-    /// 512 bytes.
+    /// 8,192 bytes.
     fn new(alloc: Global) -> Result<Memory, AllocError> {
         Ok(Memory {
-            held: Vec::with_capacity(alloc, 512)?,
+            held: Vec::with_capacity(alloc, 8192)?,
             step: usize::MAX,
             failing_write: None,
             failing_flush: None,
@@ -54,7 +54,7 @@ impl Write for Memory {
 }
 
 /// Words, the text that they have, and their status.
-type Row = (&'static [&'static str], &'static str, u8);
+type Row<'a> = (&'a [&'a str], &'a str, u8);
 
 const HELP: &str = "Usage: getopts_show [options] FILE
 
@@ -66,7 +66,89 @@ Options:
     -c, --color [WHEN]  colour the output
 ";
 
-const ROWS: [Row; 17] = [
+/// Of `--output=x.txt`, `--verbose`, `in.txt`.
+const FIRST: &str = "output: 1 @0
+output @0 = x.txt
+help: 0
+verbose: 1 @1
+L: 0
+color: 0
+free: in.txt
+line: --output=x.txt
+line: --verbose
+line: --
+line: in.txt
+";
+
+/// Of `-vvLd`, `-c`, `auto`, `f`.
+const CLUSTER: &str = "output: 0
+help: 0
+verbose: 2 @0 @0
+L: 1 @0
+L @0 = d
+color: 1 @1
+color @1 = auto
+free: f
+line: --verbose
+line: --verbose
+line: --L=d
+line: --color=auto
+line: --
+line: f
+";
+
+/// Of `--color`, `x`.
+const NO_VALUE: &str = "output: 0
+help: 0
+verbose: 0
+L: 0
+color: 1 @0
+free: x
+line: --color
+line: --
+line: x
+";
+
+/// Of `-La`, `b`, `--L`, `c`, `-o`, an empty word, `--`, `-v`, an empty word.
+const MIXED: &str = "output: 1 @4
+output @4 = \nhelp: 0
+verbose: 0
+L: 2 @0 @2
+L @0 = a
+L @2 = c
+color: 0
+free: b
+free: -v
+free: \nline: --L=a
+line: --L=c
+line: --output=
+line: --
+line: b
+line: -v
+line: \n";
+
+/// Of `-o`, `x`, `-v`.
+const SEPARATE: &str = "output: 1 @0
+output @0 = x
+help: 0
+verbose: 1 @2
+L: 0
+color: 0
+line: --output=x
+line: --verbose
+line: --
+";
+
+/// Of no words.
+const NOTHING: &str = "output: 0
+help: 0
+verbose: 0
+L: 0
+color: 0
+line: --
+";
+
+const ROWS: [Row<'static>; 18] = [
     (&["-h"], HELP, 0),
     (&["-h", "x"], HELP, 0),
     (&["-vo", "x", "--help", "--", "y"], HELP, 0),
@@ -80,27 +162,16 @@ const ROWS: [Row; 17] = [
         "getopts_show: Option 'help' given more than once\n",
         2,
     ),
-    (
-        &["--output=x.txt", "--verbose", "in.txt"],
-        "output: 1\noutput = x.txt\nhelp: 0\nverbose: 1\nL: 0\ncolor: 0\nfree: in.txt\n",
-        0,
-    ),
-    (
-        &["-vvLd", "-c", "auto", "f"],
-        "output: 0\nhelp: 0\nverbose: 2\nL: 1\nL = d\ncolor: 1\ncolor = auto\nfree: f\n",
-        0,
-    ),
-    (
-        &["--color", "x"],
-        "output: 0\nhelp: 0\nverbose: 0\nL: 0\ncolor: 1\nfree: x\n",
-        0,
-    ),
+    (&["--output=x.txt", "--verbose", "in.txt"], FIRST, 0),
+    (&["-vvLd", "-c", "auto", "f"], CLUSTER, 0),
+    (&["--color", "x"], NO_VALUE, 0),
     (
         &["-La", "b", "--L", "c", "-o", "", "--", "-v", ""],
-        "output: 1\noutput = \nhelp: 0\nverbose: 0\nL: 2\nL = a\nL = c\ncolor: 0\nfree: b\nfree: -v\nfree: \n",
+        MIXED,
         0,
     ),
-    (&[], "output: 0\nhelp: 0\nverbose: 0\nL: 0\ncolor: 0\n", 0),
+    (&["-o", "x", "-v"], SEPARATE, 0),
+    (&[], NOTHING, 0),
     (
         &["--nope"],
         "getopts_show: Unrecognized option: 'nope'\n",
@@ -134,26 +205,56 @@ const ROWS: [Row; 17] = [
     ),
 ];
 
+/// 200 free words.
+const WORDS: [&str; 200] = ["free"; 200];
+
+/// The text of 200 free words.
+fn text_of_words(alloc: Global) -> Result<String, AllocError> {
+    let mut text = String::from_str(alloc, "output: 0\nhelp: 0\nverbose: 0\nL: 0\ncolor: 0\n")?;
+    for _ in WORDS {
+        text.push_str("free: free\n")?;
+    }
+    text.push_str("line: --\n")?;
+    for _ in WORDS {
+        text.push_str("line: free\n")?;
+    }
+    Ok(text)
+}
+
+/// Over a writer that takes so many bytes at a time, the row's text is written in so many writes, and
+/// flushed once.
+fn is_written(
+    rt: &(impl Abort + AllocGlobal),
+    step: usize,
+    row: Row<'_>,
+) -> Result<(), AllocError> {
+    let (words, text, status) = row;
+    let mut out = Memory::new(rt.alloc())?;
+    out.step = step;
+    assert_eq!(rt; show(rt.alloc(), words, &mut out), status, "at {text:?}");
+    assert_eq!(rt; out.held.as_slice(), text.as_bytes());
+    let writes = if step == 1 { text.len() } else { 1 };
+    assert_eq!(rt; (out.writes, out.flushes), (writes, 1));
+    Ok(())
+}
+
 #[test]
 fn rows_are_written_once(rt: HostRuntime) -> Result<(), Fail> {
-    for (words, text, status) in ROWS {
-        let mut out = Memory::new(rt.alloc())?;
-        assert_eq!(rt; show(rt.alloc(), words, &mut out), status, "at {text:?}");
-        assert_eq!(rt; out.held.as_slice(), text.as_bytes());
-        assert_eq!(rt; (out.writes, out.flushes), (1, 1));
+    for row in ROWS {
+        is_written(&rt, usize::MAX, row)?;
     }
+    let text = text_of_words(rt.alloc())?;
+    is_written(&rt, usize::MAX, (&WORDS, text.as_str(), 0))?;
     Ok(())
 }
 
 #[test]
 fn rows_are_written_a_byte_at_a_time(rt: HostRuntime) -> Result<(), Fail> {
-    for (words, text, status) in ROWS {
-        let mut out = Memory::new(rt.alloc())?;
-        out.step = 1;
-        assert_eq!(rt; show(rt.alloc(), words, &mut out), status, "at {text:?}");
-        assert_eq!(rt; out.held.as_slice(), text.as_bytes());
-        assert_eq!(rt; (out.writes, out.flushes), (text.len(), 1));
+    for row in ROWS {
+        is_written(&rt, 1, row)?;
     }
+    let text = text_of_words(rt.alloc())?;
+    is_written(&rt, 1, (&WORDS, text.as_str(), 0))?;
     Ok(())
 }
 
@@ -168,49 +269,64 @@ fn text_is_added_to_what_is_there(rt: HostRuntime) -> Result<(), Fail> {
     Ok(())
 }
 
-/// Each row answers 4 over a writer with these faults, and so many bytes of its text are taken; `None`
-/// is all of them.
-fn rows_fail(
+/// A writer's faults: how many bytes it takes at most at a time, which write fails, which flush fails,
+/// and how many bytes it takes then; `None` is all of them.
+type Faults = (usize, Option<usize>, Option<usize>, Option<usize>);
+
+/// The row answers 4 over a writer with these faults.
+fn row_fails(
     rt: &(impl Abort + AllocGlobal),
-    step: usize,
-    failing_write: Option<usize>,
-    failing_flush: Option<usize>,
-    taken: Option<usize>,
-) -> Result<(), Fail> {
-    for (words, text, _) in ROWS {
-        let mut out = Memory::new(rt.alloc())?;
-        out.step = step;
-        out.failing_write = failing_write;
-        out.failing_flush = failing_flush;
-        assert_eq!(rt; show(rt.alloc(), words, &mut out), 4, "at {text:?}");
-        assert_eq!(rt; out.held.len(), taken.unwrap_or(text.len()));
-    }
+    faults: Faults,
+    row: Row<'_>,
+) -> Result<(), AllocError> {
+    let (step, failing_write, failing_flush, taken) = faults;
+    let (words, text, _) = row;
+    let mut out = Memory::new(rt.alloc())?;
+    out.step = step;
+    out.failing_write = failing_write;
+    out.failing_flush = failing_flush;
+    assert_eq!(rt; show(rt.alloc(), words, &mut out), 4, "at {text:?}");
+    assert_eq!(rt; out.held.len(), taken.unwrap_or(text.len()));
     Ok(())
+}
+
+/// Each row, and 200 words, answer 4 over a writer with these faults.
+fn rows_fail(rt: &(impl Abort + AllocGlobal), faults: Faults) -> Result<(), AllocError> {
+    for row in ROWS {
+        row_fails(rt, faults, row)?;
+    }
+    let text = text_of_words(rt.alloc())?;
+    row_fails(rt, faults, (&WORDS, text.as_str(), 0))
 }
 
 #[test]
 fn first_write_fails(rt: HostRuntime) -> Result<(), Fail> {
-    rows_fail(&rt, usize::MAX, Some(1), None, Some(0))
+    rows_fail(&rt, (usize::MAX, Some(1), None, Some(0)))?;
+    Ok(())
 }
 
 #[test]
 fn third_write_of_one_byte_fails(rt: HostRuntime) -> Result<(), Fail> {
-    rows_fail(&rt, 1, Some(3), None, Some(2))
+    rows_fail(&rt, (1, Some(3), None, Some(2)))?;
+    Ok(())
 }
 
 #[test]
 fn no_byte_is_taken(rt: HostRuntime) -> Result<(), Fail> {
-    rows_fail(&rt, 0, None, None, Some(0))
+    rows_fail(&rt, (0, None, None, Some(0)))?;
+    Ok(())
 }
 
 #[test]
 fn flush_fails(rt: HostRuntime) -> Result<(), Fail> {
-    rows_fail(&rt, usize::MAX, None, Some(1), None)
+    rows_fail(&rt, (usize::MAX, None, Some(1), None))?;
+    Ok(())
 }
 
 #[test]
 fn flush_fails_after_writes_of_one_byte(rt: HostRuntime) -> Result<(), Fail> {
-    rows_fail(&rt, 1, None, Some(1), None)
+    rows_fail(&rt, (1, None, Some(1), None))?;
+    Ok(())
 }
 
 /// Passes whichever growth is refused: want of memory is answered with nothing written, and else the

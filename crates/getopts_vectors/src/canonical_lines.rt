@@ -93,6 +93,15 @@ fn canonical_lines_have_main_names_and_attached_values(rt: HostRuntime) -> Resul
         ),
         (&[(Optflag, "-", "")], &[(&["---"], Some(&["---", "--"]))]),
         (
+            &[(Optflag, "a", ""), (Optflag, "-", "")],
+            &[(&["-a-"], Some(&["--a", "---", "--"]))],
+        ),
+        (&[(Optflag, " ", "")], &[(&["- "], Some(&["-- ", "--"]))]),
+        (
+            &[(Optflag, "", "--")],
+            &[(&["----"], Some(&["----", "--"]))],
+        ),
+        (
             &[(Optflag, "a", ""), (Optflag, "b", "")],
             &[
                 (&["-ab"], Some(&["--a", "--b", "--"])),
@@ -172,6 +181,15 @@ fn a_used_main_name_that_holds_an_equals_sign_has_no_line(rt: HostRuntime) -> Re
         false,
         &[(Optflagopt, "p", "p=x")],
         LONG,
+    )?;
+    const ARGUMENT: &[Row] = &[(&["-p", "x"], None), (&["--p=x"], None)];
+    expect_rows(
+        &rt,
+        alloc,
+        FloatingFrees,
+        false,
+        &[(Optopt, "p", "a=b")],
+        ARGUMENT,
     )?;
     Ok(())
 }
@@ -264,11 +282,13 @@ fn canonical_lines_of_long_only_lines(rt: HostRuntime) -> Result<(), Fail> {
 #[test]
 fn canonical_refuses_what_parse_refuses(rt: HostRuntime) -> Result<(), Fail> {
     let alloc = rt.alloc();
-    let options = declared(&rt, alloc, &[])?;
-    let Err(fail) = options.canonical(alloc, iter::once("--nope")) else {
-        panic!(rt; "an option that isn't there is accepted");
-    };
-    assert_eq!(rt; fail, Fault::UnrecognizedOption("nope").fail(alloc)?);
+    let options = declared(&rt, alloc, &[(Optopt, "p", "a=b")])?;
+    for (word, name) in [("--nope", "nope"), ("--a=b", "a")] {
+        let Err(fail) = options.canonical(alloc, iter::once(word)) else {
+            panic!(rt; "an option that isn't there is accepted");
+        };
+        assert_eq!(rt; fail, Fault::UnrecognizedOption(name).fail(alloc)?);
+    }
     Ok(())
 }
 
@@ -291,5 +311,11 @@ fn canonical_line_of_many_words(rt: HostRuntime) -> Result<(), Fail> {
         panic!(rt; "a long cluster has no line");
     };
     assert!(rt; same == line);
+    let Ok(Some(line)) = options.canonical(alloc, iter::repeat_n("x", MANY)) else {
+        panic!(rt; "many free words have no line");
+    };
+    assert_eq!(rt; line.len(), 100_001);
+    assert_eq!(rt; line.first().map(|word| word.as_str()), Some("--"));
+    assert!(rt; line.iter().skip(1).all(|word| word.as_str() == "x"));
     Ok(())
 }

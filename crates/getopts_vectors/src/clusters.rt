@@ -33,29 +33,38 @@ fn flags_and_arguments_in_clusters(rt: HostRuntime) -> Result<(), Fail> {
 
 #[test]
 fn options_of_one_cluster_share_a_position(rt: HostRuntime) -> Result<(), Fail> {
-    const TABLES: &[Table] = &[(
-        &[(Optmulti, "L", ""), (Optflagmulti, "v", "verbose")],
-        &[(
-            &["-vvLverbose", "-v"],
-            Accepted(&[
-                FirstStr(&["L"], Some("verbose")),
-                Count("v", 3),
-                Positions("v", &[0, 0, 1]),
-                Positions("L", &[0]),
-            ]),
-        )],
-    )];
+    const TABLES: &[Table] = &[
+        (
+            &[(Optmulti, "L", ""), (Optflagmulti, "v", "verbose")],
+            &[(
+                &["-vvLverbose", "-v"],
+                Accepted(&[
+                    FirstStr(&["L"], Some("verbose")),
+                    Count("v", 3),
+                    Positions("v", &[0, 0, 1]),
+                    Positions("L", &[0]),
+                ]),
+            )],
+        ),
+        (
+            &[(Optflagmulti, "v", "")],
+            &[
+                (&["-vv"], Accepted(&[Positions("v", &[0, 0])])),
+                (&["-v", "-v"], Accepted(&[Positions("v", &[0, 1])])),
+            ],
+        ),
+    ];
     expect_lines(&rt, rt.alloc(), TABLES)?;
     Ok(())
 }
 
 #[test]
-fn separate_argument_is_no_item(rt: HostRuntime) -> Result<(), Fail> {
+fn separate_argument_counts_as_a_word(rt: HostRuntime) -> Result<(), Fail> {
     const TABLES: &[Table] = &[(
         &[(Optmulti, "a", "")],
         &[(
             &["-a", "1", "-a", "2"],
-            Accepted(&[StrsPos("a", &[(0, "1"), (1, "2")])]),
+            Accepted(&[StrsPos("a", &[(0, "1"), (2, "2")])]),
         )],
     )];
     expect_lines(&rt, rt.alloc(), TABLES)?;

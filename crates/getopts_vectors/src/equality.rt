@@ -43,7 +43,7 @@ fn matches_are_equal_option_by_option(rt: HostRuntime) -> Result<(), Fail> {
         (MANY, &["-ab", "-a"], &["-ba", "-a"], true),
         (MANY, &["-ab", "-a"], &["-a", "-ab"], false),
         (MANY, &["-ab", "-a"], &["-a", "-b", "-a"], false),
-        (VALUES, &["-a", "1", "-a", "2"], &["-a1", "-a2"], true),
+        (VALUES, &["-a", "1", "-a", "2"], &["-a1", "-a2"], false),
         (VALUES, &["-a1", "-a2"], &["-a2", "-a1"], false),
         (REQUIRED, &["-b", "1"], &["--banana", "1"], true),
         (REQUIRED, &["-b", "1"], &["-b", "2"], false),

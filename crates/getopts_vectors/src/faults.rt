@@ -3,6 +3,8 @@ use crate::fixtures::Fault::{
     ArgumentMissing, OptionDuplicated, OptionMissing, UnexpectedArgument, UnrecognizedOption,
 };
 use getopts::Fail as Refusal;
+use std::alloc::{AllocError, Global};
+use std::process::Abort;
 use std::test::Fail;
 
 const FAULTS: [(Fault, &str); 5] = [
@@ -25,6 +27,35 @@ fn texts_of_faults(rt: HostRuntime) -> Result<(), Fail> {
     }
     let printed = Refusal::OutOfMemory.to_string(alloc)?;
     assert_eq!(rt; printed.as_str(), "Out of memory");
+    Ok(())
+}
+
+// Stops unless this text is written whole, whatever width and precision are asked for.
+fn expect_whole(
+    rt: &impl Abort,
+    alloc: Global,
+    fail: &Refusal,
+    text: &str,
+) -> Result<(), AllocError> {
+    let mut printed = String::new(alloc);
+    write!(
+        printed,
+        "{fail:#}|{fail:60}|{fail:>60}|{fail:^60}|{fail:.3}|{fail:<60.3}"
+    )?;
+    assert_eq!(rt; printed.split('|').count(), 6);
+    for part in printed.split('|') {
+        assert_eq!(rt; part, text);
+    }
+    Ok(())
+}
+
+#[test]
+fn texts_of_faults_are_whole_under_any_format(rt: HostRuntime) -> Result<(), Fail> {
+    let alloc = rt.alloc();
+    for (fault, text) in FAULTS {
+        expect_whole(&rt, alloc, &fault.fail(alloc)?, text)?;
+    }
+    expect_whole(&rt, alloc, &Refusal::OutOfMemory, "Out of memory")?;
     Ok(())
 }
 

@@ -3,11 +3,12 @@
 ghost use Rattle.std.specs.Prelude.{map};
 ghost use Rattle.std.specs.String.{string_bytes};
 ghost use Rattle.getopts.specs.Accessors.{AreDefined, IsDefined};
-ghost use Rattle.getopts.specs.Line.{texts};
+ghost use Rattle.getopts.specs.Names.{texts};
 
 use getopts::{Fail, HasArg, Matches, Occur, Options, ParsingStyle, names_lawful};
 use std::alloc::{AllocError, Global};
 use std::process::Abort;
+use unicode_width::UnicodeWidthStr;
 
 /// The call that adds a group.
 #[derive(Clone, Copy, Debug)]
@@ -359,4 +360,18 @@ pub fn expect_answer(
         }
     }
     Ok(())
+}
+
+/// The first character from U+0300 on that isn't white space and whose text takes no columns.
+pub fn character_of_no_columns(alloc: Global) -> Result<Option<String>, AllocError> {
+    for code in 0x300..0x11_0000 {
+        let Some(c) = char::from_u32(code) else {
+            continue;
+        };
+        let text = c.to_string(alloc)?;
+        if !c.is_whitespace() && text.as_str().width() == 0 {
+            return Ok(Some(text));
+        }
+    }
+    Ok(None)
 }

@@ -1,6 +1,6 @@
 //! The Rust crate's tests of single options, of several names and of whole lines. Here names inside faults
-//! count too. Its tests of styles, of the long-only mode, of names and of values that are read stand in the
-//! files on those.
+//! count too, and positions are indexes of words. Its tests of styles, of the long-only mode, of names and
+//! of values that are read stand in the files on those.
 
 use crate::fixtures::Adding::{Optflag, Optflagmulti, Optflagopt, Optmulti, Optopt, Reqopt};
 use crate::fixtures::Answer::{
@@ -234,8 +234,8 @@ fn options_and_free_words_combined(rt: HostRuntime) -> Result<(), Fail> {
                 Strs("m", &["40", "50"]),
                 Strs("n", &["-A B", "-60 70"]),
                 Present("notpresent", false),
-                StrsPos("m", &[(7, "40"), (8, "50")]),
-                StrsPos("n", &[(9, "-A B"), (10, "-60 70")]),
+                StrsPos("m", &[(8, "40"), (10, "50")]),
+                StrsPos("n", &[(12, "-A B"), (14, "-60 70")]),
             ]),
         )],
     )];

@@ -1,5 +1,6 @@
 //! Usage texts, byte for byte, and closures that make texts of usage rows.
 
+use crate::fixtures::character_of_no_columns;
 use getopts::{HasArg, Occur, Options, names_lawful};
 use std::alloc::{AllocError, Global};
 use std::process::Abort;
@@ -314,6 +315,51 @@ fn pads_a_head_below_24_columns(rt: HostRuntime) -> Result<(), Fail> {
     let full = [optional("a", "", "d", "ABCDEFGHIJKLMNOPQ")];
     let text = "Usage: fruits\n\nOptions:\n    -a ABCDEFGHIJKLMNOPQ\n                        d\n";
     expect_usage(&rt, alloc, false, &full, text)?;
+    Ok(())
+}
+
+// Stops unless these are the rows that the closure of `usage_with_format` is given.
+fn expect_usage_rows(
+    rt: &impl Abort,
+    alloc: Global,
+    groups: &[Row<'_>],
+    expected: &[&str],
+) -> Result<(), AllocError> {
+    let options = declared(rt, alloc, false, groups)?;
+    let text = options.usage_with_format(alloc, |rows| {
+        let rows: Vec<String> = rows.collect(alloc)?;
+        rows.join(alloc, "|")
+    })?;
+    assert_eq!(rt; text, expected.join(alloc, "|")?);
+    Ok(())
+}
+
+#[test]
+fn hands_out_rows_of_23_and_24_columns(rt: HostRuntime) -> Result<(), Fail> {
+    let groups = [
+        optional("a", "", "d", "ABCDEFGHIJKLMNOP"),
+        optional("b", "", "d", "ABCDEFGHIJKLMNOPQ"),
+        flag("c", "", ""),
+    ];
+    let rows = [
+        "    -a ABCDEFGHIJKLMNOP d",
+        "    -b ABCDEFGHIJKLMNOPQ\n                        d",
+        "    -c                  ",
+    ];
+    expect_usage_rows(&rt, rt.alloc(), &groups, &rows)?;
+    Ok(())
+}
+
+#[test]
+fn long_name_of_no_columns_is_not_written(rt: HostRuntime) -> Result<(), Fail> {
+    let alloc = rt.alloc();
+    if let Some(z) = character_of_no_columns(alloc)? {
+        let z = z.as_str();
+        let row = "    -a                  d";
+        expect_usage_rows(&rt, alloc, &[flag("a", z, "d")], &[row])?;
+        let row = "                        d";
+        expect_usage_rows(&rt, alloc, &[flag("", z, "d")], &[row])?;
+    }
     Ok(())
 }
 

@@ -1,10 +1,10 @@
 //! Rows of descriptions, and where a break goes.
 
+use crate::fixtures::character_of_no_columns;
 use getopts::wrap::each_split_within;
 use std::alloc::{AllocError, Global};
 use std::process::Abort;
 use std::test::Fail;
-use unicode_width::UnicodeWidthStr;
 
 const MARY: &str = "\nMary had a little lamb\nLittle lamb\n";
 
@@ -22,20 +22,6 @@ fn expect_rows(
         assert_eq!(rt; row.as_str(), *text, "in {desc:?} at {lim}");
     }
     Ok(())
-}
-
-// The first character from U+0300 on that isn't white space and whose text takes no columns.
-fn character_of_no_columns(alloc: Global) -> Result<Option<String>, AllocError> {
-    for code in 0x300..0x11_0000 {
-        let Some(c) = char::from_u32(code) else {
-            continue;
-        };
-        let text = c.to_string(alloc)?;
-        if !c.is_whitespace() && text.as_str().width() == 0 {
-            return Ok(Some(text));
-        }
-    }
-    Ok(None)
 }
 
 #[test]

@@ -1,6 +1,6 @@
 use Rattle.std.proofs.Common.{◌≡◌, map, take}
 use Rattle.std.specs.String.{string_bytes}
-use Rattle.getopts.specs.Line.{texts}
+use Rattle.getopts.specs.Names.{texts}
 use Rattle.getopts.proofs.matches.words_copied.Given as goal
 
 -- the copies so far are those of the words so far

@@ -1,12 +1,16 @@
--- The facts of resolution.
-use Rattle.getopts.proofs.NamesLemmas.{resolution-main_name, resolution_short, resolution-nil}
+-- The facts of resolution, of lawfully named groups.
+use Rattle.getopts.specs.Names.{IsLawfullyNamed}
+use Rattle.getopts.proofs.NamesLemmas.{AllByRecursion-map, resolution-main_name, OneByteIsShort-lawful, resolution-nil}
+use Rattle.getopts.specs.Options.{names_of}
 use Rattle.getopts.proofs.names.names_resolve.Goals as goal
 
-pub returns-clause-main_name : goal.returns-clause-main_name
-returns-clause-main_name c = λ groups name place names resolved at. resolution-main_name groups name place names resolved at
-
-pub returns-clause-one_byte : goal.returns-clause-one_byte
-returns-clause-one_byte c = λ groups lawful byte place resolved. resolution_short groups lawful byte place resolved
-
-pub returns-clause-empty : goal.returns-clause-empty
-returns-clause-empty c = λ groups lawful. resolution-nil groups lawful
+pub returns : goal.returns
+returns c =
+    let groups = c.args.options.now.groups in
+    let names = names_of groups in
+    let lawful = AllByRecursion-map IsLawfullyNamed (λ group. group.known.names) groups c.groups-groups.ensures.lawful in
+    record {
+      main_name = λ name place held resolved at. resolution-main_name names name place held resolved at;
+      one_byte = OneByteIsShort-lawful names lawful;
+      empty = resolution-nil names lawful;
+    }

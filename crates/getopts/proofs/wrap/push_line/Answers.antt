@@ -1,18 +1,17 @@
-use Rattle.std.proofs.Common.{ℕ, ◌+◌, ◌<◌, List, [], ◌∷◌, ◌++◌, map, string_bytes, lit<, arith, ap, ◌∙◌, sym, subst}
+use Rattle.std.proofs.Common.{ℕ, ◌+◌, ◌<◌, List, ◌++◌, string_bytes, lit<, arith, refl, ap, ◌∙◌, sym, subst}
 use Rattle.std.specs.Str.{IsUtf8}
 use Rattle.std.specs.Str.Iter.{split_whitespace_rest}
-use Rattle.std.proofs.lemmas.List.{map-append}
 use Rattle.getopts.specs.Wrap.{width_of, words_of}
 use Rattle.getopts.proofs.WrapWords.{words_of-none, words_of-step}
 use Rattle.getopts.proofs.WrapRows.{adds_none, rows_begin, rows_take, rows_end, rows_finish}
 use Rattle.getopts.proofs.wrap.push_line.Goals as goal
-use Rattle.getopts.proofs.wrap.push_line.Goals.{then-columns-lim+then-width-lim+in_ok-push, else-columns-lim+in_ok-push-2, else-columns-lim-via-then-columns-lim+else-width-lim, else-columns-lim-via-else-columns-lim}
+use Rattle.getopts.proofs.wrap.push_line.Goals.{then-columns-lim+then-width-lim+in_ok-push, else-columns-lim+in_ok-push_str-2, else-columns-lim-via-then-columns-lim+else-width-lim, else-columns-lim-via-else-columns-lim}
 
 -- the line has no word
 pub returns-in_default : goal.returns-in_default
 returns-in_default c =
     let is_line = c.split_whitespace-words.ensures.rest in
-    adds_none c.args.lim c.args.line.now _ (words_of-none c.args.line.now c.utf8.line (rw is_line at c.in_default.ensures.steps.1))
+    adds_none c.args.lim c.args.separator.now c.args.line.now c.args.begun _ (words_of-none c.args.line.now c.utf8.line (rw is_line at c.in_default.ensures.steps.1))
 
 -- the first word begins a row
 pub loop-word-init : goal.loop-word-init
@@ -22,35 +21,34 @@ loop-word-init c =
     let utf8 : IsUtf8 (split_whitespace_rest c.split_whitespace-words.result) = subst IsUtf8 (sym is_line) c.utf8.line in
     let next = words_of-step c.split_whitespace-words.result c.next.new.self c.in-Some.first utf8 c.in-Some.ensures.steps in
     rw c.into_iter-word-iterator.ensures.into_iter_gives
-    (rows_begin c.args.lim c.args.line.now _ _ c.in-Some.first.now _ (split_whitespace_rest c.next.new.self) (next.0, ap words_of (sym is_line) ∙ next.1) c.in_ok-row.ensures.ok c.width-columns.ensures.value)
+    (rows_begin c.args.lim c.args.separator.now c.args.line.now _ _ c.in-Some.first.now _ (split_whitespace_rest c.next.new.self) (next.0, ap words_of (sym is_line) ∙ next.1)
+    (c.in_ok-push_str.ensures.bytes ∙ ap (λ (text : List ℕ). text ++ c.in-Some.first.now) c.in_ok-push_parting.ensures) c.width-columns.ensures.value)
 
 -- the word joins the row in hand, or ends it and begins one
 pub loop-word-preserved : goal.loop-word-preserved
 unfolding width_of
 loop-word-preserved c =
-    let next = words_of-step c.loop-word.word-iterator c.next-in-loop-word.new.self c.in-Some-word.word c.loop-word.invariant.utf8 c.in-Some-word.ensures.steps in
     let so_far = c.loop-word.invariant in
+    let next = words_of-step c.loop-word.word-iterator c.next-in-loop-word.new.self c.in-Some-word.word so_far.utf8 c.in-Some-word.ensures.steps in
     let width_is = c.width-width.ensures.value in
     elim c.if-columns-lim.branch [
       | then-columns-lim+then-width-lim+in_ok-push w ↦
-          rw w.rows-is
-          (rows_take so_far c.in-Some-word.word.now _ c.width-width.result _ _ next width_is (omega arith)
-          (c.in_ok-push_str.ensures.bytes ∙ ap (λ (row : List ℕ). row ++ c.in-Some-word.word.now) (ap string_bytes w.row-is ∙ w.in_ok-push.ensures.bytes ∙ ap (λ (space : List ℕ). string_bytes c.loop-word.row ++ space) (w.push.ensures.ascii (lit< tt))))
-          w.columns-is)
-      | else-columns-lim+in_ok-push-2 w ↦
+          rows_take so_far c.in-Some-word.word.now _ c.width-width.result _ _ next width_is (omega arith)
+          (c.in_ok-push_str-3.ensures.bytes ∙ ap (λ (text : List ℕ). text ++ c.in-Some-word.word.now) (ap string_bytes w.text-is ∙ w.in_ok-push.ensures.bytes ∙ ap (λ (space : List ℕ). string_bytes c.loop-word.text ++ space) (w.push.ensures.ascii (lit< tt))))
+          (omega arith)
+      | else-columns-lim+in_ok-push_str-2 w ↦
           let long : c.args.lim < c.loop-word.columns + (1 + c.width-width.result) =
           elim w.else-columns-lim.branch [
             | else-columns-lim-via-then-columns-lim+else-width-lim narrow ↦ omega arith
             | else-columns-lim-via-else-columns-lim full ↦ omega arith
           ] in
-          rows_end so_far c.in-Some-word.word.now _ c.width-width.result _ _ _ next width_is long
-          (ap (λ rows. map string_bytes rows.items) w.rows-is ∙ ap (map string_bytes) w.in_ok-push-2.ensures.items ∙ map-append string_bytes c.loop-word.rows.items (c.loop-word.row ∷ []))
-          (c.in_ok-push_str.ensures.bytes ∙ ap (λ (row : List ℕ). row ++ c.in-Some-word.word.now) (ap string_bytes w.row-is ∙ w.new-row.ensures.bytes))
-          w.columns-is
+          rows_end so_far c.in-Some-word.word.now _ c.width-width.result _ _ next width_is long
+          (c.in_ok-push_str-3.ensures.bytes ∙ ap (λ (text : List ℕ). text ++ c.in-Some-word.word.now) (ap string_bytes w.text-is ∙ w.in_ok-push_str-2.ensures.bytes))
+          (omega arith)
     ]
 
 -- no word is left
 pub returns : goal.returns
 returns c =
     let none = words_of-none _ c.loop-word.invariant.utf8 c.in-None.ensures.steps.1 in
-    rows_finish c.loop-word.invariant _ none (ap (map string_bytes) c.in_ok-push-3.ensures.items ∙ map-append string_bytes c.loop-word.rows.items (c.loop-word.row ∷ []))
+    rows_finish c.loop-word.invariant c.args.begun (string_bytes c.args.text.now) none refl

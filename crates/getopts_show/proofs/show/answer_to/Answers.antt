@@ -2,18 +2,9 @@ use Rattle.std.proofs.Common.{◌≡◌, ◌∙◌, ap}
 use Rattle.std.specs.String.{string_bytes}
 use Rattle.getopts.specs.Fail.{Fault, fault_of}
 use Rattle.getopts_show.specs.Program.{IsProgramText, fault_line}
-use Rattle.getopts.specs.Line.{texts}
-use Rattle.getopts_show.proofs.ShowLemmas.{accepted_text, refused_text, told_fault}
+use Rattle.getopts.specs.Names.{texts}
+use Rattle.getopts_show.proofs.ShowLemmas.{refused_text, told_fault}
 use Rattle.getopts_show.proofs.show.answer_to.Goals as goal
-
-pub returns-in-Ok : goal.returns-in-Ok
-returns-in-Ok c =
-    let told = c.in-Ok.ensures.accepted in
-    let source = c.copied.ensures.runs told.0 (told.0).seen told.1 in
-    let words_are = source.2.2 ∙ (c.iter.ensures.runs source.0 (source.0).seen).4 (source.2.0 ∙ told.2)
-    ∙ ap (λ iter. iter.rest.now) source.1 ∙ c.iter.ensures.rest in
-    accepted_text c.in_ok-options.options c.args.words.now (told.0).items c.in-Ok.matches _
-    c.in_ok-options.ensures words_are told.3 c.in_ok-accepted_text-in-Ok.ensures.help c.in_ok-accepted_text-in-Ok.ensures.shown
 
 pub returns : goal.returns
 returns c =

@@ -1,7 +1,7 @@
 use Rattle.std.proofs.Common.{◌≡◌, take}
 use Rattle.std.specs.List.{flat_map}
 use Rattle.std.specs.String.{string_bytes}
-use Rattle.getopts.specs.Line.{texts}
+use Rattle.getopts.specs.Names.{texts}
 use Rattle.getopts_show.specs.Program.{named_lines}
 use Rattle.getopts_show.proofs.show.options_text.Given as goal
 

@@ -1,15 +1,14 @@
 -- A name whose first occurrence has a value ends the search, and each other one is passed over.
 use Rattle.std.proofs.Common.{sym, ◌∙◌}
-use Rattle.getopts.specs.Held.{founds}
 use Rattle.getopts.proofs.MatchesLemmas.{first_value_among-next}
 use Rattle.getopts.proofs.matches.Matches.opts_str_first.Goals as goal
 
 pub returns-in-Some : goal.returns-in-Some
 returns-in-Some c =
-    let next = first_value_among-next c.args.self.now.groups c.args.names.now c.loop-name.name-index _ (founds c.given_of.result) c.first_value.result c.loop-name-test.true c.given_of.ensures c.first_value.ensures in
+    let next = first_value_among-next c.args.self.now.groups c.args.names.now c.loop-name.name-index _ c.given_of.result c.first_value.result c.loop-name-test.true c.given_of.ensures c.first_value.ensures in
     rw (← c.loop-name.invariant, rw c.in-Some.is at next) c.copied.ensures
 
 pub loop-name-preserved : goal.loop-name-preserved
 loop-name-preserved c =
-    let next = first_value_among-next c.args.self.now.groups c.args.names.now c.loop-name.name-index _ (founds c.given_of.result) c.first_value.result c.loop-name-test.true c.given_of.ensures c.first_value.ensures in
+    let next = first_value_among-next c.args.self.now.groups c.args.names.now c.loop-name.name-index _ c.given_of.result c.first_value.result c.loop-name-test.true c.given_of.ensures c.first_value.ensures in
     sym (rw c.in_default.is at next) ∙ c.loop-name.invariant

@@ -1,5 +1,5 @@
 use Rattle.std.proofs.Common.{◌≡◌, drop}
-use Rattle.getopts.specs.Line.{texts}
+use Rattle.getopts.specs.Names.{texts}
 use Rattle.getopts.specs.Accessors.{first_value_among}
 use Rattle.getopts.proofs.matches.Matches.opts_str_first.Given as goal
 

@@ -1,44 +1,56 @@
 -- The line that was read, its counts, and its faults are those of the declared options.
-use Rattle.std.proofs.Common.{map, sym, subst, inl, inr}
+use Rattle.std.proofs.Common.{◌≡◌, List, subst, inl, inr}
 use Rattle.std.proofs.lemmas.Result.{err_from_is_err_and}
-use Rattle.getopts.specs.Options.{Declared, group_view, opt_view, opts_grammar}
-use Rattle.std.specs.List.{AllByRecursion}
-use Rattle.getopts.specs.Names.{IsLawfullyNamed, names_view}
-use Rattle.getopts.specs.declared.options.Opt.{Opt}
+use Rattle.getopts.specs.Names.{Text, texts}
+use Rattle.getopts.specs.Options.{Known, knowns_of, grammar_of}
 use Rattle.getopts.specs.Scan.{IsScanFault}
-use Rattle.getopts.specs.Line.{texts, occurrences_view}
-use Rattle.getopts.specs.Matches.{matched_known, IsCountFault}
+use Rattle.getopts.specs.Matches.{matched, KeepsCounts, IsCountFault}
 use Rattle.getopts.specs.Parse.{IsRefused}
+use Rattle.getopts.specs.Table.{IsTableOf}
+use Rattle.getopts.specs.Held.Accepted.{index_of}
 use Rattle.getopts.proofs.FailLemmas.{Tells-weaker}
-use Rattle.getopts.proofs.ParseLemmas.{opts_lawful, HasNoReading-fault, BreaksCounts-reading}
+use Rattle.getopts.proofs.PairsLemmas.{AreLawful-known}
+use Rattle.getopts.proofs.ParseLemmas.{HasNoReading-fault, BreaksCounts-reading}
 use Rattle.getopts.proofs.options.Options.accepted_line.Goals as goal
 
 pub scan-requires : goal.scan-requires
-scan-requires c =
-    let options : Declared = record { groups = map group_view c.self.inside.groups.items; style = c.self.inside.style; long_only = c.self.inside.long_only } in
-    let copied = rw c.deref.ensures.value at c.in_ok-opts.ensures in
-    let opts = c.in_ok-opts.opts.items in
-    record { named = subst (AllByRecursion (λ (opt : Opt). IsLawfullyNamed (names_view opt.names))) (sym c.deref-2.ensures.value) (opts_lawful options opts copied c.self.invariant) }
+scan-requires c = record {
+  lawful = record {
+    lawful = c.groups-groups.ensures.lawful;
+    shorts = c.groups-groups.ensures.shorts;
+    table = subst (λ (names : List Text). IsTableOf names c.in_ok-table.table) c.names.ensures c.in_ok-table.ensures;
+  };
+}
 
 pub returns-in_err-line-clause-refused : goal.returns-in_err-line-clause-refused
 returns-in_err-line-clause-refused c =
-    let options : Declared = record { groups = map group_view c.self.inside.groups.items; style = c.self.inside.style; long_only = c.self.inside.long_only } in
-    let copied = rw c.deref.ensures.value at c.in_ok-opts.ensures in
-    let opts = c.in_ok-opts.opts.items in
     let left = err_from_is_err_and c.from_residual-in_err-line.result c.from_residual-in_err-line.ensures.1 in
     let told = rw c.deref-2.ensures.value at c.in_err-line.ensures.err in
-    rw (left.1, left.2) (Tells-weaker c.in_err-line.field-0.0 (IsScanFault (opts_grammar opts c.self.inside.style c.self.inside.long_only) (texts c.args.words.now)) (IsRefused c.args.self.now (texts c.args.words.now)) told
-    (λ fault is. subst (λ (o : Declared). IsRefused o (texts c.args.words.now) fault) c.self.view_is (inl (HasNoReading-fault options opts copied c.self.invariant (texts c.args.words.now) c.are_texts.ensures fault is))))
+    let are_texts = rw c.deref.ensures.value at c.are_texts.ensures in
+    rw (left.1, left.2) (Tells-weaker c.in_err-line.field-0.0 (IsScanFault (grammar_of c.args.self.now) (texts c.args.words.items)) (IsRefused c.args.self.now (texts c.args.words.items)) told
+    (λ fault is. inl (HasNoReading-fault c.args.self.now c.groups-groups.ensures.lawful c.groups-groups.ensures.shorts (texts c.args.words.items) are_texts fault is)))
 
-pub returns-in_err-check_counts-clause-refused : goal.returns-in_err-check_counts-clause-refused
-returns-in_err-check_counts-clause-refused c =
-    let options : Declared = record { groups = map group_view c.self.inside.groups.items; style = c.self.inside.style; long_only = c.self.inside.long_only } in
-    let copied = rw c.deref.ensures.value at c.in_ok-opts.ensures in
-    let opts = c.in_ok-opts.opts.items in
+pub returns-in_err-index-clause-refused : goal.returns-in_err-index-clause-refused
+returns-in_err-index-clause-refused c =
     let line = c.in_ok-line.line in
     let read = rw c.deref-2.ensures.value at c.in_ok-line.ensures.ok in
-    let left = err_from_is_err_and c.from_residual-in_err-check_counts.result c.from_residual-in_err-check_counts.ensures.1 in
-    let told = rw (c.deref-3.ensures.value, c.deref-4.ensures.value) at c.in_err-check_counts.ensures.err in
-    rw (left.1, left.2) (Tells-weaker c.in_err-check_counts.field-0.0 (IsCountFault (matched_known 0 (map opt_view opts) (occurrences_view line.occurrences.items))) (IsRefused c.args.self.now (texts c.args.words.now)) told
-    (λ fault is. subst (λ (o : Declared). IsRefused o (texts c.args.words.now) fault) c.self.view_is
-    (inr (BreaksCounts-reading options opts copied c.self.invariant (texts c.args.words.now) read.reading read.reads (occurrences_view line.occurrences.items) read.occurrences fault is))))
+    let left = err_from_is_err_and c.from_residual-in_err-index.result c.from_residual-in_err-index.ensures.1 in
+    let told = rw c.groups-groups.ensures.groups at c.in_err-index.ensures.err in
+    rw (left.1, left.2) (Tells-weaker c.in_err-index.field-0.0 (IsCountFault (matched 0 (knowns_of c.args.self.now.groups) line.found)) (IsRefused c.args.self.now (texts c.args.words.items)) told
+    (λ fault is. inr (BreaksCounts-reading c.args.self.now c.groups-groups.ensures.lawful c.groups-groups.ensures.shorts (texts c.args.words.items) read.reading read.reads line.found read.occurrences fault is)))
+
+pub returns-clause-accepted : goal.returns-clause-accepted
+returns-clause-accepted c =
+    let line = c.in_ok-line.line in
+    let counted = c.in_ok-index.ensures.ok in
+    record {
+      lawful = c.groups-groups.ensures.lawful;
+      shorts = c.groups-groups.ensures.shorts;
+      held = record {
+        lawful = AreLawful-known c.args.self.now.groups c.groups-groups.ensures.lawful;
+        table = subst (λ (names : List Text). IsTableOf names c.in_ok-table.table) c.names.ensures c.in_ok-table.ensures;
+        index = subst (λ (knowns : List Known). c.in_ok-index.index ≡ index_of knowns line.found) c.groups-groups.ensures.groups counted.0;
+      };
+      reads = rw c.deref-2.ensures.value at c.in_ok-line.ensures.ok;
+      keeps = subst (λ (knowns : List Known). KeepsCounts (matched 0 knowns line.found)) c.groups-groups.ensures.groups counted.1;
+    }

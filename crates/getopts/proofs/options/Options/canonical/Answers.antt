@@ -1,14 +1,13 @@
--- The words that were collected are those that the iterator gives.
-use Rattle.std.proofs.Common.{List, ◌∙◌, map, subst, Bor, IfSome, IfNone}
+-- The words that were taken are those that the iterator gives.
+use Rattle.std.proofs.Common.{List, map, subst, Bor, IfSome, IfNone}
 use Rattle.std.specs.Iterator.Runs.{WholeRun}
 use Rattle.std.specs.String.{string_bytes}
-use Rattle.std.proofs.lemmas.Result.{IfOk-weaker, IfErr-weaker, on_ok_weaker}
+use Rattle.std.proofs.lemmas.Result.{IfOk-weaker, IfErr-weaker}
 use Rattle.getopts.specs.Names.{Text}
 use Rattle.getopts.specs.Fail.{Fault, Tells}
-use Rattle.getopts.specs.Line.{texts}
+use Rattle.getopts.specs.Names.{texts}
 use Rattle.getopts.specs.Parse.{IsRefused}
-use Rattle.getopts.specs.Canon.{HasCanonicalLine}
-use Rattle.getopts.specs.CanonAnswers.{IsWritten, IsUnwritable, EachPlainContent}
+use Rattle.getopts.specs.CanonAnswers.{IsWritten, IsUnwritable}
 use Rattle.getopts.specs.declared.fail.Fail.{Fail}
 use Rattle.getopts.proofs.CanonicalLemmas.{IfSome-weaker, IfNone-weaker}
 use Rattle.getopts.proofs.FailLemmas.{Tells-weaker}
@@ -16,54 +15,34 @@ use Rattle.getopts.proofs.options.Options.canonical.Goals as goal
 
 pub returns-clause-written : goal.returns-clause-written
 returns-clause-written g c =
-    let run = c.in_ok-words.ensures.runs tt in
-    let words = c.deref.ensures.value ∙ run.3.0 in
+    let run = c.in_ok-words.ensures in
+    let words = run.3 in
     IfOk-weaker c.canonical_words.result
-    (λ answer. IfSome answer (λ line. IsWritten c.args.self.now (texts c.deref.result.now) (map string_bytes line.items)))
+    (λ answer. IfSome answer (λ line. IsWritten c.args.self.now (texts c.in_ok-words.words.items) (map string_bytes line.items)))
     (λ answer. IfSome answer (λ line. WholeRun g.I.Iterator.next_gives c.args.args (λ run. IsWritten c.args.self.now (texts run.items) (map string_bytes line.items))))
-    (λ answer. IfSome-weaker answer (λ line. IsWritten c.args.self.now (texts c.deref.result.now) (map string_bytes line.items))
+    (λ answer. IfSome-weaker answer (λ line. IsWritten c.args.self.now (texts c.in_ok-words.words.items) (map string_bytes line.items))
     (λ line. WholeRun g.I.Iterator.next_gives c.args.args (λ run. IsWritten c.args.self.now (texts run.items) (map string_bytes line.items)))
     (λ line written. (run.0, run.1, run.2, subst (λ (ws : List (Bor Text)). IsWritten c.args.self.now (texts ws) (map string_bytes line.items)) words written)))
     c.canonical_words.ensures.written
 
 pub returns-clause-unwritable : goal.returns-clause-unwritable
 returns-clause-unwritable g c =
-    let run = c.in_ok-words.ensures.runs tt in
-    let words = c.deref.ensures.value ∙ run.3.0 in
+    let run = c.in_ok-words.ensures in
+    let words = run.3 in
     IfOk-weaker c.canonical_words.result
-    (λ answer. IfNone answer (IsUnwritable c.args.self.now (texts c.deref.result.now)))
+    (λ answer. IfNone answer (IsUnwritable c.args.self.now (texts c.in_ok-words.words.items)))
     (λ answer. IfNone answer (WholeRun g.I.Iterator.next_gives c.args.args (λ run. IsUnwritable c.args.self.now (texts run.items))))
-    (λ answer. IfNone-weaker answer (IsUnwritable c.args.self.now (texts c.deref.result.now))
+    (λ answer. IfNone-weaker answer (IsUnwritable c.args.self.now (texts c.in_ok-words.words.items))
     (WholeRun g.I.Iterator.next_gives c.args.args (λ run. IsUnwritable c.args.self.now (texts run.items)))
     (λ unwritable. (run.0, run.1, run.2, subst (λ (ws : List (Bor Text)). IsUnwritable c.args.self.now (texts ws)) words unwritable)))
     c.canonical_words.ensures.unwritable
 
 pub returns-clause-refused : goal.returns-clause-refused
 returns-clause-refused g c =
-    let run = c.in_ok-words.ensures.runs tt in
-    let words = c.deref.ensures.value ∙ run.3.0 in
-    IfErr-weaker c.canonical_words.result (λ (fail : Fail). Tells fail (IsRefused c.args.self.now (texts c.deref.result.now)))
+    let run = c.in_ok-words.ensures in
+    let words = run.3 in
+    IfErr-weaker c.canonical_words.result (λ (fail : Fail). Tells fail (IsRefused c.args.self.now (texts c.in_ok-words.words.items)))
     (λ (fail : Fail). Tells fail (λ fault. WholeRun g.I.Iterator.next_gives c.args.args (λ run. IsRefused c.args.self.now (texts run.items) fault)))
-    (λ fail told. Tells-weaker fail (IsRefused c.args.self.now (texts c.deref.result.now)) (λ (fault : Fault). WholeRun g.I.Iterator.next_gives c.args.args (λ run. IsRefused c.args.self.now (texts run.items) fault)) told
+    (λ fail told. Tells-weaker fail (IsRefused c.args.self.now (texts c.in_ok-words.words.items)) (λ (fault : Fault). WholeRun g.I.Iterator.next_gives c.args.args (λ run. IsRefused c.args.self.now (texts run.items) fault)) told
     (λ fault refused. (run.0, run.1, run.2, subst (λ (ws : List (Bor Text)). IsRefused c.args.self.now (texts ws) fault) words refused)))
     c.canonical_words.ensures.refused
-
-pub returns-clause-reads_back : goal.returns-clause-reads_back
-returns-clause-reads_back g c =
-    on_ok_weaker {P = EachPlainContent c.args.self.now (HasCanonicalLine c.args.self.now)} c.canonical_words.result
-    (λ each words content says plain. (each words content says plain).reads_back) c.canonical_words.ensures.laws
-
-pub returns-clause-says_nothing_else : goal.returns-clause-says_nothing_else
-returns-clause-says_nothing_else g c =
-    on_ok_weaker {P = EachPlainContent c.args.self.now (HasCanonicalLine c.args.self.now)} c.canonical_words.result
-    (λ each words content says plain. (each words content says plain).says_nothing_else) c.canonical_words.ensures.laws
-
-pub returns-clause-its_own : goal.returns-clause-its_own
-returns-clause-its_own g c =
-    on_ok_weaker {P = EachPlainContent c.args.self.now (HasCanonicalLine c.args.self.now)} c.canonical_words.result
-    (λ each words content says plain. (each words content says plain).its_own) c.canonical_words.ensures.laws
-
-pub returns-clause-only_content : goal.returns-clause-only_content
-returns-clause-only_content g c =
-    on_ok_weaker {P = EachPlainContent c.args.self.now (HasCanonicalLine c.args.self.now)} c.canonical_words.result
-    (λ each words content says plain. (each words content says plain).only) c.canonical_words.ensures.laws

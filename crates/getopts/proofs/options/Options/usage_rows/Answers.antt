@@ -1,14 +1,32 @@
--- The only row of each group, in order, are the only usage rows.
-use Rattle.std.proofs.Common.{map, not, string_bytes}
-use Rattle.std.proofs.lemmas.Result.{IfOk-weaker}
-use Rattle.getopts.specs.Names.{is_empty}
-use Rattle.getopts.specs.Options.{Group, group_view}
+use Rattle.std.proofs.Common.{◌≡◌, [], ◌∷◌, ◌++◌, ap, ◌∙◌, sym, subst, arith, map, string_bytes}
+use Rattle.std.proofs.lemmas.List.{map-append}
+use Rattle.getopts.specs.Held.Groups.{group_view}
+use Rattle.getopts.specs.Names.{Text}
+use Rattle.getopts.specs.Only.{IsTheOnly}
 use Rattle.getopts.specs.Usage.{IsUsageRow}
-use Rattle.getopts.proofs.UsageLemmas.{each_is_the_only, list_any-map}
+use Rattle.getopts.proofs.UsageLemmas.{group_missing, rows_more, rows_all}
 use Rattle.getopts.proofs.options.Options.usage_rows.Goals as goal
+use Rattle.getopts.proofs.options.Options.usage_rows.Goals.{in-Some+in_ok-row+in_ok-push_row+in_ok-push, in_default}
 
+pub loop-place-init : goal.loop-place-init
+loop-place-init c = rw c.in_ok-rows.ensures.items tt
+
+-- one more row
+pub loop-place-preserved : goal.loop-place-preserved
+loop-place-preserved c =
+    let options = c.args.self.now in
+    let place = c.loop-place.place in
+    elim c.match-group.branch [
+      | in-Some+in_ok-row+in_ok-push_row+in_ok-push w ↦
+          let Row = IsUsageRow c.layout-layout.result.long_only c.layout-layout.result.any_short (group_view w.in-Some.group) in
+          let row = string_bytes w.push_row.new.text in
+          let made : row ≡ w.in_ok-push_row.ensures.0 = w.in_ok-push_row.ensures.2 ∙ ap (λ (start : Text). start ++ w.in_ok-push_row.ensures.0) w.in_ok-row.ensures.bytes in
+          let only : IsTheOnly Row row = subst (IsTheOnly Row) (sym made) w.in_ok-push_row.ensures.1 in
+          rw (w.rows-is, w.in_ok-push.ensures.items, map-append string_bytes c.loop-place.rows.items (w.push_row.new.text ∷ []))
+          (rows_more options place c.group.result w.in-Some.group c.group.ensures w.in-Some.is _ _ c.layout-layout.ensures.long_only c.layout-layout.ensures.any_short (map string_bytes c.loop-place.rows.items) row c.loop-place.invariant only)
+      | in_default w ↦ absurd (group_missing options.groups place c.group.result (omega arith) c.group.ensures w.in_default.not-Some)
+    ]
+
+-- all rows are there
 pub returns : goal.returns
-returns c =
-    let groups = c.as_slice-groups.result.now in
-    rw (← c.self.view_is, ← c.as_slice-groups.ensures.value, list_any-map group_view (λ (group : Group). not (is_empty group.names.short)) groups, ← c.any_short.ensures)
-    (IfOk-weaker c.rows_of.result _ _ (λ rows each. each_is_the_only (IsUsageRow c.self.inside.long_only c.any_short.result) (map group_view groups) (map string_bytes rows.items) each) c.rows_of.ensures)
+returns c = rows_all c.args.self.now c.loop-place.place _ (omega arith) c.loop-place.invariant

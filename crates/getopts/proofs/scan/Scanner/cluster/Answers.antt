@@ -1,17 +1,17 @@
 -- Each name of a cluster is a flag, ends it, or is a fault.
 use Rattle.std.proofs.Common.{◌++◌, ◌∷◌, [], sym, ap, ◌∙◌, arith}
 use Rattle.std.specs.Option.{option_copied}
-use Rattle.std.proofs.lemmas.List.{map-append}
 use Rattle.std.proofs.lemmas.Str.{IsCharBoundary-after_ascii}
 use Rattle.getopts.specs.Fail.{unrecognized_option}
 use Rattle.getopts.specs.Scan.{IsFaultAt}
 use Rattle.getopts.proofs.FailLemmas.{Tells-one}
-use Rattle.getopts.specs.Line.{texts, occurrence_view, occurrences_view, scanner_grammar}
+use Rattle.getopts.specs.Names.{texts}
+use Rattle.getopts.specs.Line.{scanner_grammar}
 use Rattle.getopts.proofs.ScanClusters.{FlagsRead-none, FlagsRead-more, AddsItem-flags, AddsItem-ends, IsFaultAt-unknown}
 use Rattle.getopts.proofs.scan.Scanner.cluster.Goals as goal
 
 pub names-init : goal.names-init
-names-init c = FlagsRead-none (scanner_grammar c.args.self.now) c.args.position c.args.text.now (occurrences_view c.args.found.now.items) c.utf8.text
+names-init c = FlagsRead-none (scanner_grammar c.args.self.now) c.args.position c.args.text.now c.args.found.now c.utf8.text
 
 pub returns-in-None-clause-err : goal.returns-in-None-clause-err
 returns-in-None-clause-err c = λ word form.
@@ -31,18 +31,16 @@ returns-in-Some-clause-ok c = λ word form.
     let rest = c.range_from-in-Some.ensures.value in
     let ends = c.in_ok-value-in-Some.ensures.ok in
     let named = c.in-Some.ensures.option in
-    let pushed = c.in_ok-push-in-Some.ensures.items in
     AddsItem-ends (scanner_grammar c.args.self.now) c.args.position c.args.text.now word (texts c.args.after.now) form c.names.at _ _ (omega arith) c.names.invariant
     c.in-Some.group c.in-Some.hasarg (option_copied c.in_ok-value-in-Some.value) c.in_ok-value-in-Some.used _ named.0 named.1 (rw rest at ends)
-    (ap occurrences_view pushed ∙ map-append occurrence_view c.names.found.items _)
+    c.in_ok-push-in-Some.ensures
 
 pub names-preserved : goal.names-preserved
 names-preserved c =
     let named = c.in-Some-default-No.ensures.option in
-    let pushed = c.in_ok-push-in-Some-default-No.ensures.items in
     let bare = c.bare.ensures in
     FlagsRead-more (scanner_grammar c.args.self.now) c.args.position c.args.text.now c.names.at c.in-Some-default-No.group _ _ _ c.utf8.text (omega arith) c.in-Some-default-No.ensures.ascii c.names.invariant
-    named.0 (rw c.in-Some-default-No.field-0-1-is at named.1) (ap occurrences_view pushed ∙ map-append occurrence_view c.names.found.items _ ∙ ap (λ o. occurrences_view c.names.found.items ++ o ∷ []) bare)
+    named.0 (rw c.in-Some-default-No.field-0-1-is at named.1) (c.in_ok-push-in-Some-default-No.ensures ∙ ap (λ o. c.names.found ++ o ∷ []) bare)
 
 pub returns-clause-ok : goal.returns-clause-ok
 returns-clause-ok c = λ word form.

@@ -1,8 +1,9 @@
 -- Each name of a known kind begins an item with its argument.
 use Rattle.std.proofs.Common.{Some, None, rules}
 use Rattle.getopts.specs.Scan.{separate}
-use Rattle.getopts.specs.Line.{texts, scanner_grammar}
-use Rattle.getopts.specs.declared.options.HasArg.TheVariants.{Yes, No, Maybe}
+use Rattle.getopts.specs.Names.{texts}
+use Rattle.getopts.specs.Line.{scanner_grammar}
+use Rattle.getopts.specs.declared.groups.HasArg.TheVariants.{Yes, No, Maybe}
 use Rattle.getopts.proofs.ScanItems.{ReadsItem-long, ReadsItem-attached, texts-first}
 use Rattle.getopts.proofs.scan.Scanner.long.Goals as goal
 

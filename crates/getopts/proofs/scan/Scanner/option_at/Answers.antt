@@ -2,7 +2,7 @@
 use Rattle.std.proofs.Common.{◌≡◌, ◌∷◌, [], slice_index, ◌∙◌, true, false}
 use Rattle.std.specs.Char.{is_ascii}
 use Rattle.std.proofs.lemmas.Str.{IsCharBoundary-after_ascii}
-use Rattle.getopts.proofs.OptLemmas.{wide_unknown}
+use Rattle.getopts.proofs.NamesLemmas.{wide_unknown}
 use Rattle.getopts.proofs.ScanWords.{slice_range-one, ascii_below, wide_above}
 use Rattle.getopts.proofs.scan.Scanner.option_at.Goals as goal
 
@@ -22,6 +22,6 @@ returns-else-is_ascii c =
     let tested : is_ascii (slice_index c.as_bytes.result.now c.args.at) ≡ false = cc in
     let wide : is_ascii (slice_index c.args.text.now c.args.at) ≡ false = rw c.as_bytes.ensures.value at tested in
     record {
-      option = wide_unknown c.args.self.now.opts.now c.args.self.now.style c.args.self.now.long_only (slice_index c.args.text.now c.args.at) c.requires.named (wide_above (slice_index c.args.text.now c.args.at) wide);
+      option = wide_unknown c.args.self.now.options.now c.requires.lawful.lawful c.requires.lawful.shorts (slice_index c.args.text.now c.args.at) (wide_above (slice_index c.args.text.now c.args.at) wide);
       ascii = tt;
     }

@@ -3,9 +3,10 @@ use Rattle.std.proofs.Common.{◌≡◌, ◌+◌, ◌++◌, ◌∷◌, [], List,
 use Rattle.std.proofs.lemmas.List.{map-append, append-nil, drop_all}
 use Rattle.std.proofs.lemmas.Result.{err_from_is_err_and}
 use Rattle.getopts.specs.Scan.{dash, line_end, stop, rest, free_items, trailing_after, IsFaultAt, IsScanFault}
-use Rattle.getopts.specs.declared.options.ParsingStyle.TheVariants.{FloatingFrees, StopAtFirstFree}
+use Rattle.getopts.specs.declared.groups.ParsingStyle.TheVariants.{FloatingFrees, StopAtFirstFree}
 use Rattle.getopts.specs.Names.{Text}
-use Rattle.getopts.specs.Line.{texts, scanner_grammar}
+use Rattle.getopts.specs.Names.{texts}
+use Rattle.getopts.specs.Line.{scanner_grammar}
 use Rattle.getopts.proofs.FailLemmas.{Tells-weaker}
 use Rattle.getopts.proofs.ScanLoop.{ReadSoFar-free, ReadSoFar-added, IsReading-tail, IsReading-rest, IsReading-stop, IsScanFault-word, texts-drop, length-texts, take-drop, trailing_after-stop}
 use Rattle.getopts.proofs.scan.Scanner.scan.Goals as goal
@@ -15,7 +16,7 @@ returns-clause-ok c =
     let before = c.items.invariant in
     record {
       reading = record { items = before.items; tail = line_end };
-      reads = IsReading-tail (scanner_grammar c.args.self.now) (texts c.args.words.now) c.items.at _ _ _ before line_end tt (sym (drop_all c.items.at (texts c.args.words.now) (omega (arith, length-texts c.args.words.now))));
+      reads = IsReading-tail (scanner_grammar c.args.self.now) (texts c.args.words.now) c.items.at _ _ before line_end tt (sym (drop_all c.items.at (texts c.args.words.now) (omega (arith, length-texts c.args.words.now))));
       occurrences = before.occurrences_are;
       free = before.free_are ∙ sym (append-nil _);
       trailing = refl;
@@ -23,17 +24,17 @@ returns-clause-ok c =
 
 pub items-preserved-in_default : goal.items-preserved-in_default
 items-preserved-in_default c =
-    let floating : c.args.self.now.style ≡ FloatingFrees = search rules in
-    ReadSoFar-free (scanner_grammar c.args.self.now) c.args.words.now c.items.at c.items.position _ _ c.items.invariant _ (omega arith) _ c.in_default.ensures floating
+    let floating : c.args.self.now.options.now.style ≡ FloatingFrees = search rules in
+    ReadSoFar-free (scanner_grammar c.args.self.now) c.args.words.now c.items.at _ _ c.items.invariant _ (omega arith) _ c.in_default.ensures floating
     (ap texts c.in_ok-push.ensures.items ∙ map-append (λ (w : Bor Text). w.now) c.items.free.items _)
 
 pub returns-then-eq-clause-ok : goal.returns-then-eq-clause-ok
 returns-then-eq-clause-ok c =
-    let stops : c.args.self.now.style ≡ StopAtFirstFree = search rules in
+    let stops : c.args.self.now.options.now.style ≡ StopAtFirstFree = search rules in
     let before = c.items.invariant in
     record {
       reading = record { items = before.items; tail = rest (drop c.items.at (texts c.args.words.now)) };
-      reads = IsReading-rest (scanner_grammar c.args.self.now) c.args.words.now c.items.at c.items.position _ _ before _ (omega arith) c.in_default.ensures stops;
+      reads = IsReading-rest (scanner_grammar c.args.self.now) c.args.words.now c.items.at _ _ before _ (omega arith) c.in_default.ensures stops;
       occurrences = before.occurrences_are;
       free = ap texts c.in_ok-extend_from_slice.ensures.items ∙ map-append (λ (w : Bor Text). w.now) c.items.free.items _
           ∙ ap (λ (ws : List Text). texts c.items.free.items ++ ws) (ap texts (take-drop c.args.words.now c.items.at) ∙ texts-drop c.args.words.now c.items.at)
@@ -48,7 +49,7 @@ returns-then-eq-2-clause-ok c =
     let text_is : c.in-Some.text.now ≡ dash ∷ [] = search rules in
     record {
       reading = record { items = before.items; tail = stop (texts (drop (c.items.at + 1) c.args.words.now)) };
-      reads = IsReading-stop (scanner_grammar c.args.self.now) c.args.words.now c.items.at c.items.position _ _ before _ (omega arith) (c.in-Some.ensures.1 ∙ ap (λ (t : Text). dash ∷ t) text_is);
+      reads = IsReading-stop (scanner_grammar c.args.self.now) c.args.words.now c.items.at _ _ before _ (omega arith) (c.in-Some.ensures.1 ∙ ap (λ (t : Text). dash ∷ t) text_is);
       occurrences = before.occurrences_are;
       free = ap texts c.in_ok-extend_from_slice-2.ensures.items ∙ map-append (λ (w : Bor Text). w.now) c.items.free.items _
           ∙ ap (λ (ws : List Text). texts c.items.free.items ++ ws) (ap texts after)
@@ -67,11 +68,11 @@ returns-in_err-at-clause-err c =
     let left = err_from_is_err_and c.from_residual-in_err-at.result c.from_residual-in_err-at.ensures.1 in
     let told = rw (take-drop c.args.words.now (c.items.at + 1)) at c.in_err-at.ensures.err in
     rw (left.1, left.2) (Tells-weaker c.in_err-at.field-0.0 (IsFaultAt (scanner_grammar c.args.self.now) (dash ∷ c.in-Some.text.now) (texts (drop (c.items.at + 1) c.args.words.now))) (IsScanFault (scanner_grammar c.args.self.now) (texts c.args.words.now)) told
-    (λ fault. IsScanFault-word (scanner_grammar c.args.self.now) c.args.words.now c.items.at c.items.position _ _ c.items.invariant _ (omega arith) (dash ∷ c.in-Some.text.now) fault c.in-Some.ensures.1))
+    (λ fault. IsScanFault-word (scanner_grammar c.args.self.now) c.args.words.now c.items.at _ _ c.items.invariant _ (omega arith) (dash ∷ c.in-Some.text.now) fault c.in-Some.ensures.1))
 
 pub items-preserved : goal.items-preserved
 items-preserved c =
     let added = c.in_ok-at.ensures.ok in
     let dashed = c.in-Some.ensures in
-    ReadSoFar-added (scanner_grammar c.args.self.now) c.args.words.now c.items.at c.items.position _ _ c.items.invariant _ (omega arith) (dash ∷ c.in-Some.text.now) c.in_ok-at.field-0 _
+    ReadSoFar-added (scanner_grammar c.args.self.now) c.args.words.now c.items.at _ _ c.items.invariant _ (omega arith) (dash ∷ c.in-Some.text.now) c.in_ok-at.field-0 _
     c.in-Some.ensures.1 (rw c.in-Some.ensures.1 at c.in-Some.ensures.0) (rw (take-drop c.args.words.now (c.items.at + 1)) at added)

@@ -1,0 +1,56 @@
+//! Runs the jobs of `getopts_bench` on other libraries, and prints the same sums.
+//!
+//! usage: peers PEER JOB TIMES
+//!
+//! PEER is `getopts` (the Rust crate), `lexopt`, `pico-args` or `clap`. The jobs are those of
+//! `getopts_bench`: `small`, `long` and `many` of each peer, and of the Rust crate the parts too, but
+//! for `canonical`, which it has not. The status is 2 where the peer doesn't do the job.
+
+mod clap_peer;
+mod getopts_peer;
+mod input;
+mod lexopt_peer;
+mod pico_peer;
+
+use input::Input;
+use std::process::ExitCode;
+
+fn main() -> ExitCode {
+    let words: Vec<String> = std::env::args().skip(1).collect();
+    match sum_of(&words) {
+        Some(sum) => {
+            println!("{sum}");
+            ExitCode::SUCCESS
+        }
+        None => {
+            eprintln!("peers: arguments are PEER JOB TIMES, where the peer does the job");
+            ExitCode::from(2)
+        }
+    }
+}
+
+/// The sum of the job that the words name.
+fn sum_of(words: &[String]) -> Option<usize> {
+    let [peer, job, times] = words else {
+        return None;
+    };
+    let times = times.parse().ok()?;
+    match peer.as_str() {
+        "getopts" => getopts_peer::run(job, times),
+        "lexopt" => whole(job, times, lexopt_peer::turn),
+        "pico-args" => whole(job, times, pico_peer::turn),
+        "clap" => whole(job, times, clap_peer::turn),
+        _ => None,
+    }
+}
+
+/// Turns that declare, read and take on one line.
+fn whole(line: &str, times: usize, turn: fn(&Input) -> usize) -> Option<usize> {
+    let input = Input::of(line)?;
+    Some(turns(times, || turn(&input)))
+}
+
+/// The sum of what the turns give. The sum wraps.
+fn turns(times: usize, mut turn: impl FnMut() -> usize) -> usize {
+    (0..times).fold(0, |sum, _| sum.wrapping_add(turn()))
+}

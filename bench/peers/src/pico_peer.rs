@@ -1,0 +1,45 @@
+//! The crate `pico-args`, which looks for one option after the other.
+
+use crate::input::{Input, Named};
+use pico_args::Arguments;
+use std::ffi::OsString;
+
+/// Takes each count and value and the free words, and adds them up.
+pub fn turn(input: &Input) -> usize {
+    let words: Vec<OsString> = input.words.iter().map(OsString::from).collect();
+    let mut arguments = Arguments::from_vec(words);
+    let mut sum = 0;
+    for option in &input.options {
+        if option.is_flag {
+            while is_next(&mut arguments, option) {
+                sum += 1;
+            }
+        } else {
+            for value in values(&mut arguments, option) {
+                sum += 1 + value.len();
+            }
+        }
+    }
+    sum + arguments.finish().iter().map(|word| word.len()).sum::<usize>()
+}
+
+/// Whether the flag is there once more. It is taken.
+fn is_next(arguments: &mut Arguments, option: &Named) -> bool {
+    let [short, long] = option.dashed;
+    match (option.short, option.long) {
+        ("", _) => arguments.contains(long),
+        (_, "") => arguments.contains(short),
+        _ => arguments.contains([short, long]),
+    }
+}
+
+/// The values of the option. They are taken.
+fn values(arguments: &mut Arguments, option: &Named) -> Vec<String> {
+    let [short, long] = option.dashed;
+    let values = match (option.short, option.long) {
+        ("", _) => arguments.values_from_str(long),
+        (_, "") => arguments.values_from_str(short),
+        _ => arguments.values_from_str([short, long]),
+    };
+    values.expect("the line is accepted")
+}

@@ -1,0 +1,106 @@
+#!/usr/bin/env bash
+# Builds the programs, runs each job, and prints three tables: the instructions of one turn, its requests
+# for memory, and the most memory that reading 100,000 words holds at once.
+# usage: run.sh OUT [GETOPTS]
+#
+# OUT is a folder outside the repository. The peers' program is built there, and what was measured is kept
+# there for the next run, by the program that it was measured of. GETOPTS is the folder of the Rust crate
+# getopts; without it the crate is taken from the public registry.
+# The variable OURS names a built getopts_bench to measure. Without it `rt run` proves and builds one.
+set -euo pipefail
+here=$(cd "$(dirname "$0")" && pwd)
+mkdir -p "$1"
+out=$(cd "$1" && pwd)
+
+# The jobs, each with the two numbers of turns that are compared. Where a turn takes no memory, it is as
+# long from the first on.
+jobs='small 100 300
+declare-small 100 300
+read-small 100 300
+accessors-small 100 300
+canonical-small 100 300
+long 5 15
+declare-long 100 300
+read-long 5 15
+accessors-long 5 15
+canonical-long 5 15
+many 5 15
+declare-many 5 15
+read-many 5 15
+accessors-many 5 15
+canonical-many 5 15
+equal 0 1
+usage 100 300
+defined-4000 0 1'
+
+peers='getopts lexopt pico-args clap'
+
+"$here/peers/build.sh" "$out/peers" "${@:2}"
+theirs=$out/peers/target/release/peers
+
+if [ -z "${OURS:-}" ]; then
+    (cd "$here/../crates/getopts_bench" && rt run -- small 1) > "$out/build.log" 2>&1 ||
+        { tail -n 20 "$out/build.log" >&2; exit 1; }
+    OURS=$here/../crates/getopts_bench/out/getopts_bench
+fi
+
+# What a script of this folder measures of a program, from what was measured before or anew. A job that
+# the program doesn't do gives a dash.
+measured() {
+    local script=$1 a=$2 b=$3 kept
+    shift 3
+    kept=$out/measured/$(sha256sum "$1" | cut -c 1-16)
+    mkdir -p "$kept"
+    kept=$kept/$script-$a-$b-$(IFS=-; echo "${*:2}")
+    if [ ! -s "$kept" ]; then
+        if "$@" 0 > /dev/null 2>&1; then
+            "$here/$script.sh" "$a" "$b" "$@" > "$kept"
+        else
+            echo - > "$kept"
+        fi
+    fi
+    cat "$kept"
+}
+
+# A star where a peer's sum of one turn isn't that of this library.
+star() {
+    local sum
+    if sum=$("$theirs" "$1" "$2" 1 2> /dev/null) && [ "$sum" != "$("$OURS" "$2" 1)" ]; then
+        echo '*'
+    fi
+}
+
+# A row of a table: the job, this library, and each peer.
+row() {
+    local script=$1 job=$2 a=$3 b=$4 peer
+    printf '%-16s %14s' "$job" "$(measured "$script" "$a" "$b" "$OURS" "$job")"
+    for peer in $peers; do
+        printf ' %14s' "$(measured "$script" "$a" "$b" "$theirs" "$peer" "$job")$(star "$peer" "$job")"
+    done
+    echo
+}
+
+head() {
+    printf '%-16s %14s %14s %14s %14s %14s\n' job 'this library' 'Rust crate' lexopt pico-args clap
+}
+
+echo 'Instructions of one turn'
+head
+while read -r job a b; do
+    row instructions "$job" "$a" "$b"
+done <<< "$jobs"
+
+echo
+echo 'Requests for memory of one turn'
+head
+while read -r job a b; do
+    row requests "$job" "$a" "$b"
+done <<< "$jobs"
+
+echo
+echo 'The most bytes held at once for reading 100,000 words, above the words and the options'
+head
+row peak memory 0 1
+
+echo
+echo "* its sum isn't this library's"

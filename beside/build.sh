@@ -1,0 +1,23 @@
+#!/usr/bin/env bash
+# Builds the twin in a folder outside the repository, and prints the path of the program.
+# usage: build.sh WORK CRATE REGISTRY
+#   CRATE      a folder with the Rust crate getopts; empty: the public registry's 0.2.24
+#   REGISTRY   a folder that stands for the public registry, as Debian's packages librust-*-dev make
+#              one; empty: the public registry itself
+set -euo pipefail
+here=$(cd "$(dirname "$0")" && pwd)
+work=$1 crate=$2 registry=$3
+mkdir -p "$work/twin/.cargo"
+cp -r "$here/twin/." "$work/twin/"
+config=$work/twin/.cargo/config.toml
+: > "$config"
+if [ -n "$crate" ]; then
+    printf '[patch.crates-io]\ngetopts = { path = "%s" }\n' "$(cd "$crate" && pwd)" >> "$config"
+fi
+offline=()
+if [ -n "$registry" ]; then
+    printf '[source.crates-io]\nreplace-with = "folder"\n[source.folder]\ndirectory = "%s"\n' "$registry" >> "$config"
+    offline=(--offline)
+fi
+(cd "$work/twin" && cargo build --release --quiet --jobs 2 "${offline[@]}" >&2)
+echo "$work/twin/target/release/twin"

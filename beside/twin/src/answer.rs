@@ -1,0 +1,296 @@
+//! What the Rust crate answers to the lines of cases.
+
+use crate::form::Line;
+use getopts::{Fail, HasArg, Matches, Occur, Options, ParsingStyle};
+use std::panic::catch_unwind;
+
+/// Options, and what the last words gave by them.
+#[derive(Clone)]
+struct Side {
+    options: Options,
+    read: Option<Result<Matches, Fail>>,
+}
+
+impl Side {
+    fn new() -> Side {
+        Side {
+            options: Options::new(),
+            read: None,
+        }
+    }
+}
+
+/// The case that is read.
+pub struct Session {
+    side: Side,
+    kept: Option<Side>,
+}
+
+fn line(parts: &[&str]) -> String {
+    Line::new(parts).written()
+}
+
+/// `-` for no value, else `=` and the value.
+fn optional(value: Option<String>) -> String {
+    value.map_or("-".to_string(), |value| format!("={value}"))
+}
+
+fn line_of(mut head: Vec<String>, rest: impl IntoIterator<Item = String>) -> String {
+    head.extend(rest);
+    Line(head).written()
+}
+
+impl Session {
+    pub fn new() -> Session {
+        Session {
+            side: Side::new(),
+            kept: None,
+        }
+    }
+
+    /// Does what a line says, and gives its answer.
+    pub fn answer(&mut self, asked: &Line) -> String {
+        let fields = asked.fields();
+        let options = &mut self.side.options;
+        let f = |place: usize| fields[place].as_str();
+        match asked.word() {
+            "case" => {
+                *self = Session::new();
+                return asked.written();
+            }
+            "keep" => self.kept = Some(self.side.clone()),
+            "anew" => self.side = Side::new(),
+            "style" => {
+                let style = match f(0) {
+                    "floating" => ParsingStyle::FloatingFrees,
+                    "stop" => ParsingStyle::StopAtFirstFree,
+                    other => panic!("no style {other}"),
+                };
+                options.parsing_style(style);
+            }
+            "mode" => {
+                options.long_only(match f(0) {
+                    "ordinary" => false,
+                    "long-only" => true,
+                    other => panic!("no mode {other}"),
+                });
+            }
+            "opt" => {
+                options.opt(f(0), f(1), f(2), f(3), kind_of(f(4)), occur_of(f(5)));
+            }
+            "optflag" => {
+                options.optflag(f(0), f(1), f(2));
+            }
+            "optflagmulti" => {
+                options.optflagmulti(f(0), f(1), f(2));
+            }
+            "optflagopt" => {
+                options.optflagopt(f(0), f(1), f(2), f(3));
+            }
+            "optmulti" => {
+                options.optmulti(f(0), f(1), f(2), f(3));
+            }
+            "optopt" => {
+                options.optopt(f(0), f(1), f(2), f(3));
+            }
+            "reqopt" => {
+                options.reqopt(f(0), f(1), f(2), f(3));
+            }
+            "words" => return self.read_words(fields),
+            "same" => return self.same(f(0)),
+            _ => return self.ask(asked),
+        }
+        String::new()
+    }
+
+    fn read_words(&mut self, words: &[String]) -> String {
+        let read = self.side.options.parse(words);
+        let answer = match &read {
+            Ok(matches) => {
+                let start = match matches.free_trailing_start() {
+                    Some(start) => start.to_string(),
+                    None => "-".to_string(),
+                };
+                line_of(vec!["accepted".to_string(), start], matches.free.clone())
+            }
+            Err(fail) => {
+                let (variant, name) = match fail {
+                    Fail::ArgumentMissing(name) => ("ArgumentMissing", name),
+                    Fail::UnrecognizedOption(name) => ("UnrecognizedOption", name),
+                    Fail::OptionMissing(name) => ("OptionMissing", name),
+                    Fail::OptionDuplicated(name) => ("OptionDuplicated", name),
+                    Fail::UnexpectedArgument(name) => ("UnexpectedArgument", name),
+                };
+                line(&["refused", variant, name, &fail.to_string()])
+            }
+        };
+        self.side.read = Some(read);
+        answer
+    }
+
+    fn same(&self, what: &str) -> String {
+        let kept = self.kept.as_ref().expect("something kept");
+        let same = match what {
+            "options" => kept.options == self.side.options,
+            "answers" => kept.read == self.side.read,
+            other => panic!("nothing is called {other}"),
+        };
+        line(&["same", what, &same.to_string()])
+    }
+
+    /// What a line asks of the options.
+    fn ask(&self, asked: &Line) -> String {
+        let options = &self.side.options;
+        match (asked.word(), asked.fields()) {
+            ("lawful", [short, long]) => line(&["lawful", &names_lawful(short, long).to_string()]),
+            ("short", [program]) => line(&["short", &options.short_usage(program)]),
+            ("usage", [brief]) => line(&["usage", &options.usage(brief)]),
+            ("rows", []) => {
+                let mut given = Vec::new();
+                let made = options.usage_with_format(|rows| {
+                    given = rows.collect();
+                    format!("{} rows", given.len())
+                });
+                line_of(vec!["rows".to_string(), made], given)
+            }
+            _ => match &self.side.read {
+                Some(Ok(matches)) => ask_of_matches(matches, asked),
+                _ => line(&[asked.word(), "nothing"]),
+            },
+        }
+    }
+}
+
+/// What a line asks of matches.
+fn ask_of_matches(matches: &Matches, asked: &Line) -> String {
+    if asked.word() == "any" {
+        return any(matches, asked.fields());
+    }
+    let name = asked.fields()[0].as_str();
+    let head = vec![asked.word().to_string(), name.to_string()];
+    if !matches.opt_defined(name) {
+        return line_of(head, ["undefined".to_string()]);
+    }
+    match (asked.word(), &asked.fields()[1..]) {
+        ("option", [default]) => {
+            let present = if matches.opt_present(name) {
+                "present"
+            } else {
+                "absent"
+            };
+            let of_option = [
+                present.to_string(),
+                matches.opt_count(name).to_string(),
+                optional(matches.opt_str(name)),
+                optional(matches.opt_default(name, default)),
+            ];
+            let texts = matches.opt_strs_pos(name).into_iter().map(|(_, text)| text);
+            line_of(head, of_option)
+                + &line_of(vec!["strs".to_string()], matches.opt_strs(name))
+                + &line_of(vec!["pairs".to_string()], texts)
+        }
+        ("positions", []) => {
+            let positions = matches
+                .opt_positions(name)
+                .into_iter()
+                .map(|place| place.to_string());
+            let pairs = matches.opt_strs_pos(name).into_iter();
+            let pairs = pairs.flat_map(|(place, text)| [place.to_string(), text]);
+            line_of(head, positions) + &line_of(vec!["pairs".to_string()], pairs)
+        }
+        ("number", [default]) => {
+            let default: i64 = default.parse().expect("a number");
+            let got = matches
+                .opt_get::<i64>(name)
+                .map(|got| got.map(|n| n.to_string()));
+            let or = matches
+                .opt_get_default(name, default)
+                .map(|n| n.to_string());
+            line_of(
+                head,
+                [
+                    got.map_or("error".to_string(), optional),
+                    or.unwrap_or("error".to_string()),
+                ],
+            )
+        }
+        ("truth", [default]) => {
+            let default: bool = default.parse().expect("a truth");
+            let got = matches
+                .opt_get::<bool>(name)
+                .map(|got| got.map(|b| b.to_string()));
+            let or = matches
+                .opt_get_default(name, default)
+                .map(|b| b.to_string());
+            line_of(
+                head,
+                [
+                    got.map_or("error".to_string(), optional),
+                    or.unwrap_or("error".to_string()),
+                ],
+            )
+        }
+        _ => panic!("nobody asks for {asked:?}"),
+    }
+}
+
+/// What a line asks of several names at once. Those calls that panic on an undefined name are made where
+/// all names are defined.
+fn any(matches: &Matches, names: &[String]) -> String {
+    let head = vec!["any".to_string(), matches.opts_present(names).to_string()];
+    if !names.iter().all(|name| matches.opt_defined(name)) {
+        return line_of(head, ["undefined".to_string()]);
+    }
+    let all = [
+        matches.opts_present_any(names).to_string(),
+        optional(matches.opts_str(names)),
+        optional(matches.opts_str_first(names)),
+    ];
+    line_of(head, all)
+}
+
+/// Whether the Rust takes these names: nothing panics where one of its calls adds them and words are
+/// read. The calls agree.
+fn names_lawful(short: &str, long: &str) -> bool {
+    let adding: [fn(&mut Options, &str, &str); 7] = [
+        |options, short, long| _ = options.opt(short, long, "", "", HasArg::No, Occur::Multi),
+        |options, short, long| _ = options.optflag(short, long, ""),
+        |options, short, long| _ = options.optflagmulti(short, long, ""),
+        |options, short, long| _ = options.optflagopt(short, long, "", ""),
+        |options, short, long| _ = options.optmulti(short, long, "", ""),
+        |options, short, long| _ = options.optopt(short, long, "", ""),
+        |options, short, long| _ = options.reqopt(short, long, "", ""),
+    ];
+    let taken = adding.map(|add| {
+        let names = (short.to_string(), long.to_string());
+        catch_unwind(move || {
+            let mut options = Options::new();
+            add(&mut options, &names.0, &names.1);
+            let _ = options.parse(Vec::<String>::new());
+        })
+        .is_ok()
+    });
+    assert!(
+        taken.iter().all(|one| *one == taken[0]),
+        "the calls agree on names"
+    );
+    taken[0]
+}
+
+pub fn kind_of(kind: &str) -> HasArg {
+    match kind {
+        "yes" => HasArg::Yes,
+        "no" => HasArg::No,
+        "maybe" => HasArg::Maybe,
+        other => panic!("no kind {other}"),
+    }
+}
+
+pub fn occur_of(occur: &str) -> Occur {
+    match occur {
+        "req" => Occur::Req,
+        "optional" => Occur::Optional,
+        "multi" => Occur::Multi,
+        other => panic!("no occurrence kind {other}"),
+    }
+}

@@ -1,0 +1,463 @@
+//! The making of cases from a seed.
+
+use crate::answer::Session;
+use crate::form::{Case, Line};
+use crate::options::{Declared, Group, CALLS};
+use crate::random::Random;
+use crate::{tables, texts};
+
+/// A case as it is made: what it has declared, and what the Rust crate answered to it so far.
+struct Making {
+    lines: Vec<Line>,
+    declared: Declared,
+    session: Session,
+}
+
+impl Making {
+    fn begin(theme: &str, number: usize) -> Making {
+        let mut making = Making {
+            lines: Vec::new(),
+            declared: Declared::default(),
+            session: Session::new(),
+        };
+        making.add(Line::new(&["case", &format!("{theme}-{number}")]));
+        making
+    }
+
+    /// Adds a line, and gives its answer.
+    fn add(&mut self, line: Line) -> String {
+        self.declared.take(&line);
+        let answer = self.session.answer(&line);
+        self.lines.push(line);
+        answer
+    }
+
+    fn declare(&mut self, declared: &Declared) {
+        for line in declared.lines() {
+            self.add(line);
+        }
+    }
+
+    /// Adds words, and says whether they are accepted.
+    fn words(&mut self, words: &[String]) -> bool {
+        let mut line = vec!["words".to_string()];
+        line.extend(words.iter().cloned());
+        self.add(Line(line)).starts_with("accepted")
+    }
+}
+
+/// The case with this number, of those of a seed.
+pub fn case(seed: u64, number: usize) -> Case {
+    let mut random = Random::new(seed ^ (number as u64).wrapping_mul(0xd6e8_feb8_6659_fd93));
+    let random = &mut random;
+    let making = match random.below(100) {
+        0..=58 => line(random, number),
+        59..=72 => text(random, number),
+        73..=75 => names(random, number),
+        76..=85 => same(random, number),
+        86..=91 => value(random, number),
+        92..=93 => long_line(random, number),
+        94..=97 => table(random, "harness", number, &tables::harness()),
+        _ => table(random, "doctool", number, &tables::doctool()),
+    };
+    Case {
+        lines: making.lines,
+    }
+}
+
+/// A random group, with no description.
+fn group(random: &mut Random) -> Group {
+    let (short, long) = match random.below(4) {
+        0 => (texts::short_name(random), String::new()),
+        1 => (String::new(), texts::long_name(random)),
+        _ => (texts::short_name(random), texts::long_name(random)),
+    };
+    let (call, kind, occur) = if random.one_in(3) {
+        (
+            "opt",
+            random.of(&["yes", "no", "maybe"]),
+            random.of(&["req", "optional", "multi"]),
+        )
+    } else {
+        random.of(&CALLS)
+    };
+    let has_hint = call == "opt" || !call.starts_with("optflag") || call == "optflagopt";
+    Group {
+        short,
+        long,
+        desc: String::new(),
+        hint: if has_hint && random.one_in(8) {
+            texts::hint(random)
+        } else {
+            String::new()
+        },
+        kind,
+        occur,
+        call,
+    }
+}
+
+fn declared(random: &mut Random, most: usize) -> Declared {
+    let groups = (0..random.below(most + 1)).map(|_| group(random)).collect();
+    Declared {
+        groups,
+        stop: random.one_in(4),
+        long_only: random.one_in(4),
+    }
+}
+
+/// A name of a group, or one that is made up.
+fn name(random: &mut Random, declared: &Declared) -> String {
+    if declared.groups.is_empty() || random.one_in(14) {
+        return match random.below(5) {
+            0 => texts::short_name(random),
+            1 => texts::long_name(random),
+            2 => texts::noise(random),
+            3 => "é".to_string(),
+            _ => String::new(),
+        };
+    }
+    let group = &declared.groups[random.below(declared.groups.len())];
+    if group.long.is_empty() || (!group.short.is_empty() && random.one_in(2)) {
+        group.short.clone()
+    } else {
+        group.long.clone()
+    }
+}
+
+/// One or two words that are an item, or nearly.
+fn item(random: &mut Random, declared: &Declared) -> Vec<String> {
+    let mut words = Vec::new();
+    match random.below(20) {
+        0..=2 => words.push(texts::value(random)),
+        3 => words.push(texts::noise(random)),
+        4 => words.push("--".to_string()),
+        5..=11 => {
+            let dashes = if random.one_in(4) { "-" } else { "--" };
+            let mut word = dashes.to_string() + &name(random, declared);
+            if random.one_in(3) {
+                word = word + "=" + &texts::value(random);
+            }
+            words.push(word);
+        }
+        _ => words.push(cluster(random, declared)),
+    }
+    if random.one_in(3) {
+        words.push(texts::value(random));
+    }
+    words
+}
+
+/// A dash, characters, and perhaps a text after them.
+fn cluster(random: &mut Random, declared: &Declared) -> String {
+    let mut word = "-".to_string();
+    for _ in 0..1 + random.below(3) {
+        let shorts: Vec<&str> = declared
+            .groups
+            .iter()
+            .map(|group| group.short.as_str())
+            .collect();
+        if shorts.is_empty() || random.one_in(14) {
+            word.push_str(&texts::short_name(random));
+        } else {
+            word.push_str(random.of(&shorts));
+        }
+    }
+    if random.one_in(4) {
+        word.push_str(&texts::value(random));
+    }
+    word
+}
+
+fn words(random: &mut Random, declared: &Declared, most: usize) -> Vec<String> {
+    (0..random.below(most + 1))
+        .flat_map(|_| item(random, declared))
+        .collect()
+}
+
+/// Adds what a line of accepted words is asked.
+fn ask(random: &mut Random, making: &mut Making, words: &[String], most: usize) {
+    let declared = making.declared.clone();
+    let counts_words = declared.counts_words(words);
+    for _ in 0..1 + random.below(most) {
+        let name = name(random, &declared);
+        match random.below(6) {
+            0 if counts_words => {
+                making.add(Line::new(&["positions", &name]));
+            }
+            1 => {
+                let mut line = vec!["any".to_string()];
+                line.extend((0..random.below(4)).map(|_| self::name(random, &declared)));
+                making.add(Line(line));
+            }
+            _ => {
+                let default = if random.one_in(3) {
+                    texts::value(random)
+                } else {
+                    "def".to_string()
+                };
+                making.add(Line::new(&["option", &name, &default]));
+            }
+        }
+    }
+}
+
+/// A line of words by a few options.
+fn line(random: &mut Random, number: usize) -> Making {
+    let mut making = Making::begin("line", number);
+    let declared = declared(random, 4);
+    making.declare(&declared);
+    let words = words(random, &declared, 4);
+    if making.words(&words) || random.one_in(40) {
+        ask(random, &mut making, &words, 4);
+    }
+    making
+}
+
+/// A long line of words by a few options.
+fn long_line(random: &mut Random, number: usize) -> Making {
+    let mut making = Making::begin("long", number);
+    let mut declared = declared(random, 6);
+    for group in &mut declared.groups {
+        if !random.one_in(6) {
+            group.call = "opt";
+            group.occur = "multi";
+        }
+    }
+    making.declare(&declared);
+    let words = words(random, &declared, 40);
+    if making.words(&words) {
+        ask(random, &mut making, &words, 6);
+    }
+    making
+}
+
+/// Usage texts.
+fn text(random: &mut Random, number: usize) -> Making {
+    let mut making = Making::begin("text", number);
+    let mut declared = declared(random, 4);
+    for group in &mut declared.groups {
+        group.desc = texts::description(random);
+        if group.call != "optflag" && group.call != "optflagmulti" {
+            group.hint = texts::hint(random);
+        }
+        if !group.long.is_empty() && random.one_in(4) {
+            let letters = 8 + random.below(14);
+            group.long = std::iter::repeat("n").take(letters).collect();
+        }
+    }
+    making.declare(&declared);
+    match random.below(4) {
+        0 => {
+            making.add(Line::new(&["rows"]));
+        }
+        1 => {
+            making.add(Line::new(&["short", &texts::value(random)]));
+        }
+        2 => {
+            making.add(Line::new(&["usage", "Usage: x"]));
+            making.add(Line::new(&["short", "x"]));
+        }
+        _ => {
+            making.add(Line::new(&["usage", &texts::value(random)]));
+        }
+    }
+    making
+}
+
+/// Pairs of names, lawful or not.
+fn names(random: &mut Random, number: usize) -> Making {
+    let mut making = Making::begin("names", number);
+    for _ in 0..1 + random.below(3) {
+        let pair = [0, 1].map(|_| match random.below(4) {
+            0 => texts::short_name(random),
+            1 => texts::long_name(random),
+            2 => texts::noise(random),
+            _ => String::new(),
+        });
+        making.add(Line::new(&["lawful", &pair[0], &pair[1]]));
+    }
+    making
+}
+
+/// Copies, and whether they are equal: of options with one thing changed, or of two lines of words.
+fn same(random: &mut Random, number: usize) -> Making {
+    let mut making = Making::begin("same", number);
+    let first = declared(random, 3);
+    making.declare(&first);
+    let first_words = words(random, &first, 3);
+    making.words(&first_words);
+    making.add(Line::new(&["keep"]));
+    let mut second = first.clone();
+    if random.one_in(2) {
+        change(random, &mut second);
+        making.add(Line::new(&["anew"]));
+        making.declare(&second);
+    }
+    making.add(Line::new(&["same", "options"]));
+    let second_words = if random.one_in(3) {
+        first_words.clone()
+    } else {
+        changed_words(random, &second, &first_words)
+    };
+    if first.counts_words(&first_words) && second.counts_words(&second_words) {
+        making.words(&second_words);
+        making.add(Line::new(&["same", "answers"]));
+    }
+    making
+}
+
+/// Changes one thing, or nothing.
+fn change(random: &mut Random, declared: &mut Declared) {
+    match random.below(12) {
+        0 => declared.stop = !declared.stop,
+        1 => declared.long_only = !declared.long_only,
+        2 => declared.groups.push(group(random)),
+        3 => {
+            declared.groups.pop();
+        }
+        4 => declared.groups.reverse(),
+        _ => {
+            if declared.groups.is_empty() {
+                return;
+            }
+            let place = random.below(declared.groups.len());
+            let group = &mut declared.groups[place];
+            group.call = "opt";
+            match random.below(7) {
+                0 => group.short = texts::short_name(random),
+                1 => group.long = texts::long_name(random),
+                2 => group.desc = "another".to_string(),
+                3 => group.hint = "another".to_string(),
+                4 => group.kind = random.of(&["yes", "no", "maybe"]),
+                5 => group.occur = random.of(&["req", "optional", "multi"]),
+                _ => {}
+            }
+        }
+    }
+}
+
+/// Words that say nearly the same as others.
+fn changed_words(random: &mut Random, declared: &Declared, words: &[String]) -> Vec<String> {
+    let mut words = words.to_vec();
+    match random.below(5) {
+        0 => words.reverse(),
+        1 => words.push(texts::value(random)),
+        2 => words.extend(item(random, declared)),
+        3 => {
+            words.pop();
+        }
+        _ => {
+            if let Some(word) = words.first_mut() {
+                if let Some(rest) = word.strip_prefix('-') {
+                    *word = "-".to_string() + &rest.chars().rev().collect::<String>();
+                }
+            }
+        }
+    }
+    words
+}
+
+/// Values that are read as numbers and truths.
+fn value(random: &mut Random, number: usize) -> Making {
+    let mut making = Making::begin("value", number);
+    let kind = random.of(&["yes", "yes", "maybe", "no"]);
+    let group = Group {
+        short: "n".to_string(),
+        long: if random.one_in(2) {
+            "number".to_string()
+        } else {
+            String::new()
+        },
+        desc: String::new(),
+        hint: String::new(),
+        kind,
+        occur: "multi",
+        call: "opt",
+    };
+    making.add(group.line());
+    let mut words = Vec::new();
+    for _ in 0..random.below(3) {
+        words.push(match random.below(3) {
+            0 => "-n".to_string(),
+            1 => format!("-n{}", texts::value(random)),
+            _ => format!("--{}={}", group.main(), texts::value(random)),
+        });
+    }
+    making.words(&words);
+    for _ in 0..1 + random.below(2) {
+        if random.one_in(2) {
+            let default = random.of(&["0", "7", "-12"]);
+            making.add(Line::new(&["number", "n", default]));
+        } else {
+            let default = random.of(&["true", "false"]);
+            making.add(Line::new(&["truth", group.main(), default]));
+        }
+    }
+    making
+}
+
+/// Lines of words by the options of a real program.
+fn table(random: &mut Random, theme: &str, number: usize, table: &tables::Table) -> Making {
+    let mut making = Making::begin(theme, number);
+    let declared = Declared {
+        groups: table.groups.clone(),
+        stop: false,
+        long_only: random.one_in(8),
+    };
+    making.declare(&declared);
+    if random.one_in(4) {
+        making.add(Line::new(&["usage", table.brief]));
+        making.add(Line::new(&["short", table.brief]));
+    }
+    for _ in 0..2 + random.below(6) {
+        let words: Vec<String> = if random.one_in(2) {
+            (0..random.below(5))
+                .flat_map(|_| real_item(random, &declared))
+                .collect()
+        } else {
+            random
+                .of(table.lines)
+                .split(' ')
+                .map(str::to_string)
+                .collect()
+        };
+        if making.words(&words) {
+            ask(random, &mut making, &words, 4);
+        }
+    }
+    making
+}
+
+/// An option as its program's users write it, a test's or a file's name, or anything.
+fn real_item(random: &mut Random, declared: &Declared) -> Vec<String> {
+    if random.one_in(6) {
+        return item(random, declared);
+    }
+    if random.one_in(4) {
+        return vec![random
+            .of(&["src/lib.rs", "parser::reads", "--", "main.rs"])
+            .to_string()];
+    }
+    let group = &declared.groups[random.below(declared.groups.len())];
+    let value = random
+        .of(&[
+            "1",
+            "8",
+            "auto",
+            "json",
+            "target/doc",
+            "tests::",
+            "warnings",
+            "",
+        ])
+        .to_string();
+    match (group.kind, group.long.is_empty(), random.one_in(2)) {
+        ("no", true, _) => vec![format!("-{}", group.short)],
+        ("no", false, _) => vec![format!("--{}", group.long)],
+        (_, true, true) => vec![format!("-{}{value}", group.short)],
+        (_, true, false) => vec![format!("-{}", group.short), value],
+        (_, false, true) => vec![format!("--{}={value}", group.long)],
+        (_, false, false) => vec![format!("--{}", group.long), value],
+    }
+}

@@ -1,0 +1,165 @@
+//! Groups as a case declares them, for the making of cases and for the names of their kinds.
+
+use crate::form::Line;
+
+#[derive(Clone, Debug, PartialEq, Eq)]
+pub struct Group {
+    pub short: String,
+    pub long: String,
+    pub desc: String,
+    pub hint: String,
+    pub kind: &'static str,
+    pub occur: &'static str,
+    /// The line that declares it.
+    pub call: &'static str,
+}
+
+/// The lines that declare groups, with the kind and the occurrence kind that each stands for.
+pub const CALLS: [(&str, &str, &str); 6] = [
+    ("optflag", "no", "optional"),
+    ("optflagmulti", "no", "multi"),
+    ("optflagopt", "maybe", "optional"),
+    ("optmulti", "yes", "multi"),
+    ("optopt", "yes", "optional"),
+    ("reqopt", "yes", "req"),
+];
+
+const KINDS: [&str; 3] = ["yes", "no", "maybe"];
+const OCCURS: [&str; 3] = ["req", "optional", "multi"];
+
+fn known(text: &str, among: &[&'static str]) -> &'static str {
+    among
+        .iter()
+        .find(|one| **one == text)
+        .expect("a word that is known")
+}
+
+impl Group {
+    /// The group that a line declares, if it declares one.
+    pub fn of_line(line: &Line) -> Option<Group> {
+        let fields = line.fields();
+        let field = |place: usize| fields.get(place).cloned().unwrap_or_default();
+        if line.word() == "opt" {
+            return Some(Group {
+                short: field(0),
+                long: field(1),
+                desc: field(2),
+                hint: field(3),
+                kind: known(&field(4), &KINDS),
+                occur: known(&field(5), &OCCURS),
+                call: "opt",
+            });
+        }
+        let (call, kind, occur) = CALLS.iter().find(|(call, _, _)| *call == line.word())?;
+        Some(Group {
+            short: field(0),
+            long: field(1),
+            desc: field(2),
+            hint: field(3),
+            kind,
+            occur,
+            call,
+        })
+    }
+
+    pub fn line(&self) -> Line {
+        let Group {
+            short,
+            long,
+            desc,
+            hint,
+            ..
+        } = self;
+        match self.call {
+            "opt" => Line::new(&["opt", short, long, desc, hint, self.kind, self.occur]),
+            "optflag" | "optflagmulti" => Line::new(&[self.call, short, long, desc]),
+            _ => Line::new(&[self.call, short, long, desc, hint]),
+        }
+    }
+
+    pub fn main(&self) -> &str {
+        if self.long.is_empty() {
+            &self.short
+        } else {
+            &self.long
+        }
+    }
+}
+
+/// What a case has declared so far.
+#[derive(Clone, Debug, Default)]
+pub struct Declared {
+    pub groups: Vec<Group>,
+    pub stop: bool,
+    pub long_only: bool,
+}
+
+impl Declared {
+    /// The lines that declare it.
+    pub fn lines(&self) -> Vec<Line> {
+        let mut lines = Vec::new();
+        if self.stop {
+            lines.push(Line::new(&["style", "stop"]));
+        }
+        if self.long_only {
+            lines.push(Line::new(&["mode", "long-only"]));
+        }
+        lines.extend(self.groups.iter().map(Group::line));
+        lines
+    }
+
+    /// Takes up what a line declares.
+    pub fn take(&mut self, line: &Line) {
+        match (line.word(), line.fields()) {
+            ("case" | "anew", _) => *self = Declared::default(),
+            ("style", [style]) => self.stop = style == "stop",
+            ("mode", [mode]) => self.long_only = mode == "long-only",
+            _ => self.groups.extend(Group::of_line(line)),
+        }
+    }
+
+    /// The same options to the Rust crate, each allowed any number of times, with one more flag at their
+    /// end.
+    fn probed(&self) -> getopts::Options {
+        let mut options = getopts::Options::new();
+        if self.stop {
+            options.parsing_style(getopts::ParsingStyle::StopAtFirstFree);
+        }
+        options.long_only(self.long_only);
+        for group in &self.groups {
+            let kind = crate::answer::kind_of(group.kind);
+            options.opt(
+                &group.short,
+                &group.long,
+                "",
+                "",
+                kind,
+                getopts::Occur::Multi,
+            );
+        }
+        options.optflagmulti("", PROBE, "");
+        options
+    }
+
+    /// Whether no word of a line is the separate argument of an option, so that counting items and
+    /// counting words give the same positions. A line that can't be read has no positions.
+    ///
+    /// The flag `PROBE` is put where the line's options end. As many words as stand before it are items
+    /// exactly where its position is their number.
+    pub fn counts_words(&self, words: &[String]) -> bool {
+        let options = self.probed();
+        let probe = format!("--{PROBE}");
+        for end in (0..=words.len()).rev() {
+            let line = words[..end].iter().chain([&probe]);
+            let Ok(matches) = options.parse(line) else {
+                continue;
+            };
+            if let Some(place) = matches.opt_positions(PROBE).first() {
+                return *place == end;
+            }
+        }
+        true
+    }
+}
+
+const PROBE: &str = "probe of the place where options end";

@@ -1,0 +1,199 @@
+//! Random texts. The characters that usage texts measure are such that tables of widths of any age agree
+//! on them: ASCII, letters, CJK, combining marks; no control characters, no emoji sequences, no letters
+//! that join.
+
+use crate::random::Random;
+
+const SHORT_NAMES: [&str; 16] = [
+    "a", "b", "c", "v", "a", "b", "c", "o", "t", "L", "-", "=", " ", "1", "?", "h",
+];
+
+const LONG_NAMES: [&str; 26] = [
+    "apple",
+    "banana",
+    "verbose",
+    "ab",
+    "abc",
+    "no",
+    "aa",
+    "apple",
+    "ab",
+    "color",
+    "é",
+    "日",
+    "日本",
+    "naïve",
+    "a=b",
+    "=x",
+    "x=",
+    "--",
+    "-a",
+    "-apple",
+    "two words",
+    "\u{301}",
+    "ab-c",
+    "hi",
+    "e\u{301}a",
+    "a-very-long-name-of-an-option",
+];
+
+const VALUES: [&str; 32] = [
+    "",
+    "-",
+    "--",
+    "x",
+    "y",
+    "1",
+    "7",
+    "-3",
+    "+5",
+    "-a",
+    "-b",
+    "--ab",
+    "-ab",
+    "--apple",
+    "=",
+    "a=b",
+    "=5",
+    "true",
+    "false",
+    "free word",
+    "é",
+    "日本",
+    "a\tb",
+    "line\nend",
+    "back\\slash",
+    "\r",
+    "-1",
+    "---",
+    "9223372036854775807",
+    "9223372036854775808",
+    "-9223372036854775808",
+    "abc",
+];
+
+const WORDS: [&str; 30] = [
+    "a",
+    "an",
+    "the",
+    "of",
+    "with",
+    "set",
+    "file",
+    "name",
+    "output",
+    "option",
+    "argument",
+    "whenever",
+    "directory",
+    "description",
+    "characteristics",
+    "日本語",
+    "テスト",
+    "naïve",
+    "e\u{301}te\u{301}",
+    "“quoted”",
+    "0.51€",
+    "ＡＢＣ",
+    "한국어",
+    "русский",
+    "ελληνικά",
+    "\u{301}",
+    "x,",
+    "(y)",
+    "misunderstandings;",
+    "HereWeNeedOneSingleWordThatIsLongerThanTheWrappingLengthAndThisIsIt",
+];
+
+const SPACES: [&str; 16] = [
+    " ", " ", " ", " ", " ", " ", " ", " ", "  ", "\t", "\n", "\n\n", " \n ", "\u{3000}", "\u{a0}",
+    "\r\n",
+];
+
+const HINTS: [&str; 14] = [
+    "",
+    "",
+    "VAL",
+    "FILE",
+    "N",
+    "NAME",
+    "日本",
+    "[X]",
+    "a b",
+    "TYPE,TYPE",
+    "é",
+    "a-long-hint-for-an-argument",
+    "=",
+    "VAL",
+];
+
+pub fn short_name(random: &mut Random) -> String {
+    random.of(&SHORT_NAMES).to_string()
+}
+
+pub fn long_name(random: &mut Random) -> String {
+    random.of(&LONG_NAMES).to_string()
+}
+
+pub fn hint(random: &mut Random) -> String {
+    random.of(&HINTS).to_string()
+}
+
+pub fn value(random: &mut Random) -> String {
+    if random.one_in(12) {
+        return noise(random);
+    }
+    random.of(&VALUES).to_string()
+}
+
+/// A few characters of those that lines are made of.
+pub fn noise(random: &mut Random) -> String {
+    const CHARS: [char; 12] = ['-', '-', '=', 'a', 'b', 'c', 'v', ' ', 'é', '1', 'L', 'h'];
+    (0..random.below(6)).map(|_| random.of(&CHARS)).collect()
+}
+
+/// A description of several words, or of words that fill a row of 54 columns or nearly.
+pub fn description(random: &mut Random) -> String {
+    match random.below(8) {
+        0 => String::new(),
+        1 => random.of(&WORDS).to_string(),
+        2 | 3 => near_a_row(random),
+        4 => random.of(&SPACES).to_string() + &words(random) + random.of(&SPACES),
+        _ => words(random),
+    }
+}
+
+fn words(random: &mut Random) -> String {
+    let mut text = random.of(&WORDS).to_string();
+    for _ in 0..random.below(24) {
+        text.push_str(random.of(&SPACES));
+        text.push_str(random.of(&WORDS));
+    }
+    text
+}
+
+/// Words whose columns with the spaces between them are near 54, one row or two of them.
+fn near_a_row(random: &mut Random) -> String {
+    let mut text = String::new();
+    for row in 0..1 + random.below(3) {
+        if row > 0 {
+            text.push(' ');
+        }
+        let mut left = 52 + random.below(5);
+        while left > 0 {
+            let letters = (1 + random.below(14)).min(left);
+            let wide = letters / 2;
+            match random.below(4) {
+                0 if letters % 2 == 0 => text.extend(std::iter::repeat('日').take(wide)),
+                1 => text.extend(std::iter::repeat("e\u{301}").take(letters)),
+                _ => text.extend(std::iter::repeat('x').take(letters)),
+            }
+            left -= letters;
+            if left > 1 {
+                text.push(' ');
+                left -= 1;
+            }
+        }
+    }
+    text
+}

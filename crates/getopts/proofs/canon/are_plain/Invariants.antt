@@ -1,0 +1,9 @@
+-- No group so far that has an occurrence has a main name that holds `=`.
+use Rattle.std.proofs.Common.{◌≡◌, ◌<◌, ℕ, true, length, not}
+use Rattle.getopts.specs.Matches.{found_at}
+use Rattle.getopts.specs.Scan.{holds_equals}
+use Rattle.getopts.specs.Canon.{main_at}
+use Rattle.getopts.proofs.canon.are_plain.Given as goal
+
+abbrev pub invariant-loop-place : goal.invariant-loop-place
+invariant-loop-place l = (group : ℕ) → group < l.place → 0 < length (found_at group l.accepted.line.found) → not (holds_equals (main_at l.options.groups group)) ≡ true

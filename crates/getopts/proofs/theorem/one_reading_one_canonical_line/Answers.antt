@@ -1,0 +1,26 @@
+-- What the options keep makes their names lawful, and so the laws hold.
+use Rattle.getopts.proofs.CanonLemmas.{IsSound-says, IsFitting-says}
+use Rattle.getopts.proofs.TheoremLemmas.{OneReading-options, AcceptedExactlyWhen-options, RefusedExactlyWhen-options, OneOfThree-options, OneReadingGivesAll-options, CanonicalLinesTell-options, AnsweredLinesTell-options, HasCanonicalLine-options}
+use Rattle.getopts.proofs.theorem.one_reading_one_canonical_line.Goals as goal
+
+pub returns : goal.returns
+returns c =
+    let options = c.args.options.now in
+    let lawful = c.groups-groups.ensures.lawful in
+    let shorts = c.groups-groups.ensures.shorts in
+    let laws = HasCanonicalLine-options options lawful shorts in
+    record {
+      one_reading = OneReading-options options lawful shorts;
+      accepted = AcceptedExactlyWhen-options options lawful shorts;
+      refused = RefusedExactlyWhen-options options lawful shorts;
+      one_of_three = OneOfThree-options options lawful shorts;
+      gives_all = OneReadingGivesAll-options options lawful shorts;
+      canonical_lines_tell = CanonicalLinesTell-options options lawful shorts;
+      answered_lines_tell = AnsweredLinesTell-options options lawful shorts;
+      reads_back = λ words content says plain. (laws words content says plain).reads_back;
+      says_nothing_else = λ words content says plain. (laws words content says plain).says_nothing_else;
+      its_own = λ words content says plain. (laws words content says plain).its_own;
+      only_content = λ words content says plain. (laws words content says plain).only;
+      sound = IsSound-says options;
+      fitting = IsFitting-says options;
+    }

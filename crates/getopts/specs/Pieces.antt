@@ -1,0 +1,12 @@
+-- A list cut into pieces.
+use Rattle.std.specs.Prelude.{◌≡◌, ℕ, ◌-◌, ◌≤◌, List, [], ◌∷◌, length, take, drop}
+
+-- the pieces of a list that end at these places, where the first starts here
+abbrev pub pieces : {A : Type 0} → List A → ℕ → List ℕ → List (List A)
+pieces items start [] = []
+pieces items start (end ∷ ends) = take (end - start) (drop start items) ∷ pieces items end ends
+
+-- the places are in order, from the start on, and the last is the end of the list
+abbrev pub AreEnds : {A : Type 0} → List A → ℕ → List ℕ → Type 0
+AreEnds items start [] = start ≡ length items
+AreEnds items start (end ∷ ends) = (start ≤ end) × AreEnds items end ends

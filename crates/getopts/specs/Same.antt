@@ -1,0 +1,94 @@
+-- When two groups, two options and two matches are the same, as `==` computes it.
+use Rattle.std.specs.Prelude.{◌==◌, ℕ, Bool}
+use Rattle.std.specs.Bool.{beq}
+use Rattle.std.specs.Cmp.Lexicographic.{pointwise}
+use Rattle.std.specs.Option.{option_eq}
+use Rattle.std.specs.Ordering.{on, eq_of_both}
+use Rattle.getopts.specs.Names.{Text, Names}
+use Rattle.getopts.specs.Options.{Known, Group, Declared}
+use Rattle.getopts.specs.Fail.{Fault, argument_missing, unrecognized_option, option_missing, option_duplicated, unexpected_argument, fault_of}
+use Rattle.getopts.specs.Matches.{Found, MatchedGroup, Matched}
+use Rattle.getopts.specs.declared.fail.Fail.{Fail}
+use Rattle.getopts.specs.declared.groups.HasArg.{HasArg}
+use Rattle.getopts.specs.declared.groups.Occur.{Occur}
+use Rattle.getopts.specs.declared.groups.ParsingStyle.{ParsingStyle}
+use Rattle.getopts.specs.declared.groups.HasArg.TheVariants.{Yes, No, Maybe}
+use Rattle.getopts.specs.declared.groups.Occur.TheVariants.{Req, Optional, Multi}
+use Rattle.getopts.specs.declared.groups.ParsingStyle.TheVariants.{FloatingFrees, StopAtFirstFree}
+
+-- whether the short names and the long names are the same
+abbrev pub same_names : Names → Names → Bool
+same_names = eq_of_both (on (λ names. names.short) (pointwise ◌==◌))
+    (on (λ names. names.long) (pointwise ◌==◌))
+
+-- a number for each kind of argument
+abbrev pub kind_index : HasArg → ℕ
+kind_index Yes = 0
+kind_index No = 1
+kind_index Maybe = 2
+
+-- a number for each kind of occurrence
+abbrev pub occurrence_index : Occur → ℕ
+occurrence_index Req = 0
+occurrence_index Optional = 1
+occurrence_index Multi = 2
+
+-- a number for each parsing style
+abbrev pub style_index : ParsingStyle → ℕ
+style_index FloatingFrees = 0
+style_index StopAtFirstFree = 1
+
+-- whether the names and the two kinds of two groups are the same
+abbrev pub same_known : Known → Known → Bool
+same_known = eq_of_both (on (λ known. known.names) same_names)
+    (eq_of_both (on (λ known. kind_index known.kind) ◌==◌)
+    (on (λ known. occurrence_index known.occurrence) ◌==◌))
+
+-- whether all six parts of two groups are the same
+abbrev pub same_group : Group → Group → Bool
+same_group = eq_of_both (on (λ group. group.known) same_known)
+    (eq_of_both (on (λ group. group.hint) (pointwise ◌==◌))
+    (on (λ group. group.description) (pointwise ◌==◌)))
+
+-- whether the groups in order, the style and the mode are the same
+abbrev pub same_options : Declared → Declared → Bool
+same_options = eq_of_both (on (λ options. options.groups) (pointwise same_group))
+    (eq_of_both (on (λ options. style_index options.style) ◌==◌)
+    (on (λ options. options.long_only) beq))
+
+-- a number for each kind of fault
+abbrev pub fault_index : Fault → ℕ
+fault_index (argument_missing name) = 0
+fault_index (unrecognized_option name) = 1
+fault_index (option_missing name) = 2
+fault_index (option_duplicated name) = 3
+fault_index (unexpected_argument name) = 4
+
+-- the name that a fault tells
+abbrev pub fault_name : Fault → Text
+fault_name (argument_missing name) = name
+fault_name (unrecognized_option name) = name
+fault_name (option_missing name) = name
+fault_name (option_duplicated name) = name
+fault_name (unexpected_argument name) = name
+
+-- whether two refusals tell the same fault, or both want of memory
+abbrev pub same_fail : Fail → Fail → Bool
+same_fail = on fault_of
+    (option_eq (eq_of_both (on fault_index ◌==◌) (on fault_name (pointwise ◌==◌))))
+
+-- whether the positions and the values of two occurrences are the same
+abbrev pub same_found : Found → Found → Bool
+same_found = eq_of_both (on (λ found. found.position) ◌==◌)
+    (on (λ found. found.value) (option_eq (pointwise ◌==◌)))
+
+-- whether two groups are the same, with their occurrences in order
+abbrev pub same_matched_group : MatchedGroup → MatchedGroup → Bool
+same_matched_group = eq_of_both (on (λ group. group.known) same_known)
+    (on (λ group. group.found) (pointwise same_found))
+
+-- whether the groups in order, the free words and the trailing start are the same
+abbrev pub same_matches : Matched → Matched → Bool
+same_matches = eq_of_both (on (λ matches. matches.groups) (pointwise same_matched_group))
+    (eq_of_both (on (λ matches. matches.free) (pointwise (pointwise ◌==◌)))
+    (on (λ matches. matches.trailing_start) (option_eq ◌==◌)))

@@ -1,0 +1,84 @@
+-- The main theorem: what `parse` answers to which words, and when two canonical lines are equal.
+use Rattle.std.specs.Prelude.{◌≡◌, ◌↔◌, ◌⊎◌, List}
+use Rattle.getopts.specs.Only.{IsTheOnly}
+use Rattle.getopts.specs.Names.{Text, AreTexts}
+use Rattle.getopts.specs.Options.{Declared, grammar_of}
+use Rattle.getopts.specs.Fail.{Fault}
+use Rattle.getopts.specs.Scan.{Reading, IsScanFault}
+use Rattle.getopts.specs.Matches.{Matched, matches_of, IsCountFault}
+use Rattle.getopts.specs.Parse.{Reads, IsAccepted, BreaksCounts, HasNoReading, IsRefused}
+use Rattle.getopts.specs.Canon.{Content, content_of, IsPlain, canonical_line, IsCountKeeping, Says}
+use Rattle.getopts.specs.CanonAnswers.{IsAcceptedWith, IsWritten}
+
+-- the words have a reading that keeps the counts, and it gives these matches
+abbrev pub HasCountKeeping : Declared → List Text → Matched → Type 0
+HasCountKeeping options words matches = (reading : Reading)
+    × IsCountKeeping options reading words
+    × (matches ≡ matches_of options reading)
+
+-- no reading of the words keeps the counts
+abbrev pub HasNoCountKeeping : Declared → List Text → Type 0
+HasNoCountKeeping options words = (reading : Reading) → ¬ (IsCountKeeping options reading words)
+
+-- the words have a reading, and this is its count fault
+abbrev pub HasCountFault : Declared → List Text → Fault → Type 0
+HasCountFault options words fault = (reading : Reading)
+    × Reads options words reading
+    × IsCountFault (matches_of options reading).groups fault
+
+-- the first fault: the scan fault of the words, or the count fault of their reading
+abbrev pub IsFirstFault : Declared → List Text → Fault → Type 0
+IsFirstFault options words fault =
+    IsScanFault (grammar_of options) words fault ⊎ HasCountFault options words fault
+
+-- words have one reading at most
+abbrev pub OneReading : Declared → Type 0
+OneReading options = (words : List Text) (reading other : Reading)
+    → Reads options words reading → Reads options words other → other ≡ reading
+
+-- Words are accepted exactly when they have a reading that keeps the counts, with what it gives.
+abbrev pub AcceptedExactlyWhen : Declared → Type 0
+AcceptedExactlyWhen options = (words : List Text) (matches : Matched)
+    → IsAccepted options words matches ↔ HasCountKeeping options words matches
+
+-- Words are refused exactly when no reading of them keeps the counts, with the first fault.
+abbrev pub RefusedExactlyWhen : Declared → Type 0
+RefusedExactlyWhen options = (words : List Text) (fault : Fault) → AreTexts words
+    → IsRefused options words fault
+    ↔ (HasNoCountKeeping options words × IsFirstFault options words fault)
+
+-- one of three holds, and no two of them
+abbrev pub ExactlyOne : Type 0 → Type 0 → Type 0 → Type 0
+ExactlyOne A B C = (A ⊎ (B ⊎ C)) × ¬ (A × B) × ¬ (A × C) × ¬ (B × C)
+
+-- of any words one of three holds, and no two: they are accepted, they break the counts, or they
+-- have no reading
+abbrev pub OneOfThree : Declared → Type 0
+OneOfThree options = (words : List Text) → AreTexts words → ExactlyOne
+    ((matches : Matched) × IsAccepted options words matches)
+    ((fault : Fault) × BreaksCounts options words fault)
+    ((fault : Fault) × HasNoReading options words fault)
+
+-- What one reading of the words gives: the only matches, the only content, and, where that is
+-- plain, the only canonical line.
+pub record GivesAll (options : Declared) (words : List Text) (reading : Reading) : Type 0 where
+  pub matches : IsTheOnly (IsAccepted options words) (matches_of options reading)
+  pub content : IsTheOnly (IsAcceptedWith options words) (content_of (grammar_of options) reading)
+  pub line : IsPlain options.groups (content_of (grammar_of options) reading)
+      → IsTheOnly (IsWritten options words)
+      (canonical_line options.groups (content_of (grammar_of options) reading))
+
+-- a reading that keeps the counts gives the answers of `parse` and of `canonical`
+abbrev pub OneReadingGivesAll : Declared → Type 0
+OneReadingGivesAll options = (words : List Text) (reading : Reading)
+    → IsCountKeeping options reading words
+    → GivesAll options words reading
+
+-- Two plain contents that lines say, in styles and modes that may differ, have equal canonical
+-- lines exactly if they are equal.
+abbrev pub CanonicalLinesTell : Declared → Type 0
+CanonicalLinesTell options = (words others : List Text) (content other : Content)
+    → Says options words content → IsPlain options.groups content
+    → Says options others other → IsPlain options.groups other
+    → (canonical_line options.groups content ≡ canonical_line options.groups other)
+    ↔ (content ≡ other)

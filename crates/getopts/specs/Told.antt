@@ -1,0 +1,43 @@
+-- What accepted matches tell of the names that the options declare.
+use Rattle.std.specs.Prelude.{◌≡◌, ◌<◌, List, length, map, Some, IsSome}
+use Rattle.std.specs.List.{AllByRecursion}
+use Rattle.getopts.specs.Names.{Text}
+use Rattle.getopts.specs.Options.{Declared, Declares, knowns_of, kind_of, occurrence_of}
+use Rattle.getopts.specs.Matches.{Found, Matched, MatchedGroup}
+use Rattle.getopts.specs.Accessors.{IsDefined, found_of, first_value}
+use Rattle.getopts.specs.Canon.{FitsKind}
+use Rattle.getopts.specs.ScanLaws.{EndIn}
+use Rattle.getopts.specs.declared.groups.HasArg.{HasArg}
+use Rattle.getopts.specs.declared.groups.HasArg.TheVariants.{Yes}
+use Rattle.getopts.specs.declared.groups.Occur.TheVariants.{Req}
+use Rattle.getopts.specs.declared.groups.ParsingStyle.TheVariants.{StopAtFirstFree}
+
+-- each occurrence has a value, or none, as this kind of argument wants
+abbrev pub HaveValuesFor : HasArg → List Found → Type 0
+HaveValuesFor kind founds = AllByRecursion (λ found. FitsKind kind found.value) founds
+
+-- the groups that matches hold are those of the options, in names and kinds
+abbrev pub AreGroupsOf : Declared → List MatchedGroup → Type 0
+AreGroupsOf options groups = map (λ group. group.known) groups ≡ knowns_of options.groups
+
+-- the occurrences of each group have values as its kind wants
+abbrev pub HaveValuesByKind : List MatchedGroup → Type 0
+HaveValuesByKind groups = AllByRecursion (λ group. HaveValuesFor group.known.kind group.found) groups
+
+-- each name that the options declare is defined
+abbrev pub DefineDeclared : Declared → List MatchedGroup → Type 0
+DefineDeclared options groups = (name : Text) → Declares options name → IsDefined groups name
+
+-- each required option was given once
+abbrev pub HoldRequiredOnce : Declared → List MatchedGroup → Type 0
+HoldRequiredOnce options groups = (name : Text) → occurrence_of options.groups name ≡ Some Req
+    → length (found_of groups name) ≡ 1
+
+-- each option that needs an argument and was given has a value
+abbrev pub HoldNeededValues : Declared → List MatchedGroup → Type 0
+HoldNeededValues options groups = (name : Text) → kind_of options.groups name ≡ Some Yes
+    → 0 < length (found_of groups name) → IsSome (first_value (found_of groups name))
+
+-- under `StopAtFirstFree` the free words are the last words of the line
+abbrev pub HaveLastWordsFree : Declared → List Text → List Text → Type 0
+HaveLastWordsFree options words free = options.style ≡ StopAtFirstFree → EndIn words free

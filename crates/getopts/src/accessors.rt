@@ -1,0 +1,289 @@
+//! What matches answer when they are asked for an option by a name.
+
+ghost use Rattle.std.specs.Prelude.{◌≡◌, ◌↔◌, Some, IsTrue, map, length, vec_len, ◌<◌, IfOk};
+ghost use Rattle.std.specs.List.{list_any};
+ghost use Rattle.std.specs.Option.{option_copied, option_map};
+ghost use Rattle.std.specs.String.{string_bytes};
+ghost use Rattle.getopts.specs.Names.{texts};
+
+use crate::matches::Matches;
+use crate::of_group::OfGroup;
+use std::alloc::{AllocError, Global};
+use std::str::FromStr;
+
+/// A copy of a text, if there is one.
+fn copied(alloc: Global, text: Option<&str>) -> Result<Option<String>, AllocError>
+    ensures { IfOk result (λ copy. option_map string_bytes copy ≡ option_copied text.entry) }
+{
+    match text {
+        Some(text) => Ok(Some(String::from_str(alloc, text)?)),
+        None => Ok(None),
+    }
+}
+
+impl Matches {
+    ghost use Rattle.getopts.specs.Held.OfGroup.{pair_view};
+    ghost use Rattle.getopts.specs.Accessors.{IsDefined, AreDefined, AreHeldLawfully, OneGroupOneAnswer, IsReadAs, IsReadOr, place_of, found_in, found_of, is_present, positions_of, values_of, pairs_of, first_value, first_value_or, first_value_among};
+
+    /// The place of the group that a name resolves to.
+    fn place_of(&self, name: &str) -> Option<usize>
+        ensures place { result ≡ place_of self.now.groups name.now }
+        ensures lawful { AreHeldLawfully self.now.groups }
+    {
+        self.table.resolve(self.groups.names(), name)
+    }
+
+    /// The occurrences of the group at a place.
+    pub(crate) fn given_at(&self, place: usize) -> OfGroup<'_>
+        ensures { result ≡ found_in self.now.groups (Some place) }
+    {
+        OfGroup {
+            given: &self.given,
+            values: &self.values,
+            places: self.index.places(place),
+        }
+    }
+
+    /// The occurrences of the group that a name resolves to. Of an undefined name there are none.
+    fn given_of(&self, name: &str) -> OfGroup<'_>
+        ensures { result ≡ found_of self.now.groups name.now }
+    {
+        match self.place_of(name) {
+            Some(place) => self.given_at(place),
+            None => OfGroup {
+                given: &[],
+                values: &self.values,
+                places: &[],
+            },
+        }
+    }
+
+    /// Whether an option was given. An undefined one wasn't.
+    fn has(&self, name: &str) -> bool
+        ensures { result ≡ is_present self.now.groups name.now }
+    {
+        self.given_of(name).len() > 0
+    }
+
+    /// Whether a name resolves to a group.
+    ///
+    /// This is the test for the condition of the calls that ask for one option. Such a call panics in
+    /// the Rust where the name is undefined; here the caller shows that it is defined. A name is given
+    /// without dashes: `opt_defined("verbose")`. Two names of one group get the same answer of each
+    /// call.
+    pub fn opt_defined(&self, name: &str) -> bool
+        ensures defined { IsTrue result ↔ IsDefined self.now.groups name.now }
+        ensures one_group { OneGroupOneAnswer self.now.groups name.now }
+        ensures lawful { AreHeldLawfully self.now.groups }
+    {
+        self.place_of(name).is_some()
+    }
+
+    /// How often an option was given, by any of its names: 0 where it wasn't.
+    ///
+    /// The name has to be defined, which `opt_defined` tests.
+    pub fn opt_count(&self, name: &str) -> usize
+        requires { IsDefined self.now.groups name.now }
+        ensures { result ≡ length (found_of self.now.groups name.now) }
+    {
+        self.given_of(name).len()
+    }
+
+    /// Whether an option was given at least once, by any of its names.
+    ///
+    /// The name has to be defined, which `opt_defined` tests.
+    pub fn opt_present(&self, name: &str) -> bool
+        requires { IsDefined self.now.groups name.now }
+        ensures present { result ≡ is_present self.now.groups name.now }
+        ensures counted { IsTrue result ↔ (0 < length (found_of self.now.groups name.now)) }
+    {
+        self.has(name)
+    }
+
+    /// The positions of an option's occurrences, in the order of the line.
+    ///
+    /// A position is the index, from 0, of the word in which the occurrence's item begins, so options of
+    /// one cluster share it. A separate argument is a word of its own. After `-v -o x -vv` the positions
+    /// of `v` are 0, 3 and 3. There are none where the option wasn't given. The name has to be defined,
+    /// which `opt_defined` tests. An error comes only where memory was refused.
+    ///
+    /// The Rust counts items: there a separate argument adds nothing.
+    pub fn opt_positions(&self, alloc: Global, name: &str) -> Result<Vec<usize>, AllocError>
+        requires { IsDefined self.now.groups name.now }
+        ensures positions { IfOk result (λ positions. positions.items
+            ≡ positions_of (found_of self.now.groups name.now)) }
+        ensures count { IfOk result (λ positions. vec_len positions
+            ≡ length (found_of self.now.groups name.now)) }
+    {
+        self.given_of(name).positions(alloc)
+    }
+
+    /// The values of an option's occurrences, in the order of the line.
+    ///
+    /// An occurrence without a value gives none, so there may be fewer values than `opt_count` says, and
+    /// there are none where the option wasn't given. The name has to be defined, which `opt_defined`
+    /// tests. An error comes only where memory was refused.
+    pub fn opt_strs(&self, alloc: Global, name: &str) -> Result<Vec<String>, AllocError>
+        requires { IsDefined self.now.groups name.now }
+        ensures { IfOk result (λ values. map string_bytes values.items
+            ≡ values_of (found_of self.now.groups name.now)) }
+    {
+        self.given_of(name).values(alloc)
+    }
+
+    /// The positions and values of those of an option's occurrences that have a value, in the order of
+    /// the line.
+    ///
+    /// Positions are those of `opt_positions`: a separate argument has its option's, not its own. The
+    /// texts are what `opt_strs` gives, and there are none where the option wasn't given. The name has
+    /// to be defined, which `opt_defined` tests. An error comes only where memory was refused.
+    pub fn opt_strs_pos(
+        &self,
+        alloc: Global,
+        name: &str,
+    ) -> Result<Vec<(usize, String)>, AllocError>
+        requires { IsDefined self.now.groups name.now }
+        ensures pairs { IfOk result (λ pairs. map pair_view pairs.items
+            ≡ pairs_of (found_of self.now.groups name.now)) }
+        ensures texts { IfOk result (λ pairs. map (λ pair. string_bytes pair.1) pairs.items
+            ≡ values_of (found_of self.now.groups name.now)) }
+    {
+        self.given_of(name).pairs(alloc)
+    }
+
+    /// The value of an option's first occurrence.
+    ///
+    /// The answer is `None` where the option wasn't given, and also where its first occurrence has no
+    /// value, even if a later one has: `opt_strs` gives those. Of a required option that needs an
+    /// argument it is there. The name has to be defined, which `opt_defined` tests. An error comes only
+    /// where memory was refused.
+    pub fn opt_str(&self, alloc: Global, name: &str) -> Result<Option<String>, AllocError>
+        requires { IsDefined self.now.groups name.now }
+        ensures { IfOk result (λ value. option_map string_bytes value
+            ≡ first_value (found_of self.now.groups name.now)) }
+    {
+        copied(alloc, self.given_of(name).first_value())
+    }
+
+    /// The value of an option's first occurrence, or `def` where that has none.
+    ///
+    /// The answer is `None` only where the option wasn't given. After `--color` alone
+    /// `opt_default(alloc, "color", "always")` is `always`. The name has to be defined, which
+    /// `opt_defined` tests. An error comes only where memory was refused.
+    pub fn opt_default(
+        &self,
+        alloc: Global,
+        name: &str,
+        def: &str,
+    ) -> Result<Option<String>, AllocError>
+        requires { IsDefined self.now.groups name.now }
+        ensures { IfOk result (λ value. option_map string_bytes value
+            ≡ first_value_or (found_of self.now.groups name.now) def.now) }
+    {
+        copied(alloc, self.given_of(name).first_value_or(def))
+    }
+
+    /// The value of an option's first occurrence, read as a `T`.
+    ///
+    /// The answer is `Ok(None)` where there is no such value, as where the option wasn't given, and the
+    /// error is the one that reading gives. The name has to be defined, which `opt_defined` tests. The
+    /// text is lent to the reading, where the Rust copies it first.
+    pub fn opt_get<T: FromStr>(&self, name: &str) -> Result<Option<T>, T::Err>
+        requires { IsDefined self.now.groups name.now }
+        ensures { IsReadAs T.from_str_gives
+            (first_value (found_of self.now.groups name.now)) result }
+    {
+        match self.given_of(name).first_value() {
+            Some(text) => Ok(Some(text.parse()?)),
+            None => Ok(None),
+        }
+    }
+
+    /// The value of an option's first occurrence, read as a `T`, or `def` where there is no such value.
+    ///
+    /// The answer is `def` where the option wasn't given. The error is the one that reading gives: a text
+    /// that can't be read isn't answered with `def`. The name has to be defined, which `opt_defined`
+    /// tests. The text is lent to the reading, where the Rust copies it first.
+    pub fn opt_get_default<T: FromStr + Drop>(&self, name: &str, def: T) -> Result<T, T::Err>
+        requires { IsDefined self.now.groups name.now }
+        ensures { IsReadOr T.from_str_gives
+            (first_value (found_of self.now.groups name.now)) def result }
+    {
+        match self.given_of(name).first_value() {
+            Some(text) => text.parse(),
+            None => Ok(def),
+        }
+    }
+
+    /// Where the words after `--` begin among the free words.
+    ///
+    /// That is the number of free words before `--`, where the line had one that ended its options and
+    /// a word follows it. It is the number that reading the line gave: a change of `free` doesn't
+    /// change it.
+    pub fn free_trailing_start(&self) -> Option<usize>
+        ensures { result ≡ self.now.trailing_start }
+    {
+        self.trailing_start
+    }
+
+    /// Whether the option of some name in the list was given.
+    ///
+    /// A name that no option has counts as not given, so any names may be asked for.
+    pub fn opts_present(&self, names: &[String]) -> bool
+        ensures { result
+            ≡ list_any (λ name. is_present self.now.groups (string_bytes name)) names.now }
+    {
+        names.iter().any(|name| self.has(name.as_str()))
+    }
+
+    /// Whether the option of some name in the list was given, where all names are defined.
+    ///
+    /// `opt_defined` tests a name. The answer is false where none of the options was given. The Rust takes
+    /// any list of texts, and doesn't look at the names after the first that was given.
+    pub fn opts_present_any(&self, names: &[&str]) -> bool
+        requires { AreDefined self.now.groups (texts names.now) }
+        ensures { result ≡ list_any (λ name. is_present self.now.groups name.now) names.now }
+    {
+        names.iter().any(|name| self.has(name))
+    }
+
+    /// The value for the first name in the list whose option's first occurrence has a value.
+    ///
+    /// All names have to be defined, which `opt_defined` tests of each, where the Rust doesn't look at the
+    /// names after that one. The answer is `None` where no option of them has a value. An error comes only
+    /// where memory was refused.
+    pub fn opts_str(&self, alloc: Global, names: &[String]) -> Result<Option<String>, AllocError>
+        requires { AreDefined self.now.groups (map string_bytes names.now) }
+        ensures { IfOk result (λ value. option_map string_bytes value
+            ≡ first_value_among self.now.groups (map string_bytes names.now)) }
+    {
+        for name in names {
+            if let Some(value) = self.given_of(name.as_str()).first_value() {
+                return copied(alloc, Some(value));
+            }
+        }
+        Ok(None)
+    }
+
+    /// The value for the first name in the list whose option's first occurrence has a value, as
+    /// `opts_str` gives it.
+    ///
+    /// All names have to be defined, which `opt_defined` tests of each. The answer is `None` where no option
+    /// of them has a value. The Rust takes any list of texts. An error comes only where memory was refused.
+    pub fn opts_str_first(
+        &self,
+        alloc: Global,
+        names: &[&str],
+    ) -> Result<Option<String>, AllocError>
+        requires { AreDefined self.now.groups (texts names.now) }
+        ensures { IfOk result (λ value. option_map string_bytes value
+            ≡ first_value_among self.now.groups (texts names.now)) }
+    {
+        for name in names {
+            if let Some(value) = self.given_of(name).first_value() {
+                return copied(alloc, Some(value));
+            }
+        }
+        Ok(None)
+    }
+}

@@ -1,0 +1,126 @@
+//! Reading a line: the words that an iterator gives, read and counted.
+
+ghost use Rattle.std.specs.Prelude.{length, IfOk, IfErr, OnOk};
+ghost use Rattle.getopts.specs.Fail.{Tells};
+ghost use Rattle.getopts.specs.Names.{texts};
+ghost use Rattle.getopts.specs.Matches.{KeepsCounts};
+
+use crate::counts::counted;
+use crate::fail::Fail;
+use crate::line::AcceptedLine;
+use crate::matches::Matches;
+use crate::options::Options;
+use crate::scan::Scanner;
+use crate::table::Table;
+use crate::words::{are_texts, words_of};
+use std::alloc::Global;
+
+impl Options {
+    ghost use Rattle.std.specs.Iterator.{IsFinite};
+    ghost use Rattle.std.specs.Iterator.Runs.{WholeRun};
+    ghost use Rattle.getopts.specs.Options.{grammar_of};
+    ghost use Rattle.getopts.specs.ScanLaws.{LongAttachedOrSeparate, ShortAttachedOrSeparate, ClusterSplits, OneDashOrTwo, LinesCompose, TrailingStartIsAfterStop, FreeWordsAreSubsequence, PositionsAreWords, HavePositionsInOrder, HavePositionsBelow};
+    ghost use Rattle.getopts.specs.Parse.{IsAccepted, IsRefused, KeepsReadingLaws};
+    ghost use Rattle.getopts.specs.Told.{AreGroupsOf, HaveValuesByKind, DefineDeclared, HoldRequiredOnce, HoldNeededValues, HaveLastWordsFree};
+    ghost use Rattle.getopts.specs.AcceptedLine.{IsAcceptedLine};
+
+    /// Reads a line, and checks its counts. The list of words is let go once it is read.
+    pub(crate) fn accepted_line<'w>(
+        &self,
+        alloc: Global,
+        words: Vec<&'w str>,
+    ) -> Result<AcceptedLine<'w>, Fail>
+        ensures accepted { IfOk result (IsAcceptedLine self.now (texts words.entry.items)) }
+        ensures refused { IfErr result (λ fail. Tells fail
+            (IsRefused self.now (texts words.entry.items))) }
+    {
+        are_texts(&words);
+        let groups = self.groups();
+        let table = Table::of(alloc, self.names())?;
+        let scanner = Scanner {
+            options: self,
+            table: &table,
+        };
+        let line = scanner.scan(alloc, &words)?;
+        drop(words);
+        let index = counted(alloc, groups, &line.found)?;
+        Ok(AcceptedLine { table, line, index })
+    }
+
+    /// What a line gives, read by these options.
+    fn parse_words(&self, alloc: Global, words: Vec<&str>) -> crate::Result
+        ensures accepted { IfOk result (IsAccepted self.now (texts words.entry.items)) }
+        ensures refused { IfErr result (λ fail. Tells fail
+            (IsRefused self.now (texts words.entry.items))) }
+        ensures counts { IfOk result (λ matches.
+            KeepsCounts matches.groups × HavePositionsInOrder matches.groups) }
+        ensures groups { IfOk result (λ matches. AreGroupsOf self.now matches.groups) }
+        ensures values_fit { IfOk result (λ matches. HaveValuesByKind matches.groups) }
+        ensures laws { OnOk result (KeepsReadingLaws (grammar_of self.now)) }
+    {
+        let accepted = self.accepted_line(alloc, words)?;
+        let groups = self.groups().clone()?;
+        Ok(Matches::of_line(alloc, groups, accepted)?)
+    }
+
+    /// Reads the words of a line, without the program's own name.
+    ///
+    /// Every list of words is one of three things, and only one: it has a reading that keeps the counts,
+    /// and the answer is what that reading gives; it has a reading that breaks them, and the answer is the
+    /// fault of the first option, in order of definition, that is missing or came too often; or it has no
+    /// reading, and the answer is the first fault in the order of the words. `Fail::OutOfMemory` comes
+    /// where memory was refused, in place of any other answer. All items of the iterator are taken before
+    /// any of these answers.
+    ///
+    /// The iterator has to end; `words.iter().copied()` of a list of words does. A refusal gives no
+    /// matches, and the options stay as they are.
+    ///
+    /// With an option `o`/`output` that needs an argument, `["-ofile", "x"]`, `["-o", "file", "x"]` and
+    /// `["--output=file", "x"]` all give `output` the value `file`, and the free word `x`.
+    ///
+    /// The Rust takes words that may be no UTF-8, and refuses those.
+    pub fn parse<'a, I: Iterator<Item = &'a str> + Drop>(
+        &self,
+        alloc: Global,
+        args: I,
+    ) -> crate::Result
+        requires can { I.can_next args }
+        requires ends { IsFinite (I.remaining args) }
+        ensures accepted { IfOk result (λ matches. WholeRun I.next_gives args
+            (λ run. IsAccepted self.now (texts run.items) matches)) }
+        ensures refused { IfErr result (λ fail. Tells fail (λ fault. WholeRun I.next_gives args
+            (λ run. IsRefused self.now (texts run.items) fault))) }
+
+        // What an accepted line gives keeps the counts, and tells positions in order.
+        ensures counts_kept { IfOk result (λ matches. KeepsCounts matches.groups) }
+        ensures positions_in_order { IfOk result (λ matches. HavePositionsInOrder matches.groups) }
+
+        // The groups are those of the options, and what was found of them fits how they are declared.
+        ensures groups { IfOk result (λ matches. AreGroupsOf self.now matches.groups) }
+        ensures values_fit { IfOk result (λ matches. HaveValuesByKind matches.groups) }
+        ensures defined { IfOk result (λ matches. DefineDeclared self.now matches.groups) }
+        ensures required { IfOk result (λ matches. HoldRequiredOnce self.now matches.groups) }
+        ensures needed { IfOk result (λ matches. HoldNeededValues self.now matches.groups) }
+
+        // A position is the index of a word, the first one of the item that the occurrence stands in.
+        ensures positions_below { IfOk result (λ matches. WholeRun I.next_gives args
+            (λ run. HavePositionsBelow (length run.items) matches.groups)) }
+        ensures positions_are_words { OnOk result (PositionsAreWords (grammar_of self.now)) }
+
+        // Other spellings of an accepted line, and lines one after the other, by these options.
+        ensures long_argument { OnOk result (LongAttachedOrSeparate (grammar_of self.now)) }
+        ensures short_argument { OnOk result (ShortAttachedOrSeparate (grammar_of self.now)) }
+        ensures cluster_splits { OnOk result (ClusterSplits (grammar_of self.now)) }
+        ensures one_dash_or_two { OnOk result (OneDashOrTwo (grammar_of self.now)) }
+        ensures lines_compose { OnOk result (LinesCompose (grammar_of self.now)) }
+
+        // Where free words stand.
+        ensures trailing_start { OnOk result (TrailingStartIsAfterStop (grammar_of self.now)) }
+        ensures free_words { OnOk result (FreeWordsAreSubsequence (grammar_of self.now)) }
+        ensures free_last { IfOk result (λ matches. WholeRun I.next_gives args
+            (λ run. HaveLastWordsFree self.now (texts run.items) matches.free)) }
+    {
+        let words = words_of(alloc, args)?;
+        self.parse_words(alloc, words)
+    }
+}

@@ -1,0 +1,119 @@
+//! The row of one group in a usage text: its head, and its description beside or below that.
+ghost use Rattle.std.specs.Prelude.{◌≡◌, ◌++◌, string_bytes, OnOk};
+ghost use Rattle.getopts.specs.Held.Groups.{names_view, group_view};
+ghost use Rattle.getopts.specs.Usage.{AddsTheOnly, IsUsageRow, argument_part, head, long_part};
+ghost use Rattle.getopts.specs.Usage.{padding, short_part};
+ghost use Rattle.getopts.specs.Wrap.{width_of};
+
+use crate::groups::{Group, HasArg};
+use crate::names::Names;
+use crate::wrap::push_description;
+use std::alloc::AllocError;
+use unicode_width::UnicodeWidthStr;
+
+/// The columns before a description.
+const MARGIN: usize = 24;
+
+/// The columns that a row of a description may take.
+const DESCRIPTION_COLUMNS: usize = 54;
+
+/// A line end, and as many spaces as there are columns before a description.
+const NEXT_ROW: &str = "\n                        ";
+
+/// What the heads of one usage text share.
+#[derive(Clone, Copy)]
+pub(crate) struct Layout {
+    pub long_only: bool,
+    pub any_short: bool,
+}
+
+/// Adds the row of one group.
+pub(crate) fn push_row(
+    text: &mut String,
+    layout: Layout,
+    group: Group<'_>,
+) -> Result<(), AllocError>
+    ensures { OnOk result (AddsTheOnly
+        (IsUsageRow layout.long_only layout.any_short (group_view group.entry))
+        (string_bytes text.old) (string_bytes text.new)) }
+{
+    let start = text.len();
+    push_head(text, layout, group)?;
+    let padding = padding_after(&text.as_str()[start..]);
+    text.push_str(padding)?;
+    push_description(text, group.desc, DESCRIPTION_COLUMNS, NEXT_ROW)
+}
+
+/// Adds what stands before a group's description.
+fn push_head(text: &mut String, layout: Layout, group: Group<'_>) -> Result<(), AllocError>
+    ensures { OnOk result (string_bytes text.new ≡ string_bytes text.old
+        ++ head layout.long_only layout.any_short (group_view group.entry)) }
+{
+    text.push_str("    ")?;
+    push_short(text, layout, group.names)?;
+    push_long(text, layout, group.names.long)?;
+    push_argument(text, group.hasarg, group.hint)
+}
+
+/// Adds the short name with its dash, or what stands in its place.
+fn push_short(text: &mut String, layout: Layout, names: Names<'_>) -> Result<(), AllocError>
+    ensures { OnOk result (string_bytes text.new ≡ string_bytes text.old
+        ++ short_part layout.any_short (names_view names.entry)) }
+{
+    if names.short.is_empty() {
+        text.push_str(if layout.any_short { "    " } else { "" })
+    } else {
+        text.push('-')?;
+        text.push_str(names.short)?;
+        text.push_str(if columns(names.long) > 0 { ", " } else { " " })
+    }
+}
+
+/// Adds the long name with its dashes, where it takes a column.
+fn push_long(text: &mut String, layout: Layout, long: &str) -> Result<(), AllocError>
+    ensures { OnOk result (string_bytes text.new ≡ string_bytes text.old
+        ++ long_part layout.long_only long.now) }
+{
+    if columns(long) == 0 {
+        return Ok(());
+    }
+    text.push_str(if layout.long_only { "-" } else { "--" })?;
+    text.push_str(long)?;
+    text.push(' ')
+}
+
+/// Adds the hint, in brackets where the argument may be left out.
+pub(crate) fn push_argument(text: &mut String, hasarg: HasArg, hint: &str) -> Result<(), AllocError>
+    ensures { OnOk result (string_bytes text.new ≡ string_bytes text.old
+        ++ argument_part hasarg hint.now) }
+{
+    match hasarg {
+        HasArg::Yes => text.push_str(hint),
+        HasArg::No => Ok(()),
+        HasArg::Maybe => {
+            text.push('[')?;
+            text.push_str(hint)?;
+            text.push(']')
+        }
+    }
+}
+
+/// What stands between a head and its description.
+fn padding_after(head: &str) -> &'static str
+    ensures { result.now ≡ padding head.now }
+{
+    let columns = columns(head);
+    if columns < MARGIN {
+        &NEXT_ROW[1 + columns..]
+    } else {
+        NEXT_ROW
+    }
+}
+
+/// The columns that a text takes.
+#[tactic(auto, unfolding(crate::specs::Wrap::width_of))]
+fn columns(text: &str) -> usize
+    ensures { result ≡ width_of text.now }
+{
+    text.width()
+}

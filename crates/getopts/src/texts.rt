@@ -1,0 +1,174 @@
+//! A list of texts, held as one text.
+
+ghost use Rattle.std.specs.Prelude.{◌≡◌, ◌==◌, List, [], ◌∷◌, ◌++◌, length, slice_get, take, map, ◌≤◌, ◌*◌, ◌+◌, Some, MatchOption, IfOk, OnOk, OnErr};
+ghost use Rattle.std.specs.Option.{option_copied};
+ghost use Rattle.std.specs.Cmp.Lexicographic.{pointwise};
+ghost use Rattle.std.specs.Cmp.Rules.{comparing};
+ghost use Rattle.std.proofs.Common.{rules};
+
+use std::alloc::{AllocError, Global};
+use std::marker::Model;
+
+/// The texts, and their bytes, that there is room for once the first pair was added: so few options
+/// grow nothing again.
+const FIRST_TEXTS: usize = 16;
+
+const FIRST_BYTES: usize = 64;
+
+/// A list of texts, held as one text and the places where each of them ends.
+///
+/// So a copy of the list is two requests for memory.
+#[derive(Debug, Drop)]
+pub(crate) struct Texts {
+    text: String,
+    ends: Vec<usize>,
+}
+
+impl Model for Texts {
+    ghost use Rattle.std.specs.Prelude.{List};
+    ghost use Rattle.std.specs.String.{string_bytes};
+    ghost use Rattle.getopts.specs.Names.{Text};
+    ghost use Rattle.getopts.specs.Pieces.{pieces};
+    ghost use Rattle.getopts.specs.Texts.{IsWellCut};
+
+    ghost Value = { List Text };
+
+    ghost view = { λ a. pieces (string_bytes a.text) 0 a.ends.items };
+
+    ghost invariant = { λ a. IsWellCut (string_bytes a.text) a.ends.items };
+}
+
+impl Texts {
+    /// No texts. Takes no memory.
+    pub(crate) fn new(alloc: Global) -> Texts
+        ensures { result ≡ [] }
+    {
+        Texts {
+            text: String::new(alloc),
+            ends: Vec::new(alloc),
+        }
+    }
+
+    /// No texts, with room for so many of so many bytes in all.
+    pub(crate) fn with_capacity(
+        alloc: Global,
+        texts: usize,
+        bytes: usize,
+    ) -> Result<Texts, AllocError>
+        ensures { IfOk result (λ texts. texts ≡ []) }
+    {
+        Ok(Texts {
+            text: String::with_capacity(alloc, bytes)?,
+            ends: Vec::with_capacity(alloc, texts)?,
+        })
+    }
+
+    /// The number of texts.
+    pub(crate) fn len(&self) -> usize
+        ensures { result ≡ length self.now }
+    {
+        self.ends.len()
+    }
+
+    /// The text at a place, if there are so many.
+    pub(crate) fn get(&self, place: usize) -> Option<&str>
+        ensures { option_copied result ≡ slice_get self.now place }
+    {
+        let end = *self.ends.get(place)?;
+        let start = if place == 0 { 0 } else { self.ends[place - 1] };
+        Some(&self.text[start..end])
+    }
+
+    /// The two texts at twice a place, if there are so many.
+    pub(crate) fn pair(&self, place: usize) -> Option<(&str, &str)>
+        ensures { MatchOption result (length self.now ≤ 2 * place + 1) (λ pair.
+            (slice_get self.now (2 * place) ≡ Some pair.0.now)
+            × (slice_get self.now (2 * place + 1) ≡ Some pair.1.now)) }
+    {
+        if place >= self.len() / 2 {
+            return None;
+        }
+        Some((self.get(2 * place)?, self.get(2 * place + 1)?))
+    }
+
+    /// Copies of words.
+    pub(crate) fn copied(alloc: Global, words: &[&str]) -> Result<Texts, AllocError>
+        ensures { IfOk result (λ copies. copies ≡ map (λ word. word.now) words.now) }
+    {
+        let mut copies = Texts::with_capacity(alloc, words.len(), bytes_of(words))?;
+        for word in words {
+            copies.push(word)?;
+        }
+        Ok(copies)
+    }
+
+    /// Leaves the first so many texts.
+    pub(crate) fn truncate(&mut self, len: usize)
+        ensures { self.new ≡ take len self.old }
+    {
+        if len < self.ends.len() {
+            let end = if len == 0 { 0 } else { self.ends[len - 1] };
+            self.ends.truncate(len);
+            self.text.truncate(end);
+        }
+    }
+
+    /// Adds a text as the last. An error leaves the list as it was.
+    pub(crate) fn push(&mut self, text: &str) -> Result<(), AllocError>
+        ensures ok { OnOk result (self.new ≡ self.old ++ text.now ∷ []) }
+        ensures err { OnErr result (self.new ≡ self.old) }
+    {
+        self.ends.reserve(1)?;
+        self.text.push_str(text)?;
+        self.ends.push_reserved(self.text.len());
+        Ok(())
+    }
+
+    /// Adds two texts as the last. An error leaves the list as it was.
+    pub(crate) fn push_pair(&mut self, first: &str, second: &str) -> Result<(), AllocError>
+        ensures ok { OnOk result (self.new ≡ self.old ++ first.now ∷ second.now ∷ []) }
+        ensures err { OnErr result (self.new ≡ self.old) }
+    {
+        let bytes = first.len().checked_add(second.len()).ok_or(AllocError)?;
+        let texts = FIRST_TEXTS.saturating_sub(self.ends.len());
+        let room = FIRST_BYTES.saturating_sub(self.text.len());
+        self.ends.reserve(texts.max(2))?;
+        self.text.reserve(room.max(bytes))?;
+        self.text.push_str(first)?;
+        self.ends.push_reserved(self.text.len());
+        self.text.push_str(second)?;
+        self.ends.push_reserved(self.text.len());
+        Ok(())
+    }
+}
+
+impl Clone for Texts {
+    ghost is_clone = { λ a b. b ≡ a };
+
+    /// The same texts. An error comes only where memory was refused.
+    fn clone(&self) -> Result<Texts, AllocError> {
+        Ok(Texts {
+            text: self.text.clone()?,
+            ends: self.ends.clone()?,
+        })
+    }
+}
+
+impl PartialEq for Texts {
+    ghost eq = { pointwise (pointwise ◌==◌) };
+
+    ghost laws = { Prim.search (comparing, rules) };
+
+    fn eq(&self, other: &Texts) -> bool {
+        self.text == other.text && self.ends == other.ends
+    }
+}
+
+/// The bytes of all the words, or the most that a `usize` holds.
+fn bytes_of(words: &[&str]) -> usize {
+    let mut bytes: usize = 0;
+    for word in words {
+        bytes = bytes.saturating_add(word.len());
+    }
+    bytes
+}

@@ -1,0 +1,43 @@
+//! The main theorem, as a law to cite.
+
+ghost use Rattle.getopts.specs.Canon.{IsSound, IsFitting, ReadsBackEverywhere, SaysNothingElse, IsItsOwn, IsOnlyContent};
+ghost use Rattle.getopts.specs.CanonAnswers.{EachContent, EachPlainContent, AnsweredLinesTell};
+ghost use Rattle.getopts.specs.Theorem.{OneReading, AcceptedExactlyWhen, RefusedExactlyWhen, OneOfThree, OneReadingGivesAll, CanonicalLinesTell};
+
+use crate::options::Options;
+
+/// The main theorem: memory refusals aside, `parse` answers `Ok` exactly when the words have a
+/// reading that keeps the counts, holding that only reading, and otherwise the first fault; and
+/// where no used main name holds `=`, two accepted lines, in styles and modes that may differ, have
+/// equal canonical lines exactly if they read to the same occurrences and free words, and a
+/// canonical line reads to them in both styles and both modes.
+///
+/// Occurrences are the same where they are of the same options, in the same order, with the same
+/// values; their positions may differ. This is a law to cite, which does nothing.
+pub fn one_reading_one_canonical_line(options: &Options)
+    // Words have one reading at most; they are accepted exactly when it is there and keeps the
+    // counts, and else refused with the first fault: of three cases one holds, and no two.
+    ensures one_reading { OneReading options.now }
+    ensures accepted { AcceptedExactlyWhen options.now }
+    ensures refused { RefusedExactlyWhen options.now }
+    ensures one_of_three { OneOfThree options.now }
+
+    // That reading gives the matches of `parse`, and the line of `canonical`.
+    ensures gives_all { OneReadingGivesAll options.now }
+
+    // Canonical lines are equal exactly if they say the same: of contents, and of answers.
+    ensures canonical_lines_tell { CanonicalLinesTell options.now }
+    ensures answered_lines_tell { AnsweredLinesTell options.now }
+
+    // A canonical line reads back in both styles and both modes, says nothing else, and is its own.
+    ensures reads_back { EachPlainContent options.now (ReadsBackEverywhere options.now) }
+    ensures says_nothing_else { EachPlainContent options.now (SaysNothingElse options.now) }
+    ensures its_own { EachPlainContent options.now (IsItsOwn options.now) }
+    ensures only_content { EachPlainContent options.now (IsOnlyContent options.now.groups) }
+
+    // What lines say: options that are there, with values that fit their kinds.
+    ensures sound { EachContent options.now (IsSound options.now.groups) }
+    ensures fitting { EachContent options.now (IsFitting options.now.groups) }
+{
+    let _groups = options.groups();
+}

@@ -1,0 +1,81 @@
+//! The jobs by their names.
+
+use crate::input::Line;
+use std::str::FromStr;
+
+/// How many options `defined` has where no number is given.
+const DEFINED: usize = 4000;
+
+/// What a turn does.
+#[derive(Debug, Clone, Copy, PartialEq, Eq)]
+pub enum Job {
+    /// Declares, reads, and takes each count and value.
+    Whole(Line),
+    /// Declares the options.
+    Declare(Line),
+    /// Reads the words.
+    Read(Line),
+    /// Takes each count and value.
+    Accessors(Line),
+    /// Writes the canonical line.
+    Canonical(Line),
+    /// Compares two matches that are equal.
+    Equal,
+    /// Writes the usage text.
+    Usage,
+    /// Asks for each name of as many options whether it is defined.
+    Defined(usize),
+    /// Reads 100,000 words.
+    Memory,
+}
+
+/// The text names no job.
+#[derive(Debug, Clone, Copy, PartialEq, Eq)]
+pub struct UnknownJob;
+
+impl FromStr for Job {
+    type Err = UnknownJob;
+
+    fn from_str(text: &str) -> Result<Job, UnknownJob> {
+        match text.split_once('-') {
+            Some((part, of)) => part_of(part, of),
+            None => whole_job(text),
+        }
+    }
+}
+
+/// The job with this name of one word.
+fn whole_job(name: &str) -> Result<Job, UnknownJob> {
+    match name {
+        "equal" => Ok(Job::Equal),
+        "usage" => Ok(Job::Usage),
+        "defined" => Ok(Job::Defined(DEFINED)),
+        "memory" => Ok(Job::Memory),
+        _ => Ok(Job::Whole(name.parse()?)),
+    }
+}
+
+/// The job of a part and what it is of.
+fn part_of(part: &str, of: &str) -> Result<Job, UnknownJob> {
+    match part {
+        "declare" => Ok(Job::Declare(of.parse()?)),
+        "read" => Ok(Job::Read(of.parse()?)),
+        "accessors" => Ok(Job::Accessors(of.parse()?)),
+        "canonical" => Ok(Job::Canonical(of.parse()?)),
+        "defined" => Ok(Job::Defined(of.parse().map_err(|_| UnknownJob)?)),
+        _ => Err(UnknownJob),
+    }
+}
+
+impl FromStr for Line {
+    type Err = UnknownJob;
+
+    fn from_str(text: &str) -> Result<Line, UnknownJob> {
+        match text {
+            "small" => Ok(Line::Small),
+            "long" => Ok(Line::Long),
+            "many" => Ok(Line::Many),
+            _ => Err(UnknownJob),
+        }
+    }
+}

@@ -1,0 +1,98 @@
+-- What a request says is one thing: it can be read back.
+use Rattle.std.proofs.Common.{◌≡◌, ℕ, Bool, List, [], ◌∷◌, ◌++◌, take, drop, length, map, refl, sym, ◌∙◌}
+use Rattle.std.proofs.Math.Seq.{take-append_seam, drop-append_seam}
+use Rattle.std.specs.Prelude.{◌==◌, ◌%◌, if◌then◌else◌, nat_lt}
+use Rattle.std.specs.List.{flat_map}
+use Rattle.getopts.specs.Names.{Text}
+use Rattle.getopts.specs.Options.{Group, Declared}
+use Rattle.getopts.specs.declared.groups.HasArg.{HasArg}
+use Rattle.getopts.specs.declared.groups.Occur.{Occur}
+use Rattle.getopts.specs.declared.groups.HasArg.TheVariants.{Yes, No, Maybe}
+use Rattle.getopts.specs.declared.groups.Occur.TheVariants.{Req, Optional, Multi}
+use Rattle.getopts_c.specs.Request.{joined, IsCut, IsRequest, group_number, group_texts, kind_number, style_of}
+
+-- the texts of these lengths
+abbrev cut_from : Text → List ℕ → List Text
+cut_from bytes [] = []
+cut_from bytes (n ∷ ns) = take n bytes ∷ cut_from (drop n bytes) ns
+
+-- texts are cut again from what they are joined to
+cut_from_joined : (words : List Text) → cut_from (joined words) (map length words) ≡ words
+cut_from_joined [] = refl
+cut_from_joined (word ∷ words) =
+    rw (take-append_seam word (joined words), drop-append_seam word (joined words), cut_from_joined words) refl
+
+-- the texts of bytes and lengths
+cut_is : (bytes : Text) (lens : List ℕ) (words : List Text) → IsCut bytes lens words → cut_from bytes lens ≡ words
+cut_is bytes lens words cut = rw (cut.bytes_are, cut.lens_are) (cut_from_joined words)
+
+-- bytes and lengths say one list of texts
+pub cut_once : (bytes : Text) (lens : List ℕ) (words others : List Text)
+    → IsCut bytes lens words → IsCut bytes lens others → words ≡ others
+cut_once bytes lens words others cut other = sym (cut_is bytes lens words cut) ∙ cut_is bytes lens others other
+
+-- the kind of argument that a number says
+abbrev arg_from : ℕ → HasArg
+arg_from n = if nat_lt n 3 then Yes else (if nat_lt n 6 then No else Maybe)
+
+-- the kind of occurrence that a number says
+abbrev occur_from : ℕ → Occur
+occur_from n = if n % 3 == 0 then Req else (if n % 3 == 1 then Optional else Multi)
+
+-- a number says its kinds
+arg_is : (kind : HasArg) (occurrence : Occur) → arg_from (kind_number kind occurrence) ≡ kind
+arg_is Yes Req = refl
+arg_is Yes Optional = refl
+arg_is Yes Multi = refl
+arg_is No Req = refl
+arg_is No Optional = refl
+arg_is No Multi = refl
+arg_is Maybe Req = refl
+arg_is Maybe Optional = refl
+arg_is Maybe Multi = refl
+
+occur_is : (kind : HasArg) (occurrence : Occur) → occur_from (kind_number kind occurrence) ≡ occurrence
+occur_is Yes Req = refl
+occur_is Yes Optional = refl
+occur_is Yes Multi = refl
+occur_is No Req = refl
+occur_is No Optional = refl
+occur_is No Multi = refl
+occur_is Maybe Req = refl
+occur_is Maybe Optional = refl
+occur_is Maybe Multi = refl
+
+-- the groups that texts and kinds say
+abbrev groups_from : List Text → List ℕ → List Group
+groups_from (short ∷ long ∷ hint ∷ description ∷ texts) (kind ∷ kinds) = record {
+  known = record { names = record { short = short; long = long }; kind = arg_from kind; occurrence = occur_from kind };
+  hint = hint;
+  description = description;
+} ∷ groups_from texts kinds
+groups_from texts kinds = []
+
+-- groups are read again from their texts and kinds
+groups_are : (groups : List Group) → groups_from (flat_map group_texts groups) (map group_number groups) ≡ groups
+groups_are [] = refl
+groups_are (group ∷ groups) =
+    rw (arg_is group.known.kind group.known.occurrence, occur_is group.known.kind group.known.occurrence, groups_are groups) refl
+
+-- the options of a request
+abbrev request_from : (bytes : Text) (lens kinds : List ℕ) (stop long_only : Bool) → Declared
+request_from bytes lens kinds stop long_only = record {
+  groups = groups_from (cut_from bytes lens) kinds;
+  style = style_of stop;
+  long_only = long_only;
+}
+
+request_is_from : (bytes : Text) (lens kinds : List ℕ) (stop long_only : Bool) (options : Declared)
+    → IsRequest bytes lens kinds stop long_only options → request_from bytes lens kinds stop long_only ≡ options
+request_is_from bytes lens kinds stop long_only options is =
+    rw (cut_is bytes lens (flat_map group_texts options.groups) is.texts_are, is.kinds_are, groups_are options.groups, ← is.style_is, ← is.mode_is) refl
+
+-- a request says one set of options
+pub request_once : (bytes : Text) (lens kinds : List ℕ) (stop long_only : Bool) (options others : Declared)
+    → IsRequest bytes lens kinds stop long_only options → IsRequest bytes lens kinds stop long_only others
+    → options ≡ others
+request_once bytes lens kinds stop long_only options others is other =
+    sym (request_is_from bytes lens kinds stop long_only options is) ∙ request_is_from bytes lens kinds stop long_only others other

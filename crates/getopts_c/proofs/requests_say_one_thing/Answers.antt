@@ -1,0 +1,8 @@
+use Rattle.getopts_c.proofs.LawLemmas.{cut_once, request_once}
+use Rattle.getopts_c.proofs.requests_say_one_thing.Goals as goal
+
+pub returns-clause-options : goal.returns-clause-options
+returns-clause-options c = request_once
+
+pub returns-clause-line : goal.returns-clause-line
+returns-clause-line c = cut_once

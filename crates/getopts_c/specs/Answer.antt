@@ -1,0 +1,166 @@
+-- The numbers and the bytes that tell what words give.
+use Rattle.std.specs.Prelude.{◌≡◌, ℕ, ◌+◌, Bool, List, [], ◌∷◌, ◌++◌, length, map, take}
+use Rattle.std.specs.Prelude.{Option, Some, None, false}
+use Rattle.std.specs.List.{flat_map}
+use Rattle.getopts.specs.Accessors.{found_of, positions_of, pairs_of}
+use Rattle.getopts.specs.Fail.{Fault, argument_missing, unrecognized_option}
+use Rattle.getopts.specs.Fail.{option_missing, option_duplicated, unexpected_argument}
+use Rattle.getopts.specs.Matches.{Found, Matched, MatchedGroup}
+use Rattle.getopts.specs.Names.{Text}
+use Rattle.getopts.specs.Options.{Group, Declared}
+use Rattle.getopts.specs.Parse.{IsAccepted, IsRefused}
+use Rattle.getopts.specs.CanonAnswers.{IsWritten as IsCanonicalLine, IsUnwritable}
+use Rattle.getopts.specs.Only.{IsTheOnly}
+use Rattle.getopts.specs.Usage.{AreUsageRows, IsUsageText, short_usage_text}
+use Rattle.getopts_c.specs.Request.{joined, IsCut, IsRequest}
+
+-- a position, and the length of the value there
+abbrev pub pair_numbers : ℕ × Text → List ℕ
+pair_numbers pair = pair.0 ∷ length pair.1 ∷ []
+
+-- the numbers of positions with values: how many, and of each the position and the value's length
+abbrev pub pairs_numbers : List (ℕ × Text) → List ℕ
+pairs_numbers pairs = length pairs ∷ flat_map pair_numbers pairs
+
+-- the bytes of positions with values: the values
+abbrev pub pairs_bytes : List (ℕ × Text) → Text
+pairs_bytes pairs = flat_map (λ pair. pair.1) pairs
+
+-- the numbers of occurrences: how many, their positions, and the numbers of those that have a value
+abbrev pub found_numbers : List Found → List ℕ
+found_numbers founds = (length (positions_of founds) ∷ positions_of founds)
+    ++ pairs_numbers (pairs_of founds)
+
+-- the bytes of occurrences: their values
+abbrev pub found_bytes : List Found → Text
+found_bytes founds = pairs_bytes (pairs_of founds)
+
+-- the numbers of the option that a name resolves to
+abbrev pub name_numbers : List MatchedGroup → Text → List ℕ
+name_numbers groups name = found_numbers (found_of groups name)
+
+-- the bytes of the option that a name resolves to
+abbrev pub name_bytes : List MatchedGroup → Text → Text
+name_bytes groups name = found_bytes (found_of groups name)
+
+-- the two names of each group
+abbrev pub group_names : Group → List Text
+group_names group = group.known.names.short ∷ group.known.names.long ∷ []
+
+-- the names of the groups in order
+abbrev pub all_names : List Group → List Text
+all_names groups = flat_map group_names groups
+
+-- the two names among the four texts of a group
+abbrev pub four_names : List Text → List Text
+four_names [] = []
+four_names (short ∷ []) = []
+four_names (short ∷ long ∷ more) = short ∷ long ∷ []
+
+-- a number for where the words after the stop begin
+abbrev pub trailing_number : Option ℕ → ℕ
+trailing_number None = 0
+trailing_number (Some start) = start + 1
+
+-- the numbers of texts: how many, and the length of each
+abbrev pub text_numbers : List Text → List ℕ
+text_numbers words = length words ∷ map length words
+
+-- the numbers of matches, by these names
+abbrev pub matches_numbers : List Text → Matched → List ℕ
+matches_numbers names matches = flat_map (name_numbers matches.groups) names
+    ++ (text_numbers matches.free ++ trailing_number matches.trailing_start ∷ [])
+
+-- the bytes of matches, by these names
+abbrev pub matches_bytes : List Text → Matched → Text
+matches_bytes names matches = flat_map (name_bytes matches.groups) names ++ joined matches.free
+
+-- the status of a fault
+abbrev pub fault_status : Fault → ℕ
+fault_status (argument_missing name) = 1
+fault_status (unrecognized_option name) = 2
+fault_status (option_missing name) = 3
+fault_status (option_duplicated name) = 4
+fault_status (unexpected_argument name) = 5
+
+-- the name that a fault tells
+abbrev pub fault_name : Fault → Text
+fault_name (argument_missing name) = name
+fault_name (unrecognized_option name) = name
+fault_name (option_missing name) = name
+fault_name (option_duplicated name) = name
+fault_name (unexpected_argument name) = name
+
+-- What the words of a line are, by options: the status, the numbers and the bytes of the matches
+-- that they are accepted with, or of the fault that they are refused with.
+pub data IsAnswer (options : Declared) (line : List Text) : ℕ → List ℕ → Text → Type 0 where
+  accepted : (matches : Matched) → IsAccepted options line matches
+      → IsAnswer options line 0 (matches_numbers (all_names options.groups) matches)
+      (matches_bytes (all_names options.groups) matches)
+  refused : (fault : Fault) → IsRefused options line fault
+      → IsAnswer options line (fault_status fault)
+      (length (fault_name fault) ∷ []) (fault_name fault)
+
+-- What a request says: options and a line, and their answer.
+pub record IsAnswered (bytes : Text) (lens kinds : List ℕ) (stop long_only : Bool)
+    (words : Text) (word_lens : List ℕ) (status : ℕ) (numbers : List ℕ) (answer : Text)
+    : Type 0 where
+  pub options : Declared
+  pub line : List Text
+  pub options_are : IsRequest bytes lens kinds stop long_only options
+  pub line_is : IsCut words word_lens line
+  pub answer_is : IsAnswer options line status numbers answer
+
+-- a buffer's front holds all of these, and the size says how many they are
+pub record IsWritten (all buffer : List ℕ) (size : ℕ) : Type 0 where
+  pub size_is : size ≡ length all
+  pub front : take size buffer ≡ all
+
+-- What a request says: options, and their usage text, which is one alone.
+pub record IsUsageOf (bytes : Text) (lens kinds : List ℕ) (long_only : Bool)
+    (brief text : Text) : Type 0 where
+  pub options : Declared
+  pub options_are : IsRequest bytes lens kinds false long_only options
+  pub text_is : IsTheOnly (IsUsageText options brief) text
+
+-- What a request says: options, and the line of all of them.
+pub record IsShortUsageOf (bytes : Text) (lens kinds : List ℕ) (program text : Text) : Type 0 where
+  pub options : Declared
+  pub options_are : IsRequest bytes lens kinds false false options
+  pub text_is : text ≡ short_usage_text options program
+
+-- What a request says: options, and the rows of their usage text, which are those alone.
+pub record IsRowsOf (bytes : Text) (lens kinds : List ℕ) (long_only : Bool)
+    (numbers : List ℕ) (answer : Text) : Type 0 where
+  pub options : Declared
+  pub rows : List Text
+  pub options_are : IsRequest bytes lens kinds false long_only options
+  pub rows_are : IsTheOnly (AreUsageRows options) rows
+  pub numbers_are : numbers ≡ text_numbers rows
+  pub bytes_are : answer ≡ joined rows
+
+-- What the canonical line of a line is, by options: the status, the numbers and the bytes of that
+-- line, no numbers where there is none, or those of the fault that the line is refused with.
+pub data IsLineOf (options : Declared) (line : List Text) : ℕ → List ℕ → Text → Type 0 where
+  written : (canonical : List Text) → IsCanonicalLine options line canonical
+      → IsLineOf options line 0 (text_numbers canonical) (joined canonical)
+  unwritable : IsUnwritable options line → IsLineOf options line 0 [] []
+  unaccepted : (fault : Fault) → IsRefused options line fault
+      → IsLineOf options line (fault_status fault)
+      (length (fault_name fault) ∷ []) (fault_name fault)
+
+-- What a request says: options and a line, and its canonical line.
+pub record IsCanonicalOf (bytes : Text) (lens kinds : List ℕ) (stop long_only : Bool)
+    (words : Text) (word_lens : List ℕ) (status : ℕ) (numbers : List ℕ) (answer : Text)
+    : Type 0 where
+  pub options : Declared
+  pub line : List Text
+  pub options_are : IsRequest bytes lens kinds stop long_only options
+  pub line_is : IsCut words word_lens line
+  pub answer_is : IsLineOf options line status numbers answer
+
+-- some such answer has so many numbers and so many bytes
+abbrev pub HasSizes : (ℕ → List ℕ → Text → Type 0) → ℕ → ℕ → Type 0
+HasSizes Answers numbers_size bytes_size =
+    (status : ℕ) × (numbers : List ℕ) × (bytes : Text) × Answers status numbers bytes
+    × (numbers_size ≡ length numbers) × (bytes_size ≡ length bytes)

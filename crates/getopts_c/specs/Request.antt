@@ -1,0 +1,53 @@
+-- What bytes, lengths and kinds say: texts, and option groups.
+use Rattle.std.specs.Prelude.{◌≡◌, ℕ, ◌+◌, ◌*◌, Bool, true, false, List, [], ◌∷◌, length, map}
+use Rattle.std.specs.List.{flat_map}
+use Rattle.getopts.specs.Names.{Text}
+use Rattle.getopts.specs.Options.{Group, Declared}
+use Rattle.getopts.specs.Same.{kind_index, occurrence_index}
+use Rattle.getopts.specs.declared.groups.HasArg.{HasArg}
+use Rattle.getopts.specs.declared.groups.Occur.{Occur}
+use Rattle.getopts.specs.declared.groups.ParsingStyle.{ParsingStyle}
+use Rattle.getopts.specs.declared.groups.ParsingStyle.TheVariants.{FloatingFrees, StopAtFirstFree}
+
+-- texts one after the other
+abbrev pub joined : List Text → Text
+joined words = flat_map (λ word. word) words
+
+-- the bytes are these texts one after the other, and the lengths are theirs
+pub record IsCut (bytes : Text) (lens : List ℕ) (words : List Text) : Type 0 where
+  pub bytes_are : bytes ≡ joined words
+  pub lens_are : lens ≡ map length words
+
+-- the texts of a group, in the order of a request
+abbrev pub group_texts : Group → List Text
+group_texts group = group.known.names.short ∷ group.known.names.long
+    ∷ group.hint ∷ group.description ∷ []
+
+-- the number of two kinds
+abbrev pub kind_number : HasArg → Occur → ℕ
+kind_number kind occurrence = 3 * kind_index kind + occurrence_index occurrence
+
+-- the number of a group's kinds
+abbrev pub group_number : Group → ℕ
+group_number group = kind_number group.known.kind group.known.occurrence
+
+-- the style that a request says
+abbrev pub style_of : Bool → ParsingStyle
+style_of true = StopAtFirstFree
+style_of false = FloatingFrees
+
+-- texts in fours and kinds are those of the options' groups, and the style and the mode are theirs
+pub record IsDeclaredBy (fours : List (List Text)) (kinds : List ℕ) (stop long_only : Bool)
+    (options : Declared) : Type 0 where
+  pub fours_are : fours ≡ map group_texts options.groups
+  pub kinds_are : kinds ≡ map group_number options.groups
+  pub style_is : options.style ≡ style_of stop
+  pub mode_is : options.long_only ≡ long_only
+
+-- the bytes, lengths and kinds are those of the options' groups, and the style and mode are theirs
+pub record IsRequest (bytes : Text) (lens kinds : List ℕ) (stop long_only : Bool)
+    (options : Declared) : Type 0 where
+  pub texts_are : IsCut bytes lens (flat_map group_texts options.groups)
+  pub kinds_are : kinds ≡ map group_number options.groups
+  pub style_is : options.style ≡ style_of stop
+  pub mode_is : options.long_only ≡ long_only

@@ -1,0 +1,407 @@
+//! What a caller gets: numbers and bytes.
+
+ghost use Rattle.std.specs.Prelude.{◌≡◌, ◌⊎◌, false, ◌<◌, ◌++◌, ◌∷◌, [], map, length};
+ghost use Rattle.std.specs.Prelude.{IfOk, OnOk, IsOkAnd, IsSomeAnd};
+ghost use Rattle.std.specs.List.{flat_map};
+ghost use Rattle.std.specs.String.{string_bytes};
+ghost use Rattle.getopts.specs.Names.{texts};
+ghost use Rattle.getopts.specs.Fail.{fault_of};
+ghost use Rattle.getopts.specs.Held.OfGroup.{pair_view};
+ghost use Rattle.getopts_c.specs.Request.{joined};
+ghost use Rattle.getopts_c.specs.Answer.{IsAnswer, IsAnswered, IsCanonicalOf, IsLineOf, IsWritten};
+ghost use Rattle.getopts_c.specs.Answer.{IsRowsOf, IsShortUsageOf, IsUsageOf};
+ghost use Rattle.getopts_c.specs.Answer.{all_names, fault_name, fault_status, four_names};
+ghost use Rattle.getopts_c.specs.Answer.{matches_bytes, matches_numbers, name_bytes, name_numbers};
+ghost use Rattle.getopts_c.specs.Answer.{pairs_bytes, pairs_numbers, text_numbers, trailing_number};
+
+use crate::request::{Refusal, Request, Words, cut, in_fours, text_of};
+use getopts::{Fail, Matches, Options};
+use std::alloc::{AllocError, Global};
+
+/// How much an answer takes.
+#[repr(C)]
+#[derive(Clone, Copy, Debug)]
+pub struct Sizes {
+    pub numbers: usize,
+    pub bytes: usize,
+}
+
+const NO_MEMORY: u32 = 6;
+
+const BAD: u32 = 7;
+
+const TOO_SMALL: u32 = 8;
+
+/// What an answer holds.
+#[derive(Debug, Drop)]
+pub(crate) struct Body {
+    numbers: Vec<usize>,
+    bytes: String,
+}
+
+/// An answer to a request.
+#[derive(Debug, Drop)]
+pub(crate) struct Answer {
+    status: u32,
+    body: Body,
+}
+
+impl Body {
+    /// Nothing yet.
+    fn new(alloc: Global) -> Body
+        ensures numbers { result.numbers.items ≡ [] }
+        ensures bytes { string_bytes result.bytes ≡ [] }
+    {
+        Body {
+            numbers: Vec::new(alloc),
+            bytes: String::new(alloc),
+        }
+    }
+
+    /// Adds a text, and its length.
+    fn push_text(&mut self, text: &str) -> Result<(), AllocError>
+        ensures numbers { OnOk result (self.new.numbers.items
+            ≡ self.old.numbers.items ++ length text.now ∷ []) }
+        ensures bytes { OnOk result (string_bytes self.new.bytes
+            ≡ string_bytes self.old.bytes ++ text.now) }
+    {
+        self.numbers.push(text.len())?;
+        self.bytes.push_str(text)
+    }
+
+    /// Adds texts: how many they are, and each.
+    fn push_texts(&mut self, words: &[String]) -> Result<(), AllocError>
+        ensures numbers { OnOk result (self.new.numbers.items
+            ≡ self.old.numbers.items ++ text_numbers (map string_bytes words.now)) }
+        ensures bytes { OnOk result (string_bytes self.new.bytes
+            ≡ string_bytes self.old.bytes ++ joined (map string_bytes words.now)) }
+    {
+        self.numbers.push(words.len())?;
+        for word in words {
+            self.push_text(word.as_str())?;
+        }
+        Ok(())
+    }
+
+    /// Adds positions: how many they are, and each.
+    fn push_positions(&mut self, positions: &[usize]) -> Result<(), AllocError>
+        ensures numbers { OnOk result (self.new.numbers.items
+            ≡ self.old.numbers.items ++ length positions.now ∷ positions.now) }
+        ensures bytes { OnOk result (string_bytes self.new.bytes
+            ≡ string_bytes self.old.bytes) }
+    {
+        self.numbers.push(positions.len())?;
+        self.numbers.extend_from_slice(positions)
+    }
+
+    /// Adds positions with values: how many they are, and each.
+    fn push_pairs(&mut self, pairs: &[(usize, String)]) -> Result<(), AllocError>
+        ensures numbers { OnOk result (self.new.numbers.items
+            ≡ self.old.numbers.items ++ pairs_numbers (map pair_view pairs.now)) }
+        ensures bytes { OnOk result (string_bytes self.new.bytes
+            ≡ string_bytes self.old.bytes ++ pairs_bytes (map pair_view pairs.now)) }
+    {
+        self.numbers.push(pairs.len())?;
+        for pair in pairs {
+            self.numbers.push(pair.0)?;
+            self.push_text(pair.1.as_str())?;
+        }
+        Ok(())
+    }
+
+    /// Adds the occurrences of the option that a name resolves to: their positions, and the
+    /// position and the value of each that has one. Of a name that doesn't resolve there are none.
+    fn push_option(
+        &mut self,
+        alloc: Global,
+        matches: &Matches,
+        name: &str,
+    ) -> Result<(), AllocError>
+        ensures numbers { OnOk result (self.new.numbers.items
+            ≡ self.old.numbers.items ++ name_numbers matches.now.groups name.now) }
+        ensures bytes { OnOk result (string_bytes self.new.bytes
+            ≡ string_bytes self.old.bytes ++ name_bytes matches.now.groups name.now) }
+    {
+        if matches.opt_defined(name) {
+            let positions = matches.opt_positions(alloc, name)?;
+            self.push_positions(positions.as_slice())?;
+            let pairs = matches.opt_strs_pos(alloc, name)?;
+            self.push_pairs(pairs.as_slice())
+        } else {
+            self.push_positions(&[])?;
+            self.push_pairs(&[])
+        }
+    }
+
+    /// Adds the occurrences of the options that the names of this group resolve to, the first two
+    /// of its four texts.
+    fn push_names(
+        &mut self,
+        alloc: Global,
+        matches: &Matches,
+        group: &[&str; 4],
+    ) -> Result<(), AllocError>
+        ensures numbers { OnOk result (self.new.numbers.items
+            ≡ self.old.numbers.items ++ flat_map (name_numbers matches.now.groups)
+            (four_names (texts group.now))) }
+        ensures bytes { OnOk result (string_bytes self.new.bytes
+            ≡ string_bytes self.old.bytes ++ flat_map (name_bytes matches.now.groups)
+            (four_names (texts group.now))) }
+    {
+        let [short, long, _, _] = group;
+        self.push_option(alloc, matches, short)?;
+        self.push_option(alloc, matches, long)
+    }
+
+    /// Adds the occurrences of the options that the names of these groups resolve to, the first two
+    /// of each four texts.
+    fn push_options(
+        &mut self,
+        alloc: Global,
+        matches: &Matches,
+        groups: &[[&str; 4]],
+    ) -> Result<(), AllocError>
+        ensures numbers { OnOk result (self.new.numbers.items
+            ≡ self.old.numbers.items ++ flat_map (name_numbers matches.now.groups)
+            (flat_map four_names (map texts groups.now))) }
+        ensures bytes { OnOk result (string_bytes self.new.bytes
+            ≡ string_bytes self.old.bytes ++ flat_map (name_bytes matches.now.groups)
+            (flat_map four_names (map texts groups.now))) }
+    {
+        for group in groups {
+            self.push_names(alloc, matches, group)?;
+        }
+        Ok(())
+    }
+
+    /// Adds where the words after the stop begin, counted from one, or nought.
+    fn push_trailing(&mut self, start: Option<usize>) -> Result<(), AllocError>
+        ensures numbers { OnOk result (self.new.numbers.items
+            ≡ self.old.numbers.items ++ trailing_number start ∷ []) }
+        ensures bytes { OnOk result (string_bytes self.new.bytes
+            ≡ string_bytes self.old.bytes) }
+    {
+        let number = match start {
+            Some(start) => {
+                let Some(number) = start.checked_add(1) else {
+                    return Err(AllocError);
+                };
+                number
+            }
+            None => 0,
+        };
+        Ok(self.numbers.push(number)?)
+    }
+}
+
+impl Answer {
+    /// Hands an answer to a caller: its size always, and what it holds where there is room.
+    pub(crate) fn written(
+        answer: Result<Answer, Refusal>,
+        numbers: &mut [usize],
+        bytes: &mut [u8],
+        sizes: &mut Sizes,
+    ) -> u32
+        requires { IfOk answer (λ answer. answer.status < 6) }
+        ensures small { result ≡ 8 →
+            (length numbers.old < sizes.new.numbers) ⊎ (length bytes.old < sizes.new.bytes) }
+        ensures sizes_told { result ≡ 8 → IsOkAnd answer (λ answer.
+            (sizes.new.numbers ≡ length answer.body.numbers.items)
+            × (sizes.new.bytes ≡ length (string_bytes answer.body.bytes))) }
+        ensures written { result < 6 → IsOkAnd answer (λ answer. (result ≡ answer.status)
+            × IsWritten answer.body.numbers.items numbers.new sizes.new.numbers
+            × IsWritten (string_bytes answer.body.bytes) bytes.new sizes.new.bytes) }
+    {
+        match answer {
+            Ok(answer) => {
+                let all_numbers = answer.body.numbers.as_slice();
+                let all_bytes = answer.body.bytes.as_bytes();
+                *sizes = Sizes {
+                    numbers: all_numbers.len(),
+                    bytes: all_bytes.len(),
+                };
+                if numbers.len() < all_numbers.len() || bytes.len() < all_bytes.len() {
+                    return TOO_SMALL;
+                }
+                numbers[..all_numbers.len()].copy_from_slice(all_numbers);
+                bytes[..all_bytes.len()].copy_from_slice(all_bytes);
+                answer.status
+            }
+            Err(Refusal::Bad) => BAD,
+            Err(Refusal::NoMemory) => NO_MEMORY,
+        }
+    }
+}
+
+/// The answer that tells a fault.
+fn refused(alloc: Global, fail: &Fail) -> Result<Answer, Refusal>
+    ensures { IfOk result (λ answer. IsSomeAnd (fault_of fail.now) (λ fault.
+        (answer.status ≡ fault_status fault)
+        × (answer.body.numbers.items ≡ length (fault_name fault) ∷ [])
+        × (string_bytes answer.body.bytes ≡ fault_name fault))) }
+{
+    let (status, name) = match fail {
+        Fail::ArgumentMissing(name) => (1, name),
+        Fail::UnrecognizedOption(name) => (2, name),
+        Fail::OptionMissing(name) => (3, name),
+        Fail::OptionDuplicated(name) => (4, name),
+        Fail::UnexpectedArgument(name) => (5, name),
+        Fail::OutOfMemory => return Err(Refusal::NoMemory),
+    };
+    let mut body = Body::new(alloc);
+    body.push_text(name.as_str())?;
+    Ok(Answer { status, body })
+}
+
+/// The answer that tells matches, by the names of these groups.
+fn accepted(alloc: Global, matches: &Matches, groups: &[[&str; 4]]) -> Result<Answer, Refusal>
+    ensures { IfOk result (λ answer. (answer.status ≡ 0)
+        × (answer.body.numbers.items
+        ≡ matches_numbers (flat_map four_names (map texts groups.now)) matches.now)
+        × (string_bytes answer.body.bytes
+        ≡ matches_bytes (flat_map four_names (map texts groups.now)) matches.now)) }
+{
+    let mut body = Body::new(alloc);
+    body.push_options(alloc, matches, groups)?;
+    body.push_texts(&matches.free)?;
+    body.push_trailing(matches.free_trailing_start())?;
+    Ok(Answer { status: 0, body })
+}
+
+/// The answer to a line by options, which are those of these groups.
+fn answer_by(
+    alloc: Global,
+    options: &Options,
+    groups: &[[&str; 4]],
+    words: &[&str],
+) -> Result<Answer, Refusal>
+    requires { all_names options.now.groups ≡ flat_map four_names (map texts groups.now) }
+    ensures { IfOk result (λ answer. IsAnswer options.now (texts words.now)
+        answer.status answer.body.numbers.items (string_bytes answer.body.bytes)) }
+{
+    match options.parse(alloc, words.iter().copied()) {
+        Ok(matches) => accepted(alloc, &matches, groups),
+        Err(fail) => refused(alloc, &fail),
+    }
+}
+
+/// The answer that tells what words give.
+pub(crate) fn answer_to(
+    alloc: Global,
+    request: Request<'_>,
+    words: Words<'_>,
+) -> Result<Answer, Refusal>
+    ensures answered { IfOk result (λ answer. IsAnswered
+        request.entry.texts.now request.entry.lens.now request.entry.kinds.now
+        request.entry.stop request.entry.long_only words.entry.bytes.now words.entry.lens.now
+        answer.status answer.body.numbers.items (string_bytes answer.body.bytes)) }
+    ensures status { IfOk result (λ answer. answer.status < 6) }
+{
+    let pieces = request.texts(alloc)?;
+    let groups = in_fours(pieces.as_slice())?;
+    let options = request.options_by(alloc, groups)?;
+    let words = cut(alloc, words.bytes, words.lens)?;
+    answer_by(alloc, &options, groups, words.as_slice())
+}
+
+/// The answer that is a text.
+fn of_text(alloc: Global, text: String) -> Answer
+    ensures status { result.status ≡ 0 }
+    ensures bytes { string_bytes result.body.bytes ≡ string_bytes text }
+{
+    Answer {
+        status: 0,
+        body: Body {
+            numbers: Vec::new(alloc),
+            bytes: text,
+        },
+    }
+}
+
+/// The answer that is the usage text.
+pub(crate) fn usage_of(alloc: Global, request: Request<'_>, brief: &[u8]) -> Result<Answer, Refusal>
+    requires { request.stop ≡ false }
+    ensures usage { IfOk result (λ answer. IsUsageOf
+        request.entry.texts.now request.entry.lens.now request.entry.kinds.now
+        request.entry.long_only brief.now (string_bytes answer.body.bytes)) }
+    ensures status { IfOk result (λ answer. answer.status < 6) }
+{
+    let options = request.options(alloc)?;
+    let text = options.usage(alloc, text_of(brief)?)?;
+    Ok(of_text(alloc, text))
+}
+
+/// The answer that is the line of all options.
+pub(crate) fn short_usage_of(
+    alloc: Global,
+    request: Request<'_>,
+    program: &[u8],
+) -> Result<Answer, Refusal>
+    requires style { request.stop ≡ false }
+    requires mode { request.long_only ≡ false }
+    ensures usage { IfOk result (λ answer. IsShortUsageOf
+        request.entry.texts.now request.entry.lens.now request.entry.kinds.now
+        program.now (string_bytes answer.body.bytes)) }
+    ensures status { IfOk result (λ answer. answer.status < 6) }
+{
+    let options = request.options(alloc)?;
+    Ok(of_text(alloc, options.short_usage(alloc, text_of(program)?)?))
+}
+
+/// The answer that is texts: how many they are, the length of each, and the texts.
+fn of_texts(alloc: Global, words: &[String]) -> Result<Answer, AllocError>
+    ensures status { IfOk result (λ answer. answer.status ≡ 0) }
+    ensures numbers { IfOk result (λ answer.
+        answer.body.numbers.items ≡ text_numbers (map string_bytes words.now)) }
+    ensures bytes { IfOk result (λ answer.
+        string_bytes answer.body.bytes ≡ joined (map string_bytes words.now)) }
+{
+    let mut body = Body::new(alloc);
+    body.push_texts(words)?;
+    Ok(Answer { status: 0, body })
+}
+
+/// The answer that is the rows of the usage text.
+pub(crate) fn rows_of(alloc: Global, request: Request<'_>) -> Result<Answer, Refusal>
+    requires { request.stop ≡ false }
+    ensures rows { IfOk result (λ answer. IsRowsOf
+        request.entry.texts.now request.entry.lens.now request.entry.kinds.now
+        request.entry.long_only answer.body.numbers.items (string_bytes answer.body.bytes)) }
+    ensures status { IfOk result (λ answer. answer.status < 6) }
+{
+    let options = request.options(alloc)?;
+    let rows = options.usage_rows(alloc)?;
+    Ok(of_texts(alloc, rows.as_slice())?)
+}
+
+/// The answer that is the canonical line of words by options, or that there is none.
+fn line_by(alloc: Global, options: &Options, words: &[&str]) -> Result<Answer, Refusal>
+    ensures { IfOk result (λ answer. IsLineOf options.now (texts words.now)
+        answer.status answer.body.numbers.items (string_bytes answer.body.bytes)) }
+{
+    match options.canonical(alloc, words.iter().copied()) {
+        Ok(Some(line)) => Ok(of_texts(alloc, line.as_slice())?),
+        Ok(None) => Ok(Answer {
+            status: 0,
+            body: Body::new(alloc),
+        }),
+        Err(fail) => refused(alloc, &fail),
+    }
+}
+
+/// The answer that tells the canonical line of words.
+pub(crate) fn line_of(
+    alloc: Global,
+    request: Request<'_>,
+    words: Words<'_>,
+) -> Result<Answer, Refusal>
+    ensures answered { IfOk result (λ answer. IsCanonicalOf
+        request.entry.texts.now request.entry.lens.now request.entry.kinds.now
+        request.entry.stop request.entry.long_only words.entry.bytes.now words.entry.lens.now
+        answer.status answer.body.numbers.items (string_bytes answer.body.bytes)) }
+    ensures status { IfOk result (λ answer. answer.status < 6) }
+{
+    let options = request.options(alloc)?;
+    let words = cut(alloc, words.bytes, words.lens)?;
+    line_by(alloc, &options, words.as_slice())
+}

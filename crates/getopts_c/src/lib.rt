@@ -1,0 +1,186 @@
+//! `getopts` for callers that are not Rattle: C, and Rust through C's calls.
+#![tactic(auto)]
+
+ghost use Rattle.std.specs.Prelude.{◌≡◌, ◌<◌, ◌⊎◌, ℕ, Bool, List, length, take};
+ghost use Rattle.getopts.specs.CanonAnswers.{HasOneAnswer};
+ghost use Rattle.getopts.specs.Names.{Text};
+ghost use Rattle.getopts_c.specs.Request.{IsCut, IsRequest};
+ghost use Rattle.getopts_c.specs.Answer.{HasSizes, IsAnswered, IsCanonicalOf, IsRowsOf};
+ghost use Rattle.getopts_c.specs.Answer.{IsShortUsageOf, IsUsageOf};
+
+mod answer;
+mod request;
+#[cfg(test)]
+mod tests;
+
+use crate::answer::{Answer, Sizes, answer_to, line_of, rows_of, short_usage_of, usage_of};
+use crate::request::{Request, Words};
+use std::alloc::Global;
+
+/// Reads words by options, and writes what they give.
+///
+/// Options are `texts`, cut by `lens`: of each group the short name, the long name, the hint and
+/// the description. `kinds` has a byte for each group: 3 times its kind of argument (needed 0, none
+/// 1, may have one 2) and its kind of occurrence (once 0, at most once 1, any number 2).
+#[unsafe(no_mangle)]
+pub extern "C" fn getopts_c_parse(
+    alloc: Global,
+    texts: &[u8],
+    lens: &[usize],
+    kinds: &[u8],
+    stop: bool,
+    long_only: bool,
+    words: &[u8],
+    word_lens: &[usize],
+    numbers: &mut [usize],
+    bytes: &mut [u8],
+    sizes: &mut Sizes,
+) -> u32
+    ensures small { result ≡ 8 →
+        (length numbers.old < sizes.new.numbers) ⊎ (length bytes.old < sizes.new.bytes) }
+    ensures sizes_told { result ≡ 8 → HasSizes (IsAnswered texts.now lens.now kinds.now
+        stop long_only words.now word_lens.now) sizes.new.numbers sizes.new.bytes }
+    ensures answered { result < 6 → IsAnswered texts.now lens.now kinds.now stop long_only
+        words.now word_lens.now
+        result (take sizes.new.numbers numbers.new) (take sizes.new.bytes bytes.new) }
+{
+    let request = Request {
+        texts,
+        lens,
+        kinds,
+        stop,
+        long_only,
+    };
+    let words = Words {
+        bytes: words,
+        lens: word_lens,
+    };
+    Answer::written(answer_to(alloc, request, words), numbers, bytes, sizes)
+}
+
+/// Writes the usage text of options.
+#[unsafe(no_mangle)]
+pub extern "C" fn getopts_c_usage(
+    alloc: Global,
+    texts: &[u8],
+    lens: &[usize],
+    kinds: &[u8],
+    long_only: bool,
+    brief: &[u8],
+    bytes: &mut [u8],
+    sizes: &mut Sizes,
+) -> u32
+    ensures { result < 6 → IsUsageOf texts.now lens.now kinds.now long_only brief.now
+        (take sizes.new.bytes bytes.new) }
+{
+    let request = Request {
+        texts,
+        lens,
+        kinds,
+        stop: false,
+        long_only,
+    };
+    Answer::written(usage_of(alloc, request, brief), &mut [], bytes, sizes)
+}
+
+/// Writes the line of all options.
+#[unsafe(no_mangle)]
+pub extern "C" fn getopts_c_short_usage(
+    alloc: Global,
+    texts: &[u8],
+    lens: &[usize],
+    kinds: &[u8],
+    program: &[u8],
+    bytes: &mut [u8],
+    sizes: &mut Sizes,
+) -> u32
+    ensures { result < 6 → IsShortUsageOf texts.now lens.now kinds.now program.now
+        (take sizes.new.bytes bytes.new) }
+{
+    let request = Request {
+        texts,
+        lens,
+        kinds,
+        stop: false,
+        long_only: false,
+    };
+    Answer::written(
+        short_usage_of(alloc, request, program),
+        &mut [],
+        bytes,
+        sizes,
+    )
+}
+
+/// Writes the rows of the usage text: how many they are, the length of each, and the rows.
+#[unsafe(no_mangle)]
+pub extern "C" fn getopts_c_usage_rows(
+    alloc: Global,
+    texts: &[u8],
+    lens: &[usize],
+    kinds: &[u8],
+    long_only: bool,
+    numbers: &mut [usize],
+    bytes: &mut [u8],
+    sizes: &mut Sizes,
+) -> u32
+    ensures small { result ≡ 8 →
+        (length numbers.old < sizes.new.numbers) ⊎ (length bytes.old < sizes.new.bytes) }
+    ensures rows { result < 6 → IsRowsOf texts.now lens.now kinds.now long_only
+        (take sizes.new.numbers numbers.new) (take sizes.new.bytes bytes.new) }
+{
+    let request = Request {
+        texts,
+        lens,
+        kinds,
+        stop: false,
+        long_only,
+    };
+    Answer::written(rows_of(alloc, request), numbers, bytes, sizes)
+}
+
+/// Writes the canonical line of words: how many words it has, the length of each, and the words.
+/// Where the words are accepted and have none, it writes no numbers.
+#[unsafe(no_mangle)]
+pub extern "C" fn getopts_c_canonical(
+    alloc: Global,
+    texts: &[u8],
+    lens: &[usize],
+    kinds: &[u8],
+    stop: bool,
+    long_only: bool,
+    words: &[u8],
+    word_lens: &[usize],
+    numbers: &mut [usize],
+    bytes: &mut [u8],
+    sizes: &mut Sizes,
+) -> u32
+    ensures small { result ≡ 8 →
+        (length numbers.old < sizes.new.numbers) ⊎ (length bytes.old < sizes.new.bytes) }
+    ensures sizes_told { result ≡ 8 → HasSizes (IsCanonicalOf texts.now lens.now kinds.now
+        stop long_only words.now word_lens.now) sizes.new.numbers sizes.new.bytes }
+    ensures answered { result < 6 → IsCanonicalOf texts.now lens.now kinds.now stop long_only
+        words.now word_lens.now
+        result (take sizes.new.numbers numbers.new) (take sizes.new.bytes bytes.new) }
+{
+    let request = Request {
+        texts,
+        lens,
+        kinds,
+        stop,
+        long_only,
+    };
+    let words = Words {
+        bytes: words,
+        lens: word_lens,
+    };
+    Answer::written(line_of(alloc, request, words), numbers, bytes, sizes)
+}
+
+/// Bytes, lengths and kinds say one set of options at most, and bytes and lengths one list of
+/// words: a law to cite, which does nothing.
+pub fn requests_say_one_thing()
+    ensures options { (bytes : Text) (lens kinds : List ℕ) (stop long_only : Bool)
+        → HasOneAnswer (IsRequest bytes lens kinds stop long_only) }
+    ensures line { (bytes : Text) (lens : List ℕ) → HasOneAnswer (IsCut bytes lens) }
+{}

@@ -1,0 +1,195 @@
+//! What a caller hands in: texts as bytes with their lengths.
+
+ghost use Rattle.std.specs.Prelude.{◌≡◌, IfOk, OnOk, IfSome, [], map};
+ghost use Rattle.std.specs.List.{flat_map};
+ghost use Rattle.getopts.specs.Names.{texts};
+ghost use Rattle.getopts.specs.Options.{Group, with_group};
+ghost use Rattle.getopts_c.specs.Request.{IsCut, IsDeclaredBy, IsRequest};
+ghost use Rattle.getopts_c.specs.Request.{group_number, group_texts, kind_number};
+ghost use Rattle.getopts_c.specs.declared.request.Refusal.TheVariants.{NoMemory};
+
+use getopts::{HasArg, Occur, Options, ParsingStyle, names_lawful};
+use std::alloc::{AllocError, AllocFailed, Global};
+
+/// Why a request has no answer.
+#[derive(Debug, Clone, Copy, PartialEq, Eq)]
+pub(crate) enum Refusal {
+    /// It is no request: bytes that are no text, lengths that don't fit, names that aren't lawful.
+    Bad,
+    /// Memory was refused.
+    NoMemory,
+}
+
+impl From<AllocError> for Refusal {
+    ghost from_gives = { λ _ e. e ≡ NoMemory };
+
+    fn from(_error: AllocError) -> Refusal {
+        Refusal::NoMemory
+    }
+}
+
+impl<T: Drop> From<AllocFailed<T>> for Refusal {
+    ghost from_gives = { λ _ e. e ≡ NoMemory };
+
+    fn from(_error: AllocFailed<T>) -> Refusal {
+        Refusal::NoMemory
+    }
+}
+
+/// Option groups, a style and a mode.
+#[derive(Clone, Copy, Debug)]
+pub(crate) struct Request<'r> {
+    pub texts: &'r [u8],
+    pub lens: &'r [usize],
+    pub kinds: &'r [u8],
+    pub stop: bool,
+    pub long_only: bool,
+}
+
+/// The words of a line.
+#[derive(Clone, Copy, Debug)]
+pub(crate) struct Words<'r> {
+    pub bytes: &'r [u8],
+    pub lens: &'r [usize],
+}
+
+/// Bytes as a text.
+pub(crate) fn text_of(bytes: &[u8]) -> Result<&str, Refusal>
+    ensures { IfOk result (λ text. text.now ≡ bytes.now) }
+{
+    match str::from_utf8(bytes) {
+        Ok(text) => Ok(text),
+        Err(_) => Err(Refusal::Bad),
+    }
+}
+
+/// Bytes as texts of these lengths.
+pub(crate) fn cut<'t>(
+    alloc: Global,
+    bytes: &'t [u8],
+    lens: &[usize],
+) -> Result<Vec<&'t str>, Refusal>
+    ensures { IfOk result (λ pieces. IsCut bytes.now lens.now (texts pieces.items)) }
+{
+    let mut rest = text_of(bytes)?;
+    let mut pieces = Vec::with_capacity(alloc, lens.len())?;
+    for len in lens {
+        let Some((piece, after)) = rest.split_at_checked(*len) else {
+            return Err(Refusal::Bad);
+        };
+        pieces.push(piece)?;
+        rest = after;
+    }
+    if rest.is_empty() {
+        Ok(pieces)
+    } else {
+        Err(Refusal::Bad)
+    }
+}
+
+/// The kinds of argument and of occurrence that a byte says.
+fn kinds_of(kind: u8) -> Option<(HasArg, Occur)>
+    ensures { IfSome result (λ kinds. kind_number kinds.0 kinds.1 ≡ kind) }
+{
+    match kind {
+        0 => Some((HasArg::Yes, Occur::Req)),
+        1 => Some((HasArg::Yes, Occur::Optional)),
+        2 => Some((HasArg::Yes, Occur::Multi)),
+        3 => Some((HasArg::No, Occur::Req)),
+        4 => Some((HasArg::No, Occur::Optional)),
+        5 => Some((HasArg::No, Occur::Multi)),
+        6 => Some((HasArg::Maybe, Occur::Req)),
+        7 => Some((HasArg::Maybe, Occur::Optional)),
+        8 => Some((HasArg::Maybe, Occur::Multi)),
+        _ => None,
+    }
+}
+
+/// Adds a group.
+fn add_group(options: &mut Options, group: &[&str; 4], kind: u8) -> Result<(), Refusal>
+    ensures { OnOk result ((added : Group) × (options.new ≡ with_group options.old added)
+        × (group_texts added ≡ texts group.now) × (group_number added ≡ kind)) }
+{
+    let Some((hasarg, occur)) = kinds_of(kind) else {
+        return Err(Refusal::Bad);
+    };
+    let [short, long, hint, desc] = group;
+    if !names_lawful(short, long) {
+        return Err(Refusal::Bad);
+    }
+    options.opt(short, long, desc, hint, hasarg, occur)?;
+    Ok(())
+}
+
+/// No groups, of this style and mode.
+fn no_groups(alloc: Global, stop: bool, long_only: bool) -> Options
+    ensures { IsDeclaredBy [] [] stop long_only result }
+{
+    let mut options = Options::new(alloc);
+    if stop {
+        options.parsing_style(ParsingStyle::StopAtFirstFree);
+    }
+    options.long_only(long_only);
+    options
+}
+
+/// The options that texts in fours and kinds say.
+fn options_of(
+    alloc: Global,
+    groups: &[[&str; 4]],
+    kinds: &[u8],
+    stop: bool,
+    long_only: bool,
+) -> Result<Options, Refusal>
+    ensures { IfOk result (λ options.
+        IsDeclaredBy (map texts groups.now) kinds.now stop long_only options) }
+{
+    if groups.len() != kinds.len() {
+        return Err(Refusal::Bad);
+    }
+    let mut options = no_groups(alloc, stop, long_only);
+    for (at, group) in groups.iter().enumerate() {
+        add_group(&mut options, group, kinds[at])?;
+    }
+    Ok(options)
+}
+
+/// Texts in fours, where none is left over.
+pub(crate) fn in_fours<'t, 'r>(pieces: &'r [&'t str]) -> Result<&'r [[&'t str; 4]], Refusal>
+    ensures { IfOk result (λ groups. flat_map texts groups.now ≡ texts pieces.now) }
+{
+    let (groups, rest) = pieces.as_chunks::<4>();
+    if rest.is_empty() {
+        Ok(groups)
+    } else {
+        Err(Refusal::Bad)
+    }
+}
+
+impl<'r> Request<'r> {
+    /// The texts of a request.
+    pub(crate) fn texts(&self, alloc: Global) -> Result<Vec<&'r str>, Refusal>
+        ensures { IfOk result (λ pieces.
+            IsCut self.now.texts.now self.now.lens.now (texts pieces.items)) }
+    {
+        cut(alloc, self.texts, self.lens)
+    }
+
+    /// The options of a request, by its texts in fours.
+    pub(crate) fn options_by(&self, alloc: Global, groups: &[[&str; 4]]) -> Result<Options, Refusal>
+        ensures { IfOk result (λ options.
+            IsDeclaredBy (map texts groups.now) self.now.kinds.now self.now.stop
+            self.now.long_only options) }
+    {
+        options_of(alloc, groups, self.kinds, self.stop, self.long_only)
+    }
+
+    /// The options of a request.
+    pub(crate) fn options(&self, alloc: Global) -> Result<Options, Refusal>
+        ensures { IfOk result (λ options. IsRequest self.now.texts.now self.now.lens.now
+            self.now.kinds.now self.now.stop self.now.long_only options) }
+    {
+        let texts = self.texts(alloc)?;
+        self.options_by(alloc, in_fours(texts.as_slice())?)
+    }
+}

@@ -1,0 +1,37 @@
+//! The clones.
+
+use crate::marks::{begin, end};
+use crate::reading::{options_of, words_of};
+use crate::rows::{Answer, became};
+use std::alloc::{AllocError, Global};
+
+/// What became of the clone of options, of matches, or of the fault of a line.
+pub fn outcome(alloc: Global, source: &str) -> Result<&'static str, AllocError> {
+    let options = options_of(alloc)?;
+    match source {
+        "options" => of(alloc, &options),
+        "matches" => match options.parse(alloc, words_of("accepted").iter().copied()) {
+            Ok(matches) => of(alloc, &matches),
+            Err(_) => Ok("a fault"),
+        },
+        _ => match options.parse(alloc, words_of(source).iter().copied()) {
+            Ok(_) => Ok("no fault"),
+            Err(fail) => of(alloc, &fail),
+        },
+    }
+}
+
+/// What became of the clone of a value.
+fn of<T: Clone + PartialEq + Drop>(alloc: Global, source: &T) -> Result<&'static str, AllocError> {
+    let before = source.clone()?;
+    let answer = copied(alloc, source);
+    Ok(became(answer, *source == before))
+}
+
+/// Whether a clone is equal to its source.
+fn copied<T: Clone + PartialEq + Drop>(alloc: Global, source: &T) -> Answer {
+    begin(alloc)?;
+    let copy: Result<T, AllocError> = source.clone();
+    end(alloc)?;
+    Ok(copy? == *source)
+}

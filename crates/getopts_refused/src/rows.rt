@@ -1,0 +1,74 @@
+//! The rows, and what becomes of a row's call.
+
+use crate::{accessors, adding, clones, reading, texts};
+use std::alloc::{AllocError, Global};
+
+/// What a call answered: whether that was the row's answer, or want of memory.
+pub type Answer = Result<bool, AllocError>;
+
+/// The rows but for those of the calls that add a group: what is called, and on what.
+pub const ROWS: [(&str, &str); 34] = [
+    ("clone", "options"),
+    ("clone", "matches"),
+    ("clone", "argument_missing"),
+    ("clone", "unrecognized_option"),
+    ("clone", "option_missing"),
+    ("clone", "option_duplicated"),
+    ("clone", "unexpected_argument"),
+    ("parse", "accepted"),
+    ("parse", "argument_missing"),
+    ("parse", "unrecognized_option"),
+    ("parse", "option_missing"),
+    ("parse", "option_duplicated"),
+    ("parse", "unexpected_argument"),
+    ("parse_by_filter", "accepted"),
+    ("canonical", "accepted"),
+    ("canonical", "unwritable"),
+    ("canonical", "argument_missing"),
+    ("canonical", "unrecognized_option"),
+    ("canonical", "option_missing"),
+    ("canonical", "option_duplicated"),
+    ("canonical", "unexpected_argument"),
+    ("canonical_by_filter", "accepted"),
+    ("opt_positions", "L"),
+    ("opt_strs", "L"),
+    ("opt_strs_pos", "L"),
+    ("opt_str", "L"),
+    ("opt_default", "color"),
+    ("opt_default", "verbose"),
+    ("opts_str", "output"),
+    ("opts_str_first", "output"),
+    ("each_split_within", "lamb"),
+    ("short_usage", "copy"),
+    ("usage", "copy"),
+    ("usage_with_format", "copy"),
+];
+
+/// What became of the call of a row: `answer` where it gave the row's answer, and `refused` where
+/// it said that memory was refused, and all that it borrowed is as it was.
+pub fn outcome(alloc: Global, call: &str, on: &str) -> Result<&'static str, AllocError> {
+    match call {
+        "clone" => clones::outcome(alloc, on),
+        "parse" => reading::parse(alloc, on, true),
+        "parse_by_filter" => reading::parse(alloc, on, false),
+        "canonical" => reading::canonical(alloc, on, true),
+        "canonical_by_filter" => reading::canonical(alloc, on, false),
+        "each_split_within" | "short_usage" | "usage" | "usage_with_format" => texts::outcome(
+            alloc, call,
+        ),
+        _ if call.starts_with("opts_") || call.starts_with("opt_") => accessors::outcome(
+            alloc, call, on,
+        ),
+        _ => adding::outcome(alloc, call, on),
+    }
+}
+
+/// What became of a call that gave this answer, where all that it borrowed is as it was or isn't.
+pub fn became(answer: Answer, unchanged: bool) -> &'static str {
+    match answer {
+        Ok(true) => "answer",
+        Ok(false) => "another answer",
+        Err(_) if unchanged => "refused",
+        Err(_) => "changed",
+    }
+}

@@ -1,0 +1,92 @@
+//! Descriptions in rows, and usage texts.
+
+use crate::marks::{begin, end};
+use crate::reading::same_texts;
+use crate::rows::{Answer, became};
+use getopts::Options;
+use getopts::wrap::each_split_within;
+use std::alloc::{AllocError, Global};
+
+/// The rows of the usage text.
+const ROWS: [&str; 3] = [
+    "    -o, --output NAME   set output file name",
+    "    -v, --verbose       say more, and say it in more words than stand in one\n                        row",
+    "        --folder [DIR]  add a folder",
+];
+
+const USAGE: &str = "\
+Copies.
+
+Options:
+    -o, --output NAME   set output file name
+    -v, --verbose       say more, and say it in more words than stand in one
+                        row
+        --folder [DIR]  add a folder
+";
+
+fn options_of(alloc: Global) -> Result<Options, AllocError> {
+    let mut options = Options::new(alloc);
+    options
+        .optopt("o", "output", "set output file name", "NAME")?
+        .optflagmulti(
+            "v",
+            "verbose",
+            "say more, and say it in more words than stand in one row",
+        )?
+        .optflagopt("", "folder", "add a folder", "DIR")?;
+    Ok(options)
+}
+
+/// What became of a call of this name.
+pub fn outcome(alloc: Global, call: &str) -> Result<&'static str, AllocError> {
+    let options = options_of(alloc)?;
+    let before = options.clone()?;
+    let answer = match call {
+        "short_usage" => short_usage(alloc, &options),
+        "usage" => usage(alloc, &options),
+        "usage_with_format" => usage_with_format(alloc, &options),
+        _ => split(alloc),
+    };
+    Ok(became(answer, options == before))
+}
+
+fn split(alloc: Global) -> Answer {
+    begin(alloc)?;
+    let rows = each_split_within(alloc, "\nMary had a little lamb\nLittle lamb\n", 5);
+    end(alloc)?;
+    let expected = ["Mary", "had a", "little", "lamb", "Little", "lamb"];
+    Ok(same_texts(&rows?, &expected))
+}
+
+fn short_usage(alloc: Global, options: &Options) -> Answer {
+    begin(alloc)?;
+    let text = options.short_usage(alloc, "copy");
+    end(alloc)?;
+    Ok(text?.as_str() == "Usage: copy [-o NAME] [-v].. [--folder [DIR]]")
+}
+
+fn usage(alloc: Global, options: &Options) -> Answer {
+    begin(alloc)?;
+    let text = options.usage(alloc, "Copies.");
+    end(alloc)?;
+    Ok(text?.as_str() == USAGE)
+}
+
+/// The closure takes no memory, so that want of memory is want of the rows alone. It is called once
+/// where they are there, and not at all where they aren't.
+fn usage_with_format(alloc: Global, options: &Options) -> Answer {
+    let mut calls = 0u32;
+    let mut same = false;
+    begin(alloc)?;
+    let text = options.usage_with_format(alloc, |rows| {
+        calls = calls.saturating_add(1);
+        same = rows.zip(ROWS).all(|(row, text)| row.as_str() == text);
+        Ok(String::new(alloc))
+    });
+    end(alloc)?;
+    if text.is_err() && calls > 0 {
+        return Ok(false);
+    }
+    text?;
+    Ok(calls == 1 && same)
+}

@@ -1,0 +1,162 @@
+//! Fields of lines: texts with nothing in them that would end a field or a line.
+
+ghost use Rattle.std.specs.Prelude.{◌≡◌, ◌++◌, ◌∷◌, [], IfOk, IfSome, OnOk, Some};
+ghost use Rattle.std.specs.List.{AllByRecursion};
+ghost use Rattle.std.specs.Option.{option_copied};
+ghost use Rattle.std.specs.String.{string_bytes};
+ghost use Rattle.getopts_replay.specs.Form.{escaped, letter_of, optional_field, EndsNothing};
+
+use crate::stop::{Flaw, Trouble};
+use std::alloc::{AllocError, Global};
+
+/// The letter that stands after a backslash for a byte, where it has one.
+fn letter_of(byte: u8) -> Option<u8>
+    ensures { result ≡ letter_of byte }
+{
+    match byte {
+        b'\t' => Some(b't'),
+        b'\n' => Some(b'n'),
+        b'\r' => Some(b'r'),
+        b'\\' => Some(b'\\'),
+        _ => None,
+    }
+}
+
+/// The byte that a letter after a backslash stands for.
+fn byte_of(letter: u8) -> Option<u8>
+    ensures { IfSome result (λ byte. letter_of byte ≡ Some letter) }
+{
+    match letter {
+        b't' => Some(b'\t'),
+        b'n' => Some(b'\n'),
+        b'r' => Some(b'\r'),
+        b'\\' => Some(b'\\'),
+        _ => None,
+    }
+}
+
+#[tactic(auto, using(crate::proofs::FormLemmas::escaped_ends_nothing))]
+/// Adds a text as a field has it. Nothing in it ends a field or a line.
+fn push_escaped(bytes: &mut Vec<u8>, text: &str) -> Result<(), AllocError>
+    ensures escaped { OnOk result (bytes.new.items ≡ bytes.old.items ++ escaped text.now) }
+    ensures ends_nothing { AllByRecursion EndsNothing (escaped text.now) }
+{
+    for byte in text.as_bytes() {
+        match letter_of(*byte) {
+            Some(letter) => bytes.extend_from_slice(&[b'\\', letter])?,
+            None => bytes.push(*byte)?,
+        }
+    }
+    Ok(())
+}
+
+/// The text that a field stands for: one that is written so.
+pub fn text_of_field(alloc: Global, field: &str) -> Result<String, Trouble>
+    ensures { IfOk result (λ text. escaped (string_bytes text) ≡ field.now) }
+{
+    match String::from_utf8(bytes_of_field(alloc, field)?) {
+        Ok(text) => Ok(text),
+        Err(_) => Err(Trouble::Flawed(Flaw::NotText)),
+    }
+}
+
+/// The bytes that a field stands for: those that are written so.
+fn bytes_of_field(alloc: Global, field: &str) -> Result<Vec<u8>, Trouble>
+    ensures { IfOk result (λ bytes. escaped bytes.items ≡ field.now) }
+{
+    let mut bytes = Vec::new(alloc);
+    let mut after_backslash = false;
+    for byte in field.as_bytes() {
+        if after_backslash {
+            let meant = byte_of(*byte).ok_or(Trouble::Flawed(Flaw::WrongEscape))?;
+            bytes.push(meant)?;
+            after_backslash = false;
+        } else if *byte == b'\\' {
+            after_backslash = true;
+        } else {
+            if letter_of(*byte).is_some() {
+                return Err(Trouble::Flawed(Flaw::WrongEscape));
+            }
+            bytes.push(*byte)?;
+        }
+    }
+    if after_backslash {
+        return Err(Trouble::Flawed(Flaw::WrongEscape));
+    }
+    Ok(bytes)
+}
+
+/// Lines of answers, as they are made.
+#[derive(Debug, Drop)]
+pub struct Answer {
+    bytes: Vec<u8>,
+}
+
+impl Answer {
+    pub fn new(alloc: Global) -> Answer {
+        Answer {
+            bytes: Vec::new(alloc),
+        }
+    }
+
+    pub fn bytes(&self) -> &[u8] {
+        self.bytes.as_slice()
+    }
+
+    /// Forgets the lines, and keeps their memory for others.
+    pub fn clear(&mut self) {
+        self.bytes.clear();
+    }
+
+    /// Begins a line with its word.
+    pub fn word(&mut self, word: &str) -> Result<(), AllocError> {
+        push_escaped(&mut self.bytes, word)
+    }
+
+    /// Adds a field.
+    pub fn text(&mut self, text: &str) -> Result<(), AllocError>
+        ensures { OnOk result (self.new.bytes.items
+            ≡ self.old.bytes.items ++ 9 ∷ escaped text.now) }
+    {
+        self.bytes.push(b'\t')?;
+        push_escaped(&mut self.bytes, text)
+    }
+
+    /// Adds a field for each text.
+    pub fn texts(&mut self, texts: &[String]) -> Result<(), AllocError> {
+        for text in texts {
+            self.text(text.as_str())?;
+        }
+        Ok(())
+    }
+
+    /// Adds a field with a number.
+    pub fn number(&mut self, alloc: Global, number: usize) -> Result<(), AllocError> {
+        self.text(number.to_string(alloc)?.as_str())
+    }
+
+    /// Adds a field with `true` or `false`.
+    pub fn truth(&mut self, truth: bool) -> Result<(), AllocError> {
+        self.text(if truth { "true" } else { "false" })
+    }
+
+    /// Adds a field that may have a value: `-` where it has none, else `=` and the value.
+    pub fn optional(&mut self, value: Option<&str>) -> Result<(), AllocError>
+        ensures { OnOk result (self.new.bytes.items
+            ≡ self.old.bytes.items ++ 9 ∷ optional_field (option_copied value.entry)) }
+    {
+        match value {
+            None => self.text("-"),
+            Some(value) => {
+                self.text("=")?;
+                push_escaped(&mut self.bytes, value)
+            }
+        }
+    }
+
+    /// Ends a line.
+    pub fn end(&mut self) -> Result<(), AllocError> {
+        self.bytes.push(b'\n')?;
+        Ok(())
+    }
+}

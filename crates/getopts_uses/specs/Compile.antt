@@ -1,0 +1,32 @@
+-- A compiler driver: its options, and the job of a line.
+use Rattle.std.specs.Prelude.{◌≡◌, List, [], ◌∷◌, false, map, codes, Some}
+use Rattle.std.specs.String.{string_bytes}
+use Rattle.getopts.specs.Accessors.{first_value, found_of, values_of}
+use Rattle.getopts.specs.Matches.{Matched}
+use Rattle.getopts.specs.Names.{Text}
+use Rattle.getopts.specs.Options.{Declared, group_of}
+use Rattle.getopts.specs.Parse.{IsAccepted}
+use Rattle.getopts.specs.declared.groups.HasArg.TheVariants.{Yes}
+use Rattle.getopts.specs.declared.groups.Occur.TheVariants.{Req, Multi}
+use Rattle.getopts.specs.declared.groups.ParsingStyle.TheVariants.{FloatingFrees}
+use Rattle.getopts_uses.specs.declared.compile.Job.{Job}
+
+-- the driver's options
+abbrev pub compile_options : Declared
+compile_options = record {
+  groups =
+      group_of (codes "i") (codes "input") (codes "compile this file") (codes "FILE") Yes Req
+      ∷ group_of (codes "o") (codes "output") (codes "write this file") (codes "FILE") Yes Multi
+      ∷ group_of (codes "L") [] (codes "search this folder") (codes "DIR") Yes Multi
+      ∷ [];
+  style = FloatingFrees;
+  long_only = false;
+}
+
+-- The line's job: its input, and its outputs and search folders in the order of the line.
+pub record IsJobOf (words : List Text) (job : Job) : Type 0 where
+  pub matches : Matched
+  pub accepted : IsAccepted compile_options words matches
+  pub input : first_value (found_of matches.groups (codes "input")) ≡ Some (string_bytes job.input)
+  pub outputs : map string_bytes job.outputs.items ≡ values_of (found_of matches.groups (codes "output"))
+  pub folders : map string_bytes job.folders.items ≡ values_of (found_of matches.groups (codes "L"))

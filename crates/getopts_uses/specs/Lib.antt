@@ -1,0 +1,4 @@
+pub mod Cache
+pub mod Command
+pub mod Compile
+pub mod Search

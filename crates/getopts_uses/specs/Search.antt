@@ -1,0 +1,41 @@
+-- A search tool: its options, and the settings of a line.
+use Rattle.std.specs.Prelude.{◌≡◌, Bool, List, [], ◌∷◌, false, map, codes, Ok}
+use Rattle.std.specs.Option.{option_map}
+use Rattle.std.specs.String.{string_bytes}
+use Rattle.std.specs.Str.Parse.{ParsesUnsigned}
+use Rattle.getopts.specs.Accessors.{is_present, first_value, first_value_or, found_of, IsReadAs}
+use Rattle.getopts.specs.Matches.{Matched}
+use Rattle.getopts.specs.Names.{Text}
+use Rattle.getopts.specs.Options.{Declared, group_of}
+use Rattle.getopts.specs.Parse.{IsAccepted}
+use Rattle.getopts.specs.declared.groups.HasArg.TheVariants.{Yes, No, Maybe}
+use Rattle.getopts.specs.declared.groups.Occur.TheVariants.{Optional}
+use Rattle.getopts.specs.declared.groups.ParsingStyle.TheVariants.{FloatingFrees}
+use Rattle.std.specs.declared.num.ParseIntError.{ParseIntError}
+use Rattle.getopts_uses.specs.declared.search.Settings.{Settings}
+
+-- the tool's options
+abbrev pub search_options : Declared
+search_options = record {
+  groups =
+      group_of (codes "i") (codes "ignore-case") (codes "match either case") [] No Optional
+      ∷ group_of (codes "m") (codes "max-count") (codes "stop after so many") (codes "NUM") Yes Optional
+      ∷ group_of [] (codes "color") (codes "colour the matches") (codes "WHEN") Maybe Optional
+      ∷ group_of (codes "h") (codes "help") (codes "print this help") [] No Optional
+      ∷ [];
+  style = FloatingFrees;
+  long_only = false;
+}
+
+-- The line's settings: which flags it gives, the number as it reads, the colour, which is `always` after
+-- `--color` alone, and the files.
+pub record AreSettingsOf (words : List Text) (settings : Settings) : Type 0 where
+  pub matches : Matched
+  pub accepted : IsAccepted search_options words matches
+  pub ignore_case : settings.ignore_case ≡ is_present matches.groups (codes "ignore-case")
+  pub help : settings.help ≡ is_present matches.groups (codes "help")
+  pub max_count : IsReadAs {E = ParseIntError} (ParsesUnsigned 32 10)
+      (first_value (found_of matches.groups (codes "max-count"))) (Ok settings.max_count)
+  pub color : option_map string_bytes settings.color
+      ≡ first_value_or (found_of matches.groups (codes "color")) (codes "always")
+  pub files : map string_bytes settings.files.items ≡ matches.free

@@ -1,0 +1,21 @@
+//! A wrapper that logs and caches by the lines that it is given, whatever options they are read by.
+
+ghost use Rattle.std.specs.Prelude.{map, IfOk, IfSome};
+ghost use Rattle.std.specs.String.{string_bytes};
+ghost use Rattle.getopts.specs.CanonAnswers.{IsWritten};
+ghost use Rattle.getopts.specs.Names.{texts};
+ghost use Rattle.getopts_uses.specs.Cache.{KeysTell};
+
+use getopts::{Fail, Options, one_reading_one_canonical_line};
+use std::alloc::Global;
+
+/// The key of a line: its canonical line. There is none where an option that the line gives has a main
+/// name that holds `=`.
+pub fn key_of(alloc: Global, options: &Options, words: &[&str]) -> Result<Option<Vec<String>>, Fail>
+    ensures written { IfOk result (λ key. IfSome key (λ key.
+        IsWritten options.now (texts words.now) (map string_bytes key.items))) }
+    ensures tells { KeysTell options.now }
+{
+    one_reading_one_canonical_line(options);
+    options.canonical(alloc, words.iter().copied())
+}

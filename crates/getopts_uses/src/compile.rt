@@ -1,0 +1,42 @@
+//! A compiler driver: a required input, several outputs, and search folders in order.
+
+ghost use Rattle.std.specs.Prelude.{◌≡◌, IfOk};
+ghost use Rattle.getopts.specs.Names.{texts};
+ghost use Rattle.getopts_uses.specs.Compile.{compile_options, IsJobOf};
+
+use crate::line::read;
+use getopts::{Fail, Options};
+use std::alloc::{AllocError, Global};
+
+/// What the driver does.
+#[derive(Debug, Drop)]
+pub struct Job {
+    pub input: String,
+    pub outputs: Vec<String>,
+    pub folders: Vec<String>,
+}
+
+/// The driver's options.
+fn options(alloc: Global) -> Result<Options, AllocError>
+    ensures { IfOk result (λ options. options ≡ compile_options) }
+{
+    let mut options = Options::new(alloc);
+    options
+        .reqopt("i", "input", "compile this file", "FILE")?
+        .optmulti("o", "output", "write this file", "FILE")?
+        .optmulti("L", "", "search this folder", "DIR")?;
+    Ok(options)
+}
+
+/// The job of a line.
+pub fn read_job(alloc: Global, words: &[&str]) -> Result<Job, Fail>
+    ensures { IfOk result (IsJobOf (texts words.now)) }
+{
+    let options = options(alloc)?;
+    let matches = read(alloc, &options, words)?;
+    Ok(Job {
+        input: matches.opt_str(alloc, "input")?.unwrap(),
+        outputs: matches.opt_strs(alloc, "output")?,
+        folders: matches.opt_strs(alloc, "L")?,
+    })
+}

@@ -1,0 +1,19 @@
+//! Programs that read their command lines with `getopts`, as their users write them.
+#![tactic(auto)]
+
+mod cache;
+mod compile;
+mod line;
+mod lists;
+mod required;
+mod search;
+mod subcommand;
+#[cfg(test)]
+mod tests;
+
+pub use cache::key_of;
+pub use compile::{Job, read_job};
+pub use lists::{any_given, asks_only, count_of, level_of};
+pub use required::{input_count, input_itself, input_of, verbose_count};
+pub use search::{Refusal, Settings, read_settings};
+pub use subcommand::{Command, read_command};

@@ -1,0 +1,23 @@
+//! A line of words, as a list.
+
+ghost use Rattle.std.specs.Prelude.{IfOk, IfErr};
+ghost use Rattle.getopts.specs.Fail.{Tells};
+ghost use Rattle.getopts.specs.Names.{texts};
+ghost use Rattle.getopts.specs.Parse.{IsAccepted, IsRefused};
+ghost use Rattle.getopts.specs.Told.{DefineDeclared, HoldRequiredOnce, HoldNeededValues, HaveLastWordsFree};
+
+use getopts::Options;
+use std::alloc::Global;
+
+/// What a list of words gives, read by these options.
+pub(crate) fn read(alloc: Global, options: &Options, words: &[&str]) -> getopts::Result
+    ensures accepted { IfOk result (IsAccepted options.now (texts words.now)) }
+    ensures refused { IfErr result (λ fail. Tells fail (IsRefused options.now (texts words.now))) }
+    ensures defined { IfOk result (λ matches. DefineDeclared options.now matches.groups) }
+    ensures required { IfOk result (λ matches. HoldRequiredOnce options.now matches.groups) }
+    ensures needed { IfOk result (λ matches. HoldNeededValues options.now matches.groups) }
+    ensures free_last { IfOk result (λ matches.
+        HaveLastWordsFree options.now (texts words.now) matches.free) }
+{
+    options.parse(alloc, words.iter().copied())
+}

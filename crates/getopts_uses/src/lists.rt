@@ -1,0 +1,69 @@
+//! Names that come at run time, and lists of them.
+
+ghost use Rattle.std.specs.Prelude.{◌≡◌, ◌↔◌, length, codes, IfSome, IsSome, IsTrue};
+ghost use Rattle.std.specs.List.{list_any};
+ghost use Rattle.getopts.specs.Accessors.{IsDefined, AreDefined, found_of, is_present};
+ghost use Rattle.getopts.specs.Names.{texts};
+ghost use Rattle.getopts.specs.Options.{Declares};
+
+use getopts::{Matches, Options};
+use std::alloc::Global;
+
+/// How often an option was given, if the name is one of the options.
+pub fn count_of(matches: &Matches, name: &str) -> Option<usize>
+    ensures defined { IsSome result ↔ IsDefined matches.now.groups name.now }
+    ensures count { IfSome result (λ count.
+        count ≡ length (found_of matches.now.groups name.now)) }
+{
+    if matches.opt_defined(name) {
+        Some(matches.opt_count(name))
+    } else {
+        None
+    }
+}
+
+/// How much is said.
+fn level(matches: &Matches) -> usize
+    requires { IsDefined matches.now.groups (codes "verbose") }
+    ensures { result ≡ length (found_of matches.now.groups (codes "verbose")) }
+{
+    matches.opt_count("verbose")
+}
+
+/// The level of a line.
+pub fn level_of(alloc: Global, options: &Options, words: &[&str]) -> anyhow::Result<usize>
+    requires { Declares options.now (codes "verbose") }
+{
+    let matches = options.parse(alloc, words.iter().copied())?;
+    Ok(level(&matches))
+}
+
+/// Whether all names are defined.
+fn all_defined(matches: &Matches, names: &[&str]) -> bool
+    ensures { IsTrue result → AreDefined matches.now.groups (texts names.now) }
+{
+    match names {
+        [first, others @ ..] => matches.opt_defined(first) && all_defined(matches, others),
+        [] => true,
+    }
+}
+
+/// Whether one of these options was given, where all names are defined.
+pub fn any_given(matches: &Matches, names: &[&str]) -> Option<bool>
+    ensures { IfSome result (λ given. given
+        ≡ list_any (λ name. is_present matches.now.groups name.now) names.now) }
+{
+    if all_defined(matches, names) {
+        Some(matches.opts_present_any(names))
+    } else {
+        None
+    }
+}
+
+/// Whether help or the version was asked for.
+pub fn asks_only(matches: &Matches) -> bool
+    requires help { IsDefined matches.now.groups (codes "help") }
+    requires version { IsDefined matches.now.groups (codes "version") }
+{
+    matches.opts_present_any(&["help", "version"])
+}

@@ -1,0 +1,77 @@
+//! A search tool: flags, a number, an optional colour, help and files.
+
+ghost use Rattle.std.specs.Prelude.{◌≡◌, IfOk};
+ghost use Rattle.getopts.specs.Names.{texts};
+ghost use Rattle.getopts_uses.specs.Search.{search_options, AreSettingsOf};
+
+use crate::line::read;
+use getopts::{Fail, Options};
+use std::alloc::{AllocError, Global};
+use std::num::ParseIntError;
+
+/// What the tool does.
+#[derive(Debug, Drop)]
+pub struct Settings {
+    pub ignore_case: bool,
+    pub max_count: Option<u32>,
+    pub color: Option<String>,
+    pub help: bool,
+    pub files: Vec<String>,
+}
+
+/// Why a line has no settings.
+#[derive(Debug, Drop)]
+pub enum Refusal {
+    /// The line was refused.
+    Line(Fail),
+    /// The number can't be read.
+    Number(ParseIntError),
+    /// Memory was refused.
+    OutOfMemory,
+}
+
+impl From<Fail> for Refusal {
+    fn from(fail: Fail) -> Refusal {
+        Refusal::Line(fail)
+    }
+}
+
+impl From<ParseIntError> for Refusal {
+    fn from(error: ParseIntError) -> Refusal {
+        Refusal::Number(error)
+    }
+}
+
+impl From<AllocError> for Refusal {
+    fn from(_error: AllocError) -> Refusal {
+        Refusal::OutOfMemory
+    }
+}
+
+/// The tool's options.
+fn options(alloc: Global) -> Result<Options, AllocError>
+    ensures { IfOk result (λ options. options ≡ search_options) }
+{
+    let mut options = Options::new(alloc);
+    options
+        .optflag("i", "ignore-case", "match either case")?
+        .optopt("m", "max-count", "stop after so many", "NUM")?
+        .optflagopt("", "color", "colour the matches", "WHEN")?
+        .optflag("h", "help", "print this help")?;
+    Ok(options)
+}
+
+/// The settings of a line.
+pub fn read_settings(alloc: Global, words: &[&str]) -> Result<Settings, Refusal>
+    ensures { IfOk result (AreSettingsOf (texts words.now)) }
+{
+    let options = options(alloc)?;
+    let matches = read(alloc, &options, words)?;
+    Ok(Settings {
+        ignore_case: matches.opt_present("ignore-case"),
+        max_count: matches.opt_get("max-count")?,
+        color: matches.opt_default(alloc, "color", "always")?,
+        help: matches.opt_present("help"),
+        files: matches.free,
+    })
+}

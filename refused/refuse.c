@@ -1,0 +1,93 @@
+/* Refuses requests for memory. It is loaded before the C library, by LD_PRELOAD.
+ *
+ * Counted are all requests of the program, or, with REFUSE_MARKS=1, those between a request of BEFORE
+ * bytes and one of AFTER bytes. The request whose number is REFUSE_AT is refused, and with REFUSE_ON=1
+ * all after it too. At the end of the program a line on standard error tells how many requests were
+ * refused, and how many marks were met. */
+
+typedef unsigned long size;
+
+enum { BEFORE = 7919, AFTER = 7927 };
+
+void *__libc_malloc(size bytes);
+void *__libc_calloc(size count, size bytes);
+void *__libc_realloc(void *place, size bytes);
+void *__libc_memalign(size alignment, size bytes);
+char *getenv(const char *name);
+long write(int file, const void *bytes, size count);
+
+static int counting, marked, keeps_on;
+static size at, requests, refused, marks;
+
+static size number_in(const char *name) {
+    const char *text = getenv(name);
+    size number = 0;
+    while (text && *text >= '0' && *text <= '9')
+        number = 10 * number + (size)(*text++ - '0');
+    return number;
+}
+
+/* Before this no request is counted. */
+__attribute__((constructor)) static void begin(void) {
+    at = number_in("REFUSE_AT");
+    keeps_on = number_in("REFUSE_ON") == 1;
+    marked = number_in("REFUSE_MARKS") == 1;
+    counting = !marked;
+}
+
+static int refuses(size bytes) {
+    if (marked && (bytes == BEFORE || bytes == AFTER)) {
+        counting = bytes == BEFORE;
+        marks++;
+        return 0;
+    }
+    if (!counting)
+        return 0;
+    requests++;
+    if (requests != at && !(keeps_on && at && requests > at))
+        return 0;
+    refused++;
+    return 1;
+}
+
+void *malloc(size bytes) {
+    return refuses(bytes) ? 0 : __libc_malloc(bytes);
+}
+
+void *calloc(size count, size bytes) {
+    return refuses(count * bytes) ? 0 : __libc_calloc(count, bytes);
+}
+
+void *realloc(void *place, size bytes) {
+    return refuses(bytes) ? 0 : __libc_realloc(place, bytes);
+}
+
+void *aligned_alloc(size alignment, size bytes) {
+    return refuses(bytes) ? 0 : __libc_memalign(alignment, bytes);
+}
+
+int posix_memalign(void **place, size alignment, size bytes) {
+    enum { NO_MEMORY = 12 };
+    void *got = aligned_alloc(alignment, bytes);
+    if (got)
+        *place = got;
+    return got ? 0 : NO_MEMORY;
+}
+
+static void say(const char *name, size number) {
+    char digits[20];
+    size length = 0, first = sizeof digits;
+    while (name[length])
+        length++;
+    do
+        digits[--first] = (char)('0' + number % 10);
+    while (number /= 10);
+    if (write(2, name, length) < 0 || write(2, digits + first, sizeof digits - first) < 0)
+        return;
+}
+
+__attribute__((destructor)) static void end(void) {
+    say("refused ", refused);
+    say(" marks ", marks);
+    write(2, "\n", 1);
+}

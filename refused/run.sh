@@ -1,0 +1,128 @@
+#!/usr/bin/env bash
+# Runs the built programs where memory is refused, and where words or the output are not to be had.
+#
+# Of each row of getopts_refused, and of the program's own lines, the first request for memory is refused,
+# then the second, and so on until a run ends with none refused: once that one request alone, and once
+# that one and all after it. A run with a refusal has to say so, and the last run gives the row's answer.
+#
+# It takes the programs that `rt ci` leaves in crates/NAME/out. The last line is 'N passed, N failed'.
+set -uo pipefail
+cd "$(dirname "$0")/.."
+
+room=$(mktemp -d)
+trap 'rm -rf "$room"' EXIT
+rows=$PWD/crates/getopts_refused/out/getopts_refused
+show=$PWD/crates/getopts_show/out/getopts_show
+most=10000 passed=0 failed=0 calls=0 runs=0 swallowed=0
+
+for program in "$rows" "$show"; do
+    if [ ! -x "$program" ]; then
+        echo "$program is not there: run 'rt ci' first"
+        echo "0 passed, 1 failed"
+        exit 1
+    fi
+done
+
+# The toolchain's C compiler and linker.
+tools=$(dirname "$(rt doc)")/toolchain/bin
+if ! "$tools/clang" -O2 -Wall -Wextra -Werror -ffreestanding -nostdinc -fPIC -c refused/refuse.c -o "$room/refuse.o" ||
+    ! "$tools/ld.lld" -shared -o "$room/refuse.so" "$room/refuse.o"; then
+    echo "0 passed, 1 failed"
+    exit 1
+fi
+
+# pass_or_fail WHAT WHY: counts a check, which failed where WHY says something.
+pass_or_fail() {
+    if [ -z "$2" ]; then
+        passed=$((passed + 1))
+    else
+        failed=$((failed + 1))
+        echo "FAILED: $1: $2"
+    fi
+}
+
+# in_turn ON MARKS ANSWER REFUSAL PROGRAM WORDS..: refuses the requests of a program in turn, each alone
+# (ON is 0) or with all after it (1). ANSWER and REFUSAL are what it writes, and its status.
+in_turn() {
+    local on=$1 marks=$2 answer=$3 refusal=$4 at said told refused met
+    shift 4
+    for ((at = 1; at <= most; at++)); do
+        said=$(REFUSE_AT=$at REFUSE_ON=$on REFUSE_MARKS=$marks LD_PRELOAD=$room/refuse.so "$@" 2>"$room/told")
+        said="$said status $?"
+        told=
+        read -r told <"$room/told"
+        read -r _ refused _ met <<<"$told"
+        if [ "$told" != "refused $refused marks $met" ] || [ "$met" != $((2 * marks)) ]; then
+            echo "request $at: it did not run as it should: ${told:-nothing told}, $said"
+            return
+        fi
+        if [ "$refused" = 0 ]; then
+            [ "$said" = "$answer" ] || echo "with no request refused: $said"
+            return
+        fi
+        runs=$((runs + 1))
+        if [ "$said" = "$answer" ]; then
+            swallowed=$((swallowed + 1))
+            echo "request $at was refused, and that was swallowed"
+            return
+        elif [ "$said" != "$refusal" ]; then
+            echo "request $at was refused: $said"
+            return
+        fi
+    done
+    echo "it made more than $most requests"
+}
+
+# both_ways WHAT MARKS ANSWER REFUSAL PROGRAM WORDS..
+both_ways() {
+    local what=$1 on
+    shift
+    calls=$((calls + 1))
+    for on in 0 1; do
+        in_turn "$on" "$@" >"$room/why"
+        pass_or_fail "$what ($([ $on = 0 ] && echo alone || echo "with all after it"))" "$(cat "$room/why")"
+    done
+}
+
+# The rows: the program's marks tell which requests are the call's own.
+mapfile -t all < <("$rows")
+for row in "${all[@]}"; do
+    read -r call on <<<"$row"
+    both_ways "$row" 1 "answer status 0" "refused status 0" "$rows" "$call" "$on"
+done
+
+# The program's own words: accepted ones, its help, and a fault.
+for words in "--output=x.txt --verbose in.txt" "-vvLd -La -Lb -c auto -o x.txt f g" "-v --help" "--nope"; do
+    read -r -a line <<<"$words"
+    answer=$("$show" "${line[@]}")
+    both_ways "getopts_show $words" 0 "$answer status $?" " status 3" "$show" "${line[@]}"
+done
+
+# ends WHAT STATUS TEXT: what a run ended with, and what it wrote, against what it has to.
+ends() {
+    local why=
+    [ "$status" = "$2" ] || why="status $status, and not $2"
+    [ "$said" = "$3" ] || why="$why wrote: $said"
+    pass_or_fail "$1" "$why"
+}
+
+# Words that are no UTF-8, and a name of the program that is none.
+for word in $'\xff' $'-o\xc3' $'--\xed\xa0\x80'; do
+    said=$("$show" -v "$word" x 2>&1); status=$?
+    ends "a word that is no text" 3 ""
+done
+said=$(exec -a $'\xff' "$show" --nope 2>&1); status=$?
+ends "a name of the program that is no text" 2 "getopts_show: Unrecognized option: 'nope'"
+
+# Outputs that take nothing.
+for words in "-v x" --help --nope; do
+    read -r -a line <<<"$words"
+    said=$("$show" "${line[@]}" 2>&1 >&-); status=$?
+    ends "$words with a closed output" 4 ""
+    said=$("$show" "${line[@]}" 2>&1 >/dev/full); status=$?
+    ends "$words with a full output" 4 ""
+done
+
+echo "$calls calls, $runs runs with memory refused, $swallowed swallowed"
+echo "$passed passed, $failed failed"
+[ "$failed" = 0 ]

@@ -1,0 +1,109 @@
+//! Asking the archive, and what an answer holds.
+#![forbid(unsafe_code)]
+
+use crate::archive::{Room, Sizes};
+use crate::Fail;
+use std::alloc::{handle_alloc_error, Layout};
+
+const NO_MEMORY: u32 = 6;
+
+const BAD: u32 = 7;
+
+const TOO_SMALL: u32 = 8;
+
+/// A status, and what the archive wrote.
+pub struct Answer {
+    pub status: u32,
+    pub numbers: Vec<usize>,
+    pub text: String,
+}
+
+impl Answer {
+    /// What the archive answers, asked with a guessed room, and again with the room that it told
+    /// where that was too small.
+    pub fn of(numbers: usize, bytes: usize, mut ask: impl FnMut(Room<'_>) -> u32) -> Answer {
+        let mut sizes = Sizes { numbers, bytes };
+        loop {
+            let mut numbers = vec![0; sizes.numbers];
+            let mut bytes = vec![0; sizes.bytes];
+            let status = ask(Room {
+                numbers: &mut numbers,
+                bytes: &mut bytes,
+                sizes: &mut sizes,
+            });
+            match status {
+                TOO_SMALL => continue,
+                NO_MEMORY => handle_alloc_error(Layout::new::<u8>()),
+                BAD => panic!("this long-format option was given no name"),
+                _ => {}
+            }
+            numbers.truncate(sizes.numbers);
+            bytes.truncate(sizes.bytes);
+            let text = String::from_utf8(bytes).expect("the archive writes texts");
+            return Answer {
+                status,
+                numbers,
+                text,
+            };
+        }
+    }
+
+    /// The fault that the archive told, if it told one.
+    pub fn accepted(self) -> Result<Answer, Fail> {
+        match self.status {
+            0 => Ok(self),
+            1 => Err(Fail::ArgumentMissing(self.text)),
+            2 => Err(Fail::UnrecognizedOption(self.text)),
+            3 => Err(Fail::OptionMissing(self.text)),
+            4 => Err(Fail::OptionDuplicated(self.text)),
+            _ => Err(Fail::UnexpectedArgument(self.text)),
+        }
+    }
+}
+
+/// Numbers and texts, read from the front. The archive writes whole answers, so what is read is there.
+#[derive(Clone, Copy)]
+pub struct Reader<'a> {
+    numbers: &'a [usize],
+    text: &'a str,
+}
+
+impl<'a> Reader<'a> {
+    pub fn new(numbers: &'a [usize], text: &'a str) -> Reader<'a> {
+        Reader { numbers, text }
+    }
+
+    /// So many numbers.
+    pub fn numbers(&mut self, count: usize) -> &'a [usize] {
+        let (numbers, rest) = self.numbers.split_at(count);
+        self.numbers = rest;
+        numbers
+    }
+
+    pub fn number(&mut self) -> usize {
+        self.numbers(1)[0]
+    }
+
+    /// So many bytes of text.
+    pub fn bytes(&mut self, len: usize) -> &'a str {
+        let (text, rest) = self.text.split_at(len);
+        self.text = rest;
+        text
+    }
+
+    /// A text, by its length.
+    pub fn text(&mut self) -> &'a str {
+        let len = self.number();
+        self.bytes(len)
+    }
+
+    /// Texts, by how many they are and the length of each.
+    pub fn texts(&mut self) -> Vec<String> {
+        (0..self.number()).map(|_| self.text().to_string()).collect()
+    }
+
+    /// How many numbers, and how many bytes, are left.
+    pub fn left(&self) -> (usize, usize) {
+        (self.numbers.len(), self.text.len())
+    }
+}

@@ -1,0 +1,237 @@
+//! What an accepted line gave.
+#![forbid(unsafe_code)]
+
+use crate::answer::{Answer, Reader};
+use crate::options::Names;
+use std::result::Result;
+use std::str::FromStr;
+use std::sync::Arc;
+
+/// Where the answer for a name begins: its first number and its first byte.
+type Start = (usize, usize);
+
+/// What an accepted line gave: the options by name, and the words that are no option.
+#[derive(Clone, Debug, PartialEq, Eq)]
+pub struct Matches {
+    names: Arc<Names>,
+    numbers: Vec<usize>,
+    text: String,
+    starts: Vec<Start>,
+    /// The free words, in the order of the line.
+    pub free: Vec<String>,
+    trailing: Option<usize>,
+}
+
+/// The occurrences of one option: their positions, and its values, each after a position and a length.
+#[derive(Clone, Copy)]
+struct Given<'m> {
+    positions: &'m [usize],
+    pairs: &'m [usize],
+    text: &'m str,
+}
+
+impl<'m> Given<'m> {
+    fn read(reader: &mut Reader<'m>) -> Given<'m> {
+        let count = reader.number();
+        let positions = reader.numbers(count);
+        let count = reader.number();
+        let pairs = reader.numbers(2 * count);
+        let len = pairs.chunks(2).map(|pair| pair[1]).sum();
+        let text = reader.bytes(len);
+        Given {
+            positions,
+            pairs,
+            text,
+        }
+    }
+
+    /// The positions and values of the occurrences that have one.
+    fn values(self) -> impl Iterator<Item = (usize, &'m str)> {
+        let mut rest = self.text;
+        self.pairs.chunks(2).map(move |pair| {
+            let (value, after) = rest.split_at(pair[1]);
+            rest = after;
+            (pair[0], value)
+        })
+    }
+
+    /// The first occurrence's value. One word holds at most one occurrence of an option that takes a
+    /// value, so the first value is that of the first occurrence where their positions are the same.
+    fn first_value(self) -> Option<&'m str> {
+        let (position, value) = self.values().next()?;
+        (self.positions.first() == Some(&position)).then_some(value)
+    }
+}
+
+impl Matches {
+    pub(crate) fn of(names: Arc<Names>, answer: Answer) -> Matches {
+        let (mut numbers, mut text) = (answer.numbers, answer.text);
+        let mut reader = Reader::new(&numbers, &text);
+        let (all_numbers, all_bytes) = reader.left();
+        let start = |reader: &Reader<'_>| {
+            let (numbers, bytes) = reader.left();
+            (all_numbers - numbers, all_bytes - bytes)
+        };
+        let mut starts = Vec::with_capacity(names.names.lens.len());
+        for _ in &names.names.lens {
+            starts.push(start(&reader));
+            Given::read(&mut reader);
+        }
+        let end = start(&reader);
+        let free = reader.texts();
+        let trailing = reader.number().checked_sub(1);
+        numbers.truncate(end.0);
+        text.truncate(end.1);
+        Matches {
+            names,
+            numbers,
+            text,
+            starts,
+            free,
+            trailing,
+        }
+    }
+
+    fn find(&self, name: &str) -> Option<Given<'_>> {
+        let place = self.names.names.iter().position(|n| !n.is_empty() && n == name)?;
+        let (number, byte) = self.starts[place];
+        let mut reader = Reader::new(&self.numbers[number..], &self.text[byte..]);
+        Some(Given::read(&mut reader))
+    }
+
+    fn given(&self, name: &str) -> Given<'_> {
+        match self.find(name) {
+            Some(given) => given,
+            None => panic!("No option '{name}' defined"),
+        }
+    }
+
+    fn value(&self, name: &str) -> Option<&str> {
+        self.given(name).first_value()
+    }
+
+    /// Whether some option has this name. The other calls that take a name panic where none has.
+    pub fn opt_defined(&self, name: &str) -> bool {
+        self.find(name).is_some()
+    }
+
+    /// Whether an option was given, by any of its names.
+    pub fn opt_present(&self, name: &str) -> bool {
+        self.opt_count(name) > 0
+    }
+
+    /// How often an option was given, by any of its names.
+    pub fn opt_count(&self, name: &str) -> usize {
+        self.given(name).positions.len()
+    }
+
+    /// The positions of an option's occurrences: indexes of words, a separate argument counted.
+    ///
+    /// ```
+    /// let mut options = getopts::Options::new();
+    /// options.optflagmulti("v", "", "say more").optopt("o", "", "", "NAME");
+    /// let matches = options.parse(["-v", "-o", "x", "-vv"]).unwrap();
+    /// assert_eq!(matches.opt_positions("v"), [0, 3, 3]);
+    /// ```
+    pub fn opt_positions(&self, name: &str) -> Vec<usize> {
+        self.given(name).positions.to_vec()
+    }
+
+    /// Whether the option of some name in the list was given. A name that no option has doesn't count.
+    pub fn opts_present(&self, names: &[String]) -> bool {
+        let given = |given: Given<'_>| !given.positions.is_empty();
+        names.iter().any(|name| self.find(name).is_some_and(given))
+    }
+
+    /// Whether the option of some name in the list was given. Names are looked at up to that one.
+    ///
+    /// ```
+    /// let mut options = getopts::Options::new();
+    /// options.optflag("a", "", "").optflag("b", "", "");
+    /// assert!(options.parse(["-b"]).unwrap().opts_present_any(["a", "b"]));
+    /// ```
+    pub fn opts_present_any<C: IntoIterator>(&self, names: C) -> bool
+    where
+        C::Item: AsRef<str>,
+    {
+        names.into_iter().any(|name| self.opt_present(name.as_ref()))
+    }
+
+    /// The value for the first name in the list whose option's first occurrence has one.
+    pub fn opts_str(&self, names: &[String]) -> Option<String> {
+        names.iter().find_map(|name| self.opt_str(name))
+    }
+
+    /// The value for the first name in the list whose option's first occurrence has one. Names are
+    /// looked at up to that one.
+    ///
+    /// ```
+    /// let mut options = getopts::Options::new();
+    /// options.optopt("a", "", "", "A").optopt("b", "", "", "B");
+    /// let matches = options.parse(["-bx"]).unwrap();
+    /// assert_eq!(matches.opts_str_first(["a", "b"]).unwrap(), "x");
+    /// ```
+    pub fn opts_str_first<C: IntoIterator>(&self, names: C) -> Option<String>
+    where
+        C::Item: AsRef<str>,
+    {
+        names.into_iter().find_map(|name| self.opt_str(name.as_ref()))
+    }
+
+    /// The values of an option's occurrences, in the order of the line.
+    pub fn opt_strs(&self, name: &str) -> Vec<String> {
+        self.given(name).values().map(|(_, value)| value.to_string()).collect()
+    }
+
+    /// The positions and values of those of an option's occurrences that have a value.
+    pub fn opt_strs_pos(&self, name: &str) -> Vec<(usize, String)> {
+        let owned = |(position, value): (usize, &str)| (position, value.to_string());
+        self.given(name).values().map(owned).collect()
+    }
+
+    /// The value of an option's first occurrence.
+    pub fn opt_str(&self, name: &str) -> Option<String> {
+        self.value(name).map(str::to_string)
+    }
+
+    /// The value of an option's first occurrence, or `def` where that has none. `None` where the
+    /// option wasn't given.
+    pub fn opt_default(&self, name: &str, def: &str) -> Option<String> {
+        let given = self.given(name);
+        given.positions.first()?;
+        Some(given.first_value().unwrap_or(def).to_string())
+    }
+
+    /// The value of an option's first occurrence, read as a `T`.
+    ///
+    /// ```
+    /// let mut options = getopts::Options::new();
+    /// options.optopt("n", "", "", "N");
+    /// assert_eq!(options.parse(["-n", "7"]).unwrap().opt_get::<u8>("n"), Ok(Some(7)));
+    /// ```
+    pub fn opt_get<T: FromStr>(&self, name: &str) -> Result<Option<T>, T::Err> {
+        self.value(name).map(str::parse).transpose()
+    }
+
+    /// The value of an option's first occurrence, read as a `T`, or `def` where there is none.
+    ///
+    /// ```
+    /// let mut options = getopts::Options::new();
+    /// options.optopt("n", "", "", "N");
+    /// let none: [&str; 0] = [];
+    /// assert_eq!(options.parse(none).unwrap().opt_get_default("n", 7), Ok(7));
+    /// ```
+    pub fn opt_get_default<T: FromStr>(&self, name: &str, def: T) -> Result<T, T::Err> {
+        self.value(name).map_or(Ok(def), str::parse)
+    }
+
+    /// Where the words after `--` begin among the free words.
+    ///
+    /// ```
+    /// let options = getopts::Options::new();
+    /// assert_eq!(options.parse(["a", "--", "b"]).unwrap().free_trailing_start(), Some(1));
+    /// ```
+    pub fn free_trailing_start(&self) -> Option<usize> {
+        self.trailing
+    }
+}

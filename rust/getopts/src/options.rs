@@ -1,0 +1,371 @@
+//! Options: what a program declares.
+#![forbid(unsafe_code)]
+
+use crate::answer::{Answer, Reader};
+use crate::archive::{self, Request};
+use crate::texts::Texts;
+use crate::{Fail, Matches, Result};
+use std::ffi::OsStr;
+use std::sync::Arc;
+
+/// What the first free word does to the words after it.
+#[derive(Debug, Clone, Copy, PartialEq, Eq)]
+pub enum ParsingStyle {
+    /// Options and free words may stand in any order.
+    FloatingFrees,
+    /// All words from the first free one on are free.
+    StopAtFirstFree,
+}
+
+/// Whether an option takes an argument.
+#[derive(Clone, Debug, Copy, PartialEq, Eq)]
+pub enum HasArg {
+    /// The option needs an argument.
+    Yes,
+    /// The option takes no argument.
+    No,
+    /// The option may have an argument.
+    Maybe,
+}
+
+/// How often an option may come.
+#[derive(Clone, Debug, Copy, PartialEq, Eq)]
+pub enum Occur {
+    /// The option comes exactly once.
+    Req,
+    /// The option comes at most once.
+    Optional,
+    /// The option may come any number of times.
+    Multi,
+}
+
+/// The names and kinds of options, which matches share: the short and the long name of each.
+#[derive(Clone, Debug, Default, PartialEq, Eq)]
+pub struct Names {
+    pub names: Texts,
+    pub kinds: Vec<u8>,
+}
+
+/// Options that a program declares, a parsing style and a mode.
+#[derive(Debug, Clone, PartialEq, Eq)]
+pub struct Options {
+    names: Arc<Names>,
+    texts: Texts,
+    style: ParsingStyle,
+    long_only: bool,
+}
+
+impl Default for Options {
+    fn default() -> Self {
+        Self::new()
+    }
+}
+
+impl Options {
+    /// No options, in `FloatingFrees` and ordinary mode.
+    pub fn new() -> Options {
+        Options {
+            names: Arc::new(Names::default()),
+            texts: Texts::default(),
+            style: ParsingStyle::FloatingFrees,
+            long_only: false,
+        }
+    }
+
+    /// Sets what the first free word does to the words after it.
+    pub fn parsing_style(&mut self, style: ParsingStyle) -> &mut Options {
+        self.style = style;
+        self
+    }
+
+    /// Sets whether a long name follows one dash or two, and no short names are joined in a word.
+    pub fn long_only(&mut self, long_only: bool) -> &mut Options {
+        self.long_only = long_only;
+        self
+    }
+
+    /// Adds an option with any kind of argument and of occurrence.
+    ///
+    /// ```
+    /// use getopts::{HasArg, Occur, Options};
+    /// let mut options = Options::new();
+    /// options.opt("c", "color", "colour the output", "WHEN", HasArg::Maybe, Occur::Multi);
+    /// assert_eq!(options.parse(["-c", "--color=auto"]).unwrap().opt_count("c"), 2);
+    /// ```
+    ///
+    /// # Panics
+    /// Where the short name has more than one byte, or the long name has just one.
+    pub fn opt(
+        &mut self,
+        short_name: &str,
+        long_name: &str,
+        desc: &str,
+        hint: &str,
+        hasarg: HasArg,
+        occur: Occur,
+    ) -> &mut Options {
+        assert!(
+            short_name.len() <= 1,
+            "the short_name (first argument) should be a single character, \
+             or an empty string for none"
+        );
+        assert!(
+            long_name.len() != 1,
+            "the long_name (second argument) should be longer than a single \
+             character, or an empty string for none"
+        );
+        let names = Arc::make_mut(&mut self.names);
+        names.names.push(short_name);
+        names.names.push(long_name);
+        names.kinds.push(3 * hasarg as u8 + occur as u8);
+        for text in [short_name, long_name, hint, desc] {
+            self.texts.push(text);
+        }
+        self
+    }
+
+    /// Adds an option that takes no argument and may come once.
+    ///
+    /// ```
+    /// let mut options = getopts::Options::new();
+    /// options.optflag("q", "quiet", "say less");
+    /// assert!(options.parse(["--quiet"]).unwrap().opt_present("q"));
+    /// ```
+    pub fn optflag(&mut self, short_name: &str, long_name: &str, desc: &str) -> &mut Options {
+        self.opt(short_name, long_name, desc, "", HasArg::No, Occur::Optional)
+    }
+
+    /// Adds an option that takes no argument and may come any number of times.
+    ///
+    /// ```
+    /// let mut options = getopts::Options::new();
+    /// options.optflagmulti("v", "verbose", "say more");
+    /// assert_eq!(options.parse(["-vv", "--verbose"]).unwrap().opt_count("v"), 3);
+    /// ```
+    pub fn optflagmulti(&mut self, short_name: &str, long_name: &str, desc: &str) -> &mut Options {
+        self.opt(short_name, long_name, desc, "", HasArg::No, Occur::Multi)
+    }
+
+    /// Adds an option that may have an argument and may come once.
+    ///
+    /// ```
+    /// let mut options = getopts::Options::new();
+    /// options.optflagopt("c", "color", "colour the output", "WHEN");
+    /// assert_eq!(options.parse(["--color"]).unwrap().opt_default("c", "auto").unwrap(), "auto");
+    /// ```
+    pub fn optflagopt(
+        &mut self,
+        short_name: &str,
+        long_name: &str,
+        desc: &str,
+        hint: &str,
+    ) -> &mut Options {
+        self.opt(short_name, long_name, desc, hint, HasArg::Maybe, Occur::Optional)
+    }
+
+    /// Adds an option that needs an argument and may come any number of times.
+    ///
+    /// ```
+    /// let mut options = getopts::Options::new();
+    /// options.optmulti("L", "", "add a folder", "DIR");
+    /// assert_eq!(options.parse(["-La", "-L", "b"]).unwrap().opt_strs("L"), ["a", "b"]);
+    /// ```
+    pub fn optmulti(
+        &mut self,
+        short_name: &str,
+        long_name: &str,
+        desc: &str,
+        hint: &str,
+    ) -> &mut Options {
+        self.opt(short_name, long_name, desc, hint, HasArg::Yes, Occur::Multi)
+    }
+
+    /// Adds an option that needs an argument and may come once.
+    ///
+    /// ```
+    /// let mut options = getopts::Options::new();
+    /// options.optopt("o", "output", "set the output file", "NAME");
+    /// assert_eq!(options.parse(["--output=a"]).unwrap().opt_str("o").unwrap(), "a");
+    /// ```
+    pub fn optopt(
+        &mut self,
+        short_name: &str,
+        long_name: &str,
+        desc: &str,
+        hint: &str,
+    ) -> &mut Options {
+        self.opt(short_name, long_name, desc, hint, HasArg::Yes, Occur::Optional)
+    }
+
+    /// Adds an option that needs an argument and comes exactly once.
+    ///
+    /// ```
+    /// let mut options = getopts::Options::new();
+    /// options.reqopt("i", "input", "read this file", "NAME");
+    /// assert!(options.parse(["free"]).is_err());
+    /// ```
+    pub fn reqopt(
+        &mut self,
+        short_name: &str,
+        long_name: &str,
+        desc: &str,
+        hint: &str,
+    ) -> &mut Options {
+        self.opt(short_name, long_name, desc, hint, HasArg::Yes, Occur::Req)
+    }
+
+    fn request(&self) -> Request<'_> {
+        Request {
+            texts: &self.texts.text,
+            lens: &self.texts.lens,
+            kinds: &self.names.kinds,
+            stop: self.style == ParsingStyle::StopAtFirstFree,
+            long_only: self.long_only,
+        }
+    }
+
+    /// The room that most lines take.
+    fn room(&self, words: &Texts) -> (usize, usize) {
+        let numbers = 4 * self.names.kinds.len() + 6 * words.lens.len() + 16;
+        (numbers, 2 * words.text.len() + 16)
+    }
+
+    /// Panics where an option has two empty names, which no line can be read by.
+    fn check_names(&self) {
+        let lens = &self.names.names.lens;
+        if lens.chunks(2).any(|pair| pair == [0, 0]) {
+            panic!("this long-format option was given no name");
+        }
+    }
+
+    /// Reads words.
+    ///
+    /// ```
+    /// let mut options = getopts::Options::new();
+    /// options.optopt("o", "output", "set the output file", "NAME");
+    /// let matches = options.parse(["-ofile", "in.txt"]).unwrap();
+    /// assert_eq!(matches.opt_str("output").unwrap(), "file");
+    /// assert_eq!(matches.free, ["in.txt"]);
+    /// let fail = options.parse(["--output"]).unwrap_err();
+    /// assert_eq!(fail.to_string(), "Argument to option 'output' missing");
+    /// ```
+    ///
+    /// # Panics
+    /// Where an option has two empty names.
+    pub fn parse<C: IntoIterator>(&self, args: C) -> Result
+    where
+        C::Item: AsRef<OsStr>,
+    {
+        self.check_names();
+        let words = words_of(args)?;
+        let (numbers, bytes) = self.room(&words);
+        let answer = Answer::of(numbers, bytes, |room| {
+            archive::parse(self.request(), words.words(), room)
+        });
+        Ok(Matches::of(Arc::clone(&self.names), answer.accepted()?))
+    }
+
+    /// Writes an accepted line again with main names alone: `--main` or `--main=value` for each option
+    /// in the order of the line, then `--`, then the free words.
+    ///
+    /// The answer is `None` where an option that the line gives has a main name that holds `=`. The
+    /// crate getopts has no such call.
+    ///
+    /// ```
+    /// let mut options = getopts::Options::new();
+    /// options.optflag("v", "verbose", "say more").optopt("o", "output", "", "NAME");
+    /// let line = options.canonical(["-vofile", "x"]).unwrap().unwrap();
+    /// assert_eq!(line, ["--verbose", "--output=file", "--", "x"]);
+    /// ```
+    #[cfg(feature = "canonical")]
+    pub fn canonical<C: IntoIterator>(
+        &self,
+        args: C,
+    ) -> std::result::Result<Option<Vec<String>>, Fail>
+    where
+        C::Item: AsRef<OsStr>,
+    {
+        self.check_names();
+        let words = words_of(args)?;
+        let (numbers, bytes) = self.room(&words);
+        let answer = Answer::of(numbers, bytes, |room| {
+            archive::canonical(self.request(), words.words(), room)
+        })
+        .accepted()?;
+        if answer.numbers.is_empty() {
+            return Ok(None);
+        }
+        Ok(Some(Reader::new(&answer.numbers, &answer.text).texts()))
+    }
+
+    /// The room that most usage texts take.
+    fn usage_room(&self, start: &str) -> usize {
+        start.len() + 2 * self.texts.text.len() + 64 * self.names.kinds.len() + 16
+    }
+
+    /// All options in one line.
+    ///
+    /// ```
+    /// let mut options = getopts::Options::new();
+    /// options.reqopt("i", "input", "", "NAME").optflag("q", "quiet", "");
+    /// assert_eq!(options.short_usage("copy"), "Usage: copy -i NAME [-q]");
+    /// ```
+    pub fn short_usage(&self, program_name: &str) -> String {
+        Answer::of(0, self.usage_room(program_name), |room| {
+            archive::short_usage(self.request(), program_name, room)
+        })
+        .text
+    }
+
+    /// The brief, and each option with its description, for a help screen.
+    ///
+    /// ```
+    /// let mut options = getopts::Options::new();
+    /// options.optflag("h", "help", "print this");
+    /// let text = options.usage("Usage: copy FILE");
+    /// assert_eq!(text, "Usage: copy FILE\n\nOptions:\n    -h, --help          print this\n");
+    /// ```
+    pub fn usage(&self, brief: &str) -> String {
+        Answer::of(0, self.usage_room(brief), |room| {
+            archive::usage(self.request(), brief, room)
+        })
+        .text
+    }
+
+    /// What a closure makes of the rows of the usage text. All rows are made before it runs.
+    ///
+    /// ```
+    /// let mut options = getopts::Options::new();
+    /// options.optflag("h", "help", "print this");
+    /// let text = options.usage_with_format(|rows| rows.collect::<Vec<_>>().join("\n"));
+    /// assert_eq!(text, "    -h, --help          print this");
+    /// ```
+    pub fn usage_with_format<F: FnMut(&mut dyn Iterator<Item = String>) -> String>(
+        &self,
+        mut formatter: F,
+    ) -> String {
+        let numbers = self.names.kinds.len() + 1;
+        let answer = Answer::of(numbers, self.usage_room(""), |room| {
+            archive::usage_rows(self.request(), room)
+        });
+        let rows = Reader::new(&answer.numbers, &answer.text).texts();
+        formatter(&mut rows.into_iter())
+    }
+}
+
+/// The words of a line. The first that isn't UTF-8 is refused.
+fn words_of<C: IntoIterator>(args: C) -> std::result::Result<Texts, Fail>
+where
+    C::Item: AsRef<OsStr>,
+{
+    let args = args.into_iter();
+    let mut words = Texts::with_room(args.size_hint().0);
+    for arg in args {
+        let arg = arg.as_ref();
+        match arg.to_str() {
+            Some(word) => words.push(word),
+            None => return Err(Fail::UnrecognizedOption(format!("{arg:?}"))),
+        }
+    }
+    Ok(words)
+}
