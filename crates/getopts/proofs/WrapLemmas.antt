@@ -5,7 +5,8 @@ use Rattle.std.specs.List.{flat_map}
 use Rattle.std.proofs.lemmas.Bool.{leb-true, le-leb}
 use Rattle.std.proofs.lemmas.List.Elements.{All-nil, All-cons, All-head, All-tail}
 use Rattle.std.proofs.lemmas.List.Sums.{sum_by-append}
-use Rattle.getopts.specs.Wrap.{Word, Run, width_of, columns_of, FitsIn, IsFittingBreaking, NoneTakesMore, IsTightBreaking, IsFewestBreaking, HasOneTightBreaking}
+use Rattle.getopts.specs.Wrap.{Word, Run, width_of, columns_of, FitsIn, IsFittingBreaking, NoneTakesMore, IsTightBreaking, IsFewestBreaking}
+use Rattle.getopts.specs.Only.{IsTheOnly}
 
 -- ---- filling one row after the other
 
@@ -181,8 +182,9 @@ runs_of-only limit words ((word ∷ more) ∷ runs) tight =
     sym (runs_from-only limit runs (word ∷ []) more (omega arith) (All-tail (λ run. 0 < length run) (word ∷ more) runs tight.fitting.nonempty) tight.fitting.fits tight.tight)
     ∙ ap (runs_of limit) tight.fitting.joined
 
-pub has_one_tight_breaking : (limit : ℕ) (words : List Word) → HasOneTightBreaking limit words
-has_one_tight_breaking limit words = record { runs = runs_of limit words; is_tight = runs_of-tight limit words; only = runs_of-only limit words }
+-- words have one tight breaking, and no other
+pub one_tight_breaking : (limit : ℕ) (words : List Word) → IsTheOnly (IsTightBreaking limit words) (runs_of limit words)
+one_tight_breaking limit words others = (runs_of-only limit words others, λ same. subst (IsTightBreaking limit words) (sym same) (runs_of-tight limit words))
 
 -- ---- no fitting breaking has fewer runs
 

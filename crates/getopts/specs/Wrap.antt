@@ -58,12 +58,6 @@ pub record IsFewestBreaking (limit : ℕ) (words : List Word) (runs : List Run) 
   pub fewest : (others : List Run) → IsFittingBreaking limit words others
       → length runs ≤ length others
 
--- the words have a tight breaking, and no other
-pub record HasOneTightBreaking (limit : ℕ) (words : List Word) : Type 0 where
-  pub runs : List Run
-  pub is_tight : IsTightBreaking limit words runs
-  pub only : (others : List Run) → IsTightBreaking limit words others → others ≡ runs
-
 -- ---- descriptions
 
 -- the lines of a description, which is cut at U+000A

@@ -124,45 +124,30 @@ impl Fail {
     pub(crate) fn argument_missing(alloc: Global, name: &str) -> Fail
         ensures { Tells result (λ fault. fault ≡ argument_missing name.now) }
     {
-        match String::from_str(alloc, name) {
-            Ok(name) => Fail::ArgumentMissing(name),
-            Err(_) => Fail::OutOfMemory,
-        }
+        String::from_str(alloc, name).map_or(Fail::OutOfMemory, Fail::ArgumentMissing)
     }
 
     pub(crate) fn unrecognized_option(alloc: Global, name: &str) -> Fail
         ensures { Tells result (λ fault. fault ≡ unrecognized_option name.now) }
     {
-        match String::from_str(alloc, name) {
-            Ok(name) => Fail::UnrecognizedOption(name),
-            Err(_) => Fail::OutOfMemory,
-        }
+        String::from_str(alloc, name).map_or(Fail::OutOfMemory, Fail::UnrecognizedOption)
     }
 
     pub(crate) fn option_missing(alloc: Global, name: &str) -> Fail
         ensures { Tells result (λ fault. fault ≡ option_missing name.now) }
     {
-        match String::from_str(alloc, name) {
-            Ok(name) => Fail::OptionMissing(name),
-            Err(_) => Fail::OutOfMemory,
-        }
+        String::from_str(alloc, name).map_or(Fail::OutOfMemory, Fail::OptionMissing)
     }
 
     pub(crate) fn option_duplicated(alloc: Global, name: &str) -> Fail
         ensures { Tells result (λ fault. fault ≡ option_duplicated name.now) }
     {
-        match String::from_str(alloc, name) {
-            Ok(name) => Fail::OptionDuplicated(name),
-            Err(_) => Fail::OutOfMemory,
-        }
+        String::from_str(alloc, name).map_or(Fail::OutOfMemory, Fail::OptionDuplicated)
     }
 
     pub(crate) fn unexpected_argument(alloc: Global, name: &str) -> Fail
         ensures { Tells result (λ fault. fault ≡ unexpected_argument name.now) }
     {
-        match String::from_str(alloc, name) {
-            Ok(name) => Fail::UnexpectedArgument(name),
-            Err(_) => Fail::OutOfMemory,
-        }
+        String::from_str(alloc, name).map_or(Fail::OutOfMemory, Fail::UnexpectedArgument)
     }
 }

@@ -1,9 +1,9 @@
 //! Descriptions in rows: the lines of a text, each broken into as few rows as its words allow.
-ghost use Rattle.std.specs.Prelude.{◌≡◌, ◌++◌, ℕ, ◌↔◌, List, map, string_bytes, IfOk, OnOk};
+ghost use Rattle.std.specs.Prelude.{◌≡◌, ◌++◌, map, string_bytes, IfOk, OnOk};
 ghost use Rattle.std.specs.Str.Lines.{lines};
-ghost use Rattle.getopts.specs.Wrap.{IsTightBreaking, IsFewestBreaking, HasOneTightBreaking};
-ghost use Rattle.getopts.specs.Wrap.{BreaksInto, IsDescriptionRows, AddsDescription, AddsLine};
-ghost use Rattle.getopts.specs.Wrap.{parting};
+ghost use Rattle.getopts.specs.Only.{IsTheOnly};
+ghost use Rattle.getopts.specs.Wrap.{BreaksInto, IsDescriptionRows, IsFewestBreaking};
+ghost use Rattle.getopts.specs.Wrap.{AddsDescription, AddsLine, parting};
 
 use std::alloc::{AllocError, Global};
 use unicode_width::UnicodeWidthStr;
@@ -30,20 +30,14 @@ use unicode_width::UnicodeWidthStr;
 /// In Rust this function is private, cannot fail, and measures the row so far as one text. Here it
 /// is public and measures word by word, and nothing is said of the width of a row as one text.
 pub fn each_split_within(alloc: Global, desc: &str, lim: usize) -> Result<Vec<String>, AllocError>
-    // These are the description's rows, byte for byte, and no other list is.
-    ensures rows { IfOk result (λ rows. (others : List (List ℕ)) →
-        IsDescriptionRows lim desc.now others ↔ (others ≡ map string_bytes rows.items)) }
-
-    // In each line every row fits or is one word, and none could take in the line's next word.
-    ensures tight { IfOk result (λ rows.
-        BreaksInto (IsTightBreaking lim) desc.now (map string_bytes rows.items)) }
+    // These are the description's rows, byte for byte, and no other list is: in each line every row
+    // fits or is one word, and none could take in the line's next word.
+    ensures rows { IfOk result (λ rows.
+        IsTheOnly (IsDescriptionRows lim desc.now) (map string_bytes rows.items)) }
 
     // In each line no fitting way to break its words has fewer rows.
     ensures fewest { IfOk result (λ rows.
         BreaksInto (IsFewestBreaking lim) desc.now (map string_bytes rows.items)) }
-
-    // A law of these definitions: whatever words a line has, they have one tight breaking.
-    ensures one_tight { OnOk result ((words : List (List ℕ)) → HasOneTightBreaking lim words) }
 {
     // A row holds no line end, and all rows together are no longer than the description.
     let mut text = String::with_capacity(alloc, desc.len())?;

@@ -4,7 +4,6 @@ use Rattle.std.specs.Prelude.{IfOk}
 use Rattle.std.specs.Str.Lines.{lines}
 use Rattle.std.proofs.lemmas.Result.{IfOk-weaker}
 use Rattle.getopts.specs.Wrap.{IsDescriptionRows, joined}
-use Rattle.getopts.proofs.WrapLemmas.{has_one_tight_breaking}
 use Rattle.getopts.proofs.WrapLines.{rows_exactly, rows_fewest}
 use Rattle.getopts.proofs.WrapTexts.{lines_joined}
 use Rattle.getopts.proofs.wrap.each_split_within.Goals as goal
@@ -19,11 +18,5 @@ description_rows c =
 pub returns-clause-rows : goal.returns-clause-rows
 returns-clause-rows c = IfOk-weaker c.lines_of.result _ _ (λ rows are_rows. λ others. rows_exactly c.args.lim c.args.desc.now _ others are_rows) (description_rows c)
 
-pub returns-clause-tight : goal.returns-clause-tight
-returns-clause-tight c = description_rows c
-
 pub returns-clause-fewest : goal.returns-clause-fewest
 returns-clause-fewest c = IfOk-weaker c.lines_of.result _ _ (λ rows are_rows. rows_fewest c.args.lim c.args.desc.now _ are_rows) (description_rows c)
-
-pub returns-clause-one_tight : goal.returns-clause-one_tight
-returns-clause-one_tight c = IfOk-weaker c.lines_of.result _ _ (λ rows are_lines. has_one_tight_breaking c.args.lim) c.lines_of.ensures
