@@ -20,7 +20,7 @@ use Rattle.getopts.specs.Scan.{Occurrence}
 use Rattle.getopts.specs.Matches.{Found, MatchedGroup, found_at, matched}
 use Rattle.getopts.specs.Accessors.{AreHeldLawfully, found_in, found_of, place_of, values_of, pairs_of, first_value, first_value_among}
 use Rattle.getopts.specs.Same.{same_known, same_found, same_matched_group}
-use Rattle.getopts.specs.Held.Groups.{AreLawful}
+use Rattle.getopts.specs.Held.Groups.{HaveLawfulNames}
 use Rattle.getopts.specs.Held.Found.{given_view}
 use Rattle.getopts.specs.Held.OfGroup.{found_part, pair_view}
 use Rattle.getopts.specs.Held.Accepted.{index_of}
@@ -47,7 +47,7 @@ found-matched first (known ∷ knowns) occurrences (suc i) within =
     found-matched (first + 1) knowns occurrences i (omega arith) ∙ ap (λ (n : ℕ). found_at n occurrences) (omega arith)
 
 -- lawfully named groups are held so
-pub AreHeldLawfully-matched : (first : ℕ) (knowns : List Known) (occurrences : List Occurrence) → AreLawful knowns → AreHeldLawfully (matched first knowns occurrences)
+pub AreHeldLawfully-matched : (first : ℕ) (knowns : List Known) (occurrences : List Occurrence) → HaveLawfulNames knowns → AreHeldLawfully (matched first knowns occurrences)
 AreHeldLawfully-matched first [] occurrences lawful = tt
 AreHeldLawfully-matched first (known ∷ knowns) occurrences lawful = (lawful.0, AreHeldLawfully-matched (first + 1) knowns occurrences lawful.1)
 

@@ -8,7 +8,7 @@ use Rattle.getopts.specs.Canon.{main_at}
 use Rattle.getopts.specs.Options.{Known, Group, knowns_of, names_of, AreLawfullyNamed}
 use Rattle.getopts.specs.Pairs.{beside_pairs, name_texts}
 use Rattle.getopts.specs.Table.{names_in}
-use Rattle.getopts.specs.Held.Groups.{known_with, AreLawful}
+use Rattle.getopts.specs.Held.Groups.{known_with, HaveLawfulNames}
 use Rattle.getopts.specs.Held.Options.{group_with}
 use Rattle.getopts.specs.declared.groups.Kinds.{Kinds}
 
@@ -123,6 +123,6 @@ main_at-held (known ∷ knowns) (a ∷ b ∷ help) zero fits = refl
 main_at-held (known ∷ knowns) (a ∷ b ∷ help) (suc place) fits = main_at-held knowns help place (omega arith)
 
 -- what is known of lawfully named groups is lawfully named
-pub AreLawful-known : (groups : List Group) → AreLawfullyNamed groups → AreLawful (knowns_of groups)
-AreLawful-known [] lawful = tt
-AreLawful-known (group ∷ groups) lawful = (lawful.0, AreLawful-known groups lawful.1)
+pub HaveLawfulNames-known : (groups : List Group) → AreLawfullyNamed groups → HaveLawfulNames (knowns_of groups)
+HaveLawfulNames-known [] lawful = tt
+HaveLawfulNames-known (group ∷ groups) lawful = (lawful.0, HaveLawfulNames-known groups lawful.1)

@@ -14,8 +14,8 @@ abbrev pub mentions_of : Grammar → Reading → List Mention
 mentions_of grammar reading = flat_map (mentions grammar) reading.items
 
 -- the words that a reading spells
-abbrev pub words_of : Reading → List Text
-words_of reading = spelled_all reading.items (tail_words reading.tail)
+abbrev pub spelled_words : Reading → List Text
+spelled_words reading = spelled_all reading.items (tail_words reading.tail)
 
 -- the reading of items in three parts, and a tail
 abbrev pub reading_of : List Item → List Item → List Item → Tail → Reading
@@ -24,7 +24,7 @@ reading_of front middle back tail = record { items = front ++ (middle ++ back); 
 -- The new reading is one of the words that it spells, and has the old one's occurrences, positions
 -- too, free words and trailing start.
 pub record ReadsAlike (grammar : Grammar) (old new : Reading) : Type 0 where
-  pub reads : IsReading grammar new (words_of new)
+  pub reads : IsReading grammar new (spelled_words new)
   pub occurrences : occurrences_of grammar new ≡ occurrences_of grammar old
   pub free : free_words new ≡ free_words old
   pub trailing : trailing_start new ≡ trailing_start old
@@ -40,7 +40,7 @@ one_higher_after position o = record {
 -- The new reading is one of the words that it spells, and has the old one's occurrences, those
 -- after this position one higher, free words and trailing start.
 pub record ReadsOneHigherAfter (grammar : Grammar) (position : ℕ) (old new : Reading) : Type 0 where
-  pub reads : IsReading grammar new (words_of new)
+  pub reads : IsReading grammar new (spelled_words new)
   pub occurrences :
       occurrences_of grammar new ≡ map (one_higher_after position) (occurrences_of grammar old)
   pub free : free_words new ≡ free_words old
@@ -48,7 +48,7 @@ pub record ReadsOneHigherAfter (grammar : Grammar) (position : ℕ) (old new : R
 
 -- The same the other way round: the old reading's occurrences after this position are one higher.
 pub record ReadsOneLowerAfter (grammar : Grammar) (position : ℕ) (old new : Reading) : Type 0 where
-  pub reads : IsReading grammar new (words_of new)
+  pub reads : IsReading grammar new (spelled_words new)
   pub occurrences :
       occurrences_of grammar old ≡ map (one_higher_after position) (occurrences_of grammar new)
   pub free : free_words new ≡ free_words old
@@ -57,7 +57,7 @@ pub record ReadsOneLowerAfter (grammar : Grammar) (position : ℕ) (old new : Re
 -- The new reading is one of the words that it spells, and has the old one's mentions, free words
 -- and trailing start: positions alone may differ.
 pub record ReadsAlikeButForPositions (grammar : Grammar) (old new : Reading) : Type 0 where
-  pub reads : IsReading grammar new (words_of new)
+  pub reads : IsReading grammar new (spelled_words new)
   pub mentions : mentions_of grammar new ≡ mentions_of grammar old
   pub free : free_words new ≡ free_words old
   pub trailing : trailing_start new ≡ trailing_start old

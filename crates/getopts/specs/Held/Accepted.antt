@@ -5,7 +5,7 @@ use Rattle.getopts.specs.Scan.{Occurrence}
 use Rattle.getopts.specs.Index.{places_by_group}
 use Rattle.getopts.specs.Pairs.{name_texts}
 use Rattle.getopts.specs.Table.{IsTableOf}
-use Rattle.getopts.specs.Held.Groups.{AreLawful}
+use Rattle.getopts.specs.Held.Groups.{HaveLawfulNames}
 use Rattle.getopts.specs.declared.line.AcceptedLine.{AcceptedLine}
 
 -- where the occurrences of each group stand
@@ -14,6 +14,6 @@ index_of knowns occurrences = places_by_group (length knowns) (map (λ o. o.grou
 
 -- an accepted line stands beside the table and the index of these groups
 pub record IsHeldLine (knowns : List Known) (accepted : AcceptedLine) : Type 0 where
-  pub lawful : AreLawful knowns
+  pub lawful : HaveLawfulNames knowns
   pub table : IsTableOf (name_texts knowns) accepted.table
   pub index : accepted.index ≡ index_of knowns accepted.line.found

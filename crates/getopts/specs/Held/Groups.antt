@@ -25,9 +25,9 @@ known_with kinds short long = record {
 abbrev pub known_view : HeldKnown → Known
 known_view held = known_with held.kinds held.names.short.now held.names.long.now
 
--- each group is lawfully named
-abbrev pub AreLawful : List Known → Type 0
-AreLawful knowns = AllByRecursion (λ known. IsLawfullyNamed known.names) knowns
+-- the names of each group are lawful
+abbrev pub HaveLawfulNames : List Known → Type 0
+HaveLawfulNames knowns = AllByRecursion (λ known. IsLawfullyNamed known.names) knowns
 
 -- the short names of groups are texts
 abbrev pub HaveTextsForShorts : List Group → Type 0

@@ -5,7 +5,7 @@ use Rattle.getopts.specs.Scan.{Occurrence}
 use Rattle.getopts.specs.Matches.{Matched, matched}
 use Rattle.getopts.specs.Pairs.{name_texts}
 use Rattle.getopts.specs.Table.{IsTableOf}
-use Rattle.getopts.specs.Held.Groups.{AreLawful}
+use Rattle.getopts.specs.Held.Groups.{HaveLawfulNames}
 use Rattle.getopts.specs.Held.Found.{given_view}
 use Rattle.getopts.specs.Held.Accepted.{index_of}
 use Rattle.getopts.specs.declared.matches.Matches.TheInside.{Inside}
@@ -24,6 +24,6 @@ matches_view inside = record {
 
 -- matches keep lawful names, their table, and where the occurrences of each group stand
 pub record KeepsMatches (inside : Inside) : Type 0 where
-  pub lawful : AreLawful inside.groups
+  pub lawful : HaveLawfulNames inside.groups
   pub table : IsTableOf (name_texts inside.groups) inside.table
   pub index : inside.index ≡ index_of inside.groups (occurrences_in inside)

@@ -5,7 +5,7 @@ use Rattle.std.specs.Str.{IsUtf8}
 use Rattle.getopts.specs.Names.{Text}
 use Rattle.getopts.specs.Options.{Known, Group, Declared}
 use Rattle.getopts.specs.Pairs.{beside_pairs}
-use Rattle.getopts.specs.Held.Groups.{AreLawful}
+use Rattle.getopts.specs.Held.Groups.{HaveLawfulNames}
 use Rattle.getopts.specs.declared.options.Options.TheInside.{Inside}
 
 -- a group with this hint and this description
@@ -22,6 +22,6 @@ options_view inside = record {
 
 -- options keep lawful names, which are texts, and a hint and a description for each group
 pub record KeepsOptions (inside : Inside) : Type 0 where
-  pub lawful : AreLawful inside.groups
+  pub lawful : HaveLawfulNames inside.groups
   pub shorts : AllByRecursion (λ known. IsUtf8 known.names.short) inside.groups
   pub help_fits : length inside.help ≡ 2 * length inside.groups

@@ -9,7 +9,7 @@ use Rattle.getopts.specs.Parse.{IsRefused}
 use Rattle.getopts.specs.Table.{IsTableOf}
 use Rattle.getopts.specs.Held.Accepted.{index_of}
 use Rattle.getopts.proofs.FailLemmas.{Tells-weaker}
-use Rattle.getopts.proofs.PairsLemmas.{AreLawful-known}
+use Rattle.getopts.proofs.PairsLemmas.{HaveLawfulNames-known}
 use Rattle.getopts.proofs.ParseLemmas.{HasNoReading-fault, BreaksCounts-reading}
 use Rattle.getopts.proofs.options.Options.accepted_line.Goals as goal
 
@@ -47,7 +47,7 @@ returns-clause-accepted c =
       lawful = c.groups-groups.ensures.lawful;
       shorts = c.groups-groups.ensures.shorts;
       held = record {
-        lawful = AreLawful-known c.args.self.now.groups c.groups-groups.ensures.lawful;
+        lawful = HaveLawfulNames-known c.args.self.now.groups c.groups-groups.ensures.lawful;
         table = subst (λ (names : List Text). IsTableOf names c.in_ok-table.table) c.names.ensures c.in_ok-table.ensures;
         index = subst (λ (knowns : List Known). c.in_ok-index.index ≡ index_of knowns line.found) c.groups-groups.ensures.groups counted.0;
       };
