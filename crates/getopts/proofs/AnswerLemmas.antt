@@ -16,7 +16,7 @@ use Rattle.getopts.specs.declared.groups.Occur.{Occur}
 use Rattle.getopts.specs.declared.groups.Occur.TheVariants.{Req, Optional, Multi}
 use Rattle.getopts.proofs.CanonLemmas.{HasUnwritable-content, HasCanonicalLine-says, Says-reading}
 use Rattle.getopts.proofs.ParseLemmas.{named_here, only_reads, HasNoReading-fault}
-use Rattle.getopts.proofs.ScanReadings.{only_reading, reading_or_fault}
+use Rattle.getopts.proofs.ScanReadings.{reading_or_fault}
 
 -- a count fits or not
 count_cases : (occurrence : Occur) (count : ℕ) → FitsCount occurrence count ⊎ ¬ (FitsCount occurrence count)

@@ -3,7 +3,7 @@ use Rattle.std.specs.Prelude.{◌≡◌, ◌<◌, List, length, map, Some, IsSom
 use Rattle.std.specs.List.{AllByRecursion}
 use Rattle.getopts.specs.Names.{Text}
 use Rattle.getopts.specs.Options.{Declared, Declares, knowns_of, kind_of, occurrence_of}
-use Rattle.getopts.specs.Matches.{Found, Matched, MatchedGroup}
+use Rattle.getopts.specs.Matches.{Found, MatchedGroup}
 use Rattle.getopts.specs.Accessors.{IsDefined, found_of, first_value}
 use Rattle.getopts.specs.Canon.{FitsKind}
 use Rattle.getopts.specs.ScanLaws.{EndIn}

@@ -1,5 +1,5 @@
 -- What usage texts say: the line of all options, and the rows of options with their descriptions.
-use Rattle.std.specs.Prelude.{◌≡◌, ◌↔◌, ℕ, ◌-◌, Bool, not, nat_lt, List, [], ◌++◌, map}
+use Rattle.std.specs.Prelude.{◌≡◌, ℕ, ◌-◌, Bool, not, nat_lt, List, [], ◌++◌, map}
 use Rattle.std.specs.Prelude.{codes, if◌then◌else◌}
 use Rattle.std.specs.List.{AllZip, list_any, repeat}
 use Rattle.getopts.specs.Only.{IsTheOnly}
