@@ -1,5 +1,5 @@
 -- What is read at a place of a text fits a byte.
-use Rattle.std.proofs.Common.{ℕ, get_or, arith, Fits, w8}
+use Rattle.std.proofs.Common.{get_or, arith, Fits, w8}
 use Rattle.std.proofs.lemmas.List.{get_or_default}
 use Rattle.getopts.proofs.texts.is_of_bytes.Goals as goal
 
