@@ -1,8 +1,11 @@
 /* Command-line options for C: the exports of the archive libgetopts_c.a, which is proved.
  *
  * Every call takes any bytes and numbers, keeps no pointer, and writes only to the room that it is
- * given. It answers a status. A pointer may be to nothing only where its length is 0, and is then still
- * not null. The archive asks for its heap by the three functions at the end. */
+ * given. It answers one of these statuses. A pointer may be to nothing only where its length is 0, and is
+ * then still not null. The archive asks for its heap by the three functions at the end.
+ *
+ * A request says one set of options and one line at most, and an answer is read back one way: its numbers
+ * tell where each part of it ends. */
 #ifndef GETOPTS_C_H
 #define GETOPTS_C_H
 
@@ -10,7 +13,7 @@
 #include <stddef.h>
 #include <stdint.h>
 
-/* A status. */
+/* A status. With the last three no numbers and no bytes are written. */
 enum {
     GETOPTS_OK,                  /* the answer was written */
     GETOPTS_ARGUMENT_MISSING,    /* a fault: the bytes are the name that it tells, the number its length */
@@ -18,10 +21,14 @@ enum {
     GETOPTS_OPTION_MISSING,      /* a fault */
     GETOPTS_OPTION_DUPLICATED,   /* a fault */
     GETOPTS_UNEXPECTED_ARGUMENT, /* a fault */
-    GETOPTS_NO_MEMORY,           /* memory was refused; nothing was written */
-    GETOPTS_BAD,                 /* bytes that are no text, lengths that don't fit, unlawful names or kinds */
-    GETOPTS_TOO_SMALL            /* some room was too small; the sizes tell what is needed */
+    GETOPTS_NO_MEMORY,           /* memory was refused; the sizes are as they were */
+    GETOPTS_BAD,                 /* nothing lawful fits: see below; the sizes are as they were */
+    GETOPTS_TOO_SMALL            /* some room was too small; the sizes tell what is needed, and suffice */
 };
+
+/* GETOPTS_BAD is answered only where no lawfully named options of UTF-8 texts are what the texts, lengths and
+ * kinds say, or where the words, the brief or the program's name aren't UTF-8 texts of these lengths. A short
+ * name has at most one byte, a long name doesn't have exactly one, and not both are empty. */
 
 /* How much an answer has: written with every status up to GETOPTS_UNEXPECTED_ARGUMENT, and with
  * GETOPTS_TOO_SMALL. */

@@ -94,9 +94,11 @@ preload=
 if [ -z "$compiler" ]; then
     skip "the C example: there is no C compiler"
 else
-    check "the C example compiles" "$compiler" -std=c11 -O2 -Wall -Wextra -Wpedantic -Wshadow \
-        -Wconversion -Wno-sign-conversion -Werror "$top/c/show.c" "$top/c/heap.c" "$archive" -o "$room/show"
+    strict=("$compiler" -std=c11 -O2 -Wall -Wextra -Wpedantic -Wshadow -Wconversion -Wno-sign-conversion -Werror)
+    check "the C example compiles" "${strict[@]}" "$top/c/show.c" "$top/c/heap.c" "$archive" -o "$room/show"
     check "the C example answers as getopts_show" same_as_show "$room/show"
+    check "the exports' caller compiles" "${strict[@]}" "$top/c/refused.c" "$archive" -o "$room/exports"
+    check "each export under refused memory" "$room/exports" && cat "$room/said"
     if "$compiler" -O2 -ffreestanding -fPIC -shared -nostdlib "$top/refused/refuse.c" -o "$room/refuse.so"; then
         preload=yes
         check "the C example under refused memory" refused "$room/show" 3 0

@@ -1,7 +1,7 @@
 -- What an answer is, from what its parts are.
-use Rattle.std.proofs.Common.{◌≡◌, ℕ, List, [], ◌∷◌, ◌++◌, length, get_or, ap, subst, sym, append_assoc, append-nil, ◌∙◌, arith}
+use Rattle.std.proofs.Common.{◌≡◌, ℕ, List, [], ◌∷◌, ◌++◌, length, get_or, ap, subst, sym, append_assoc, append-nil, ◌∙◌, inl, inr, arith}
 use Rattle.std.specs.List.{flat_map}
-use Rattle.std.specs.Prelude.{◌<◌, IfNone, IfSome, ⊤, Result, Ok, Err, IfOk, OnOk, IsOkAnd, Option, Some, None, MatchOption, IsSomeAnd}
+use Rattle.std.specs.Prelude.{◌<◌, ◌⊎◌, IfNone, IfSome, ⊤, Result, Ok, Err, IfOk, OnOk, IsOkAnd, Option, Some, None, MatchOption, IsSomeAnd}
 use Rattle.std.specs.Borrow.{Bor}
 use Rattle.getopts.specs.Fail.{Fault, argument_missing, unrecognized_option, option_missing, option_duplicated, unexpected_argument}
 use Rattle.getopts.specs.Names.{texts}
@@ -11,7 +11,7 @@ use Rattle.getopts.specs.Options.{Declared}
 use Rattle.getopts.specs.Parse.{IsAccepted, IsRefused}
 use Rattle.getopts.specs.CanonAnswers.{IsWritten as IsCanonicalLine, IsUnwritable}
 use Rattle.getopts_c.specs.Request.{joined}
-use Rattle.getopts_c.specs.Answer.{HasSizes, IsLineOf, written, unwritable, unaccepted, text_numbers}
+use Rattle.getopts_c.specs.Answer.{HasSize, HasSizes, IsLineOf, written, unwritable, unaccepted, text_numbers}
 use Rattle.getopts_c.specs.Answer.{IsAnswer, accepted, refused, all_names, four_names, fault_name, fault_status, matches_bytes, matches_numbers}
 
 -- the answer to accepted words
@@ -41,6 +41,12 @@ pub both : {T E : Type 0} (P Q : T → Type 0) (R : Type 0) (answer : Result T E
     → ((t : T) → P t → Q t → R) → R
 both P Q R (Ok t) is known follows = follows t is known
 both P Q R (Err e) is known follows = absurd is
+
+-- what follows from three facts of an answer
+pub of_three : {T E : Type 0} (P Q R S : T → Type 0) (answer : Result T E) → IfOk answer P → IfOk answer Q → IfOk answer R
+    → ((t : T) → P t → Q t → R t → S t) → IfOk answer S
+of_three P Q R S (Ok t) is known shown follows = follows t is known shown
+of_three P Q R S (Err e) is known shown follows = tt
 
 -- what holds where the answer is `Ok` gives what follows from it
 pub on_ok_so : {T E P Q : Type 0} (answer : Result T E) → OnOk answer P → (P → Q) → OnOk answer Q
@@ -112,3 +118,23 @@ pub sized : {T E : Type 0} (Answers : ℕ → List ℕ → Text → Type 0) (sta
 sized Answers status numbers bytes (Ok t) numbers_size bytes_size sizes is =
     (status t, numbers t, bytes t, is, sizes.0, sizes.1)
 sized Answers status numbers bytes (Err e) numbers_size bytes_size sizes is = absurd sizes
+
+-- a text that is handed out by its size alone
+pub text_sized : {T E : Type 0} (IsSuchText : Text → Type 0) (numbers : T → List ℕ) (bytes : T → Text)
+    (answer : Result T E) (numbers_size bytes_size : ℕ)
+    → IsOkAnd answer (λ t. (numbers_size ≡ length (numbers t)) × (bytes_size ≡ length (bytes t)))
+    → IfOk answer (λ t. IsSuchText (bytes t))
+    → HasSize IsSuchText bytes_size
+text_sized IsSuchText numbers bytes (Ok t) numbers_size bytes_size sizes is = (bytes t, is, sizes.1)
+text_sized IsSuchText numbers bytes (Err e) numbers_size bytes_size sizes is = absurd sizes
+
+-- where an answer has no numbers, too little room is too little room for bytes
+pub bytes_alone : {T E : Type 0} (numbers : T → List ℕ) (bytes : T → Text) (answer : Result T E) (numbers_room numbers_size bytes_room bytes_size : ℕ)
+    → (numbers_room < numbers_size) ⊎ (bytes_room < bytes_size)
+    → IsOkAnd answer (λ t. (numbers_size ≡ length (numbers t)) × (bytes_size ≡ length (bytes t)))
+    → IfOk answer (λ t. numbers t ≡ [])
+    → bytes_room < bytes_size
+bytes_alone numbers bytes (Ok t) numbers_room numbers_size bytes_room bytes_size (inl few) sizes none =
+    absurd (let size : numbers_size ≡ 0 = sizes.0 ∙ ap length none in omega arith)
+bytes_alone numbers bytes (Ok t) numbers_room numbers_size bytes_room bytes_size (inr few) sizes none = few
+bytes_alone numbers bytes (Err e) numbers_room numbers_size bytes_room bytes_size small sizes none = absurd sizes

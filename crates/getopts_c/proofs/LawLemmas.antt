@@ -1,5 +1,5 @@
 -- What a request says is one thing: it can be read back.
-use Rattle.std.proofs.Common.{◌≡◌, ℕ, Bool, List, [], ◌∷◌, ◌++◌, take, drop, length, map, refl, sym, ◌∙◌}
+use Rattle.std.proofs.Common.{◌≡◌, ℕ, Bool, List, [], ◌∷◌, ◌++◌, take, drop, length, map, refl, sym, ap, ◌∙◌}
 use Rattle.std.proofs.Math.Seq.{take-append_seam, drop-append_seam}
 use Rattle.std.specs.Prelude.{◌==◌, ◌%◌, if◌then◌else◌, nat_lt}
 use Rattle.std.specs.List.{flat_map}
@@ -10,6 +10,14 @@ use Rattle.getopts.specs.declared.groups.Occur.{Occur}
 use Rattle.getopts.specs.declared.groups.HasArg.TheVariants.{Yes, No, Maybe}
 use Rattle.getopts.specs.declared.groups.Occur.TheVariants.{Req, Optional, Multi}
 use Rattle.getopts_c.specs.Request.{joined, IsCut, IsRequest, group_number, group_texts, kind_number, style_of}
+
+-- fronts of one length are the same, and so is what follows them
+pub same_front : {A : Type 0} (front other rest left : List A) → front ++ rest ≡ other ++ left → length front ≡ length other
+    → (front ≡ other) × (rest ≡ left)
+same_front front other rest left same size = (
+  sym (take-append_seam front rest) ∙ ap (take (length front)) same ∙ ap (λ n. take n (other ++ left)) size ∙ take-append_seam other left,
+  sym (drop-append_seam front rest) ∙ ap (drop (length front)) same ∙ ap (λ n. drop n (other ++ left)) size ∙ drop-append_seam other left,
+)
 
 -- the texts of these lengths
 abbrev cut_from : Text → List ℕ → List Text

@@ -1,3 +1,5 @@
 mod AnswerLemmas
+mod BadLemmas
 mod LawLemmas
+mod ReadBackLemmas
 mod RequestLemmas

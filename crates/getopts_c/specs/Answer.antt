@@ -1,7 +1,7 @@
 -- The numbers and the bytes that tell what words give.
 use Rattle.std.specs.Prelude.{◌≡◌, ℕ, ◌+◌, Bool, List, [], ◌∷◌, ◌++◌, length, map, take}
 use Rattle.std.specs.Prelude.{Option, Some, None, false}
-use Rattle.std.specs.List.{flat_map}
+use Rattle.std.specs.List.{AllByRecursion, flat_map}
 use Rattle.getopts.specs.Accessors.{found_of, positions_of, pairs_of}
 use Rattle.getopts.specs.Fail.{Fault, argument_missing, unrecognized_option}
 use Rattle.getopts.specs.Fail.{option_missing, option_duplicated, unexpected_argument}
@@ -164,3 +164,19 @@ abbrev pub HasSizes : (ℕ → List ℕ → Text → Type 0) → ℕ → ℕ →
 HasSizes Answers numbers_size bytes_size =
     (status : ℕ) × (numbers : List ℕ) × (bytes : Text) × Answers status numbers bytes
     × (numbers_size ≡ length numbers) × (bytes_size ≡ length bytes)
+
+-- some such text has so many bytes
+abbrev pub HasSize : (Text → Type 0) → ℕ → Type 0
+HasSize IsSuchText size = (text : Text) × IsSuchText text × (size ≡ length text)
+
+-- two matches tell the same of an option: its positions, and its positions with values
+pub record TellSame (groups others : List MatchedGroup) (name : Text) : Type 0 where
+  pub positions : positions_of (found_of groups name) ≡ positions_of (found_of others name)
+  pub pairs : pairs_of (found_of groups name) ≡ pairs_of (found_of others name)
+
+-- Two matches tell the same of the option of each name, and have the same free words and the same
+-- trailing start.
+pub record TellAlike (names : List Text) (matches others : Matched) : Type 0 where
+  pub options : AllByRecursion (TellSame matches.groups others.groups) names
+  pub free : matches.free ≡ others.free
+  pub trailing_start : matches.trailing_start ≡ others.trailing_start

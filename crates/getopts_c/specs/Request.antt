@@ -1,8 +1,8 @@
 -- What bytes, lengths and kinds say: texts, and option groups.
 use Rattle.std.specs.Prelude.{◌≡◌, ℕ, ◌+◌, ◌*◌, Bool, true, false, List, [], ◌∷◌, length, map}
 use Rattle.std.specs.List.{flat_map}
-use Rattle.getopts.specs.Names.{Text}
-use Rattle.getopts.specs.Options.{Group, Declared}
+use Rattle.getopts.specs.Names.{Text, AreTexts, IsLawfullyNamed}
+use Rattle.getopts.specs.Options.{Group, Declared, AreLawfullyNamed}
 use Rattle.getopts.specs.Same.{kind_index, occurrence_index}
 use Rattle.getopts.specs.declared.groups.HasArg.{HasArg}
 use Rattle.getopts.specs.declared.groups.Occur.{Occur}
@@ -51,3 +51,23 @@ pub record IsRequest (bytes : Text) (lens kinds : List ℕ) (stop long_only : Bo
   pub kinds_are : kinds ≡ map group_number options.groups
   pub style_is : options.style ≡ style_of stop
   pub mode_is : options.long_only ≡ long_only
+
+-- no UTF-8 texts are what these bytes and lengths say
+abbrev pub SayNoTexts : Text → List ℕ → Type 0
+SayNoTexts bytes lens = (words : List Text) → IsCut bytes lens words → ¬ (AreTexts words)
+
+-- no lawfully named group has these texts and this number of its kinds
+abbrev pub SayNoGroup : List Text → ℕ → Type 0
+SayNoGroup four kind = (group : Group)
+    → group_texts group ≡ four → group_number group ≡ kind → ¬ (IsLawfullyNamed group.known.names)
+
+-- no lawfully named options are what these texts in fours and kinds say
+abbrev pub DeclareNoOptions : List (List Text) → List ℕ → Bool → Bool → Type 0
+DeclareNoOptions fours kinds stop long_only = (options : Declared)
+    → IsDeclaredBy fours kinds stop long_only options → ¬ (AreLawfullyNamed options.groups)
+
+-- no lawfully named options of UTF-8 texts are what these bytes, lengths and kinds say
+abbrev pub SayNoOptions : Text → List ℕ → List ℕ → Bool → Bool → Type 0
+SayNoOptions bytes lens kinds stop long_only = (options : Declared)
+    → IsRequest bytes lens kinds stop long_only options → AreLawfullyNamed options.groups
+    → ¬ (AreTexts (flat_map group_texts options.groups))

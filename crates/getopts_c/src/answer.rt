@@ -1,13 +1,14 @@
 //! What a caller gets: numbers and bytes.
 
-ghost use Rattle.std.specs.Prelude.{◌≡◌, ◌⊎◌, false, ◌<◌, ◌++◌, ◌∷◌, [], map, length};
-ghost use Rattle.std.specs.Prelude.{IfOk, OnOk, IsOkAnd, IsSomeAnd};
+ghost use Rattle.std.specs.Prelude.{◌≡◌, ◌⊎◌, false, ◌<◌, ◌≤◌, ◌++◌, ◌∷◌, [], map, length};
+ghost use Rattle.std.specs.Prelude.{IfErr, IfOk, OnOk, IsErrOf, IsOkAnd, IsSomeAnd};
 ghost use Rattle.std.specs.List.{flat_map};
+ghost use Rattle.std.specs.Str.{IsUtf8};
 ghost use Rattle.std.specs.String.{string_bytes};
 ghost use Rattle.getopts.specs.Names.{texts};
 ghost use Rattle.getopts.specs.Fail.{fault_of};
 ghost use Rattle.getopts.specs.Held.OfGroup.{pair_view};
-ghost use Rattle.getopts_c.specs.Request.{joined};
+ghost use Rattle.getopts_c.specs.Request.{SayNoOptions, SayNoTexts, joined};
 ghost use Rattle.getopts_c.specs.Answer.{IsAnswer, IsAnswered, IsCanonicalOf, IsLineOf, IsWritten};
 ghost use Rattle.getopts_c.specs.Answer.{IsRowsOf, IsShortUsageOf, IsUsageOf};
 ghost use Rattle.getopts_c.specs.Answer.{all_names, fault_name, fault_status, four_names};
@@ -203,11 +204,16 @@ impl Answer {
         sizes: &mut Sizes,
     ) -> u32
         requires { IfOk answer (λ answer. answer.status < 6) }
+        ensures known { result ≤ 8 }
+        ensures untouched { 5 < result →
+            (numbers.new ≡ numbers.old) × (bytes.new ≡ bytes.old) }
+        ensures untold { 5 < result → result < 8 → sizes.new ≡ sizes.old }
         ensures small { result ≡ 8 →
             (length numbers.old < sizes.new.numbers) ⊎ (length bytes.old < sizes.new.bytes) }
         ensures sizes_told { result ≡ 8 → IsOkAnd answer (λ answer.
             (sizes.new.numbers ≡ length answer.body.numbers.items)
             × (sizes.new.bytes ≡ length (string_bytes answer.body.bytes))) }
+        ensures bad { result ≡ 7 → IsErrOf answer Refusal.Bad }
         ensures written { result < 6 → IsOkAnd answer (λ answer. (result ≡ answer.status)
             × IsWritten answer.body.numbers.items numbers.new sizes.new.numbers
             × IsWritten (string_bytes answer.body.bytes) bytes.new sizes.new.bytes) }
@@ -234,7 +240,7 @@ impl Answer {
 }
 
 /// The answer that tells a fault.
-fn refused(alloc: Global, fail: &Fail) -> Result<Answer, Refusal>
+fn refused(alloc: Global, fail: &Fail) -> Result<Answer, AllocError>
     ensures { IfOk result (λ answer. IsSomeAnd (fault_of fail.now) (λ fault.
         (answer.status ≡ fault_status fault)
         × (answer.body.numbers.items ≡ length (fault_name fault) ∷ [])
@@ -246,7 +252,7 @@ fn refused(alloc: Global, fail: &Fail) -> Result<Answer, Refusal>
         Fail::OptionMissing(name) => (3, name),
         Fail::OptionDuplicated(name) => (4, name),
         Fail::UnexpectedArgument(name) => (5, name),
-        Fail::OutOfMemory => return Err(Refusal::NoMemory),
+        Fail::OutOfMemory => return Err(AllocError),
     };
     let mut body = Body::new(alloc);
     body.push_text(name.as_str())?;
@@ -254,7 +260,7 @@ fn refused(alloc: Global, fail: &Fail) -> Result<Answer, Refusal>
 }
 
 /// The answer that tells matches, by the names of these groups.
-fn accepted(alloc: Global, matches: &Matches, groups: &[[&str; 4]]) -> Result<Answer, Refusal>
+fn accepted(alloc: Global, matches: &Matches, groups: &[[&str; 4]]) -> Result<Answer, AllocError>
     ensures { IfOk result (λ answer. (answer.status ≡ 0)
         × (answer.body.numbers.items
         ≡ matches_numbers (flat_map four_names (map texts groups.now)) matches.now)
@@ -274,7 +280,7 @@ fn answer_by(
     options: &Options,
     groups: &[[&str; 4]],
     words: &[&str],
-) -> Result<Answer, Refusal>
+) -> Result<Answer, AllocError>
     requires { all_names options.now.groups ≡ flat_map four_names (map texts groups.now) }
     ensures { IfOk result (λ answer. IsAnswer options.now (texts words.now)
         answer.status answer.body.numbers.items (string_bytes answer.body.bytes)) }
@@ -296,17 +302,22 @@ pub(crate) fn answer_to(
         request.entry.stop request.entry.long_only words.entry.bytes.now words.entry.lens.now
         answer.status answer.body.numbers.items (string_bytes answer.body.bytes)) }
     ensures status { IfOk result (λ answer. answer.status < 6) }
+    ensures bad { IfErr result (λ refusal. refusal ≡ Refusal.Bad → SayNoOptions
+        request.entry.texts.now request.entry.lens.now request.entry.kinds.now
+        request.entry.stop request.entry.long_only
+        ⊎ SayNoTexts words.entry.bytes.now words.entry.lens.now) }
 {
     let pieces = request.texts(alloc)?;
     let groups = in_fours(pieces.as_slice())?;
     let options = request.options_by(alloc, groups)?;
     let words = cut(alloc, words.bytes, words.lens)?;
-    answer_by(alloc, &options, groups, words.as_slice())
+    Ok(answer_by(alloc, &options, groups, words.as_slice())?)
 }
 
 /// The answer that is a text.
 fn of_text(alloc: Global, text: String) -> Answer
     ensures status { result.status ≡ 0 }
+    ensures numbers { result.body.numbers.items ≡ [] }
     ensures bytes { string_bytes result.body.bytes ≡ string_bytes text }
 {
     Answer {
@@ -324,7 +335,12 @@ pub(crate) fn usage_of(alloc: Global, request: Request<'_>, brief: &[u8]) -> Res
     ensures usage { IfOk result (λ answer. IsUsageOf
         request.entry.texts.now request.entry.lens.now request.entry.kinds.now
         request.entry.long_only brief.now (string_bytes answer.body.bytes)) }
+    ensures numbers { IfOk result (λ answer. answer.body.numbers.items ≡ []) }
     ensures status { IfOk result (λ answer. answer.status < 6) }
+    ensures bad { IfErr result (λ refusal. refusal ≡ Refusal.Bad → SayNoOptions
+        request.entry.texts.now request.entry.lens.now request.entry.kinds.now
+        false request.entry.long_only
+        ⊎ (¬ (IsUtf8 brief.now))) }
 {
     let options = request.options(alloc)?;
     let text = options.usage(alloc, text_of(brief)?)?;
@@ -342,7 +358,11 @@ pub(crate) fn short_usage_of(
     ensures usage { IfOk result (λ answer. IsShortUsageOf
         request.entry.texts.now request.entry.lens.now request.entry.kinds.now
         program.now (string_bytes answer.body.bytes)) }
+    ensures numbers { IfOk result (λ answer. answer.body.numbers.items ≡ []) }
     ensures status { IfOk result (λ answer. answer.status < 6) }
+    ensures bad { IfErr result (λ refusal. refusal ≡ Refusal.Bad → SayNoOptions
+        request.entry.texts.now request.entry.lens.now request.entry.kinds.now false false
+        ⊎ (¬ (IsUtf8 program.now))) }
 {
     let options = request.options(alloc)?;
     Ok(of_text(alloc, options.short_usage(alloc, text_of(program)?)?))
@@ -368,6 +388,9 @@ pub(crate) fn rows_of(alloc: Global, request: Request<'_>) -> Result<Answer, Ref
         request.entry.texts.now request.entry.lens.now request.entry.kinds.now
         request.entry.long_only answer.body.numbers.items (string_bytes answer.body.bytes)) }
     ensures status { IfOk result (λ answer. answer.status < 6) }
+    ensures bad { IfErr result (λ refusal. refusal ≡ Refusal.Bad → SayNoOptions
+        request.entry.texts.now request.entry.lens.now request.entry.kinds.now
+        false request.entry.long_only) }
 {
     let options = request.options(alloc)?;
     let rows = options.usage_rows(alloc)?;
@@ -375,12 +398,12 @@ pub(crate) fn rows_of(alloc: Global, request: Request<'_>) -> Result<Answer, Ref
 }
 
 /// The answer that is the canonical line of words by options, or that there is none.
-fn line_by(alloc: Global, options: &Options, words: &[&str]) -> Result<Answer, Refusal>
+fn line_by(alloc: Global, options: &Options, words: &[&str]) -> Result<Answer, AllocError>
     ensures { IfOk result (λ answer. IsLineOf options.now (texts words.now)
         answer.status answer.body.numbers.items (string_bytes answer.body.bytes)) }
 {
     match options.canonical(alloc, words.iter().copied()) {
-        Ok(Some(line)) => Ok(of_texts(alloc, line.as_slice())?),
+        Ok(Some(line)) => of_texts(alloc, line.as_slice()),
         Ok(None) => Ok(Answer {
             status: 0,
             body: Body::new(alloc),
@@ -400,8 +423,12 @@ pub(crate) fn line_of(
         request.entry.stop request.entry.long_only words.entry.bytes.now words.entry.lens.now
         answer.status answer.body.numbers.items (string_bytes answer.body.bytes)) }
     ensures status { IfOk result (λ answer. answer.status < 6) }
+    ensures bad { IfErr result (λ refusal. refusal ≡ Refusal.Bad → SayNoOptions
+        request.entry.texts.now request.entry.lens.now request.entry.kinds.now
+        request.entry.stop request.entry.long_only
+        ⊎ SayNoTexts words.entry.bytes.now words.entry.lens.now) }
 {
     let options = request.options(alloc)?;
     let words = cut(alloc, words.bytes, words.lens)?;
-    line_by(alloc, &options, words.as_slice())
+    Ok(line_by(alloc, &options, words.as_slice())?)
 }

@@ -1,12 +1,17 @@
 //! `getopts` for callers that are not Rattle: C, and Rust through C's calls.
 #![tactic(auto)]
 
-ghost use Rattle.std.specs.Prelude.{◌≡◌, ◌<◌, ◌⊎◌, ℕ, Bool, List, length, take};
+ghost use Rattle.std.specs.Prelude.{◌≡◌, ◌≢◌, ◌<◌, ◌≤◌, ◌⊎◌, ℕ, Bool, false, List, [], length, take};
+ghost use Rattle.std.specs.Str.{IsUtf8};
 ghost use Rattle.getopts.specs.CanonAnswers.{HasOneAnswer};
+ghost use Rattle.getopts.specs.Fail.{Fault};
+ghost use Rattle.getopts.specs.Matches.{Matched};
 ghost use Rattle.getopts.specs.Names.{Text};
-ghost use Rattle.getopts_c.specs.Request.{IsCut, IsRequest};
-ghost use Rattle.getopts_c.specs.Answer.{HasSizes, IsAnswered, IsCanonicalOf, IsRowsOf};
-ghost use Rattle.getopts_c.specs.Answer.{IsShortUsageOf, IsUsageOf};
+ghost use Rattle.getopts_c.specs.Request.{IsCut, IsRequest, SayNoOptions, SayNoTexts, joined};
+ghost use Rattle.getopts_c.specs.Answer.{HasSize, HasSizes, IsAnswered, IsCanonicalOf, IsRowsOf};
+ghost use Rattle.getopts_c.specs.Answer.{IsShortUsageOf, IsUsageOf, TellAlike};
+ghost use Rattle.getopts_c.specs.Answer.{fault_name, fault_status, matches_bytes, matches_numbers};
+ghost use Rattle.getopts_c.specs.Answer.{text_numbers};
 
 mod answer;
 mod request;
@@ -36,10 +41,16 @@ pub extern "C" fn getopts_c_parse(
     bytes: &mut [u8],
     sizes: &mut Sizes,
 ) -> u32
+    ensures known { result ≤ 8 }
+    ensures untouched { 5 < result →
+        (numbers.new ≡ numbers.old) × (bytes.new ≡ bytes.old) }
+    ensures untold { 5 < result → result < 8 → sizes.new ≡ sizes.old }
     ensures small { result ≡ 8 →
         (length numbers.old < sizes.new.numbers) ⊎ (length bytes.old < sizes.new.bytes) }
     ensures sizes_told { result ≡ 8 → HasSizes (IsAnswered texts.now lens.now kinds.now
         stop long_only words.now word_lens.now) sizes.new.numbers sizes.new.bytes }
+    ensures bad { result ≡ 7 → SayNoOptions texts.now lens.now kinds.now stop long_only
+        ⊎ SayNoTexts words.now word_lens.now }
     ensures answered { result < 6 → IsAnswered texts.now lens.now kinds.now stop long_only
         words.now word_lens.now
         result (take sizes.new.numbers numbers.new) (take sizes.new.bytes bytes.new) }
@@ -70,7 +81,15 @@ pub extern "C" fn getopts_c_usage(
     bytes: &mut [u8],
     sizes: &mut Sizes,
 ) -> u32
-    ensures { result < 6 → IsUsageOf texts.now lens.now kinds.now long_only brief.now
+    ensures known { result ≤ 8 }
+    ensures untouched { 5 < result → bytes.new ≡ bytes.old }
+    ensures untold { 5 < result → result < 8 → sizes.new ≡ sizes.old }
+    ensures small { result ≡ 8 → length bytes.old < sizes.new.bytes }
+    ensures sizes_told { result ≡ 8 → HasSize (IsUsageOf texts.now lens.now kinds.now
+        long_only brief.now) sizes.new.bytes }
+    ensures bad { result ≡ 7 → SayNoOptions texts.now lens.now kinds.now false long_only
+        ⊎ (¬ (IsUtf8 brief.now)) }
+    ensures usage { result < 6 → IsUsageOf texts.now lens.now kinds.now long_only brief.now
         (take sizes.new.bytes bytes.new) }
 {
     let request = Request {
@@ -94,7 +113,15 @@ pub extern "C" fn getopts_c_short_usage(
     bytes: &mut [u8],
     sizes: &mut Sizes,
 ) -> u32
-    ensures { result < 6 → IsShortUsageOf texts.now lens.now kinds.now program.now
+    ensures known { result ≤ 8 }
+    ensures untouched { 5 < result → bytes.new ≡ bytes.old }
+    ensures untold { 5 < result → result < 8 → sizes.new ≡ sizes.old }
+    ensures small { result ≡ 8 → length bytes.old < sizes.new.bytes }
+    ensures sizes_told { result ≡ 8 → HasSize (IsShortUsageOf texts.now lens.now kinds.now
+        program.now) sizes.new.bytes }
+    ensures bad { result ≡ 7 → SayNoOptions texts.now lens.now kinds.now false false
+        ⊎ (¬ (IsUtf8 program.now)) }
+    ensures usage { result < 6 → IsShortUsageOf texts.now lens.now kinds.now program.now
         (take sizes.new.bytes bytes.new) }
 {
     let request = Request {
@@ -124,8 +151,15 @@ pub extern "C" fn getopts_c_usage_rows(
     bytes: &mut [u8],
     sizes: &mut Sizes,
 ) -> u32
+    ensures known { result ≤ 8 }
+    ensures untouched { 5 < result →
+        (numbers.new ≡ numbers.old) × (bytes.new ≡ bytes.old) }
+    ensures untold { 5 < result → result < 8 → sizes.new ≡ sizes.old }
     ensures small { result ≡ 8 →
         (length numbers.old < sizes.new.numbers) ⊎ (length bytes.old < sizes.new.bytes) }
+    ensures sizes_told { result ≡ 8 → HasSizes (λ _. IsRowsOf texts.now lens.now kinds.now
+        long_only) sizes.new.numbers sizes.new.bytes }
+    ensures bad { result ≡ 7 → SayNoOptions texts.now lens.now kinds.now false long_only }
     ensures rows { result < 6 → IsRowsOf texts.now lens.now kinds.now long_only
         (take sizes.new.numbers numbers.new) (take sizes.new.bytes bytes.new) }
 {
@@ -155,10 +189,16 @@ pub extern "C" fn getopts_c_canonical(
     bytes: &mut [u8],
     sizes: &mut Sizes,
 ) -> u32
+    ensures known { result ≤ 8 }
+    ensures untouched { 5 < result →
+        (numbers.new ≡ numbers.old) × (bytes.new ≡ bytes.old) }
+    ensures untold { 5 < result → result < 8 → sizes.new ≡ sizes.old }
     ensures small { result ≡ 8 →
         (length numbers.old < sizes.new.numbers) ⊎ (length bytes.old < sizes.new.bytes) }
     ensures sizes_told { result ≡ 8 → HasSizes (IsCanonicalOf texts.now lens.now kinds.now
         stop long_only words.now word_lens.now) sizes.new.numbers sizes.new.bytes }
+    ensures bad { result ≡ 7 → SayNoOptions texts.now lens.now kinds.now stop long_only
+        ⊎ SayNoTexts words.now word_lens.now }
     ensures answered { result < 6 → IsCanonicalOf texts.now lens.now kinds.now stop long_only
         words.now word_lens.now
         result (take sizes.new.numbers numbers.new) (take sizes.new.bytes bytes.new) }
@@ -183,4 +223,20 @@ pub fn requests_say_one_thing()
     ensures options { (bytes : Text) (lens kinds : List ℕ) (stop long_only : Bool)
         → HasOneAnswer (IsRequest bytes lens kinds stop long_only) }
     ensures line { (bytes : Text) (lens : List ℕ) → HasOneAnswer (IsCut bytes lens) }
+{}
+
+/// Numbers and bytes tell one thing at most: a law to cite, which does nothing.
+///
+/// By the same names they tell the same positions, values, free words and trailing start. A status
+/// and a name tell one fault. Texts are those of their numbers and bytes, and have numbers always.
+pub fn answers_say_one_thing()
+    ensures matches { (names : List Text) (matches others : Matched)
+        → matches_numbers names matches ≡ matches_numbers names others
+        → matches_bytes names matches ≡ matches_bytes names others
+        → TellAlike names matches others }
+    ensures fault { (fault other : Fault) → fault_status fault ≡ fault_status other
+        → fault_name fault ≡ fault_name other → fault ≡ other }
+    ensures texts { (words others : List Text) → text_numbers words ≡ text_numbers others
+        → joined words ≡ joined others → words ≡ others }
+    ensures counted { (words : List Text) → text_numbers words ≢ [] }
 {}

@@ -1,10 +1,13 @@
 //! What a caller hands in: texts as bytes with their lengths.
 
-ghost use Rattle.std.specs.Prelude.{◌≡◌, IfOk, OnOk, IfSome, [], map};
-ghost use Rattle.std.specs.List.{flat_map};
+ghost use Rattle.std.specs.Prelude.{◌≡◌, ◌≢◌, IfErr, IfNone, IfOk, IfSome, OnErr, OnOk};
+ghost use Rattle.std.specs.Prelude.{List, [], length, map};
+ghost use Rattle.std.specs.List.{AllByRecursion, flat_map};
+ghost use Rattle.std.specs.Str.{IsUtf8};
 ghost use Rattle.getopts.specs.Names.{texts};
 ghost use Rattle.getopts.specs.Options.{Group, with_group};
 ghost use Rattle.getopts_c.specs.Request.{IsCut, IsDeclaredBy, IsRequest};
+ghost use Rattle.getopts_c.specs.Request.{DeclareNoOptions, SayNoGroup, SayNoOptions, SayNoTexts};
 ghost use Rattle.getopts_c.specs.Request.{group_number, group_texts, kind_number};
 ghost use Rattle.getopts_c.specs.declared.request.Refusal.TheVariants.{NoMemory};
 
@@ -55,7 +58,8 @@ pub(crate) struct Words<'r> {
 
 /// Bytes as a text.
 pub(crate) fn text_of(bytes: &[u8]) -> Result<&str, Refusal>
-    ensures { IfOk result (λ text. text.now ≡ bytes.now) }
+    ensures same { IfOk result (λ text. text.now ≡ bytes.now) }
+    ensures bad { OnErr result (¬ (IsUtf8 bytes.now)) }
 {
     match str::from_utf8(bytes) {
         Ok(text) => Ok(text),
@@ -69,7 +73,9 @@ pub(crate) fn cut<'t>(
     bytes: &'t [u8],
     lens: &[usize],
 ) -> Result<Vec<&'t str>, Refusal>
-    ensures { IfOk result (λ pieces. IsCut bytes.now lens.now (texts pieces.items)) }
+    ensures cut { IfOk result (λ pieces. IsCut bytes.now lens.now (texts pieces.items)) }
+    ensures bad { IfErr result (λ refusal.
+        refusal ≡ Refusal.Bad → SayNoTexts bytes.now lens.now) }
 {
     let mut rest = text_of(bytes)?;
     let mut pieces = Vec::with_capacity(alloc, lens.len())?;
@@ -89,7 +95,9 @@ pub(crate) fn cut<'t>(
 
 /// The kinds of argument and of occurrence that a byte says.
 fn kinds_of(kind: u8) -> Option<(HasArg, Occur)>
-    ensures { IfSome result (λ kinds. kind_number kinds.0 kinds.1 ≡ kind) }
+    ensures said { IfSome result (λ kinds. kind_number kinds.0 kinds.1 ≡ kind) }
+    ensures other { IfNone result ((hasarg : HasArg) (occur : Occur)
+        → kind_number hasarg occur ≢ kind) }
 {
     match kind {
         0 => Some((HasArg::Yes, Occur::Req)),
@@ -107,8 +115,10 @@ fn kinds_of(kind: u8) -> Option<(HasArg, Occur)>
 
 /// Adds a group.
 fn add_group(options: &mut Options, group: &[&str; 4], kind: u8) -> Result<(), Refusal>
-    ensures { OnOk result ((added : Group) × (options.new ≡ with_group options.old added)
+    ensures added { OnOk result ((added : Group) × (options.new ≡ with_group options.old added)
         × (group_texts added ≡ texts group.now) × (group_number added ≡ kind)) }
+    ensures bad { IfErr result (λ refusal.
+        refusal ≡ Refusal.Bad → SayNoGroup (texts group.now) kind) }
 {
     let Some((hasarg, occur)) = kinds_of(kind) else {
         return Err(Refusal::Bad);
@@ -141,8 +151,10 @@ fn options_of(
     stop: bool,
     long_only: bool,
 ) -> Result<Options, Refusal>
-    ensures { IfOk result (λ options.
+    ensures declared { IfOk result (λ options.
         IsDeclaredBy (map texts groups.now) kinds.now stop long_only options) }
+    ensures bad { IfErr result (λ refusal. refusal ≡ Refusal.Bad
+        → DeclareNoOptions (map texts groups.now) kinds.now stop long_only) }
 {
     if groups.len() != kinds.len() {
         return Err(Refusal::Bad);
@@ -156,7 +168,11 @@ fn options_of(
 
 /// Texts in fours, where none is left over.
 pub(crate) fn in_fours<'t, 'r>(pieces: &'r [&'t str]) -> Result<&'r [[&'t str; 4]], Refusal>
-    ensures { IfOk result (λ groups. flat_map texts groups.now ≡ texts pieces.now) }
+    ensures same { IfOk result (λ groups. flat_map texts groups.now ≡ texts pieces.now) }
+    ensures fours { IfOk result (λ groups.
+        AllByRecursion (λ group. length group ≡ 4) groups.now) }
+    ensures bad { OnErr result ((groups : List Group)
+        → texts pieces.now ≢ flat_map group_texts groups) }
 {
     let (groups, rest) = pieces.as_chunks::<4>();
     if rest.is_empty() {
@@ -169,25 +185,33 @@ pub(crate) fn in_fours<'t, 'r>(pieces: &'r [&'t str]) -> Result<&'r [[&'t str; 4
 impl<'r> Request<'r> {
     /// The texts of a request.
     pub(crate) fn texts(&self, alloc: Global) -> Result<Vec<&'r str>, Refusal>
-        ensures { IfOk result (λ pieces.
+        ensures cut { IfOk result (λ pieces.
             IsCut self.now.texts.now self.now.lens.now (texts pieces.items)) }
+        ensures bad { IfErr result (λ refusal. refusal ≡ Refusal.Bad
+            → SayNoTexts self.now.texts.now self.now.lens.now) }
     {
         cut(alloc, self.texts, self.lens)
     }
 
     /// The options of a request, by its texts in fours.
     pub(crate) fn options_by(&self, alloc: Global, groups: &[[&str; 4]]) -> Result<Options, Refusal>
-        ensures { IfOk result (λ options.
+        ensures declared { IfOk result (λ options.
             IsDeclaredBy (map texts groups.now) self.now.kinds.now self.now.stop
             self.now.long_only options) }
+        ensures bad { IfErr result (λ refusal. refusal ≡ Refusal.Bad
+            → DeclareNoOptions (map texts groups.now) self.now.kinds.now self.now.stop
+            self.now.long_only) }
     {
         options_of(alloc, groups, self.kinds, self.stop, self.long_only)
     }
 
     /// The options of a request.
     pub(crate) fn options(&self, alloc: Global) -> Result<Options, Refusal>
-        ensures { IfOk result (λ options. IsRequest self.now.texts.now self.now.lens.now
+        ensures request { IfOk result (λ options. IsRequest self.now.texts.now self.now.lens.now
             self.now.kinds.now self.now.stop self.now.long_only options) }
+        ensures bad { IfErr result (λ refusal. refusal ≡ Refusal.Bad
+            → SayNoOptions self.now.texts.now self.now.lens.now
+            self.now.kinds.now self.now.stop self.now.long_only) }
     {
         let texts = self.texts(alloc)?;
         self.options_by(alloc, in_fours(texts.as_slice())?)

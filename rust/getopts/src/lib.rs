@@ -34,7 +34,10 @@
 //!
 //! Every answer is one of the archive that `crates/getopts_c` makes, and is proved there of every
 //! request: which lines are accepted, what each word is, which fault is named, which text is the usage
-//! text. This crate writes requests and reads answers. It is trusted and tested: the declarations
+//! text. It is proved too that a request is called bad only where no lawfully named options and no words
+//! fit it, that the room that an answer asks for suffices, and that an answer is read back one way.
+//!
+//! This crate writes requests and reads answers. It is trusted and tested: the declarations
 //! of the calls and the heap (module `archive`, which has all `unsafe`), the encoder and the decoder,
 //! and the panics. Trusted too are the host's heap, LLVM, and what proves the archive.
 //!

@@ -1,26 +1,38 @@
-use Rattle.std.proofs.Common.{◌∙◌, ap, string_bytes}
-use Rattle.std.proofs.lemmas.Result.{IfOk-weaker}
+use Rattle.std.proofs.Common.{◌∙◌, ap, inl}
 use Rattle.getopts.specs.Names.{texts}
-use Rattle.getopts_c.specs.Answer.{IsAnswered}
+use Rattle.getopts_c.proofs.BadLemmas.{handed_on, no_options_of_count, no_options_of_groups}
 use Rattle.getopts_c.proofs.RequestLemmas.{names_are, request_is}
 use Rattle.getopts_c.proofs.answer.answer_to.Goals as goal
 
 pub answer_by-requires : goal.answer_by-requires
-answer_by-requires c = names_are c.in_ok-groups.groups.now c.in_ok-options.options.groups c.in_ok-options.ensures.fours_are
+answer_by-requires c = names_are c.in_ok-groups.groups.now c.in_ok-options.options.groups c.in_ok-options.ensures.declared.fours_are
 
 pub returns-clause-answered : goal.returns-clause-answered
 returns-clause-answered c =
     let request = c.args.request in
-    IfOk-weaker c.answer_by.result _
-    (λ answer. IsAnswered request.texts.now request.lens.now request.kinds.now request.stop request.long_only c.args.words.bytes.now c.args.words.lens.now
-    answer.status answer.body.numbers.items (string_bytes answer.body.bytes))
-    (λ answer is. record {
+    record {
       options = c.in_ok-options.options;
       line = texts c.as_slice-2.result.now;
       options_are = request_is request.texts.now request.lens.now request.kinds.now request.stop request.long_only
-          c.in_ok-pieces.pieces.items c.in_ok-groups.groups.now c.in_ok-options.options c.in_ok-pieces.ensures
-          (c.in_ok-groups.ensures ∙ ap texts c.as_slice.ensures.value) c.in_ok-options.ensures;
-      line_is = rw c.as_slice-2.ensures.value c.in_ok-words.ensures;
-      answer_is = is;
-    })
-    c.answer_by.ensures
+          c.in_ok-pieces.pieces.items c.in_ok-groups.groups.now c.in_ok-options.options c.in_ok-pieces.ensures.cut
+          (c.in_ok-groups.ensures.same ∙ ap texts c.as_slice.ensures.value) c.in_ok-options.ensures.declared;
+      line_is = rw c.as_slice-2.ensures.value c.in_ok-words.ensures.cut;
+      answer_is = c.in_ok-answer_by.ensures;
+    }
+
+pub returns-in_err-groups-clause-bad : goal.returns-in_err-groups-clause-bad
+returns-in_err-groups-clause-bad c =
+    let request = c.args.request in
+    handed_on c.from_residual-in_err-groups.result _ _ c.from_residual-in_err-groups.ensures.1 (λ _.
+    inl (no_options_of_count request.texts.now request.lens.now request.kinds.now request.stop request.long_only
+    (texts c.in_ok-pieces.pieces.items) c.in_ok-pieces.ensures.cut
+    (λ groups are. c.in_err-groups.ensures.bad groups (ap texts c.as_slice.ensures.value ∙ are))))
+
+pub returns-in_err-options-clause-bad : goal.returns-in_err-options-clause-bad
+returns-in_err-options-clause-bad c =
+    let request = c.args.request in
+    handed_on c.from_residual-in_err-options.result _ _ c.from_residual-in_err-options.ensures.1 (λ bad.
+    inl (no_options_of_groups request.texts.now request.lens.now request.kinds.now request.stop request.long_only
+    c.in_ok-pieces.pieces.items c.in_ok-groups.groups.now c.in_ok-pieces.ensures.cut
+    (c.in_ok-groups.ensures.same ∙ ap texts c.as_slice.ensures.value) c.in_ok-groups.ensures.fours
+    (c.in_err-options.ensures.bad bad)))

@@ -4,22 +4,24 @@ use Rattle.getopts.specs.Fail.{Fault, fault_of}
 use Rattle.getopts.specs.Names.{texts}
 use Rattle.getopts_c.specs.Answer.{IsLineOf, fault_name, fault_status, text_numbers}
 use Rattle.getopts_c.specs.Request.{joined}
-use Rattle.getopts_c.proofs.AnswerLemmas.{if_some, if_none, written_line, no_line, refused_line, told_fault}
+use Rattle.getopts_c.proofs.AnswerLemmas.{of_three, if_some, if_none, written_line, no_line, refused_line, told_fault}
 use Rattle.getopts_c.proofs.answer.line_by.Goals as goal
 
-pub returns-in_ok-of_texts-in-Ok-Some : goal.returns-in_ok-of_texts-in-Ok-Some
-returns-in_ok-of_texts-in-Ok-Some c =
+pub returns-in-Ok-Some : goal.returns-in-Ok-Some
+returns-in-Ok-Some c =
     let told = if_some _ c.in-Ok-Some.field-0 c.in-Ok-Some.line c.in-Ok-Some.field-0-is c.in-Ok-Some.ensures.written in
     let source = c.copied.ensures.runs told.0 (told.0).seen told.1 in
     let words_are = source.2.2 ∙ (c.iter.ensures.runs source.0 (source.0).seen).4 (source.2.0 ∙ told.2)
     ∙ ap (λ iter. iter.rest.now) source.1 ∙ c.iter.ensures.rest in
     let line = map string_bytes c.in-Ok-Some.line.items in
-    let answer = c.in_ok-of_texts-in-Ok-Some.field-0 in
-    let are = c.in_ok-of_texts-in-Ok-Some.ensures in
     let slice = ap (map string_bytes) c.as_slice.ensures.value in
-    written_line c.args.options.now c.args.words.now (told.0).items line
+    let are = c.of_texts.ensures in
+    of_three _ _ _
+    (λ answer. IsLineOf c.args.options.now (texts c.args.words.now) answer.status answer.body.numbers.items (string_bytes answer.body.bytes))
+    c.of_texts.result are.status are.numbers are.bytes
+    (λ answer status_is numbers_are bytes_are. written_line c.args.options.now c.args.words.now (told.0).items line
     answer.status answer.body.numbers.items (string_bytes answer.body.bytes)
-    words_are told.3 are.status (are.numbers ∙ ap text_numbers slice) (are.bytes ∙ ap joined slice)
+    words_are told.3 status_is (numbers_are ∙ ap text_numbers slice) (bytes_are ∙ ap joined slice))
 
 pub returns-in-Ok-None : goal.returns-in-Ok-None
 returns-in-Ok-None c =

@@ -1,14 +1,32 @@
 use Rattle.std.proofs.Common.{◌∙◌, ap}
-use Rattle.std.proofs.lemmas.Result.{IfOk-weaker}
+use Rattle.std.proofs.lemmas.Result.{IfErr-weaker, IfOk-weaker}
 use Rattle.getopts.specs.Names.{texts}
 use Rattle.getopts_c.specs.Request.{IsRequest}
+use Rattle.getopts_c.proofs.BadLemmas.{handed_on, no_options_of_count, no_options_of_groups}
 use Rattle.getopts_c.proofs.RequestLemmas.{request_is}
 use Rattle.getopts_c.proofs.request.Request.options.Goals as goal
 
-pub returns : goal.returns
-returns c =
+pub returns-clause-request : goal.returns-clause-request
+returns-clause-request c =
     let request = c.args.self.now in
     IfOk-weaker c.options_by.result _ (λ options. IsRequest request.texts.now request.lens.now request.kinds.now request.stop request.long_only options)
     (λ options is. request_is request.texts.now request.lens.now request.kinds.now request.stop request.long_only
-    c.in_ok-texts.texts.items c.in_ok-in_fours.field-0.now options c.in_ok-texts.ensures (c.in_ok-in_fours.ensures ∙ ap texts c.as_slice.ensures.value) is)
-    c.options_by.ensures
+    c.in_ok-texts.texts.items c.in_ok-in_fours.field-0.now options c.in_ok-texts.ensures.cut (c.in_ok-in_fours.ensures.same ∙ ap texts c.as_slice.ensures.value) is)
+    c.options_by.ensures.declared
+
+pub returns-in_err-in_fours-clause-bad : goal.returns-in_err-in_fours-clause-bad
+returns-in_err-in_fours-clause-bad c =
+    let request = c.args.self.now in
+    handed_on c.from_residual-in_err-in_fours.result _ _ c.from_residual-in_err-in_fours.ensures.1 (λ _.
+    no_options_of_count request.texts.now request.lens.now request.kinds.now request.stop request.long_only
+    (texts c.in_ok-texts.texts.items) c.in_ok-texts.ensures.cut
+    (λ groups are. c.in_err-in_fours.ensures.bad groups (ap texts c.as_slice.ensures.value ∙ are)))
+
+pub returns-clause-bad : goal.returns-clause-bad
+returns-clause-bad c =
+    let request = c.args.self.now in
+    IfErr-weaker c.options_by.result _ _ (λ refusal follows bad.
+    no_options_of_groups request.texts.now request.lens.now request.kinds.now request.stop request.long_only
+    c.in_ok-texts.texts.items c.in_ok-in_fours.field-0.now c.in_ok-texts.ensures.cut
+    (c.in_ok-in_fours.ensures.same ∙ ap texts c.as_slice.ensures.value) c.in_ok-in_fours.ensures.fours (follows bad))
+    c.options_by.ensures.bad
