@@ -10,9 +10,10 @@ use Rattle.getopts.specs.Names.{Text}
 use Rattle.getopts.specs.Options.{Declared}
 use Rattle.getopts.specs.Parse.{IsAccepted, IsRefused}
 use Rattle.getopts.specs.CanonAnswers.{IsWritten as IsCanonicalLine, IsUnwritable}
-use Rattle.getopts_c.specs.Request.{joined}
+use Rattle.getopts_c.specs.Request.{concatenated}
 use Rattle.getopts_c.specs.Answer.{HasSize, HasSizes, IsLineOf, written, unwritable, unaccepted, text_numbers}
-use Rattle.getopts_c.specs.Answer.{IsAnswer, accepted, refused, all_names, four_names, fault_name, fault_status, matches_bytes, matches_numbers}
+use Rattle.getopts.specs.Same.{fault_name}
+use Rattle.getopts_c.specs.Answer.{IsAnswer, accepted, refused, all_names, four_names, fault_status, matches_bytes, matches_numbers}
 
 -- the answer to accepted words
 pub accepted_answer : (options : Declared) (words items : List (Bor Text)) (names : List Text) (matches : Matched) (status : ℕ) (numbers : List ℕ) (bytes : Text)
@@ -65,7 +66,7 @@ two_added f old mid new (a ∷ b ∷ group) d is first second =
 pub written_line : (options : Declared) (words items : List (Bor Text)) (line : List Text)
     (status : ℕ) (numbers : List ℕ) (bytes : Text)
     → items ≡ words → IsCanonicalLine options (texts items) line
-    → status ≡ 0 → numbers ≡ text_numbers line → bytes ≡ joined line
+    → status ≡ 0 → numbers ≡ text_numbers line → bytes ≡ concatenated line
     → IsLineOf options (texts words) status numbers bytes
 written_line options words items line status numbers bytes items_are is status_is numbers_are bytes_are =
     rw (status_is, numbers_are, bytes_are, ← items_are) (written line is)

@@ -11,17 +11,17 @@ use Rattle.std.specs.Str.{IsUtf8, IsCharBoundary}
 use Rattle.getopts.specs.Names.{Text, AreTexts, texts}
 use Rattle.getopts.specs.Options.{Group, AreLawfullyNamed}
 use Rattle.getopts_c.proofs.LawLemmas.{cut_once, same_front}
-use Rattle.getopts_c.specs.Request.{joined, IsCut, group_number, group_texts}
+use Rattle.getopts_c.specs.Request.{concatenated, IsCut, group_number, group_texts}
 use Rattle.getopts_c.specs.Request.{DeclareNoOptions, SayNoGroup, SayNoOptions, SayNoTexts}
 
 -- texts one after the other are a text
-IsUtf8-joined : (words : List Text) → AreTexts words → IsUtf8 (joined words)
-IsUtf8-joined [] utf8 = IsUtf8-nil
-IsUtf8-joined (word ∷ words) utf8 = IsUtf8-append word (joined words) utf8.0 (IsUtf8-joined words utf8.1)
+IsUtf8-concatenated : (words : List Text) → AreTexts words → IsUtf8 (concatenated words)
+IsUtf8-concatenated [] utf8 = IsUtf8-nil
+IsUtf8-concatenated (word ∷ words) utf8 = IsUtf8-append word (concatenated words) utf8.0 (IsUtf8-concatenated words utf8.1)
 
 -- bytes that are no text say no texts
 pub no_text : (bytes : Text) (lens : List ℕ) → ¬ (IsUtf8 bytes) → SayNoTexts bytes lens
-no_text bytes lens bad words cut utf8 = bad (subst IsUtf8 (sym cut.bytes_are) (IsUtf8-joined words utf8))
+no_text bytes lens bad words cut utf8 = bad (subst IsUtf8 (sym cut.bytes_are) (IsUtf8-concatenated words utf8))
 
 -- what words say after the texts that are cut off
 record AreLeft (rest : Text) (lens : List ℕ) (words : List Text) : Type 0 where
@@ -30,7 +30,7 @@ record AreLeft (rest : Text) (lens : List ℕ) (words : List Text) : Type 0 wher
 
 -- words that begin with texts of these lengths go on with words that say the rest
 left_of : (pieces words : List Text) (rest : Text) (more : List ℕ)
-    → joined words ≡ joined pieces ++ rest → map length words ≡ map length pieces ++ more → AreTexts words
+    → concatenated words ≡ concatenated pieces ++ rest → map length words ≡ map length pieces ++ more → AreTexts words
     → (others : List Text) × AreLeft rest more others
 left_of [] words rest more bytes_are lens_are utf8 =
     (words, record { cut = record { bytes_are = sym bytes_are; lens_are = sym lens_are }; utf8 = utf8 })
@@ -39,7 +39,7 @@ left_of (piece ∷ pieces) (word ∷ words) rest more bytes_are lens_are utf8 =
     let size : length word ≡ length piece = cc in
     let sizes : map length words ≡ map length pieces ++ more = cc in
     left_of pieces words rest more
-    (same_front word piece (joined words) (joined pieces ++ rest) (bytes_are ∙ append_assoc piece (joined pieces) rest) size).1
+    (same_front word piece (concatenated words) (concatenated pieces ++ rest) (bytes_are ∙ append_assoc piece (concatenated pieces) rest) size).1
     sizes utf8.1
 
 -- a text that says what is left ends where a character begins
@@ -49,11 +49,11 @@ first_ends rest len more (word ∷ words) left =
     let e : len ∷ more ≡ length word ∷ map length words = left.cut.lens_are in
     let size : length word ≡ len = cc in
     subst (IsCharBoundary rest) size
-    (IsCharBoundary-at_seam rest word (joined words) left.cut.bytes_are (IsUtf8-joined words left.utf8.1))
+    (IsCharBoundary-at_seam rest word (concatenated words) left.cut.bytes_are (IsUtf8-concatenated words left.utf8.1))
 
 -- where the rest can't be cut, no texts are said
 pub no_cut : (bytes : Text) (lens : List ℕ) (pieces : List Text) (rest : Text) (at : ℕ)
-    → bytes ≡ joined pieces ++ rest → take at lens ≡ map length pieces → at < length lens
+    → bytes ≡ concatenated pieces ++ rest → take at lens ≡ map length pieces → at < length lens
     → ¬ (IsCharBoundary rest (get_or lens at 0)) → SayNoTexts bytes lens
 no_cut bytes lens pieces rest at bytes_are lens_are within bad words cut utf8 =
     let more = drop (suc at) lens in
@@ -69,7 +69,7 @@ none_left rest (word ∷ words) left = absurd (let e : [] ≡ length word ∷ ma
 
 -- where bytes are left over, no texts are said
 pub no_end : (bytes : Text) (lens : List ℕ) (pieces : List Text) (rest : Text)
-    → bytes ≡ joined pieces ++ rest → lens ≡ map length pieces → rest ≢ [] → SayNoTexts bytes lens
+    → bytes ≡ concatenated pieces ++ rest → lens ≡ map length pieces → rest ≢ [] → SayNoTexts bytes lens
 no_end bytes lens pieces rest bytes_are lens_are bad words cut utf8 =
     let left = left_of pieces words rest [] (sym cut.bytes_are ∙ bytes_are)
     (sym cut.lens_are ∙ lens_are ∙ sym (append-nil (map length pieces))) utf8 in

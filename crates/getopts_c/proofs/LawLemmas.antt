@@ -9,7 +9,7 @@ use Rattle.getopts.specs.declared.groups.HasArg.{HasArg}
 use Rattle.getopts.specs.declared.groups.Occur.{Occur}
 use Rattle.getopts.specs.declared.groups.HasArg.TheVariants.{Yes, No, Maybe}
 use Rattle.getopts.specs.declared.groups.Occur.TheVariants.{Req, Optional, Multi}
-use Rattle.getopts_c.specs.Request.{joined, IsCut, IsRequest, group_number, group_texts, kind_number, style_of}
+use Rattle.getopts_c.specs.Request.{concatenated, IsCut, IsRequest, group_number, group_texts, kind_number, style_of}
 
 -- fronts of one length are the same, and so is what follows them
 pub same_front : {A : Type 0} (front other rest left : List A) → front ++ rest ≡ other ++ left → length front ≡ length other
@@ -25,10 +25,10 @@ cut_from bytes [] = []
 cut_from bytes (n ∷ ns) = take n bytes ∷ cut_from (drop n bytes) ns
 
 -- texts are cut again from what they are joined to
-cut_from_joined : (words : List Text) → cut_from (joined words) (map length words) ≡ words
+cut_from_joined : (words : List Text) → cut_from (concatenated words) (map length words) ≡ words
 cut_from_joined [] = refl
 cut_from_joined (word ∷ words) =
-    rw (take-append_seam word (joined words), drop-append_seam word (joined words), cut_from_joined words) refl
+    rw (take-append_seam word (concatenated words), drop-append_seam word (concatenated words), cut_from_joined words) refl
 
 -- the texts of bytes and lengths
 cut_is : (bytes : Text) (lens : List ℕ) (words : List Text) → IsCut bytes lens words → cut_from bytes lens ≡ words

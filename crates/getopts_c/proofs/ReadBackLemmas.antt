@@ -8,10 +8,11 @@ use Rattle.getopts.specs.Fail.{Fault, argument_missing, unrecognized_option, opt
 use Rattle.getopts.specs.Matches.{Found, Matched, MatchedGroup}
 use Rattle.getopts.specs.Names.{Text}
 use Rattle.getopts_c.proofs.LawLemmas.{cut_once, same_front}
-use Rattle.getopts_c.specs.Answer.{TellAlike, TellSame, fault_name, fault_status, found_bytes, found_numbers}
+use Rattle.getopts.specs.Same.{fault_name}
+use Rattle.getopts_c.specs.Answer.{TellAlike, TellSame, fault_status, found_bytes, found_numbers}
 use Rattle.getopts_c.specs.Answer.{matches_bytes, matches_numbers, name_bytes, name_numbers, pair_numbers, pairs_bytes, pairs_numbers}
 use Rattle.getopts_c.specs.Answer.{text_numbers, trailing_number}
-use Rattle.getopts_c.specs.Request.{joined}
+use Rattle.getopts_c.specs.Request.{concatenated}
 
 -- numbers with their count before them, and what follows
 counted : (xs ys rest left : List ℕ) → (length xs ∷ xs) ++ rest ≡ (length ys ∷ ys) ++ left → (xs ≡ ys) × (rest ≡ left)
@@ -82,10 +83,10 @@ names_back groups others (name ∷ names) rest left more after numbers bytes =
     ((record { positions = first.0; pairs = first.1 }, others_back.0), others_back.1, others_back.2)
 
 -- texts, from their numbers and their bytes
-pub texts_back : (words others : List Text) → text_numbers words ≡ text_numbers others → joined words ≡ joined others → words ≡ others
+pub texts_back : (words others : List Text) → text_numbers words ≡ text_numbers others → concatenated words ≡ concatenated others → words ≡ others
 texts_back words others numbers bytes =
     let lens : map length words ≡ map length others = cc in
-    cut_once (joined words) (map length words) words others
+    cut_once (concatenated words) (map length words) words others
     (record { bytes_are = refl; lens_are = refl }) (record { bytes_are = bytes; lens_are = lens })
 
 -- the trailing start, from its number
@@ -98,7 +99,7 @@ trailing_back (Some start) (Some other) same = ap Some (let e : start ≡ other 
 -- the free words and the trailing start, from their numbers and the words' bytes
 free_back : (matches others : Matched)
     → text_numbers matches.free ++ trailing_number matches.trailing_start ∷ [] ≡ text_numbers others.free ++ trailing_number others.trailing_start ∷ []
-    → joined matches.free ≡ joined others.free
+    → concatenated matches.free ≡ concatenated others.free
     → (matches.free ≡ others.free) × (matches.trailing_start ≡ others.trailing_start)
 free_back matches others numbers bytes =
     let whole : length matches.free ∷ (map length matches.free ++ trailing_number matches.trailing_start ∷ [])
@@ -116,7 +117,7 @@ pub matches_back : (names : List Text) (matches others : Matched)
     → matches_numbers names matches ≡ matches_numbers names others → matches_bytes names matches ≡ matches_bytes names others
     → TellAlike names matches others
 matches_back names matches others numbers bytes =
-    let named = names_back matches.groups others.groups names _ _ (joined matches.free) (joined others.free) numbers bytes in
+    let named = names_back matches.groups others.groups names _ _ (concatenated matches.free) (concatenated others.free) numbers bytes in
     let free = free_back matches others named.1 named.2 in
     record { options = named.0; free = free.0; trailing_start = free.1 }
 

@@ -11,8 +11,9 @@ use Rattle.getopts.specs.Options.{Group, Declared}
 use Rattle.getopts.specs.Parse.{IsAccepted, IsRefused}
 use Rattle.getopts.specs.CanonAnswers.{IsWritten as IsCanonicalLine, IsUnwritable}
 use Rattle.getopts.specs.Only.{IsTheOnly}
+use Rattle.getopts.specs.Same.{fault_name}
 use Rattle.getopts.specs.Usage.{AreUsageRows, IsUsageText, short_usage_text}
-use Rattle.getopts_c.specs.Request.{joined, IsCut, IsRequest}
+use Rattle.getopts_c.specs.Request.{concatenated, IsCut, IsRequest}
 
 -- a position, and the length of the value there
 abbrev pub pair_numbers : ℕ × Text → List ℕ
@@ -73,7 +74,7 @@ matches_numbers names matches = flat_map (name_numbers matches.groups) names
 
 -- the bytes of matches, by these names
 abbrev pub matches_bytes : List Text → Matched → Text
-matches_bytes names matches = flat_map (name_bytes matches.groups) names ++ joined matches.free
+matches_bytes names matches = flat_map (name_bytes matches.groups) names ++ concatenated matches.free
 
 -- the status of a fault
 abbrev pub fault_status : Fault → ℕ
@@ -82,14 +83,6 @@ fault_status (unrecognized_option name) = 2
 fault_status (option_missing name) = 3
 fault_status (option_duplicated name) = 4
 fault_status (unexpected_argument name) = 5
-
--- the name that a fault tells
-abbrev pub fault_name : Fault → Text
-fault_name (argument_missing name) = name
-fault_name (unrecognized_option name) = name
-fault_name (option_missing name) = name
-fault_name (option_duplicated name) = name
-fault_name (unexpected_argument name) = name
 
 -- What the words of a line are, by options: the status, the numbers and the bytes of the matches
 -- that they are accepted with, or of the fault that they are refused with.
@@ -112,7 +105,7 @@ pub record IsAnswered (bytes : Text) (lens kinds : List ℕ) (stop long_only : B
   pub answer_is : IsAnswer options line status numbers answer
 
 -- a buffer's front holds all of these, and the size says how many they are
-pub record IsWritten (all buffer : List ℕ) (size : ℕ) : Type 0 where
+pub record FillsFront (all buffer : List ℕ) (size : ℕ) : Type 0 where
   pub size_is : size ≡ length all
   pub front : take size buffer ≡ all
 
@@ -137,13 +130,13 @@ pub record IsRowsOf (bytes : Text) (lens kinds : List ℕ) (long_only : Bool)
   pub options_are : IsRequest bytes lens kinds false long_only options
   pub rows_are : IsTheOnly (AreUsageRows options) rows
   pub numbers_are : numbers ≡ text_numbers rows
-  pub bytes_are : answer ≡ joined rows
+  pub bytes_are : answer ≡ concatenated rows
 
 -- What the canonical line of a line is, by options: the status, the numbers and the bytes of that
 -- line, no numbers where there is none, or those of the fault that the line is refused with.
 pub data IsLineOf (options : Declared) (line : List Text) : ℕ → List ℕ → Text → Type 0 where
   written : (canonical : List Text) → IsCanonicalLine options line canonical
-      → IsLineOf options line 0 (text_numbers canonical) (joined canonical)
+      → IsLineOf options line 0 (text_numbers canonical) (concatenated canonical)
   unwritable : IsUnwritable options line → IsLineOf options line 0 [] []
   unaccepted : (fault : Fault) → IsRefused options line fault
       → IsLineOf options line (fault_status fault)

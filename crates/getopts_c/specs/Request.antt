@@ -10,12 +10,12 @@ use Rattle.getopts.specs.declared.groups.ParsingStyle.{ParsingStyle}
 use Rattle.getopts.specs.declared.groups.ParsingStyle.TheVariants.{FloatingFrees, StopAtFirstFree}
 
 -- texts one after the other
-abbrev pub joined : List Text → Text
-joined words = flat_map (λ word. word) words
+abbrev pub concatenated : List Text → Text
+concatenated words = flat_map (λ word. word) words
 
 -- the bytes are these texts one after the other, and the lengths are theirs
 pub record IsCut (bytes : Text) (lens : List ℕ) (words : List Text) : Type 0 where
-  pub bytes_are : bytes ≡ joined words
+  pub bytes_are : bytes ≡ concatenated words
   pub lens_are : lens ≡ map length words
 
 -- the texts of a group, in the order of a request

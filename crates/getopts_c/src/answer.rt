@@ -8,10 +8,11 @@ ghost use Rattle.std.specs.String.{string_bytes};
 ghost use Rattle.getopts.specs.Names.{texts};
 ghost use Rattle.getopts.specs.Fail.{fault_of};
 ghost use Rattle.getopts.specs.Held.OfGroup.{pair_view};
-ghost use Rattle.getopts_c.specs.Request.{SayNoOptions, SayNoTexts, joined};
-ghost use Rattle.getopts_c.specs.Answer.{IsAnswer, IsAnswered, IsCanonicalOf, IsLineOf, IsWritten};
+ghost use Rattle.getopts_c.specs.Request.{SayNoOptions, SayNoTexts, concatenated};
+ghost use Rattle.getopts_c.specs.Answer.{IsAnswer, IsAnswered, IsCanonicalOf, IsLineOf, FillsFront};
 ghost use Rattle.getopts_c.specs.Answer.{IsRowsOf, IsShortUsageOf, IsUsageOf};
-ghost use Rattle.getopts_c.specs.Answer.{all_names, fault_name, fault_status, four_names};
+ghost use Rattle.getopts.specs.Same.{fault_name};
+ghost use Rattle.getopts_c.specs.Answer.{all_names, fault_status, four_names};
 ghost use Rattle.getopts_c.specs.Answer.{matches_bytes, matches_numbers, name_bytes, name_numbers};
 ghost use Rattle.getopts_c.specs.Answer.{pairs_bytes, pairs_numbers, text_numbers, trailing_number};
 
@@ -75,7 +76,7 @@ impl Body {
         ensures numbers { OnOk result (self.new.numbers.items
             ≡ self.old.numbers.items ++ text_numbers (map string_bytes words.now)) }
         ensures bytes { OnOk result (string_bytes self.new.bytes
-            ≡ string_bytes self.old.bytes ++ joined (map string_bytes words.now)) }
+            ≡ string_bytes self.old.bytes ++ concatenated (map string_bytes words.now)) }
     {
         self.numbers.push(words.len())?;
         for word in words {
@@ -215,8 +216,8 @@ impl Answer {
             × (sizes.new.bytes ≡ length (string_bytes answer.body.bytes))) }
         ensures bad { result ≡ 7 → IsErrOf answer Refusal.Bad }
         ensures written { result < 6 → IsOkAnd answer (λ answer. (result ≡ answer.status)
-            × IsWritten answer.body.numbers.items numbers.new sizes.new.numbers
-            × IsWritten (string_bytes answer.body.bytes) bytes.new sizes.new.bytes) }
+            × FillsFront answer.body.numbers.items numbers.new sizes.new.numbers
+            × FillsFront (string_bytes answer.body.bytes) bytes.new sizes.new.bytes) }
     {
         match answer {
             Ok(answer) => {
@@ -374,7 +375,7 @@ fn of_texts(alloc: Global, words: &[String]) -> Result<Answer, AllocError>
     ensures numbers { IfOk result (λ answer.
         answer.body.numbers.items ≡ text_numbers (map string_bytes words.now)) }
     ensures bytes { IfOk result (λ answer.
-        string_bytes answer.body.bytes ≡ joined (map string_bytes words.now)) }
+        string_bytes answer.body.bytes ≡ concatenated (map string_bytes words.now)) }
 {
     let mut body = Body::new(alloc);
     body.push_texts(words)?;

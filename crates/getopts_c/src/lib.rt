@@ -7,10 +7,11 @@ ghost use Rattle.getopts.specs.CanonAnswers.{HasOneAnswer};
 ghost use Rattle.getopts.specs.Fail.{Fault};
 ghost use Rattle.getopts.specs.Matches.{Matched};
 ghost use Rattle.getopts.specs.Names.{Text};
-ghost use Rattle.getopts_c.specs.Request.{IsCut, IsRequest, SayNoOptions, SayNoTexts, joined};
+ghost use Rattle.getopts_c.specs.Request.{IsCut, IsRequest, SayNoOptions, SayNoTexts, concatenated};
 ghost use Rattle.getopts_c.specs.Answer.{HasSize, HasSizes, IsAnswered, IsCanonicalOf, IsRowsOf};
 ghost use Rattle.getopts_c.specs.Answer.{IsShortUsageOf, IsUsageOf, TellAlike};
-ghost use Rattle.getopts_c.specs.Answer.{fault_name, fault_status, matches_bytes, matches_numbers};
+ghost use Rattle.getopts.specs.Same.{fault_name};
+ghost use Rattle.getopts_c.specs.Answer.{fault_status, matches_bytes, matches_numbers};
 ghost use Rattle.getopts_c.specs.Answer.{text_numbers};
 
 mod answer;
@@ -237,6 +238,6 @@ pub fn answers_say_one_thing()
     ensures fault { (fault other : Fault) → fault_status fault ≡ fault_status other
         → fault_name fault ≡ fault_name other → fault ≡ other }
     ensures texts { (words others : List Text) → text_numbers words ≡ text_numbers others
-        → joined words ≡ joined others → words ≡ others }
+        → concatenated words ≡ concatenated others → words ≡ others }
     ensures counted { (words : List Text) → text_numbers words ≢ [] }
 {}

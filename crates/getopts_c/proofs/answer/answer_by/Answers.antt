@@ -3,7 +3,8 @@ use Rattle.std.proofs.lemmas.Result.{IfOk-weaker}
 use Rattle.std.specs.List.{flat_map}
 use Rattle.getopts.specs.Fail.{Fault, fault_of}
 use Rattle.getopts.specs.Names.{texts}
-use Rattle.getopts_c.specs.Answer.{IsAnswer, fault_name, fault_status, four_names}
+use Rattle.getopts.specs.Same.{fault_name}
+use Rattle.getopts_c.specs.Answer.{IsAnswer, fault_status, four_names}
 use Rattle.getopts_c.proofs.AnswerLemmas.{accepted_answer, refused_answer, told_fault}
 use Rattle.getopts_c.proofs.answer.answer_by.Goals as goal
 

@@ -2,8 +2,9 @@ use Rattle.std.proofs.Common.{◌≡◌, ◌∙◌, ◌∷◌, [], ap, length, m
 use Rattle.std.proofs.lemmas.Result.{IfOk-weaker}
 use Rattle.getopts.specs.Fail.{Fault, fault_of}
 use Rattle.getopts.specs.Names.{texts}
-use Rattle.getopts_c.specs.Answer.{IsLineOf, fault_name, fault_status, text_numbers}
-use Rattle.getopts_c.specs.Request.{joined}
+use Rattle.getopts.specs.Same.{fault_name}
+use Rattle.getopts_c.specs.Answer.{IsLineOf, fault_status, text_numbers}
+use Rattle.getopts_c.specs.Request.{concatenated}
 use Rattle.getopts_c.proofs.AnswerLemmas.{of_three, if_some, if_none, written_line, no_line, refused_line, told_fault}
 use Rattle.getopts_c.proofs.answer.line_by.Goals as goal
 
@@ -21,7 +22,7 @@ returns-in-Ok-Some c =
     c.of_texts.result are.status are.numbers are.bytes
     (λ answer status_is numbers_are bytes_are. written_line c.args.options.now c.args.words.now (told.0).items line
     answer.status answer.body.numbers.items (string_bytes answer.body.bytes)
-    words_are told.3 status_is (numbers_are ∙ ap text_numbers slice) (bytes_are ∙ ap joined slice))
+    words_are told.3 status_is (numbers_are ∙ ap text_numbers slice) (bytes_are ∙ ap concatenated slice))
 
 pub returns-in-Ok-None : goal.returns-in-Ok-None
 returns-in-Ok-None c =

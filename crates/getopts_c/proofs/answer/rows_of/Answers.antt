@@ -1,6 +1,6 @@
 use Rattle.std.proofs.Common.{Bool, ◌∙◌, ap, map, subst, string_bytes}
 use Rattle.getopts_c.specs.Answer.{text_numbers}
-use Rattle.getopts_c.specs.Request.{IsRequest, joined}
+use Rattle.getopts_c.specs.Request.{IsRequest, concatenated}
 use Rattle.getopts_c.proofs.answer.rows_of.Goals as goal
 
 pub returns-clause-rows : goal.returns-clause-rows
@@ -15,5 +15,5 @@ returns-clause-rows c =
           request.kinds.now stop request.long_only options) c.requires c.in_ok-options.ensures.request;
       rows_are = c.in_ok-rows.ensures;
       numbers_are = c.in_ok-of_texts.ensures.numbers ∙ ap text_numbers slice;
-      bytes_are = c.in_ok-of_texts.ensures.bytes ∙ ap joined slice;
+      bytes_are = c.in_ok-of_texts.ensures.bytes ∙ ap concatenated slice;
     }
