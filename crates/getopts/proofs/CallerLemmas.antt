@@ -54,11 +54,12 @@ values-found_of options old new same name =
     ap (λ (place : Option ℕ). values (found_in (matches_of options new).groups place)) (resolves new)
     ∙ here (resolution (names_of options.groups) name)
     ∙ ap (λ (place : Option ℕ). values (found_in (matches_of options old).groups place)) (sym (resolves old)) where
-  resolves : (reading : Reading) → place_of (matches_of options reading).groups name ≡ resolution (names_of options.groups) name
-  resolves reading = sym (place_of-groups options (matches_of options reading).groups (knowns-matched 0 (knowns_of options.groups) (occurrences_of (grammar_of options) reading)) name)
-  here : (place : Option ℕ) → values (found_in (matches_of options new).groups place) ≡ values (found_in (matches_of options old).groups place)
-  here None = refl
-  here (Some i) = values-found_in (knowns_of options.groups) 0 i (occurrences_of (grammar_of options) old) (occurrences_of (grammar_of options) new) same
+      resolves : (reading : Reading) → place_of (matches_of options reading).groups name ≡ resolution (names_of options.groups) name
+      resolves reading = sym (place_of-groups options (matches_of options reading).groups (knowns-matched 0 (knowns_of options.groups) (occurrences_of (grammar_of options) reading)) name)
+
+      here : (place : Option ℕ) → values (found_in (matches_of options new).groups place) ≡ values (found_in (matches_of options old).groups place)
+      here None = refl
+      here (Some i) = values-found_in (knowns_of options.groups) 0 i (occurrences_of (grammar_of options) old) (occurrences_of (grammar_of options) new) same
 
 -- what accessors answer by the values alone
 values_of-values : (founds : List Found) → values_of founds ≡ filter_map (λ (value : Option Text). value) (values founds)
@@ -116,8 +117,7 @@ IsAccepted-alike options words matches position Alike old new accepted_when foll
     let is : old ≡ accepted.reading = (accepted.only old).0 reads in
     let kept : KeepsCounts (matches_of options old).groups = subst (λ (reading : Reading). KeepsCounts (matches_of options reading).groups) (sym is) accepted.counts in
     let matches_are : matches_of options old ≡ matches = ap (matches_of options) is ∙ sym accepted.matches_are in
-    let keeps : KeepsCounts (matches_of options new).groups = KeepsCounts-mentions (knowns_of options.groups) grammar grammar old new (sym told) kept in
-    (
+    let keeps : KeepsCounts (matches_of options new).groups = KeepsCounts-mentions (knowns_of options.groups) grammar grammar old new (sym told) kept in (
       (accepted_when (words_of new) (matches_of options new)).1 (new, record { reads = alike.reads; keeps = keeps }, refl),
       subst (λ (those : Matched). HoldSame those (matches_of options new)) matches_are (HoldSame-content options old new told alike.free),
     )
