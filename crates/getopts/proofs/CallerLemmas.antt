@@ -1,7 +1,18 @@
 -- Lemmas for callers.
-use Rattle.std.proofs.Common.{Option, Some, None, Result, Ok, Err}
-use Rattle.getopts.specs.Names.{Text}
-use Rattle.getopts.specs.Accessors.{IsReadAs}
+use Rattle.std.proofs.Common.{◌≡◌, ◌==◌, ℕ, zero, suc, ◌+◌, Bool, true, false, cond, List, [], ◌∷◌, map, length, Option, Some, None, Result, Ok, Err, refl, ap, sym, subst, ◌∙◌}
+use Rattle.std.specs.List.{filter, filter_map, cons_option}
+use Rattle.std.proofs.lemmas.List.{length-map}
+use Rattle.getopts.specs.Names.{Text, resolution}
+use Rattle.getopts.specs.Options.{Known, Declared, names_of, knowns_of, grammar_of}
+use Rattle.getopts.specs.Scan.{Reading, Mention, Occurrence, occurrences_of, free_words}
+use Rattle.getopts.specs.ScanLaws.{mention_of, mentions_of, words_of, one_higher_after, AreSameButForPositions, AreHigherAfter, AreLowerAfter, ReadsAlike}
+use Rattle.getopts.specs.Matches.{Found, Matched, found_at, matched, matches_of, KeepsCounts}
+use Rattle.getopts.specs.Accessors.{IsReadAs, place_of, found_in, found_of, first_value, values_of}
+use Rattle.getopts.specs.Parse.{Reads, IsAccepted}
+use Rattle.getopts.specs.Theorem.{AcceptedExactlyWhen}
+use Rattle.getopts.proofs.CanonLemmas.{KeepsCounts-mentions}
+use Rattle.getopts.proofs.MatchesLemmas.{knowns-matched}
+use Rattle.getopts.proofs.ToldLemmas.{place_of-groups}
 
 -- what a value is read as by one reading, it is read as by another that asks for less
 pub IsReadAs-weaker : {T E : Type 0} (P Q : Text → Result T E → Type 0) → ((text : Text) (answer : Result T E) → P text answer → Q text answer)
@@ -10,3 +21,103 @@ IsReadAs-weaker P Q follows None answer read = read
 IsReadAs-weaker P Q follows (Some text) (Ok None) read = read
 IsReadAs-weaker P Q follows (Some text) (Ok (Some value)) read = follows text (Ok value) read
 IsReadAs-weaker P Q follows (Some text) (Err error) read = follows text (Err error) read
+
+-- ---- lines that say the same
+
+-- the values of the occurrences of a group, by what is mentioned
+abbrev values_at : ℕ → List Mention → List (Option Text)
+values_at place ms = map (λ (m : Mention). m.value) (filter (λ (m : Mention). m.group == place) ms)
+
+-- the value of each occurrence, if it has one
+abbrev values : List Found → List (Option Text)
+values founds = map (λ (found : Found). found.value) founds
+
+values-found_at : (place : ℕ) (os : List Occurrence) → values (found_at place os) ≡ values_at place (map mention_of os)
+values-found_at place [] = refl
+values-found_at place (o ∷ os) = here (o.group == place) (values-found_at place os) where
+  here : (is : Bool) → values (found_at place os) ≡ values_at place (map mention_of os)
+      → values (map (λ (o : Occurrence). record { position = o.position; value = o.value }) (cond is (o ∷ filter (λ (o : Occurrence). o.group == place) os) (filter (λ (o : Occurrence). o.group == place) os)))
+      ≡ map (λ (m : Mention). m.value) (cond is (mention_of o ∷ filter (λ (m : Mention). m.group == place) (map mention_of os)) (filter (λ (m : Mention). m.group == place) (map mention_of os)))
+  here true others = ap (λ (more : List (Option Text)). o.value ∷ more) others
+  here false others = others
+
+values-found_in : (knowns : List Known) (first i : ℕ) (old new : List Occurrence) → map mention_of new ≡ map mention_of old
+    → values (found_in (matched first knowns new) (Some i)) ≡ values (found_in (matched first knowns old) (Some i))
+values-found_in [] first i old new same = refl
+values-found_in (known ∷ knowns) first zero old new same = values-found_at first new ∙ ap (values_at first) same ∙ sym (values-found_at first old)
+values-found_in (known ∷ knowns) first (suc i) old new same = values-found_in knowns (first + 1) i old new same
+
+-- readings that mention the same have the same values of each name
+values-found_of : (options : Declared) (old new : Reading) → mentions_of (grammar_of options) new ≡ mentions_of (grammar_of options) old
+    → (name : Text) → values (found_of (matches_of options new).groups name) ≡ values (found_of (matches_of options old).groups name)
+values-found_of options old new same name =
+    ap (λ (place : Option ℕ). values (found_in (matches_of options new).groups place)) (resolves new)
+    ∙ here (resolution (names_of options.groups) name)
+    ∙ ap (λ (place : Option ℕ). values (found_in (matches_of options old).groups place)) (sym (resolves old)) where
+      resolves : (reading : Reading) → place_of (matches_of options reading).groups name ≡ resolution (names_of options.groups) name
+      resolves reading = sym (place_of-groups options (matches_of options reading).groups (knowns-matched 0 (knowns_of options.groups) (occurrences_of (grammar_of options) reading)) name)
+
+      here : (place : Option ℕ) → values (found_in (matches_of options new).groups place) ≡ values (found_in (matches_of options old).groups place)
+      here None = refl
+      here (Some i) = values-found_in (knowns_of options.groups) 0 i (occurrences_of (grammar_of options) old) (occurrences_of (grammar_of options) new) same
+
+-- what accessors answer by the values alone
+values_of-values : (founds : List Found) → values_of founds ≡ filter_map (λ (value : Option Text). value) (values founds)
+values_of-values [] = refl
+values_of-values (found ∷ founds) = ap (cons_option found.value) (values_of-values founds)
+
+first_of_values : List (Option Text) → Option Text
+first_of_values [] = None
+first_of_values (value ∷ more) = value
+
+first_value-values : (founds : List Found) → first_value founds ≡ first_of_values (values founds)
+unfolding first_of_values
+first_value-values [] = refl
+first_value-values (found ∷ founds) = refl
+
+-- Matches hold the same but for positions: of each name the counts and the values are the same, and so are the free words.
+pub record HoldSame (matches other : Matched) : Type 0 where
+  pub count : (name : Text) → length (found_of other.groups name) ≡ length (found_of matches.groups name)
+  pub first : (name : Text) → first_value (found_of other.groups name) ≡ first_value (found_of matches.groups name)
+  pub values : (name : Text) → values_of (found_of other.groups name) ≡ values_of (found_of matches.groups name)
+  pub free : other.free ≡ matches.free
+
+-- readings with one content give matches that hold the same but for positions
+pub HoldSame-content : (options : Declared) (old new : Reading) → mentions_of (grammar_of options) new ≡ mentions_of (grammar_of options) old
+    → free_words new ≡ free_words old → HoldSame (matches_of options old) (matches_of options new)
+HoldSame-content options old new same free = record {
+  count = λ name. sym (length-map (found_of (matches_of options new).groups name) (λ (found : Found). found.value)) ∙ ap length (alike name) ∙ length-map (found_of (matches_of options old).groups name) (λ (found : Found). found.value);
+  first = λ name. first_value-values (found_of (matches_of options new).groups name) ∙ ap first_of_values (alike name) ∙ sym (first_value-values (found_of (matches_of options old).groups name));
+  values = λ name. values_of-values (found_of (matches_of options new).groups name) ∙ ap (filter_map (λ (value : Option Text). value)) (alike name) ∙ sym (values_of-values (found_of (matches_of options old).groups name));
+  free = free;
+} where
+  alike : (name : Text) → values (found_of (matches_of options new).groups name) ≡ values (found_of (matches_of options old).groups name)
+  alike = values-found_of options old new same
+
+-- occurrences that are one higher or one lower after a position are the same but for positions
+mention_of-one_higher_after : (position : ℕ) (os : List Occurrence) → map mention_of (map (one_higher_after position) os) ≡ map mention_of os
+mention_of-one_higher_after position [] = refl
+mention_of-one_higher_after position (o ∷ os) = ap (λ (more : List Mention). mention_of o ∷ more) (mention_of-one_higher_after position os)
+
+pub AreSameButForPositions-higher : (position : ℕ) (old new : List Occurrence) → AreHigherAfter position old new → AreSameButForPositions position old new
+AreSameButForPositions-higher position old new higher = ap (map mention_of) higher ∙ mention_of-one_higher_after position old
+
+pub AreSameButForPositions-lower : (position : ℕ) (old new : List Occurrence) → AreLowerAfter position old new → AreSameButForPositions position old new
+AreSameButForPositions-lower position old new lower = sym (ap (map mention_of) lower ∙ mention_of-one_higher_after position new)
+
+-- An accepted line in another spelling, which reads alike but for positions, is accepted with matches that hold the same but for positions.
+pub IsAccepted-alike : (options : Declared) (words : List Text) (matches : Matched) (position : ℕ) (Alike : List Occurrence → List Occurrence → Type 0) (old new : Reading)
+    → AcceptedExactlyWhen options
+    → ((those these : List Occurrence) → Alike those these → AreSameButForPositions position those these)
+    → IsAccepted options words matches → Reads options words old → ReadsAlike (grammar_of options) Alike old new
+    → IsAccepted options (words_of new) (matches_of options new) × HoldSame matches (matches_of options new)
+IsAccepted-alike options words matches position Alike old new accepted_when follows accepted reads alike =
+    let grammar = grammar_of options in
+    let told : mentions_of grammar new ≡ mentions_of grammar old = follows _ _ alike.occurrences in
+    let is : old ≡ accepted.reading = (accepted.only old).0 reads in
+    let kept : KeepsCounts (matches_of options old).groups = subst (λ (reading : Reading). KeepsCounts (matches_of options reading).groups) (sym is) accepted.counts in
+    let matches_are : matches_of options old ≡ matches = ap (matches_of options) is ∙ sym accepted.matches_are in
+    let keeps : KeepsCounts (matches_of options new).groups = KeepsCounts-mentions (knowns_of options.groups) grammar grammar old new (sym told) kept in (
+      (accepted_when (words_of new) (matches_of options new)).1 (new, record { reads = alike.reads; keeps = keeps }, refl),
+      subst (λ (those : Matched). HoldSame those (matches_of options new)) matches_are (HoldSame-content options old new told alike.free),
+    )

@@ -8,16 +8,17 @@ use Rattle.std.specs.Prelude.{slice_get}
 use Rattle.std.specs.List.{AllByRecursion, Contains, filter, flat_map}
 use Rattle.std.specs.Option.{option_and_then, unwrap_or}
 use Rattle.getopts.specs.Names.{Text, Names, IsLawfullyNamed, main_name, resolution}
-use Rattle.getopts.specs.Options.{Known, Group, Declared, AreLawfullyNamed, names_of, knowns_of, Grammar, kind_of, grammar_of}
+use Rattle.getopts.specs.Options.{Known, Group, Declared, AreLawfullyNamed, names_of, knowns_of, Grammar, kind_at, kind_of, grammar_of}
 use Rattle.getopts.specs.Scan.{dash, equals_sign, begins_with_dash, holds_equals, stop_word, Argument, none, attached, separate, one, two, flags, ends_in, end_text, attached_argument, argument_words, value_of, with_equals, Item, free, long, cluster, spelled_all, FitsLong, FitsEnd, IsFlag, IsLawfulItem, AreWellFollowed, Reading, IsReading, Mention, mention, mentions, Occurrence, occurrence_at, word_count, occurrences_after, occurrences_of, free_items}
-use Rattle.getopts.specs.ScanLaws.{mentions_of}
+use Rattle.getopts.specs.ScanLaws.{mention_of, mentions_of}
 use Rattle.getopts.specs.Matches.{found_at, matched, FitsCount, KeepsCounts}
-use Rattle.getopts.specs.Canon.{mention_of, Content, content_of, main_at, kind_at, HasPlainMain, AnswersMain, FitsKind, FitsGroup, IsPlain, IsSound, IsFitting, canonical_word, canonical_line, attached_value, canonical_item, canonical_reading, with_setting, IsCountKeeping, Says, ReadsBackEverywhere, SaysNothingElse, IsOnlyContent, HasCanonicalLine, HasNoItem, HasUnwritable}
+use Rattle.getopts.specs.Canon.{Content, content_of, main_at, HasPlainMain, AnswersMain, FitsKind, FitsGroup, IsPlain, IsSound, IsFitting, canonical_word, canonical_line, attached_value, canonical_item, canonical_reading, with_setting, IsCountKeeping, Says, ReadsBackEverywhere, SaysNothingElse, IsOnlyContent, HasCanonicalLine, HasNoItem, HasUnwritable}
 use Rattle.getopts.specs.Theorem.{CanonicalLinesTell}
 use Rattle.getopts.specs.declared.groups.HasArg.{HasArg}
 use Rattle.getopts.specs.declared.groups.HasArg.TheVariants.{Yes, No, Maybe}
 use Rattle.getopts.specs.declared.groups.ParsingStyle.{ParsingStyle}
 use Rattle.getopts.proofs.NamesLemmas.{AllByRecursion-map, AllByRecursion-follows, resolution-main_name, resolution-nil, resolution_within}
+use Rattle.getopts.proofs.ScanPositions.{mentions_of-items}
 use Rattle.getopts.proofs.ScanReadings.{only_reading}
 use Rattle.getopts.proofs.ScanTexts.{AllByRecursion-append, begins_with_dash-append, long_argument-append, long_name-append}
 use Rattle.getopts.proofs.ScanTurns.{IsNamed, long_argument, long_name}
@@ -100,17 +101,21 @@ IsGood-items options [] lawful = tt
 IsGood-items options (item ∷ items) lawful =
     AllByRecursion-append (IsGood options.groups) _ _ (IsGood-item options item lawful.0) (IsGood-items options items lawful.1)
 
+IsGood-reading : (options : Declared) (reading : Reading) → AllByRecursion (IsLawfulItem (grammar_of options)) reading.items
+    → AllByRecursion (IsGood options.groups) (mentions_of (grammar_of options) reading)
+IsGood-reading options reading lawful = rw (mentions_of-items (grammar_of options) reading) (IsGood-items options reading.items lawful)
+
 -- the content of any reading is sound
 pub IsSound-reading : (options : Declared) (reading : Reading) (words : List Text) → IsReading (grammar_of options) reading words
     → IsSound options.groups (content_of (grammar_of options) reading)
 IsSound-reading options reading words reads =
-    AllByRecursion-follows (IsGood options.groups) (λ m. AnswersMain options.groups m.group) (λ m good. good.own) _ (IsGood-items options reading.items reads.items)
+    AllByRecursion-follows (IsGood options.groups) (λ m. AnswersMain options.groups m.group) (λ m good. good.own) _ (IsGood-reading options reading reads.items)
 
 -- the content of any reading is fitting
 pub IsFitting-reading : (options : Declared) (reading : Reading) (words : List Text) → IsReading (grammar_of options) reading words
     → IsFitting options.groups (content_of (grammar_of options) reading)
 IsFitting-reading options reading words reads =
-    AllByRecursion-follows (IsGood options.groups) (FitsGroup options.groups) (λ m good. good.fits) _ (IsGood-items options reading.items reads.items)
+    AllByRecursion-follows (IsGood options.groups) (FitsGroup options.groups) (λ m good. good.fits) _ (IsGood-reading options reading reads.items)
 
 -- what a value gives as an attached argument
 attached_argument-attached_value : (value : Option Text) → attached_argument (attached_value value) ≡ value
@@ -189,23 +194,7 @@ IsReading-canonical options content good plain = record {
 content_of-canonical : (options : Declared) (content : Content) → AllByRecursion (IsGood options.groups) content.mentions
     → content_of (grammar_of options) (canonical_reading options.groups content) ≡ content
 content_of-canonical options content good =
-    rw (mentions-canonical_all options content.mentions good, free_items-canonical options.groups content.mentions) refl
-
--- mentions are occurrences without their positions
-mention_of-occurrence_at : (before : ℕ) (ms : List Mention) → map mention_of (map (occurrence_at before) ms) ≡ ms
-mention_of-occurrence_at before [] = refl
-mention_of-occurrence_at before (m ∷ ms) = ap (λ (others : List Mention). m ∷ others) (mention_of-occurrence_at before ms)
-
-mention_of-occurrences_after : (before : ℕ) (grammar : Grammar) (items : List Item)
-    → map mention_of (occurrences_after before grammar items) ≡ flat_map (mentions grammar) items
-mention_of-occurrences_after before grammar [] = refl
-mention_of-occurrences_after before grammar (item ∷ items) =
-    let here = mention_of-occurrence_at before (mentions grammar item) in
-    let after = mention_of-occurrences_after (before + word_count (item ∷ [])) grammar items in
-    simp (map-append, here, after)
-
-pub mention_of-occurrences_of : (grammar : Grammar) (reading : Reading) → map mention_of (occurrences_of grammar reading) ≡ mentions_of grammar reading
-mention_of-occurrences_of grammar reading = mention_of-occurrences_after 0 grammar reading.items
+    rw (mentions_of-items (grammar_of options) (canonical_reading options.groups content), mentions-canonical_all options content.mentions good, free_items-canonical options.groups content.mentions) refl
 
 -- a filter passes as many elements of a mapped list as of the list
 length-cond : {X Y : Type 0} (passes : Bool) (x : X) (y : Y) (xs : List X) (ys : List Y) → length xs ≡ length ys → length (cond passes (x ∷ xs) xs) ≡ length (cond passes (y ∷ ys) ys)
@@ -225,7 +214,6 @@ length-found_at : (place : ℕ) (grammar : Grammar) (reading : Reading)
     → length (found_at place (occurrences_of grammar reading)) ≡ count_at place (mentions_of grammar reading)
 length-found_at place grammar reading =
     length-map _ _ ∙ sym (length-filter-map (λ m. m.group == place) mention_of (occurrences_of grammar reading))
-    ∙ ap (count_at place) (mention_of-occurrences_of grammar reading)
 
 -- the counts depend on the number of occurrences for each place
 KeepsCounts-numbers : (knowns : List Known) (place : ℕ) (old new : List Occurrence)
@@ -264,7 +252,7 @@ pub ReadsBackEverywhere-says : (options : Declared) (words : List Text) (content
 ReadsBackEverywhere-says options words content says plain style long_only =
     let said = with_setting options says.style says.long_only in
     let set = with_setting options style long_only in
-    let good : AllByRecursion (IsGood options.groups) content.mentions = rw says.content_is (IsGood-items said says.reading.items says.reads.reads.items) in
+    let good : AllByRecursion (IsGood options.groups) content.mentions = rw says.content_is (IsGood-reading said says.reading says.reads.reads.items) in
     let back = content_of-canonical set content good in
     let told : mentions_of (grammar_of said) says.reading ≡ mentions_of (grammar_of set) (canonical_reading options.groups content) = ap (λ c. c.mentions) (sym says.content_is ∙ sym back) in
     record {

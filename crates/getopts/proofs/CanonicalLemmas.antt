@@ -7,15 +7,15 @@ use Rattle.getopts.specs.Names.{Text, texts}
 use Rattle.getopts.specs.Options.{Group, Declared, AreLawfullyNamed, grammar_of, knowns_of}
 use Rattle.getopts.specs.Fail.{Fault}
 use Rattle.getopts.specs.Scan.{equals_sign, holds_equals, Reading, IsScanFault, Occurrence}
-use Rattle.getopts.specs.ScanLaws.{mentions_of}
+use Rattle.getopts.specs.ScanLaws.{mention_of, mentions_of}
 use Rattle.getopts.specs.Line.{line_content}
 use Rattle.getopts.specs.Matches.{Matched, MatchedGroup, matches_of, matched, KeepsCount, KeepsCounts, IsCountFault, broken_count}
 use Rattle.getopts.specs.Parse.{Reads, IsAccepted, BreaksCounts, IsRefused}
-use Rattle.getopts.specs.Canon.{mention_of, Content, IsCountKeeping, content_of, main_at, HasPlainMain, IsPlain, canonical_line, with_setting, Says}
+use Rattle.getopts.specs.Canon.{Content, IsCountKeeping, content_of, main_at, HasPlainMain, IsPlain, canonical_line, with_setting, Says}
 use Rattle.getopts.specs.AcceptedLine.{IsAcceptedLine}
 use Rattle.getopts.specs.CanonAnswers.{IsAcceptedWith, IsWritten, IsUnwritable, IsParseAnswer, IsCanonicalAnswer, AnsweredLinesTell}
 use Rattle.getopts.specs.declared.line.AcceptedLine.{AcceptedLine}
-use Rattle.getopts.proofs.CanonLemmas.{mention_of-occurrences_of, HasCanonicalLine-says, HasUnwritable-content, CanonicalLinesTell-lawful}
+use Rattle.getopts.proofs.CanonLemmas.{HasCanonicalLine-says, HasUnwritable-content, CanonicalLinesTell-lawful}
 use Rattle.getopts.proofs.OnlyLemmas.{meets}
 use Rattle.getopts.proofs.ParseLemmas.{only_reads, named_here, groups_are, IsAccepted-reading}
 use Rattle.getopts.proofs.ScanTurns.{IsNamed}
@@ -72,7 +72,7 @@ module _ (options : Declared) (words : List Text) (accepted : AcceptedLine) (is 
   IsAcceptedWith-line =
       let reading = is.reads.reading in
       let told : map mention_of accepted.line.found ≡ mentions_of (grammar_of options) reading =
-      ap (map mention_of) is.reads.occurrences ∙ mention_of-occurrences_of (grammar_of options) reading in
+      ap (map mention_of) is.reads.occurrences in
       record {
         reading = reading;
         only = only_reads options is.lawful is.shorts words reading is.reads.reads;

@@ -7,10 +7,10 @@ use Rattle.getopts.specs.Names.{Text}
 use Rattle.getopts.specs.Options.{Known, Grammar}
 use Rattle.getopts.specs.Scan.{dash, is_dashed, begins_with_dash, Argument, none, attached, separate, Dashes, one, two, End, flags, ends_in, Item, free, long, cluster, dash_text, end_text, spelled, spelled_all, MayStandBefore, FitsLong, FitsEnd, IsLawfulEnd, IsLawfulLong, IsLawfulCluster, IsLawfulItem, is_bare, EndsOrIsDashed, AreWellFollowed, Tail, line_end, stop, rest, tail_words, Reading, IsReading, Mention, mentions, Occurrence, occurrence_at, word_count, occurrences_after, occurrences_of, free_items, tail_frees, free_words, trailing_after}
 use Rattle.getopts.specs.Matches.{Found, found_at, matched}
-use Rattle.getopts.specs.ScanLaws.{ReadsAlike, ReadsOneHigherAfter, ReadsOneLowerAfter, ReadsAlikeButForPositions, MayStandFor, MayStandForAt, LongAttachedOrSeparate, ShortAttachedOrSeparate, ClusterSplits, OneDashOrTwo, is_last_bare, joined_reading, HasContentOfBoth, LinesCompose, IsAfterStop, TrailingStartIsAfterStop, IsSubsequence, empty, kept, left_out, FreeWordsAreSubsequence, NeverDecrease, HavePositionsInOrder}
+use Rattle.getopts.specs.ScanLaws.{AreSame, AreSameButForPositions, AreHigherAfter, AreLowerAfter, ReadsAlike, MayStandFor, mentions_of, LongAttachedOrSeparate, ShortAttachedOrSeparate, ClusterSplits, OneDashOrTwo, is_last_bare, joined_reading, HasContentOfBoth, LinesCompose, IsAfterStop, TrailingStartIsAfterStop, IsSubsequence, empty, kept, left_out, FreeWordsAreSubsequence, NeverDecrease, HavePositionsInOrder}
 use Rattle.getopts.specs.declared.groups.HasArg.TheVariants.{Yes}
 use Rattle.getopts.proofs.ScanTexts.{AllByRecursion-append}
-use Rattle.getopts.proofs.ScanPositions.{occurrences_of-one_higher}
+use Rattle.getopts.proofs.ScanPositions.{mentions_of-items, occurrences_of-one_higher}
 use Rattle.getopts.proofs.ScanReadings.{spelled_all-append as spelled_all-before_both}
 
 AllByRecursion-left : {X : Type 0} (P : X → Type 0) (xs ys : List X) → AllByRecursion P (xs ++ ys) → AllByRecursion P xs
@@ -117,63 +117,46 @@ free_items-append (cluster names end ∷ items) others = free_items-append items
 free_items-in_place : (front old new : List Item) → free_items new ≡ free_items old → free_items (front ++ new) ≡ free_items (front ++ old)
 free_items-in_place front old new same = rw (free_items-append front new, same, ← free_items-append front old)
 
--- new items that fit, with the same occurrences and free words, read alike
-ReadsAlike-in_place : (grammar : Grammar) (front old new : List Item) (tail : Tail) (words : List Text) → FitInPlace grammar old new (tail_words tail)
-    → ((before : ℕ) → occurrences_after before grammar new ≡ occurrences_after before grammar old)
+-- new items that fit, with alike occurrences and the same free words, read alike
+ReadsAlike-in_place : (grammar : Grammar) (Alike : List Occurrence → List Occurrence → Type 0) (front old new : List Item) (tail : Tail) (words : List Text) → FitInPlace grammar old new (tail_words tail)
+    → Alike (occurrences_after 0 grammar (front ++ old)) (occurrences_after 0 grammar (front ++ new))
     → free_items new ≡ free_items old
     → IsReading grammar (record { items = front ++ old; tail = tail }) words
-    → ReadsAlike grammar (record { items = front ++ old; tail = tail }) (record { items = front ++ new; tail = tail })
-ReadsAlike-in_place grammar front old new tail words fit same same_free reads =
+    → ReadsAlike grammar Alike (record { items = front ++ old; tail = tail }) (record { items = front ++ new; tail = tail })
+ReadsAlike-in_place grammar Alike front old new tail words fit alike same_free reads =
     let same_words : free_items (front ++ new) ≡ free_items (front ++ old) = free_items-in_place front old new same_free in
     record {
       reads = IsReading-in_place grammar front old new tail words fit reads;
-      occurrences = occurrences_after-in_place grammar front old new same 0;
+      occurrences = alike;
       free = ap (λ frees. frees ++ tail_frees tail) same_words;
       trailing = ap (λ frees. trailing_after (length frees) tail) same_words;
     }
 
--- new items that fit, with the same mentions and free words, read alike but for positions
-ReadsAlikeButForPositions-in_place : (grammar : Grammar) (front old new : List Item) (tail : Tail) (words : List Text) → FitInPlace grammar old new (tail_words tail)
-    → flat_map (mentions grammar) new ≡ flat_map (mentions grammar) old
-    → free_items new ≡ free_items old
-    → IsReading grammar (record { items = front ++ old; tail = tail }) words
-    → ReadsAlikeButForPositions grammar (record { items = front ++ old; tail = tail }) (record { items = front ++ new; tail = tail })
-ReadsAlikeButForPositions-in_place grammar front old new tail words fit same same_free reads =
-    let same_words : free_items (front ++ new) ≡ free_items (front ++ old) = free_items-in_place front old new same_free in
-    record {
-      reads = IsReading-in_place grammar front old new tail words fit reads;
-      mentions = rw (flat_map-append (mentions grammar) front new, same, ← flat_map-append (mentions grammar) front old) refl;
-      free = ap (λ frees. frees ++ tail_frees tail) same_words;
-      trailing = ap (λ frees. trailing_after (length frees) tail) same_words;
-    }
+-- items in front leave the same mentions where the new items have those of the old ones
+mentions_of-in_place : (grammar : Grammar) (front old new : List Item) (tail : Tail) → flat_map (mentions grammar) new ≡ flat_map (mentions grammar) old
+    → mentions_of grammar (record { items = front ++ new; tail = tail }) ≡ mentions_of grammar (record { items = front ++ old; tail = tail })
+mentions_of-in_place grammar front old new tail same =
+    mentions_of-items grammar (record { items = front ++ new; tail = tail })
+    ∙ rw (flat_map-append (mentions grammar) front new, same, ← flat_map-append (mentions grammar) front old) refl
+    ∙ sym (mentions_of-items grammar (record { items = front ++ old; tail = tail }))
 
 -- Of two items with the same mentions and no free word, one spells one word more: either may stand for the
 -- other where it fits, and later occurrences are one higher with the longer one.
 module _ (grammar : Grammar) (item longer : Item) (same : mentions grammar longer ≡ mentions grammar item) (same_free : free_items (longer ∷ []) ≡ free_items (item ∷ []))
     (one_more : word_count (longer ∷ []) ≡ word_count (item ∷ []) + 1) where
   -- the longer one for the other
-  MayStandForAt-longer : ((back : List Item) (more : List Text) → FitInPlace grammar (item ∷ back) (longer ∷ back) more) → MayStandForAt ReadsOneHigherAfter grammar (longer ∷ []) item
-  MayStandForAt-longer fit front back tail words reads =
-      let same_words : free_items (front ++ longer ∷ back) ≡ free_items (front ++ item ∷ back) =
-      free_items-in_place front (item ∷ back) (longer ∷ back) (free_items-append (longer ∷ []) back ∙ ap (λ frees. frees ++ free_items back) same_free ∙ sym (free_items-append (item ∷ []) back)) in
-      record {
-        reads = IsReading-in_place grammar front (item ∷ back) (longer ∷ back) tail words (fit back (tail_words tail)) reads;
-        occurrences = occurrences_of-one_higher grammar item longer back same one_more front tail;
-        free = ap (λ frees. frees ++ tail_frees tail) same_words;
-        trailing = ap (λ frees. trailing_after (length frees) tail) same_words;
-      }
+  MayStandFor-longer : ((back : List Item) (more : List Text) → FitInPlace grammar (item ∷ back) (longer ∷ back) more) → MayStandFor grammar AreHigherAfter (longer ∷ []) item
+  MayStandFor-longer fit front back tail words reads =
+      ReadsAlike-in_place grammar (AreHigherAfter (word_count front)) front (item ∷ back) (longer ∷ back) tail words (fit back (tail_words tail))
+      (occurrences_of-one_higher grammar item longer back same one_more front tail)
+      (free_items-append (longer ∷ []) back ∙ ap (λ frees. frees ++ free_items back) same_free ∙ sym (free_items-append (item ∷ []) back)) reads
 
   -- the other for the longer one
-  MayStandForAt-shorter : ((back : List Item) (more : List Text) → FitInPlace grammar (longer ∷ back) (item ∷ back) more) → MayStandForAt ReadsOneLowerAfter grammar (item ∷ []) longer
-  MayStandForAt-shorter fit front back tail words reads =
-      let same_words : free_items (front ++ item ∷ back) ≡ free_items (front ++ longer ∷ back) =
-      free_items-in_place front (longer ∷ back) (item ∷ back) (free_items-append (item ∷ []) back ∙ ap (λ frees. frees ++ free_items back) (sym same_free) ∙ sym (free_items-append (longer ∷ []) back)) in
-      record {
-        reads = IsReading-in_place grammar front (longer ∷ back) (item ∷ back) tail words (fit back (tail_words tail)) reads;
-        occurrences = occurrences_of-one_higher grammar item longer back same one_more front tail;
-        free = ap (λ frees. frees ++ tail_frees tail) same_words;
-        trailing = ap (λ frees. trailing_after (length frees) tail) same_words;
-      }
+  MayStandFor-shorter : ((back : List Item) (more : List Text) → FitInPlace grammar (longer ∷ back) (item ∷ back) more) → MayStandFor grammar AreLowerAfter (item ∷ []) longer
+  MayStandFor-shorter fit front back tail words reads =
+      ReadsAlike-in_place grammar (AreLowerAfter (word_count front)) front (longer ∷ back) (item ∷ back) tail words (fit back (tail_words tail))
+      (occurrences_of-one_higher grammar item longer back same one_more front tail)
+      (free_items-append (item ∷ []) back ∙ ap (λ frees. frees ++ free_items back) (sym same_free) ∙ sym (free_items-append (longer ∷ []) back)) reads
 
 -- a lawful long item fits in place of one with the same name
 FitInPlace-long : (grammar : Grammar) (dashes other : Dashes) (name : Text) (argument new_argument : Argument) (back : List Item) (more : List Text)
@@ -200,10 +183,10 @@ IsLawfulLong-yes grammar dashes name argument new_argument kind fits lawful = re
 pub LongAttachedOrSeparate_lem : (grammar : Grammar) → LongAttachedOrSeparate grammar
 LongAttachedOrSeparate_lem grammar = record {
   to_separate = λ dashes name argument kind.
-      MayStandForAt-longer grammar (long dashes name (attached argument)) (long dashes name (separate argument)) refl refl refl
+      MayStandFor-longer grammar (long dashes name (attached argument)) (long dashes name (separate argument)) refl refl refl
       (λ back more. FitInPlace-long grammar dashes dashes name _ _ back more (IsLawfulLong-yes grammar dashes name (attached argument) (separate argument) kind tt));
   to_attached = λ dashes name argument kind.
-      MayStandForAt-shorter grammar (long dashes name (attached argument)) (long dashes name (separate argument)) refl refl refl
+      MayStandFor-shorter grammar (long dashes name (attached argument)) (long dashes name (separate argument)) refl refl refl
       (λ back more. FitInPlace-long grammar dashes dashes name _ _ back more (IsLawfulLong-yes grammar dashes name (separate argument) (attached argument) kind tt));
 }
 
@@ -216,12 +199,12 @@ MayStandBefore-long_only long_only two name only plain = tt
 pub OneDashOrTwo_lem : (grammar : Grammar) → OneDashOrTwo grammar
 OneDashOrTwo_lem grammar = record {
   other_dashes = λ dashes other name argument only plain front back tail words reads.
-      ReadsAlike-in_place grammar front (long dashes name argument ∷ back) (long other name argument ∷ back) tail words
+      ReadsAlike-in_place grammar (AreSame (word_count front)) front (long dashes name argument ∷ back) (long other name argument ∷ back) tail words
       (FitInPlace-long grammar dashes other name argument argument back (tail_words tail) (λ lawful. record {
         before = MayStandBefore-long_only grammar.long_only other name only plain;
         cut_once = lawful.cut_once;
         resolves = lawful.resolves;
-      })) (λ before. refl) refl reads;
+      })) (occurrences_after-in_place grammar front (long dashes name argument ∷ back) (long other name argument ∷ back) (λ before. refl) 0) refl reads;
 }
 
 -- an argument doesn't change how a cluster begins after its dash
@@ -253,10 +236,10 @@ FitInPlace-cluster grammar names option argument new_argument back more kind fit
 pub ShortAttachedOrSeparate_lem : (grammar : Grammar) → ShortAttachedOrSeparate grammar
 ShortAttachedOrSeparate_lem grammar = record {
   to_separate = λ names option argument kind.
-      MayStandForAt-longer grammar (cluster names (ends_in option (attached argument))) (cluster names (ends_in option (separate argument))) refl refl refl
+      MayStandFor-longer grammar (cluster names (ends_in option (attached argument))) (cluster names (ends_in option (separate argument))) refl refl refl
       (λ back more. FitInPlace-cluster grammar names option (attached argument) (separate argument) back more kind tt refl);
   to_attached = λ names option argument kind filled.
-      MayStandForAt-shorter grammar (cluster names (ends_in option (attached argument))) (cluster names (ends_in option (separate argument))) refl refl refl
+      MayStandFor-shorter grammar (cluster names (ends_in option (attached argument))) (cluster names (ends_in option (separate argument))) refl refl refl
       (λ back more. FitInPlace-cluster grammar names option (separate argument) (attached argument) back more kind filled refl);
 }
 
@@ -275,9 +258,10 @@ IsLawfulEnd-rest grammar flag names (ends_in option argument) filled lawful = la
 -- a cluster may stand split after its first flag
 MayStandFor-split : (grammar : Grammar) (flag : ℕ) (names : List ℕ) (end : End) → names ++ end_text end ≢ []
     → begins_with_dash (names ++ end_text end) ≡ false
-    → MayStandFor ReadsAlikeButForPositions grammar (cluster (flag ∷ []) flags ∷ cluster names end ∷ []) (cluster (flag ∷ names) end)
+    → MayStandFor grammar AreSameButForPositions (cluster (flag ∷ []) flags ∷ cluster names end ∷ []) (cluster (flag ∷ names) end)
 MayStandFor-split grammar flag names end filled plain front back tail words reads =
-    ReadsAlikeButForPositions-in_place grammar front (cluster (flag ∷ names) end ∷ back) (cluster (flag ∷ []) flags ∷ cluster names end ∷ back) tail words fit refl refl reads
+    ReadsAlike-in_place grammar (AreSameButForPositions (word_count front)) front (cluster (flag ∷ names) end ∷ back) (cluster (flag ∷ []) flags ∷ cluster names end ∷ back) tail words fit
+    (mentions_of-in_place grammar front (cluster (flag ∷ names) end ∷ back) (cluster (flag ∷ []) flags ∷ cluster names end ∷ back) tail refl) refl reads
   where
     fit : FitInPlace grammar (cluster (flag ∷ names) end ∷ back) (cluster (flag ∷ []) flags ∷ cluster names end ∷ back) (tail_words tail)
     fit = record {
@@ -330,7 +314,7 @@ IsReading-joined grammar items second words more reads last after = record {
 -- two readings joined have the content of both
 HasContentOfBoth-joined : (grammar : Grammar) (first second : Reading) → first.tail ≡ line_end → HasContentOfBoth grammar first second (joined_reading first second)
 HasContentOfBoth-joined grammar first second ends = record {
-  mentions = flat_map-append (mentions grammar) first.items second.items;
+  mentions = rw (mentions_of-items grammar (joined_reading first second), mentions_of-items grammar first, mentions_of-items grammar second) (flat_map-append (mentions grammar) first.items second.items);
   free = rw (free_items-append first.items second.items, ends, append-nil (free_items first.items), append_assoc (free_items first.items) (free_items second.items) (tail_frees second.tail)) refl;
 }
 
@@ -346,10 +330,9 @@ IsReading-joined_reading grammar first second words more reads ends last after =
 -- lines compose, where a line has one reading at most
 pub LinesCompose_lem : (grammar : Grammar) → ((reading other : Reading) (words : List Text) → IsReading grammar reading words → IsReading grammar other words → reading ≡ other) → LinesCompose grammar
 LinesCompose_lem grammar only = record {
-  joined = IsReading-joined_reading grammar;
-  content = λ first second whole words more reads ends last after reads_whole. subst (HasContentOfBoth grammar first second)
-      (only (joined_reading first second) whole (words ++ more) (IsReading-joined_reading grammar first second words more reads ends last after) reads_whole)
-      (HasContentOfBoth-joined grammar first second ends);
+  of_both = λ first second words more reads ends last after.
+      let both = IsReading-joined_reading grammar first second words more reads ends last after in
+      (both, λ whole reads_whole. subst (HasContentOfBoth grammar first second) (only (joined_reading first second) whole (words ++ more) both reads_whole) (HasContentOfBoth-joined grammar first second ends));
 }
 
 -- the trailing start of a tail after so many free words

@@ -1,7 +1,7 @@
 -- Positions: how many words items spell, which occurrences are one higher, and what stands at a position.
 use Rattle.std.proofs.Common.{◌≡◌, ◌==◌, ℕ, zero, suc, ◌+◌, ◌<◌, ◌≤◌, Bool, true, false, cond, List, [], ◌∷◌, ◌++◌, length, map, refl, ap, ◌∙◌, sym, subst, inl, inr, add-zero, zero-add, arith}
 use Rattle.std.specs.Prelude.{nat_le, slice_get, Contains}
-use Rattle.std.specs.List.{AllByRecursion}
+use Rattle.std.specs.List.{AllByRecursion, flat_map}
 use Rattle.std.proofs.lemmas.List.{map-append, length-append}
 use Rattle.std.proofs.lemmas.List.Elements.{Contains-append_cases}
 use Rattle.std.proofs.lemmas.Bool.Decides.{nat_tests}
@@ -9,7 +9,7 @@ use Rattle.getopts.specs.Names.{Text}
 use Rattle.getopts.specs.Options.{Known, Grammar}
 use Rattle.getopts.specs.Scan.{Item, free, long, cluster, spelled, spelled_all, Tail, tail_words, Reading, IsReading, Mention, mentions, Occurrence, occurrence_at, word_count, occurrences_after, occurrences_of}
 use Rattle.getopts.specs.Matches.{Found, found_at, matched}
-use Rattle.getopts.specs.ScanLaws.{one_higher_after, StandsInItem, PositionsAreWords, HavePositionsBelow}
+use Rattle.getopts.specs.ScanLaws.{mention_of, mentions_of, one_higher_after, StandsInItem, PositionsAreWords, HavePositionsBelow}
 use Rattle.getopts.proofs.ScanTexts.{AllByRecursion-append}
 use Rattle.getopts.proofs.ScanReadings.{spelled_all-append}
 
@@ -26,6 +26,23 @@ pub spells_word : (item : Item) (more : List Text) → 0 < length (spelled item 
 spells_word (free word) more = omega arith
 spells_word (long dashes name argument) more = omega arith
 spells_word (cluster names end) more = omega arith
+
+-- mentions are occurrences without their positions
+mention_of-occurrence_at : (before : ℕ) (ms : List Mention) → map mention_of (map (occurrence_at before) ms) ≡ ms
+mention_of-occurrence_at before [] = refl
+mention_of-occurrence_at before (m ∷ ms) = ap (λ (others : List Mention). m ∷ others) (mention_of-occurrence_at before ms)
+
+mention_of-occurrences_after : (before : ℕ) (grammar : Grammar) (items : List Item)
+    → map mention_of (occurrences_after before grammar items) ≡ flat_map (mentions grammar) items
+mention_of-occurrences_after before grammar [] = refl
+mention_of-occurrences_after before grammar (item ∷ items) =
+    let here = mention_of-occurrence_at before (mentions grammar item) in
+    let after = mention_of-occurrences_after (before + word_count (item ∷ [])) grammar items in
+    simp (map-append, here, after)
+
+-- what a reading mentions is what its items mention, one after the other
+pub mentions_of-items : (grammar : Grammar) (reading : Reading) → mentions_of grammar reading ≡ flat_map (mentions grammar) reading.items
+mentions_of-items grammar reading = mention_of-occurrences_after 0 grammar reading.items
 
 -- mentions that aren't after this position stay where they are
 one_higher_after-stays : (at position : ℕ) (told : List Mention) → position ≤ at

@@ -1,24 +1,24 @@
 -- What accepted matches tell of the names that the options declare.
 use Rattle.std.proofs.Common.{◌≡◌, ◌==◌, ◌<◌, ◌+◌, ℕ, zero, suc, Bool, true, false, cond, List, [], ◌∷◌, ◌++◌, length, append_assoc, map, slice_get, Option, Some, None, IsSome, refl, ap, sym, subst, ◌∙◌, arith, add-zero, zero-add, Result, Ok, Err, IfOk}
 use Rattle.std.specs.List.{AllByRecursion, filter}
-use Rattle.std.specs.Option.{option_map}
+use Rattle.std.specs.Option.{option_map, option_and_then}
 use Rattle.std.proofs.lemmas.Bool.{eqb-true}
 use Rattle.std.proofs.lemmas.Option.{option_and_then_some, same_Some}
 use Rattle.getopts.specs.Names.{Text, Names, resolution}
-use Rattle.getopts.specs.Options.{Known, Group, Grammar, Declared, names_of, knowns_of, grammar_of}
+use Rattle.getopts.specs.Options.{Known, Group, Grammar, Declared, Declares, names_of, knowns_of, kind_at, kind_of, occurrence_of, grammar_of}
 use Rattle.getopts.specs.Scan.{Occurrence, Item, free, long, cluster, Tail, line_end, stop, rest, stop_word, spelled_all, tail_words, tail_frees, free_items, free_words, IsLawfulItem, Reading, IsReading, occurrences_of}
-use Rattle.getopts.specs.Matches.{Found, Matched, MatchedGroup, found_at, matched, FitsCount, KeepsCounts}
-use Rattle.getopts.specs.Accessors.{place_of, found_of, found_in, first_value}
-use Rattle.getopts.specs.Canon.{mention_of, kind_at, FitsKind, FitsGroup}
+use Rattle.getopts.specs.Matches.{Found, Matched, MatchedGroup, found_at, matched, matches_of, FitsCount, KeepsCounts}
+use Rattle.getopts.specs.Accessors.{IsDefined, place_of, found_of, found_in, first_value}
+use Rattle.getopts.specs.Canon.{FitsKind, FitsGroup}
 use Rattle.getopts.specs.Parse.{IsAccepted}
 use Rattle.getopts.specs.Told.{HaveLastWordsFree, HaveValuesFor, AreGroupsOf, HaveValuesByKind, DefineDeclared, HoldRequiredOnce, HoldNeededValues}
-use Rattle.getopts.specs.ScanLaws.{EndIn}
+use Rattle.getopts.specs.ScanLaws.{EndIn, mention_of}
 use Rattle.getopts.specs.declared.groups.ParsingStyle.TheVariants.{FloatingFrees, StopAtFirstFree}
 use Rattle.getopts.specs.declared.groups.HasArg.{HasArg}
-use Rattle.getopts.specs.declared.groups.HasArg.TheVariants.{Yes}
+use Rattle.getopts.specs.declared.groups.HasArg.TheVariants.{Yes, No, Maybe}
 use Rattle.getopts.specs.declared.groups.Occur.{Occur}
 use Rattle.getopts.specs.declared.groups.Occur.TheVariants.{Req}
-use Rattle.getopts.proofs.CanonLemmas.{IsFitting-reading, mention_of-occurrences_of}
+use Rattle.getopts.proofs.CanonLemmas.{IsFitting-reading}
 use Rattle.getopts.proofs.MatchesLemmas.{knowns-matched}
 use Rattle.getopts.proofs.ScanReadings.{spelled_all-append}
 
@@ -35,7 +35,7 @@ names_of-knowns [] = refl
 names_of-knowns (group ∷ groups) = ap (λ (more : List Names). group.known.names ∷ more) (names_of-knowns groups)
 
 -- a name resolves alike among groups and among those that matches hold of them
-place_of-groups : (options : Declared) (groups : List MatchedGroup) → AreGroupsOf options groups → (name : Text)
+pub place_of-groups : (options : Declared) (groups : List MatchedGroup) → AreGroupsOf options groups → (name : Text)
     → resolution (names_of options.groups) name ≡ place_of groups name
 place_of-groups options groups are name =
     ap (λ (names : List Names). resolution names name) (sym (names-known groups (knowns_of options.groups) are ∙ names_of-knowns options.groups))
@@ -157,7 +157,7 @@ module _ (options : Declared) (words : List Text) (matches : Matched) (accepted 
       let occurrences = occurrences_of (grammar_of options) accepted.reading in
       let fits = IsFitting-reading options accepted.reading words ((accepted.only accepted.reading).1 refl) in
       let each : AllByRecursion (λ o. FitsGroup options.groups (mention_of o)) occurrences =
-      AllByRecursion-unmap (FitsGroup options.groups) mention_of occurrences (subst (AllByRecursion (FitsGroup options.groups)) (sym (mention_of-occurrences_of (grammar_of options) accepted.reading)) fits) in
+      AllByRecursion-unmap (FitsGroup options.groups) mention_of occurrences fits in
       subst HaveValuesByKind (sym groups_are) (HaveValuesByKind-matched options.groups 0 (knowns_of options.groups) occurrences (λ i known there. subst (λ n. kind_at options.groups n ≡ Some known.kind) (sym (zero-add i)) (kind_at-known options.groups i known there)) each)
 
 -- the words of a tail end in its free words

@@ -1,5 +1,6 @@
 -- What the accessors of matches answer, over the groups that matches hold.
-use Rattle.std.specs.Prelude.{◌≡◌, ℕ, Bool, List, [], ◌∷◌, map, length, nat_lt, IsSome, Option, Some, None, Result, Ok, Err, slice_get, unwrap_or}
+use Rattle.std.specs.Prelude.{◌≡◌, ℕ, Bool, List, [], ◌∷◌, map, length, nat_lt, IsSome, Option}
+use Rattle.std.specs.Prelude.{Some, None, Result, Ok, Err, slice_get, unwrap_or}
 use Rattle.std.specs.List.{AllByRecursion, filter_map}
 use Rattle.std.specs.Option.{option_and_then, option_map, option_map_or, option_or}
 use Rattle.getopts.specs.Names.{Text, IsLawfullyNamed, resolution}

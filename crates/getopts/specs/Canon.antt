@@ -1,20 +1,19 @@
 -- The canonical line: what a line says, written again with main names alone; what such a line
 -- tells, and where there is none.
-use Rattle.std.specs.Prelude.{◌≡◌, ◌↔◌, ⊤, ℕ, Bool, false, List, [], ◌∷◌, ◌++◌, map, Option, Some, None, slice_get}
+use Rattle.std.specs.Prelude.{◌≡◌, ◌↔◌, ⊤, ℕ, Bool, false, List, [], ◌∷◌, ◌++◌, map, Option, Some}
+use Rattle.std.specs.Prelude.{None, slice_get}
 use Rattle.std.specs.List.{AllByRecursion, Contains}
-use Rattle.std.specs.Option.{option_map, option_map_or}
+use Rattle.std.specs.Option.{option_map_or}
 use Rattle.getopts.specs.Names.{Text, main_name, resolution}
-use Rattle.getopts.specs.Options.{Group, Declared, names_of, Grammar, grammar_of}
-use Rattle.getopts.specs.Scan.{holds_equals, stop_word, Argument, none, attached, two, Item, long, long_word, spelled, IsLawfulItem, stop, Reading, IsReading, Mention, mentions, Occurrence, free_words}
+use Rattle.getopts.specs.Options.{Group, Declared, names_of, kind_at, Grammar, grammar_of}
+use Rattle.getopts.specs.Scan.{holds_equals, stop_word, Argument, none, attached, two, Item, long}
+use Rattle.getopts.specs.Scan.{long_word, spelled, IsLawfulItem, stop, Reading, IsReading, Mention}
+use Rattle.getopts.specs.Scan.{mentions, free_words}
 use Rattle.getopts.specs.ScanLaws.{mentions_of}
 use Rattle.getopts.specs.Matches.{matches_of, KeepsCounts}
 use Rattle.getopts.specs.declared.groups.HasArg.{HasArg}
 use Rattle.getopts.specs.declared.groups.HasArg.TheVariants.{Yes, No, Maybe}
 use Rattle.getopts.specs.declared.groups.ParsingStyle.{ParsingStyle}
-
--- an occurrence without its position
-abbrev pub mention_of : Occurrence → Mention
-mention_of occurrence = record { group = occurrence.group; value = occurrence.value }
 
 -- what a line may say: mentions in order, and free words
 pub record Content : Type 0 where
@@ -33,10 +32,6 @@ abbrev pub main_at : List Group → ℕ → Text
 main_at groups place =
     option_map_or (λ group. main_name group.known.names) (slice_get groups place) []
 
--- the kind of argument of the group at this place
-abbrev pub kind_at : List Group → ℕ → Option HasArg
-kind_at groups place = option_map (λ group. group.known.kind) (slice_get groups place)
-
 -- the group at this place has a main name that holds no `=`
 abbrev pub HasPlainMain : List Group → ℕ → Type 0
 HasPlainMain groups place = holds_equals (main_at groups place) ≡ false
@@ -51,8 +46,7 @@ FitsKind No None = ⊤
 FitsKind No (Some value) = ⊥
 FitsKind Yes None = ⊥
 FitsKind Yes (Some value) = ⊤
-FitsKind Maybe None = ⊤
-FitsKind Maybe (Some value) = ⊤
+FitsKind Maybe value = ⊤
 
 -- a mentioned group is there, and its kind may have the value
 abbrev pub FitsGroup : List Group → Mention → Type 0

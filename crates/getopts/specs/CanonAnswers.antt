@@ -7,7 +7,8 @@ use Rattle.getopts.specs.Scan.{Reading}
 use Rattle.getopts.specs.Fail.{Fault}
 use Rattle.getopts.specs.Matches.{Matched, matches_of, KeepsCounts}
 use Rattle.getopts.specs.Parse.{Reads, IsAccepted, IsRefused}
-use Rattle.getopts.specs.Canon.{Content, content_of, IsPlain, canonical_line, with_setting, Says, HasCanonicalLine, HasUnwritable}
+use Rattle.getopts.specs.Canon.{Content, content_of, IsPlain, canonical_line, with_setting, Says}
+use Rattle.getopts.specs.Canon.{HasCanonicalLine, HasUnwritable}
 use Rattle.getopts.specs.declared.groups.ParsingStyle.{ParsingStyle}
 
 -- The words are accepted with this content: they have one reading, which keeps the counts, and the
@@ -59,7 +60,7 @@ IsCanonicalAnswer options words answer =
 
 -- two answers are one
 abbrev pub HasOneAnswer : {X : Type 0} → (X → Type 0) → Type 0
-HasOneAnswer {X} IsAnswer = (answer other : X) → IsAnswer answer → IsAnswer other → answer ≡ other
+HasOneAnswer {X} P = (answer other : X) → P answer → P other → answer ≡ other
 
 -- Two lines that `canonical` answers by the same groups, in styles and modes that may differ, are
 -- equal exactly if the words that they were made of are accepted with the same content.

@@ -29,7 +29,8 @@ fault_text (argument_missing name) = codes "Argument to option '" ++ (name ++ co
 fault_text (unrecognized_option name) = codes "Unrecognized option: '" ++ (name ++ codes "'")
 fault_text (option_missing name) = codes "Required option '" ++ (name ++ codes "' missing")
 fault_text (option_duplicated name) = codes "Option '" ++ (name ++ codes "' given more than once")
-fault_text (unexpected_argument name) = codes "Option '" ++ (name ++ codes "' does not take an argument")
+fault_text (unexpected_argument name) =
+    codes "Option '" ++ (name ++ codes "' does not take an argument")
 
 -- the printed text of a refusal: that of the fault that it tells, or that memory was refused
 abbrev pub fail_text : Fail → Text

@@ -1,13 +1,18 @@
 -- What the functions of `scan` find in the words that they are given.
-use Rattle.std.specs.Prelude.{◌≡◌, ◌≢◌, ℕ, ◌≤◌, true, List, [], ◌∷◌, ◌++◌, length, map, drop, Option}
+use Rattle.std.specs.Prelude.{◌≡◌, ◌≢◌, ℕ, ◌≤◌, true, List, [], ◌∷◌, ◌++◌, length, map, drop}
+use Rattle.std.specs.Prelude.{Option}
 use Rattle.std.specs.Option.{option_copied, unwrap_or}
 use Rattle.getopts.specs.Names.{Text, texts}
 use Rattle.getopts.specs.Options.{Grammar, AreLawfullyNamed, knowns_of, grammar_of}
 use Rattle.getopts.specs.Held.Groups.{HaveTextsForShorts}
 use Rattle.getopts.specs.Pairs.{name_texts}
 use Rattle.getopts.specs.Table.{IsTableOf}
-use Rattle.getopts.specs.Canon.{mention_of, Content}
-use Rattle.getopts.specs.Scan.{dash_text, Dashes, MayStandBefore, Argument, none, FitsEnd, value_of, attached_argument, argument_words, EndsOrIsDashed, is_dashed, stop_word, Item, BeginsWith, Occurrence, occurrence_at, mentions, Reading, IsReading, occurrences_of, free_words, trailing_start}
+use Rattle.getopts.specs.ScanLaws.{mention_of}
+use Rattle.getopts.specs.Canon.{Content}
+use Rattle.getopts.specs.Scan.{dash_text, Dashes, MayStandBefore, Argument, none, FitsEnd, value_of}
+use Rattle.getopts.specs.Scan.{attached_argument, argument_words, EndsOrIsDashed, is_dashed}
+use Rattle.getopts.specs.Scan.{stop_word, Item, BeginsWith, Occurrence, occurrence_at, mentions}
+use Rattle.getopts.specs.Scan.{Reading, IsReading, occurrences_of, free_words, trailing_start}
 use Rattle.getopts.specs.declared.groups.HasArg.{HasArg}
 use Rattle.getopts.specs.declared.line.Occurrence.{Occurrence as Held}
 use Rattle.getopts.specs.declared.line.Line.{Line}

@@ -1,5 +1,6 @@
 -- Names of options: the two names of a group, which pairs are lawful, and what a name resolves to.
-use Rattle.std.specs.Prelude.{◌≢◌, ◌==◌, ℕ, ◌+◌, ◌<◌, ◌≤◌, Bool, ◌&&◌, not, List, length, map, Option, if◌then◌else◌, ◌≡◌, Some, None, [], ◌∷◌, slice_get}
+use Rattle.std.specs.Prelude.{◌≢◌, ◌==◌, ℕ, ◌+◌, ◌<◌, ◌≤◌, Bool, ◌&&◌, not, List, length, map}
+use Rattle.std.specs.Prelude.{Option, if◌then◌else◌, ◌≡◌, Some, None, [], ◌∷◌, slice_get}
 use Rattle.std.specs.Borrow.{Bor}
 use Rattle.std.specs.List.{AllByRecursion, Any, find, position}
 use Rattle.std.specs.Option.{option_and_then, option_or}

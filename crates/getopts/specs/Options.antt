@@ -1,5 +1,6 @@
 -- What options hold: groups in order of definition, a parsing style and a mode.
-use Rattle.std.specs.Prelude.{◌≡◌, ℕ, Bool, List, [], ◌∷◌, ◌++◌, Option, Some, IsSome, map, slice_get}
+use Rattle.std.specs.Prelude.{◌≡◌, ℕ, Bool, List, [], ◌∷◌, ◌++◌, Option, Some, IsSome, map}
+use Rattle.std.specs.Prelude.{slice_get}
 use Rattle.std.specs.List.{AllByRecursion}
 use Rattle.std.specs.Option.{option_and_then, option_map}
 use Rattle.getopts.specs.Names.{Text, Names, IsLawfullyNamed, resolution}
@@ -61,11 +62,13 @@ pub record Grammar : Type 0 where
   pub style : ParsingStyle
   pub long_only : Bool
 
+-- the kind of argument of the group at this place
+abbrev pub kind_at : List Group → ℕ → Option HasArg
+kind_at groups place = option_map (λ group. group.known.kind) (slice_get groups place)
+
 -- the kind of argument of the group that a name resolves to
 abbrev pub kind_of : List Group → Text → Option HasArg
-kind_of groups name =
-    option_and_then (λ place. option_map (λ group. group.known.kind) (slice_get groups place))
-    (resolution (names_of groups) name)
+kind_of groups name = option_and_then (kind_at groups) (resolution (names_of groups) name)
 
 -- the kind of occurrence of the group that a name resolves to
 abbrev pub occurrence_of : List Group → Text → Option Occur
@@ -80,7 +83,8 @@ Declares options name = IsSome (resolution (names_of options.groups) name)
 -- these options declare this name, with this kind of argument and this kind of occurrence
 abbrev pub DeclaresAs : Declared → Text → HasArg → Occur → Type 0
 DeclaresAs options name kind occurrence =
-    (kind_of options.groups name ≡ Some kind) × (occurrence_of options.groups name ≡ Some occurrence)
+    (kind_of options.groups name ≡ Some kind)
+    × (occurrence_of options.groups name ≡ Some occurrence)
 
 -- the grammar of options
 abbrev pub grammar_of : Declared → Grammar

@@ -5,11 +5,9 @@ use Rattle.getopts.specs.Options.{Known}
 
 -- what each element and the next two texts make
 abbrev pub beside_pairs : {X Y : Type 0} → (X → Text → Text → Y) → List X → List Text → List Y
-beside_pairs make [] texts = []
-beside_pairs make (x ∷ xs) [] = []
-beside_pairs make (x ∷ xs) (first ∷ []) = []
 beside_pairs make (x ∷ xs) (first ∷ second ∷ texts) =
     make x first second ∷ beside_pairs make xs texts
+beside_pairs make xs texts = []
 
 -- the short and the long name of each group in turn
 abbrev pub name_texts : List Known → List Text

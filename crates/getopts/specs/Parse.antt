@@ -5,7 +5,9 @@ use Rattle.getopts.specs.Names.{Text}
 use Rattle.getopts.specs.Options.{Declared, Grammar, grammar_of}
 use Rattle.getopts.specs.Fail.{Fault}
 use Rattle.getopts.specs.Scan.{Reading, IsReading, IsScanFault}
-use Rattle.getopts.specs.ScanLaws.{LongAttachedOrSeparate, ShortAttachedOrSeparate, ClusterSplits, OneDashOrTwo, LinesCompose, TrailingStartIsAfterStop, FreeWordsAreSubsequence, PositionsAreWords}
+use Rattle.getopts.specs.ScanLaws.{LongAttachedOrSeparate, ShortAttachedOrSeparate, ClusterSplits}
+use Rattle.getopts.specs.ScanLaws.{OneDashOrTwo, LinesCompose, TrailingStartIsAfterStop}
+use Rattle.getopts.specs.ScanLaws.{FreeWordsAreSubsequence, PositionsAreWords}
 use Rattle.getopts.specs.Matches.{Matched, matches_of, KeepsCounts, IsCountFault}
 
 -- a reading of the words by these options

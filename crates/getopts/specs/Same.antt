@@ -6,7 +6,8 @@ use Rattle.std.specs.Option.{option_eq}
 use Rattle.std.specs.Ordering.{on, eq_of_both}
 use Rattle.getopts.specs.Names.{Text, Names}
 use Rattle.getopts.specs.Options.{Known, Group, Declared}
-use Rattle.getopts.specs.Fail.{Fault, argument_missing, unrecognized_option, option_missing, option_duplicated, unexpected_argument, fault_of}
+use Rattle.getopts.specs.Fail.{Fault, argument_missing, unrecognized_option, option_missing}
+use Rattle.getopts.specs.Fail.{option_duplicated, unexpected_argument, fault_of}
 use Rattle.getopts.specs.Matches.{Found, MatchedGroup, Matched}
 use Rattle.getopts.specs.declared.fail.Fail.{Fail}
 use Rattle.getopts.specs.declared.groups.HasArg.{HasArg}

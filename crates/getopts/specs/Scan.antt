@@ -1,12 +1,14 @@
 -- How words are read: items, their spelling, when they are lawful, readings of a line, the
 -- occurrences and free words of a reading, and the faults of a line that has none.
-use Rattle.std.specs.Prelude.{◌≡◌, ◌≢◌, ◌==◌, ◌⊎◌, ⊤, ℕ, ◌+◌, ◌<◌, Bool, true, false, List, [], ◌∷◌, ◌++◌, length, map, Option, Some, None, encode_utf8}
+use Rattle.std.specs.Prelude.{◌≡◌, ◌≢◌, ◌==◌, ◌⊎◌, ⊤, ℕ, ◌+◌, ◌<◌, Bool, true, false, List, [], ◌∷◌}
+use Rattle.std.specs.Prelude.{◌++◌, length, map, Option, Some, None, encode_utf8}
 use Rattle.std.specs.Char.{IsScalar}
 use Rattle.std.specs.List.{AllByRecursion, list_any}
 use Rattle.std.specs.Option.{unwrap_or}
 use Rattle.getopts.specs.Names.{Text}
 use Rattle.getopts.specs.Options.{Grammar}
-use Rattle.getopts.specs.Fail.{Fault, argument_missing, unrecognized_option, option_missing, option_duplicated, unexpected_argument}
+use Rattle.getopts.specs.Fail.{Fault, argument_missing, unrecognized_option, option_missing}
+use Rattle.getopts.specs.Fail.{option_duplicated, unexpected_argument}
 use Rattle.getopts.specs.declared.groups.HasArg.{HasArg}
 use Rattle.getopts.specs.declared.groups.HasArg.TheVariants.{Yes, No, Maybe}
 use Rattle.getopts.specs.declared.groups.ParsingStyle.TheVariants.{FloatingFrees, StopAtFirstFree}
@@ -21,9 +23,8 @@ equals_sign = 61
 
 -- whether a word is dashed: it begins with `-` and has at least two bytes
 abbrev pub is_dashed : Text → Bool
-is_dashed [] = false
-is_dashed (c ∷ []) = false
 is_dashed (c ∷ d ∷ more) = c == dash
+is_dashed text = false
 
 -- whether a text begins with `-`
 abbrev pub begins_with_dash : Text → Bool
@@ -77,9 +78,8 @@ long_word dashes name argument = dash_text dashes ++ (name ++ with_equals argume
 
 -- the attached argument
 abbrev pub attached_argument : Argument → Option Text
-attached_argument none = None
 attached_argument (attached argument) = Some argument
-attached_argument (separate word) = None
+attached_argument argument = None
 
 -- the value that an argument gives to its option
 abbrev pub value_of : Argument → Option Text
@@ -94,9 +94,8 @@ end_text (ends_in option argument) = option ∷ unwrap_or (attached_argument arg
 
 -- a separate argument is the next word: the words that an argument adds before those that follow
 abbrev pub argument_words : Argument → List Text → List Text
-argument_words none more = more
-argument_words (attached argument) more = more
 argument_words (separate word) more = word ∷ more
+argument_words argument more = more
 
 -- the words that an end adds before those that follow
 abbrev pub end_words : End → List Text → List Text
@@ -125,14 +124,11 @@ MayStandBefore long_only two name = ⊤
 -- at most an attached one for Maybe.
 abbrev pub FitsLong : HasArg → Argument → Type 0
 FitsLong No none = ⊤
-FitsLong No (attached argument) = ⊥
-FitsLong No (separate word) = ⊥
+FitsLong No argument = ⊥
 FitsLong Yes none = ⊥
-FitsLong Yes (attached argument) = ⊤
-FitsLong Yes (separate word) = ⊤
-FitsLong Maybe none = ⊤
-FitsLong Maybe (attached argument) = ⊤
+FitsLong Yes argument = ⊤
 FitsLong Maybe (separate word) = ⊥
+FitsLong Maybe argument = ⊤
 
 -- The arguments that a kind may have at the end of a cluster: an attached one is not empty; for Yes
 -- a separate one is any word; for Maybe it isn't dashed, and there may be none.
@@ -178,12 +174,8 @@ IsLawfulItem grammar (cluster names end) = IsLawfulCluster grammar names end
 
 -- whether an item is a bare cluster: it ends in an option without an argument
 abbrev pub is_bare : Item → Bool
-is_bare (free word) = false
-is_bare (long dashes name argument) = false
-is_bare (cluster names flags) = false
 is_bare (cluster names (ends_in option none)) = true
-is_bare (cluster names (ends_in option (attached argument))) = false
-is_bare (cluster names (ends_in option (separate word))) = false
+is_bare item = false
 
 -- the line ends, or its next word is dashed
 abbrev pub EndsOrIsDashed : List Text → Type 0
@@ -217,9 +209,8 @@ BeginsFree (word ∷ words) = is_dashed word ≡ false
 -- a lawful tail; a rest begins with a word that isn't dashed, and stands only under
 -- `StopAtFirstFree`
 abbrev pub IsLawfulTail : Grammar → Tail → Type 0
-IsLawfulTail grammar line_end = ⊤
-IsLawfulTail grammar (stop words) = ⊤
 IsLawfulTail grammar (rest words) = BeginsFree words × (grammar.style ≡ StopAtFirstFree)
+IsLawfulTail grammar tail = ⊤
 
 -- a list of items and a tail
 pub record Reading : Type 0 where
@@ -294,8 +285,7 @@ occurrences_of grammar reading = occurrences_after 0 grammar reading.items
 abbrev pub free_items : List Item → List Text
 free_items [] = []
 free_items (free word ∷ items) = word ∷ free_items items
-free_items (long dashes name argument ∷ items) = free_items items
-free_items (cluster names end ∷ items) = free_items items
+free_items (item ∷ items) = free_items items
 
 -- the free words of a tail
 abbrev pub tail_frees : Tail → List Text
@@ -309,10 +299,8 @@ free_words reading = free_items reading.items ++ tail_frees reading.tail
 
 -- where the words after a stop begin among the free words, if any word follows it
 abbrev pub trailing_after : ℕ → Tail → Option ℕ
-trailing_after before line_end = None
-trailing_after before (stop []) = None
 trailing_after before (stop (word ∷ words)) = Some before
-trailing_after before (rest words) = None
+trailing_after before tail = None
 
 -- where the words after the stop begin among the free words of a reading
 abbrev pub trailing_start : Reading → Option ℕ
@@ -371,8 +359,7 @@ IsFaultAt grammar word after (argument_missing name) =
     ((IsLongForm grammar word name None × (grammar.kind_of name ≡ Some Yes))
     ⊎ EndsInYes grammar word name)
     × (after ≡ [])
-IsFaultAt grammar word after (option_missing name) = ⊥
-IsFaultAt grammar word after (option_duplicated name) = ⊥
+IsFaultAt grammar word after fault = ⊥
 
 -- A scan fault of a line: the fault of a word, where the words before it have a reading that ends
 -- there.

@@ -1,17 +1,26 @@
 -- Laws of readings: which items may stand for others, how lines compose, and what free words, the
 -- trailing start and positions keep to. Each is about every reading of every line.
-use Rattle.std.specs.Prelude.{◌≡◌, ◌≢◌, ℕ, ◌+◌, ◌<◌, nat_le, if◌then◌else◌, Bool, false, true, List, [], ◌∷◌, ◌++◌, length, map, drop, slice_get, Contains, Some}
-use Rattle.std.specs.List.{AllByRecursion, flat_map}
+use Rattle.std.specs.Prelude.{◌≡◌, ◌≢◌, ℕ, ◌+◌, ◌<◌, nat_le, if◌then◌else◌, Bool, false, true, List}
+use Rattle.std.specs.Prelude.{[], ◌∷◌, ◌++◌, length, map, drop, slice_get, Contains, Some}
+use Rattle.std.specs.List.{AllByRecursion}
 use Rattle.std.specs.List.Sorted.{IsNonDecreasingBy}
 use Rattle.getopts.specs.Names.{Text}
 use Rattle.getopts.specs.Options.{Grammar}
-use Rattle.getopts.specs.Scan.{begins_with_dash, Argument, attached, separate, Dashes, End, flags, ends_in, Item, long, cluster, end_text, spelled, spelled_all, is_bare, Tail, line_end, stop, tail_words, Reading, IsReading, Mention, mentions, Occurrence, occurrence_at, word_count, occurrences_of, free_words, trailing_start}
+use Rattle.getopts.specs.Scan.{begins_with_dash, Argument, attached, separate, Dashes, End, flags}
+use Rattle.getopts.specs.Scan.{ends_in, Item, long, cluster, end_text, spelled, spelled_all}
+use Rattle.getopts.specs.Scan.{is_bare, Tail, line_end, stop, tail_words, Reading, IsReading}
+use Rattle.getopts.specs.Scan.{Mention, mentions, Occurrence, occurrence_at, word_count}
+use Rattle.getopts.specs.Scan.{occurrences_of, free_words, trailing_start}
 use Rattle.getopts.specs.Matches.{Found, MatchedGroup}
 use Rattle.getopts.specs.declared.groups.HasArg.TheVariants.{Yes}
 
+-- an occurrence without its position
+abbrev pub mention_of : Occurrence → Mention
+mention_of occurrence = record { group = occurrence.group; value = occurrence.value }
+
 -- what a reading mentions, in the order of the line: its occurrences without their positions
 abbrev pub mentions_of : Grammar → Reading → List Mention
-mentions_of grammar reading = flat_map (mentions grammar) reading.items
+mentions_of grammar reading = map mention_of (occurrences_of grammar reading)
 
 -- the words that a reading spells
 abbrev pub spelled_words : Reading → List Text
@@ -21,13 +30,14 @@ spelled_words reading = spelled_all reading.items (tail_words reading.tail)
 abbrev pub reading_of : List Item → List Item → List Item → Tail → Reading
 reading_of front middle back tail = record { items = front ++ (middle ++ back); tail = tail }
 
--- The new reading is one of the words that it spells, and has the old one's occurrences, positions
--- too, free words and trailing start.
-pub record ReadsAlike (grammar : Grammar) (old new : Reading) : Type 0 where
-  pub reads : IsReading grammar new (spelled_words new)
-  pub occurrences : occurrences_of grammar new ≡ occurrences_of grammar old
-  pub free : free_words new ≡ free_words old
-  pub trailing : trailing_start new ≡ trailing_start old
+-- How the occurrences of a new reading may differ from those of the old one, where an item at this
+-- position was replaced. They are the same.
+abbrev pub AreSame : ℕ → List Occurrence → List Occurrence → Type 0
+AreSame position old new = new ≡ old
+
+-- they are the same but for positions
+abbrev pub AreSameButForPositions : ℕ → List Occurrence → List Occurrence → Type 0
+AreSameButForPositions position old new = map mention_of new ≡ map mention_of old
 
 -- the occurrence, one position higher where it stands after this one
 abbrev pub one_higher_after : ℕ → Occurrence → Occurrence
@@ -37,58 +47,43 @@ one_higher_after position o = record {
   position = if nat_le o.position position then o.position else o.position + 1;
 }
 
--- The new reading is one of the words that it spells, and has the old one's occurrences, those
--- after this position one higher, free words and trailing start.
-pub record ReadsOneHigherAfter (grammar : Grammar) (position : ℕ) (old new : Reading) : Type 0 where
-  pub reads : IsReading grammar new (spelled_words new)
-  pub occurrences :
-      occurrences_of grammar new ≡ map (one_higher_after position) (occurrences_of grammar old)
-  pub free : free_words new ≡ free_words old
-  pub trailing : trailing_start new ≡ trailing_start old
+-- those after the item are one position higher
+abbrev pub AreHigherAfter : ℕ → List Occurrence → List Occurrence → Type 0
+AreHigherAfter position old new = new ≡ map (one_higher_after position) old
 
--- The same the other way round: the old reading's occurrences after this position are one higher.
-pub record ReadsOneLowerAfter (grammar : Grammar) (position : ℕ) (old new : Reading) : Type 0 where
-  pub reads : IsReading grammar new (spelled_words new)
-  pub occurrences :
-      occurrences_of grammar old ≡ map (one_higher_after position) (occurrences_of grammar new)
-  pub free : free_words new ≡ free_words old
-  pub trailing : trailing_start new ≡ trailing_start old
+-- those after the item are one position lower: one higher, they are the old ones
+abbrev pub AreLowerAfter : ℕ → List Occurrence → List Occurrence → Type 0
+AreLowerAfter position old new = old ≡ map (one_higher_after position) new
 
--- The new reading is one of the words that it spells, and has the old one's mentions, free words
--- and trailing start: positions alone may differ.
-pub record ReadsAlikeButForPositions (grammar : Grammar) (old new : Reading) : Type 0 where
+-- The new reading is one of the words that it spells, its occurrences are to the old one's as
+-- `Alike` says, and it has the old one's free words and trailing start.
+pub record ReadsAlike (grammar : Grammar) (Alike : List Occurrence → List Occurrence → Type 0)
+    (old new : Reading) : Type 0 where
   pub reads : IsReading grammar new (spelled_words new)
-  pub mentions : mentions_of grammar new ≡ mentions_of grammar old
+  pub occurrences : Alike (occurrences_of grammar old) (occurrences_of grammar new)
   pub free : free_words new ≡ free_words old
   pub trailing : trailing_start new ≡ trailing_start old
 
 -- wherever the item stands in a reading of a line, the reading with the others in its place is
--- alike
-abbrev pub MayStandFor : (Grammar → Reading → Reading → Type 0)
-    → Grammar → List Item → Item → Type 0
-MayStandFor Alike grammar others item = (front back : List Item) (tail : Tail) (words : List Text)
+-- alike, where `Alike` may ask for the item's position
+abbrev pub MayStandFor : Grammar → (ℕ → List Occurrence → List Occurrence → Type 0)
+    → List Item → Item → Type 0
+MayStandFor grammar Alike others item = (front back : List Item) (tail : Tail) (words : List Text)
     → IsReading grammar (reading_of front (item ∷ []) back tail) words
-    → Alike grammar (reading_of front (item ∷ []) back tail) (reading_of front others back tail)
-
--- the same, where alike asks for the item's position too
-abbrev pub MayStandForAt : (Grammar → ℕ → Reading → Reading → Type 0)
-    → Grammar → List Item → Item → Type 0
-MayStandForAt Alike grammar others item = (front back : List Item) (tail : Tail) (words : List Text)
-    → IsReading grammar (reading_of front (item ∷ []) back tail) words
-    → Alike grammar (word_count front) (reading_of front (item ∷ []) back tail)
-    (reading_of front others back tail)
+    → ReadsAlike grammar (Alike (word_count front))
+    (reading_of front (item ∷ []) back tail) (reading_of front others back tail)
 
 -- A long argument attached or separate: `--name=argument` and `--name`, `argument` read alike,
 -- where the name's kind is Yes, but that positions of later items are one higher with the latter.
 pub record LongAttachedOrSeparate (grammar : Grammar) : Type 0 where
   pub to_separate : (dashes : Dashes) (name argument : Text)
       → grammar.kind_of name ≡ Some Yes
-      → MayStandForAt ReadsOneHigherAfter grammar (long dashes name (separate argument) ∷ [])
-      (long dashes name (attached argument))
+      → MayStandFor grammar AreHigherAfter
+      (long dashes name (separate argument) ∷ []) (long dashes name (attached argument))
   pub to_attached : (dashes : Dashes) (name argument : Text)
       → grammar.kind_of name ≡ Some Yes
-      → MayStandForAt ReadsOneLowerAfter grammar (long dashes name (attached argument) ∷ [])
-      (long dashes name (separate argument))
+      → MayStandFor grammar AreLowerAfter
+      (long dashes name (attached argument) ∷ []) (long dashes name (separate argument))
 
 -- A short argument attached or separate: `-xargument` and `-x`, `argument` read alike, also after
 -- flags, where the kind of `x` is Yes and the argument isn't empty, but that positions of later
@@ -96,13 +91,13 @@ pub record LongAttachedOrSeparate (grammar : Grammar) : Type 0 where
 pub record ShortAttachedOrSeparate (grammar : Grammar) : Type 0 where
   pub to_separate : (names : List ℕ) (option : ℕ) (argument : Text)
       → grammar.kind_of (option ∷ []) ≡ Some Yes
-      → MayStandForAt ReadsOneHigherAfter grammar
+      → MayStandFor grammar AreHigherAfter
       (cluster names (ends_in option (separate argument)) ∷ [])
       (cluster names (ends_in option (attached argument)))
   pub to_attached : (names : List ℕ) (option : ℕ) (argument : Text)
       → grammar.kind_of (option ∷ []) ≡ Some Yes
       → argument ≢ []
-      → MayStandForAt ReadsOneLowerAfter grammar
+      → MayStandFor grammar AreLowerAfter
       (cluster names (ends_in option (attached argument)) ∷ [])
       (cluster names (ends_in option (separate argument)))
 
@@ -112,9 +107,8 @@ pub record ClusterSplits (grammar : Grammar) : Type 0 where
   pub after_flag : (flag : ℕ) (names : List ℕ) (end : End)
       → names ++ end_text end ≢ []
       → begins_with_dash (names ++ end_text end) ≡ false
-      → MayStandFor ReadsAlikeButForPositions grammar
-      (cluster (flag ∷ []) flags ∷ cluster names end ∷ [])
-      (cluster (flag ∷ names) end)
+      → MayStandFor grammar AreSameButForPositions
+      (cluster (flag ∷ []) flags ∷ cluster names end ∷ []) (cluster (flag ∷ names) end)
 
 -- One dash or two: in long-only mode `-name` and `--name` read alike, where the name doesn't begin
 -- with `-`.
@@ -122,7 +116,7 @@ pub record OneDashOrTwo (grammar : Grammar) : Type 0 where
   pub other_dashes : (dashes other : Dashes) (name : Text) (argument : Argument)
       → grammar.long_only ≡ true
       → begins_with_dash name ≡ false
-      → MayStandFor ReadsAlike grammar (long other name argument ∷ []) (long dashes name argument)
+      → MayStandFor grammar AreSame (long other name argument ∷ []) (long dashes name argument)
 
 -- whether the last item is a bare cluster
 abbrev pub is_last_bare : List Item → Bool
@@ -143,19 +137,14 @@ pub record HasContentOfBoth (grammar : Grammar) (first second whole : Reading) :
 -- isn't a bare cluster, and a second line has a reading, the readings joined are one of the lines
 -- joined, and each reading of these has the content of both.
 pub record LinesCompose (grammar : Grammar) : Type 0 where
-  pub joined : (first second : Reading) (words more : List Text)
+  pub of_both : (first second : Reading) (words more : List Text)
       → IsReading grammar first words
       → first.tail ≡ line_end
       → is_last_bare first.items ≡ false
       → IsReading grammar second more
       → IsReading grammar (joined_reading first second) (words ++ more)
-  pub content : (first second whole : Reading) (words more : List Text)
-      → IsReading grammar first words
-      → first.tail ≡ line_end
-      → is_last_bare first.items ≡ false
-      → IsReading grammar second more
-      → IsReading grammar whole (words ++ more)
-      → HasContentOfBoth grammar first second whole
+      × ((whole : Reading) → IsReading grammar whole (words ++ more)
+      → HasContentOfBoth grammar first second whole)
 
 -- a place among the free words, from which on they are the words after the stop
 pub record IsAfterStop (reading : Reading) (start : ℕ) : Type 0 where

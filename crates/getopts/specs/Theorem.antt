@@ -10,26 +10,11 @@ use Rattle.getopts.specs.Parse.{Reads, IsAccepted, BreaksCounts, HasNoReading, I
 use Rattle.getopts.specs.Canon.{Content, content_of, IsPlain, canonical_line, IsCountKeeping, Says}
 use Rattle.getopts.specs.CanonAnswers.{IsAcceptedWith, IsWritten}
 
--- the words have a reading that keeps the counts, and it gives these matches
-abbrev pub HasCountKeeping : Declared → List Text → Matched → Type 0
-HasCountKeeping options words matches = (reading : Reading)
-    × IsCountKeeping options reading words
-    × (matches ≡ matches_of options reading)
-
--- no reading of the words keeps the counts
-abbrev pub HasNoCountKeeping : Declared → List Text → Type 0
-HasNoCountKeeping options words = (reading : Reading) → ¬ (IsCountKeeping options reading words)
-
--- the words have a reading, and this is its count fault
-abbrev pub HasCountFault : Declared → List Text → Fault → Type 0
-HasCountFault options words fault = (reading : Reading)
-    × Reads options words reading
-    × IsCountFault (matches_of options reading).groups fault
-
--- the first fault: the scan fault of the words, or the count fault of their reading
+-- the first fault: the scan fault of the words, or the count fault of a reading of them
 abbrev pub IsFirstFault : Declared → List Text → Fault → Type 0
-IsFirstFault options words fault =
-    IsScanFault (grammar_of options) words fault ⊎ HasCountFault options words fault
+IsFirstFault options words fault = IsScanFault (grammar_of options) words fault
+    ⊎ ((reading : Reading) × Reads options words reading
+    × IsCountFault (matches_of options reading).groups fault)
 
 -- words have one reading at most
 abbrev pub OneReading : Declared → Type 0
@@ -39,13 +24,16 @@ OneReading options = (words : List Text) (reading other : Reading)
 -- Words are accepted exactly when they have a reading that keeps the counts, with what it gives.
 abbrev pub AcceptedExactlyWhen : Declared → Type 0
 AcceptedExactlyWhen options = (words : List Text) (matches : Matched)
-    → IsAccepted options words matches ↔ HasCountKeeping options words matches
+    → IsAccepted options words matches
+    ↔ ((reading : Reading) × IsCountKeeping options reading words
+    × (matches ≡ matches_of options reading))
 
 -- Words are refused exactly when no reading of them keeps the counts, with the first fault.
 abbrev pub RefusedExactlyWhen : Declared → Type 0
 RefusedExactlyWhen options = (words : List Text) (fault : Fault) → AreTexts words
     → IsRefused options words fault
-    ↔ (HasNoCountKeeping options words × IsFirstFault options words fault)
+    ↔ (((reading : Reading) → ¬ (IsCountKeeping options reading words))
+    × IsFirstFault options words fault)
 
 -- one of three holds, and no two of them
 abbrev pub ExactlyOne : Type 0 → Type 0 → Type 0 → Type 0

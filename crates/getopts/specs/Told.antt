@@ -22,7 +22,8 @@ AreGroupsOf options groups = map (λ group. group.known) groups ≡ knowns_of op
 
 -- the occurrences of each group have values as its kind wants
 abbrev pub HaveValuesByKind : List MatchedGroup → Type 0
-HaveValuesByKind groups = AllByRecursion (λ group. HaveValuesFor group.known.kind group.found) groups
+HaveValuesByKind groups =
+    AllByRecursion (λ group. HaveValuesFor group.known.kind group.found) groups
 
 -- each name that the options declare is defined
 abbrev pub DefineDeclared : Declared → List MatchedGroup → Type 0

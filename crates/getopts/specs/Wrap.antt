@@ -42,10 +42,9 @@ pub record IsFittingBreaking (limit : ℕ) (words : List Word) (runs : List Run)
 
 -- no run, followed by the first word of the next run, fits
 abbrev pub NoneTakesMore : ℕ → List Run → Type 0
-NoneTakesMore limit [] = Unit {0}
-NoneTakesMore limit (run ∷ []) = Unit {0}
 NoneTakesMore limit (run ∷ next ∷ more) =
     (¬ FitsIn limit (run ++ take 1 next)) × NoneTakesMore limit (next ∷ more)
+NoneTakesMore limit runs = Unit {0}
 
 -- a fitting breaking in which no run could take in the word that comes next
 pub record IsTightBreaking (limit : ℕ) (words : List Word) (runs : List Run) : Type 0 where

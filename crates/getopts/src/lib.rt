@@ -2,6 +2,7 @@
 #![tactic(auto)]
 
 mod accessors;
+mod adding;
 mod canon;
 mod counts;
 mod fail;

@@ -4,7 +4,8 @@ use Rattle.std.proofs.lemmas.List.{map-append}
 use Rattle.std.specs.String.{string_bytes}
 use Rattle.getopts.specs.Names.{Text}
 use Rattle.getopts.specs.Scan.{two, long_word, Occurrence}
-use Rattle.getopts.specs.Canon.{mention_of, canonical_word}
+use Rattle.getopts.specs.Canon.{canonical_word}
+use Rattle.getopts.specs.ScanLaws.{mention_of}
 use Rattle.getopts.specs.Line.{occurrence_view}
 use Rattle.getopts.proofs.CountLemmas.{none_past}
 use Rattle.getopts.proofs.LineLemmas.{take-get}

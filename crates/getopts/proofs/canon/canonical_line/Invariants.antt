@@ -2,7 +2,8 @@ use Rattle.std.proofs.Common.{◌≡◌, ◌∷◌, ◌++◌, map, take}
 use Rattle.std.specs.String.{string_bytes}
 use Rattle.getopts.specs.Names.{texts}
 use Rattle.getopts.specs.Scan.{stop_word}
-use Rattle.getopts.specs.Canon.{mention_of, canonical_word}
+use Rattle.getopts.specs.Canon.{canonical_word}
+use Rattle.getopts.specs.ScanLaws.{mention_of}
 use Rattle.getopts.proofs.canon.canonical_line.Given as goal
 
 -- the words so far are those of the occurrences so far
