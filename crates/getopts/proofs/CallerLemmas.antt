@@ -5,7 +5,7 @@ use Rattle.std.proofs.lemmas.List.{length-map}
 use Rattle.getopts.specs.Names.{Text, resolution}
 use Rattle.getopts.specs.Options.{Known, Declared, names_of, knowns_of, grammar_of}
 use Rattle.getopts.specs.Scan.{Reading, Mention, Occurrence, occurrences_of, free_words}
-use Rattle.getopts.specs.ScanLaws.{mention_of, mentions_of, words_of, one_higher_after, AreSameButForPositions, AreHigherAfter, AreLowerAfter, ReadsAlike}
+use Rattle.getopts.specs.ScanLaws.{mention_of, mentions_of, spelled_words, one_higher_after, AreSameButForPositions, AreHigherAfter, AreLowerAfter, ReadsAlike}
 use Rattle.getopts.specs.Matches.{Found, Matched, found_at, matched, matches_of, KeepsCounts}
 use Rattle.getopts.specs.Accessors.{IsReadAs, place_of, found_in, found_of, first_value, values_of}
 use Rattle.getopts.specs.Parse.{Reads, IsAccepted}
@@ -110,7 +110,7 @@ pub IsAccepted-alike : (options : Declared) (words : List Text) (matches : Match
     → AcceptedExactlyWhen options
     → ((those these : List Occurrence) → Alike those these → AreSameButForPositions position those these)
     → IsAccepted options words matches → Reads options words old → ReadsAlike (grammar_of options) Alike old new
-    → IsAccepted options (words_of new) (matches_of options new) × HoldSame matches (matches_of options new)
+    → IsAccepted options (spelled_words new) (matches_of options new) × HoldSame matches (matches_of options new)
 IsAccepted-alike options words matches position Alike old new accepted_when follows accepted reads alike =
     let grammar = grammar_of options in
     let told : mentions_of grammar new ≡ mentions_of grammar old = follows _ _ alike.occurrences in
@@ -118,6 +118,6 @@ IsAccepted-alike options words matches position Alike old new accepted_when foll
     let kept : KeepsCounts (matches_of options old).groups = subst (λ (reading : Reading). KeepsCounts (matches_of options reading).groups) (sym is) accepted.counts in
     let matches_are : matches_of options old ≡ matches = ap (matches_of options) is ∙ sym accepted.matches_are in
     let keeps : KeepsCounts (matches_of options new).groups = KeepsCounts-mentions (knowns_of options.groups) grammar grammar old new (sym told) kept in (
-      (accepted_when (words_of new) (matches_of options new)).1 (new, record { reads = alike.reads; keeps = keeps }, refl),
+      (accepted_when (spelled_words new) (matches_of options new)).1 (new, record { reads = alike.reads; keeps = keeps }, refl),
       subst (λ (those : Matched). HoldSame those (matches_of options new)) matches_are (HoldSame-content options old new told alike.free),
     )
