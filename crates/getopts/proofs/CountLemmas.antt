@@ -1,5 +1,5 @@
 -- The counts of groups, one after the other.
-use Rattle.std.proofs.Common.{◌≡◌, ◌==◌, ◌&&◌, ◌<◌, ◌+◌, ℕ, zero, suc, Bool, true, false, cond, List, [], ◌∷◌, ◌++◌, length, map, take, drop, slice_get, unwrap_or, Option, Some, None, ◌≤◌, zero-le, refl, ap, ◌∙◌, sym, subst, inl, inr, arith, add-zero, zero-add}
+use Rattle.std.proofs.Common.{◌≡◌, ◌==◌, ◌&&◌, ◌<◌, ◌+◌, ℕ, zero, suc, Bool, true, false, cond, List, [], ◌∷◌, ◌++◌, length, map, take, drop, slice_get, unwrap_or, Option, Some, None, option_map, ◌≤◌, zero-le, refl, ap, ◌∙◌, sym, subst, inl, inr, arith, add-zero, zero-add}
 use Rattle.std.specs.List.{filter, list_all}
 use Rattle.std.proofs.lemmas.Bool.{and_from, cases_eq, eq-eqb, ne_eqb}
 use Rattle.std.proofs.lemmas.List.{length-map, take-append-drop}
@@ -10,6 +10,7 @@ use Rattle.getopts.specs.Matches.{Found, MatchedGroup, found_at, matched, KeepsC
 use Rattle.getopts.specs.Names.{Text}
 use Rattle.getopts.specs.Held.Accepted.{index_of}
 use Rattle.getopts.specs.Held.Found.{given_view}
+use Rattle.getopts.specs.declared.groups.Occur.{Occur}
 use Rattle.getopts.specs.declared.line.Given.{Given}
 use Rattle.getopts.proofs.IndexLemmas.{length-places_of, slice_get-places_by_group}
 use Rattle.getopts.proofs.ScanTexts.{AllByRecursion-append}
@@ -91,6 +92,19 @@ pub none_past : {X : Type 0} (xs : List X) (i : ℕ) → None ≡ slice_get xs i
 none_past [] i none = zero-le
 none_past (x ∷ xs) zero none = cc none
 none_past (x ∷ xs) (suc i) none = omega (arith, none_past xs i none)
+
+-- the group at a place, by how often it may come
+pub known-there : (knowns : List Known) (i : ℕ) (occur : Occur) → Some occur ≡ option_map (λ (known : Known). known.occurrence) (slice_get knowns i)
+    → (known : Known) × (slice_get knowns i ≡ Some known) × (known.occurrence ≡ occur)
+known-there [] i occur there = cc there
+known-there (known ∷ knowns) zero occur there = (known, refl, sym (cc there))
+known-there (known ∷ knowns) (suc i) occur there = known-there knowns i occur there
+
+-- where no group is at a place, the list ends before it
+pub none_known : (knowns : List Known) (i : ℕ) → None ≡ option_map (λ (known : Known). known.occurrence) (slice_get knowns i) → length knowns ≤ i
+none_known [] i none = zero-le
+none_known (known ∷ knowns) zero none = cc none
+none_known (known ∷ knowns) (suc i) none = omega (arith, none_known knowns i none)
 
 -- the groups of occurrences, whatever their values
 pub groups-given : (values : List Text) (given : List Given) → map (λ (g : Given). g.group) given ≡ map (λ (o : Occurrence). o.group) (map (given_view values) given)

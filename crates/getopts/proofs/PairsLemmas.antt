@@ -69,6 +69,22 @@ beside_pairs-through make view of same (x ∷ xs) (a ∷ []) i fits = absurd (om
 beside_pairs-through make view of same (x ∷ xs) (a ∷ b ∷ texts) zero fits = ap (λ z. Some z) (same x a b)
 beside_pairs-through make view of same (x ∷ xs) (a ∷ b ∷ texts) (suc i) fits = beside_pairs-through make view of same xs texts i (omega arith)
 
+-- the main name of the group that was made of two names
+pub main-beside : (kinds : List Kinds) (texts : List Text) (i : ℕ) (a b : Text) → length texts ≡ 2 * length kinds → slice_get texts (2 * i) ≡ Some a → slice_get texts (2 * i + 1) ≡ Some b
+    → option_map_or (λ (known : Known). main_name known.names) (slice_get (beside_pairs known_with kinds texts) i) [] ≡ main_name (record { short = a; long = b })
+main-beside [] [] i a b fits first second = cc first
+main-beside [] (c ∷ texts) i a b fits first second = absurd (omega arith)
+main-beside (x ∷ kinds) [] i a b fits first second = absurd (omega arith)
+main-beside (x ∷ kinds) (c ∷ []) i a b fits first second = absurd (omega arith)
+main-beside (x ∷ kinds) (c ∷ d ∷ texts) zero a b fits first second =
+    let short : c ≡ a = cc first in
+    let long : d ≡ b = cc second in
+    λ i. main_name (record { short = short i; long = long i })
+main-beside (x ∷ kinds) (c ∷ d ∷ texts) (suc i) a b fits first second =
+    let twice : 2 * suc i ≡ suc (suc (2 * i)) = omega arith in
+    let more : 2 * suc i + 1 ≡ suc (suc (2 * i + 1)) = omega arith in
+    main-beside kinds texts i a b (omega arith) (rw twice at first) (rw more at second)
+
 -- an element that was read at a place
 pub slice_get-read : {X : Type 0} (xs : List X) (i : ℕ) (x : X) → i < length xs → ((d : X) → x ≡ get_or xs i d) → slice_get xs i ≡ Some x
 slice_get-read xs i x within is = slice_get-get_or xs i x within ∙ ap (λ y. Some y) (sym (is x))

@@ -1,36 +1,35 @@
 //! How often options came: the counts of an accepted line.
 
-ghost use Rattle.std.specs.Prelude.{◌≡◌, IfOk, IfErr, OnOk, OnErr};
+ghost use Rattle.std.specs.Prelude.{◌≡◌, ◌↔◌, IsTrue, IfOk, IfErr};
 ghost use Rattle.getopts.specs.Fail.{Tells};
 ghost use Rattle.getopts.specs.Matches.{matched, count_fault, FitsCount, KeepsCounts, IsCountFault};
-ghost use Rattle.getopts.specs.Names.{main_name};
-ghost use Rattle.getopts.specs.Held.Groups.{known_view};
 ghost use Rattle.getopts.specs.Held.Accepted.{index_of};
 
 use crate::fail::Fail;
-use crate::groups::{Groups, Known, Occur};
+use crate::groups::{Groups, Occur};
 use crate::index::Index;
 use crate::line::Found;
 use std::alloc::{AllocError, Global};
 
-/// Tests how often an option came.
-fn check_count(alloc: Global, known: Known<'_>, count: usize) -> Result<(), Fail>
-    ensures kept { OnOk result (FitsCount (known_view known.entry).occurrence count) }
-    ensures broken { OnErr result (¬ (FitsCount (known_view known.entry).occurrence count)) }
-    ensures fault { IfErr result (λ fail. Tells fail
-        (λ fault. fault ≡ count_fault (main_name (known_view known.entry).names) count)) }
+/// Whether an option may come so many times.
+fn fits_count(occur: Occur, count: usize) -> bool
+    ensures { IsTrue result ↔ FitsCount occur count }
 {
-    let kept = match known.kinds.occur {
+    match occur {
         Occur::Req => count == 1,
         Occur::Optional => count <= 1,
         Occur::Multi => true,
-    };
-    if kept {
-        Ok(())
-    } else if count == 0 {
-        Err(Fail::option_missing(alloc, known.names.main()))
+    }
+}
+
+/// The fault of an option that came so many times.
+fn broken_count(alloc: Global, main: &str, count: usize) -> Fail
+    ensures { Tells result (λ fault. fault ≡ count_fault main.now count) }
+{
+    if count == 0 {
+        Fail::option_missing(alloc, main)
     } else {
-        Err(Fail::option_duplicated(alloc, known.names.main()))
+        Fail::option_duplicated(alloc, main)
     }
 }
 
@@ -51,8 +50,11 @@ pub(crate) fn counted(alloc: Global, groups: &Groups, found: &Found<'_>) -> Resu
 {
     let index = index_of(alloc, groups, found)?;
     for place in 0..groups.len() {
-        if let Some(known) = groups.get(place) {
-            check_count(alloc, known, index.count(place))?;
+        if let Some(occur) = groups.occur(place) {
+            let count = index.count(place);
+            if !fits_count(occur, count) {
+                return Err(broken_count(alloc, groups.main(place), count));
+            }
         }
     }
     Ok(index)

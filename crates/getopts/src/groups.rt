@@ -1,7 +1,7 @@
 //! Option groups: their kinds, and what reading asks of them.
 
 ghost use Rattle.std.specs.Prelude.{◌≡◌, ◌++◌, ◌∷◌, [], ◌*◌, length, map, slice_get, OnOk, OnErr};
-ghost use Rattle.std.specs.Option.{option_map};
+ghost use Rattle.std.specs.Option.{option_map, option_map_or};
 ghost use Rattle.std.specs.Cmp.Lexicographic.{pointwise};
 ghost use Rattle.std.specs.Cmp.Rules.{comparing};
 ghost use Rattle.std.proofs.Common.{rules};
@@ -136,6 +136,25 @@ impl Groups {
         ensures { result ≡ option_map (λ known. known.kind) (slice_get self.now place) }
     {
         Some(self.kinds.get(place)?.hasarg)
+    }
+
+    /// How often the group at a place may come.
+    pub(crate) fn occur(&self, place: usize) -> Option<Occur>
+        ensures { result
+            ≡ option_map (λ known. known.occurrence) (slice_get self.now place) }
+    {
+        Some(self.kinds.get(place)?.occur)
+    }
+
+    /// The main name of the group at a place. Past the last group it is empty.
+    pub(crate) fn main(&self, place: usize) -> &str
+        ensures { result.now
+            ≡ option_map_or (λ known. main_name known.names) (slice_get self.now place) [] }
+    {
+        match self.names.pair(place) {
+            Some((short, long)) => Names { short, long }.main(),
+            None => "",
+        }
     }
 
     /// The group at a place.

@@ -183,10 +183,7 @@ impl Options {
     pub(crate) fn main(&self, place: usize) -> &str
         ensures { result.now ≡ main_at self.now.groups place }
     {
-        match self.groups.get(place) {
-            Some(known) => known.names.main(),
-            None => "",
-        }
+        self.groups.main(place)
     }
 }
 

@@ -34,15 +34,19 @@ fn dashed_text(word: &str) -> Option<&str>
     if text.is_empty() { None } else { Some(text) }
 }
 
-/// The name of a text in long form, and its attached argument.
+/// The name of a text in long form, and its attached argument. Names are short, so its bytes are looked
+/// at one by one.
 fn name_and_argument(text: &str) -> (&str, Option<&str>)
     ensures name { holds_equals result.0.now ≡ false }
     ensures text { text.now ≡ result.0.now ++ with_equals (option_copied result.1) }
 {
-    match text.split_once('=') {
-        Some((name, argument)) => (name, Some(argument)),
-        None => (text, None),
+    let bytes = text.as_bytes();
+    for at in 0..bytes.len() {
+        if bytes[at] == b'=' {
+            return (&text[..at], Some(&text[at + 1..]));
+        }
     }
+    (text, None)
 }
 
 /// Whether a word is dashed: it begins with `-` and goes on.

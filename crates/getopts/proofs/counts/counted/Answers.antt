@@ -1,14 +1,15 @@
 -- Each group in order keeps its count, or is the first to break it.
-use Rattle.std.proofs.Common.{◌≡◌, List, [], ℕ, slice_get, unwrap_or, length, sym, ap, ◌∙◌, arith}
+use Rattle.std.proofs.Common.{◌≡◌, List, [], ℕ, slice_get, unwrap_or, length, sym, ap, ◌∙◌, subst, arith}
+use Rattle.std.specs.Option.{option_map_or}
 use Rattle.std.proofs.lemmas.List.{take_all}
-use Rattle.std.proofs.lemmas.Result.{err_from_is_err_and}
-use Rattle.getopts.specs.Names.{main_name}
-use Rattle.getopts.specs.Matches.{matched, found_at, count_fault, IsCountFault}
-use Rattle.getopts.specs.Held.Groups.{known_view}
-use Rattle.getopts.proofs.CountLemmas.{KeepsCounts-more, IsCountFault-at, length-found_at, length-matched, none_past}
+use Rattle.getopts.specs.Names.{Text, main_name}
+use Rattle.getopts.specs.Options.{Known}
+use Rattle.getopts.specs.Matches.{matched, found_at, count_fault, FitsCount, IsCountFault}
+use Rattle.getopts.specs.declared.groups.Occur.{Occur}
+use Rattle.getopts.proofs.CountLemmas.{KeepsCounts-more, IsCountFault-at, length-found_at, length-matched, known-there, none_known}
 use Rattle.getopts.proofs.FailLemmas.{Tells-weaker}
 use Rattle.getopts.proofs.counts.counted.Goals as goal
-use Rattle.getopts.proofs.counts.counted.Goals.{in-Some+in_ok-check_count, in_default}
+use Rattle.getopts.proofs.counts.counted.Goals.{in-Some+else-not-fits_count, in_default}
 
 pub returns-clause-ok : goal.returns-clause-ok
 returns-clause-ok c =
@@ -17,20 +18,26 @@ returns-clause-ok c =
 
 pub loop-place-preserved : goal.loop-place-preserved
 loop-place-preserved c =
-    elim c.match-get.branch [
-      | in-Some+in_ok-check_count w ↦
-          let counted : w.count.result ≡ length (found_at c.loop-place.place c.args.found.now) =
-          w.count.ensures ∙ ap (λ (ix : List (List ℕ)). length (unwrap_or (slice_get ix c.loop-place.place) [])) c.in_ok-index.ensures ∙ length-found_at c.args.groups.now c.args.found.now c.loop-place.place (omega arith) in
-          KeepsCounts-more c.args.groups.now c.args.found.now c.loop-place.place (known_view w.in-Some.known) (sym w.in-Some.ensures) c.loop-place.invariant w.count.result counted w.in_ok-check_count.ensures.kept
-      | in_default w ↦ absurd (omega (arith, none_past c.args.groups.now c.loop-place.place w.in_default.ensures))
+    elim c.match-occur.branch [
+      | in-Some+else-not-fits_count w ↦
+          let there = known-there c.args.groups.now c.loop-place.place w.in-Some.occur w.in-Some.ensures in
+          let counted : w.count-count.result ≡ length (found_at c.loop-place.place c.args.found.now) =
+          w.count-count.ensures ∙ ap (λ (ix : List (List ℕ)). length (unwrap_or (slice_get ix c.loop-place.place) [])) c.in_ok-index.ensures ∙ length-found_at c.args.groups.now c.args.found.now c.loop-place.place (omega arith) in
+          let fits : FitsCount w.in-Some.occur w.count-count.result = w.fits_count.ensures.0 w.if-not-fits_count.false in
+          KeepsCounts-more c.args.groups.now c.args.found.now c.loop-place.place there.0 there.1 c.loop-place.invariant w.count-count.result counted
+          (subst (λ (occur : Occur). FitsCount occur w.count-count.result) (sym there.2) fits)
+      | in_default w ↦ absurd (omega (arith, none_known c.args.groups.now c.loop-place.place w.in_default.ensures))
     ]
 
-pub returns-in_err-check_count-clause-err : goal.returns-in_err-check_count-clause-err
-returns-in_err-check_count-clause-err c =
-    let left = err_from_is_err_and c.from_residual-in_err-check_count.result c.from_residual-in_err-check_count.ensures.1 in
-    let known = known_view c.in-Some.known in
-    let counted : c.count.result ≡ length (found_at c.loop-place.place c.args.found.now) =
-    c.count.ensures ∙ ap (λ (ix : List (List ℕ)). length (unwrap_or (slice_get ix c.loop-place.place) [])) c.in_ok-index.ensures ∙ length-found_at c.args.groups.now c.args.found.now c.loop-place.place (omega arith) in
-    rw (left.1, left.2) (Tells-weaker c.in_err-check_count.field-0.0 (λ fault. fault ≡ count_fault (main_name known.names) c.count.result) (IsCountFault (matched 0 c.args.groups.now c.args.found.now)) c.in_err-check_count.ensures.fault
-    (λ fault told. IsCountFault-at c.args.groups.now c.args.found.now c.loop-place.place known (sym c.in-Some.ensures) c.loop-place.invariant c.count.result counted fault c.in_err-check_count.ensures.broken
-    (told ∙ ap (count_fault (main_name known.names)) counted)))
+pub returns-then-not-fits_count-clause-err : goal.returns-then-not-fits_count-clause-err
+returns-then-not-fits_count-clause-err c =
+    let there = known-there c.args.groups.now c.loop-place.place c.in-Some.occur c.in-Some.ensures in
+    let count = c.count-count.result in
+    let counted : count ≡ length (found_at c.loop-place.place c.args.found.now) =
+    c.count-count.ensures ∙ ap (λ (ix : List (List ℕ)). length (unwrap_or (slice_get ix c.loop-place.place) [])) c.in_ok-index.ensures ∙ length-found_at c.args.groups.now c.args.found.now c.loop-place.place (omega arith) in
+    let main : c.main.result.now ≡ main_name there.0.names =
+    c.main.ensures ∙ ap (λ group. option_map_or (λ (known : Known). main_name known.names) group []) there.1 in
+    let broken : ¬ (FitsCount there.0.occurrence count) = λ fits. absurd (cc (c.fits_count.ensures.1 (subst (λ (occur : Occur). FitsCount occur count) there.2 fits), c.if-not-fits_count.true)) in
+    Tells-weaker c.broken_count.result (λ fault. fault ≡ count_fault c.main.result.now count) (IsCountFault (matched 0 c.args.groups.now c.args.found.now)) c.broken_count.ensures
+    (λ fault told. IsCountFault-at c.args.groups.now c.args.found.now c.loop-place.place there.0 there.1 c.loop-place.invariant count counted fault broken
+    (told ∙ ap (λ (text : Text). count_fault text count) main ∙ ap (count_fault (main_name there.0.names)) counted))
