@@ -26,9 +26,10 @@ enum {
     GETOPTS_TOO_SMALL            /* some room was too small; the sizes tell what is needed, and suffice */
 };
 
-/* GETOPTS_BAD is answered only where no lawfully named options of UTF-8 texts are what the texts, lengths and
- * kinds say, or where the words, the brief or the program's name aren't UTF-8 texts of these lengths. A short
- * name has at most one byte, a long name doesn't have exactly one, and not both are empty. */
+/* GETOPTS_BAD is answered where no lawfully named options of UTF-8 texts are what the texts, lengths and
+ * kinds say, or where the words, the brief or the program's name aren't UTF-8 texts of these lengths, and
+ * only there; want of memory may be met first. A short name has at most one byte, a long name doesn't have
+ * exactly one, and not both are empty. */
 
 /* How much an answer has: written with every status up to GETOPTS_UNEXPECTED_ARGUMENT, and with
  * GETOPTS_TOO_SMALL. */

@@ -4,15 +4,20 @@ use Rattle.std.proofs.Math.Seq.{split_at}
 use Rattle.std.proofs.lemmas.List.{length-map}
 use Rattle.std.proofs.lemmas.Str.{IsUtf8-nil, IsUtf8-append, IsCharBoundary-at_seam}
 use Rattle.std.specs.Borrow.{Bor}
-use Rattle.std.specs.Prelude.{Result, Ok, Err, IfErr, IsErrAnd}
+use Rattle.std.specs.Prelude.{Result, Ok, Err, IfErr, IfOk, IsErrAnd}
 use Rattle.std.specs.List.{AllByRecursion, flat_map}
 use Rattle.std.specs.Simd.{first_chunks}
 use Rattle.std.specs.Str.{IsUtf8, IsCharBoundary}
 use Rattle.getopts.specs.Names.{Text, AreTexts, texts}
-use Rattle.getopts.specs.Options.{Group, AreLawfullyNamed}
+use Rattle.getopts.specs.Options.{Group, Declared, AreLawfullyNamed}
 use Rattle.getopts_c.proofs.LawLemmas.{cut_once, same_front}
+<<<<<<< HEAD
 use Rattle.getopts_c.specs.Request.{concatenated, IsCut, group_number, group_texts}
 use Rattle.getopts_c.specs.Request.{DeclareNoOptions, SayNoGroup, SayNoOptions, SayNoTexts}
+=======
+use Rattle.getopts_c.specs.Request.{concatenated, IsCut, IsRequest, group_number, group_texts}
+use Rattle.getopts_c.specs.Request.{DeclareNoOptions, SayNoGroup, SayOptions, SayTexts}
+>>>>>>> c
 
 -- texts one after the other are a text
 IsUtf8-concatenated : (words : List Text) → AreTexts words → IsUtf8 (concatenated words)
@@ -20,8 +25,13 @@ IsUtf8-concatenated [] utf8 = IsUtf8-nil
 IsUtf8-concatenated (word ∷ words) utf8 = IsUtf8-append word (concatenated words) utf8.0 (IsUtf8-concatenated words utf8.1)
 
 -- bytes that are no text say no texts
+<<<<<<< HEAD
 pub no_text : (bytes : Text) (lens : List ℕ) → ¬ (IsUtf8 bytes) → SayNoTexts bytes lens
 no_text bytes lens bad words cut utf8 = bad (subst IsUtf8 (sym cut.bytes_are) (IsUtf8-concatenated words utf8))
+=======
+pub no_text : (bytes : Text) (lens : List ℕ) → ¬ (IsUtf8 bytes) → ¬ (SayTexts bytes lens)
+no_text bytes lens bad said = bad (subst IsUtf8 (sym said.words_are.bytes_are) (IsUtf8-concatenated said.words said.utf8))
+>>>>>>> c
 
 -- what words say after the texts that are cut off
 record AreLeft (rest : Text) (lens : List ℕ) (words : List Text) : Type 0 where
@@ -53,13 +63,19 @@ first_ends rest len more (word ∷ words) left =
 
 -- where the rest can't be cut, no texts are said
 pub no_cut : (bytes : Text) (lens : List ℕ) (pieces : List Text) (rest : Text) (at : ℕ)
+<<<<<<< HEAD
     → bytes ≡ concatenated pieces ++ rest → take at lens ≡ map length pieces → at < length lens
     → ¬ (IsCharBoundary rest (get_or lens at 0)) → SayNoTexts bytes lens
 no_cut bytes lens pieces rest at bytes_are lens_are within bad words cut utf8 =
+=======
+    → bytes ≡ concatenated pieces ++ rest → take at lens ≡ map length pieces → at < length lens
+    → ¬ (IsCharBoundary rest (get_or lens at 0)) → ¬ (SayTexts bytes lens)
+no_cut bytes lens pieces rest at bytes_are lens_are within bad said =
+>>>>>>> c
     let more = drop (suc at) lens in
-    let sizes : map length words ≡ map length pieces ++ (get_or lens at 0 ∷ more) =
-    sym cut.lens_are ∙ split_at lens at 0 within ∙ ap (λ front. front ++ get_or lens at 0 ∷ more) lens_are in
-    let left = left_of pieces words rest (get_or lens at 0 ∷ more) (sym cut.bytes_are ∙ bytes_are) sizes utf8 in
+    let sizes : map length said.words ≡ map length pieces ++ (get_or lens at 0 ∷ more) =
+    sym said.words_are.lens_are ∙ split_at lens at 0 within ∙ ap (λ front. front ++ get_or lens at 0 ∷ more) lens_are in
+    let left = left_of pieces said.words rest (get_or lens at 0 ∷ more) (sym said.words_are.bytes_are ∙ bytes_are) sizes said.utf8 in
     bad (first_ends rest (get_or lens at 0) more left.0 left.1)
 
 -- texts of no lengths are none
@@ -69,10 +85,17 @@ none_left rest (word ∷ words) left = absurd (let e : [] ≡ length word ∷ ma
 
 -- where bytes are left over, no texts are said
 pub no_end : (bytes : Text) (lens : List ℕ) (pieces : List Text) (rest : Text)
+<<<<<<< HEAD
     → bytes ≡ concatenated pieces ++ rest → lens ≡ map length pieces → rest ≢ [] → SayNoTexts bytes lens
 no_end bytes lens pieces rest bytes_are lens_are bad words cut utf8 =
     let left = left_of pieces words rest [] (sym cut.bytes_are ∙ bytes_are)
     (sym cut.lens_are ∙ lens_are ∙ sym (append-nil (map length pieces))) utf8 in
+=======
+    → bytes ≡ concatenated pieces ++ rest → lens ≡ map length pieces → rest ≢ [] → ¬ (SayTexts bytes lens)
+no_end bytes lens pieces rest bytes_are lens_are bad said =
+    let left = left_of pieces said.words rest [] (sym said.words_are.bytes_are ∙ bytes_are)
+    (sym said.words_are.lens_are ∙ lens_are ∙ sym (append-nil (map length pieces))) said.utf8 in
+>>>>>>> c
     bad (none_left rest left.0 left.1)
 
 -- groups have no group that isn't there
@@ -127,32 +150,50 @@ same_fours ((a ∷ b ∷ c ∷ d ∷ []) ∷ fours) (group ∷ groups) each same
 
 -- what is bad of a request's texts, of their count, and of the groups that they say
 pub no_options_of_texts : (bytes : Text) (lens kinds : List ℕ) (stop long_only : Bool)
-    → SayNoTexts bytes lens → SayNoOptions bytes lens kinds stop long_only
-no_options_of_texts bytes lens kinds stop long_only none options is lawful utf8 =
-    none (flat_map group_texts options.groups) is.texts_are utf8
+    → ¬ (SayTexts bytes lens) → ¬ (SayOptions bytes lens kinds stop long_only)
+no_options_of_texts bytes lens kinds stop long_only none said =
+    none (record { words = flat_map group_texts said.options.groups; words_are = said.options_are.texts_are; utf8 = said.utf8 })
 
 pub no_options_of_count : (bytes : Text) (lens kinds : List ℕ) (stop long_only : Bool) (pieces : List Text)
     → IsCut bytes lens pieces → ((groups : List Group) → pieces ≢ flat_map group_texts groups)
-    → SayNoOptions bytes lens kinds stop long_only
-no_options_of_count bytes lens kinds stop long_only pieces cut none options is lawful utf8 =
-    none options.groups (cut_once bytes lens pieces (flat_map group_texts options.groups) cut is.texts_are)
+    → ¬ (SayOptions bytes lens kinds stop long_only)
+no_options_of_count bytes lens kinds stop long_only pieces cut none said =
+    none said.options.groups (cut_once bytes lens pieces (flat_map group_texts said.options.groups) cut said.options_are.texts_are)
 
 pub no_options_of_groups : (bytes : Text) (lens kinds : List ℕ) (stop long_only : Bool) (pieces : List (Bor Text)) (fours : List (List (Bor Text)))
     → IsCut bytes lens (texts pieces) → flat_map texts fours ≡ texts pieces → AllByRecursion (λ four. length four ≡ 4) fours
-    → DeclareNoOptions (map texts fours) kinds stop long_only → SayNoOptions bytes lens kinds stop long_only
-no_options_of_groups bytes lens kinds stop long_only pieces fours cut flat each none options is lawful utf8 =
-    none options
+    → DeclareNoOptions (map texts fours) kinds stop long_only → ¬ (SayOptions bytes lens kinds stop long_only)
+no_options_of_groups bytes lens kinds stop long_only pieces fours cut flat each none said =
+    let is = said.options_are in
+    none said.options
     (record {
-      fours_are = same_fours fours options.groups each
-          (flat ∙ cut_once bytes lens (texts pieces) (flat_map group_texts options.groups) cut is.texts_are);
+      fours_are = same_fours fours said.options.groups each
+          (flat ∙ cut_once bytes lens (texts pieces) (flat_map group_texts said.options.groups) cut is.texts_are);
       kinds_are = is.kinds_are;
       style_is = is.style_is;
       mode_is = is.mode_is;
     })
-    lawful
+    said.named
+
+-- the options of a request's groups are lawful where the groups are, by its texts
+pub options_said : (bytes : Text) (lens kinds : List ℕ) (stop long_only : Bool) (pieces : List Text) (options : Declared)
+    → IsCut bytes lens pieces → AreTexts pieces → IsRequest bytes lens kinds stop long_only options → AreLawfullyNamed options.groups
+    → SayOptions bytes lens kinds stop long_only
+options_said bytes lens kinds stop long_only pieces options cut utf8 is named = record {
+  options = options;
+  options_are = is;
+  named = named;
+  utf8 = subst AreTexts (cut_once bytes lens pieces (flat_map group_texts options.groups) cut is.texts_are) utf8;
+}
 
 -- what follows from a refusal follows where it is handed on
 pub handed_on : {T E P : Type 0} (answer : Result T E) (refusal bad : E) → IsErrAnd answer (λ e. e ≡ refusal)
     → (refusal ≡ bad → P) → IfErr answer (λ e. e ≡ bad → P)
 handed_on (Ok t) refusal bad is follows = tt
 handed_on (Err e) refusal bad is follows = λ e_is. follows (sym is ∙ e_is)
+
+-- what follows from two facts of an answer
+pub of_two : {T E : Type 0} (answer : Result T E) (P Q : T → Type 0) (R : Type 0) → IfOk answer P → IfOk answer Q
+    → ((t : T) → P t → Q t → R) → IfOk answer (λ _. R)
+of_two (Ok t) P Q R is known follows = follows t is known
+of_two (Err e) P Q R is known follows = tt

@@ -52,9 +52,11 @@ pub record IsRequest (bytes : Text) (lens kinds : List ℕ) (stop long_only : Bo
   pub style_is : options.style ≡ style_of stop
   pub mode_is : options.long_only ≡ long_only
 
--- no UTF-8 texts are what these bytes and lengths say
-abbrev pub SayNoTexts : Text → List ℕ → Type 0
-SayNoTexts bytes lens = (words : List Text) → IsCut bytes lens words → ¬ (AreTexts words)
+-- UTF-8 texts are what these bytes and lengths say
+pub record SayTexts (bytes : Text) (lens : List ℕ) : Type 0 where
+  pub words : List Text
+  pub words_are : IsCut bytes lens words
+  pub utf8 : AreTexts words
 
 -- no lawfully named group has these texts and this number of its kinds
 abbrev pub SayNoGroup : List Text → ℕ → Type 0
@@ -66,8 +68,9 @@ abbrev pub DeclareNoOptions : List (List Text) → List ℕ → Bool → Bool �
 DeclareNoOptions fours kinds stop long_only = (options : Declared)
     → IsDeclaredBy fours kinds stop long_only options → ¬ (AreLawfullyNamed options.groups)
 
--- no lawfully named options of UTF-8 texts are what these bytes, lengths and kinds say
-abbrev pub SayNoOptions : Text → List ℕ → List ℕ → Bool → Bool → Type 0
-SayNoOptions bytes lens kinds stop long_only = (options : Declared)
-    → IsRequest bytes lens kinds stop long_only options → AreLawfullyNamed options.groups
-    → ¬ (AreTexts (flat_map group_texts options.groups))
+-- lawfully named options of UTF-8 texts are what these bytes, lengths and kinds say
+pub record SayOptions (bytes : Text) (lens kinds : List ℕ) (stop long_only : Bool) : Type 0 where
+  pub options : Declared
+  pub options_are : IsRequest bytes lens kinds stop long_only options
+  pub named : AreLawfullyNamed options.groups
+  pub utf8 : AreTexts (flat_map group_texts options.groups)

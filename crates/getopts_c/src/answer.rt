@@ -1,15 +1,20 @@
 //! What a caller gets: numbers and bytes.
 
-ghost use Rattle.std.specs.Prelude.{◌≡◌, ◌⊎◌, false, ◌<◌, ◌≤◌, ◌++◌, ◌∷◌, [], map, length};
-ghost use Rattle.std.specs.Prelude.{IfErr, IfOk, OnOk, IsErrOf, IsOkAnd, IsSomeAnd};
+ghost use Rattle.std.specs.Prelude.{◌≡◌, ◌≢◌, ◌⊎◌, false, ◌<◌, ◌≤◌, ◌++◌, ◌∷◌, [], map, length};
+ghost use Rattle.std.specs.Prelude.{IfErr, IfOk, OnOk, IsErrOf, IsOk, IsOkAnd, IsSomeAnd};
 ghost use Rattle.std.specs.List.{flat_map};
 ghost use Rattle.std.specs.Str.{IsUtf8};
 ghost use Rattle.std.specs.String.{string_bytes};
 ghost use Rattle.getopts.specs.Names.{texts};
 ghost use Rattle.getopts.specs.Fail.{fault_of};
 ghost use Rattle.getopts.specs.Held.OfGroup.{pair_view};
+<<<<<<< HEAD
 ghost use Rattle.getopts_c.specs.Request.{SayNoOptions, SayNoTexts, concatenated};
 ghost use Rattle.getopts_c.specs.Answer.{IsAnswer, IsAnswered, IsCanonicalOf, IsLineOf, FillsFront};
+=======
+ghost use Rattle.getopts_c.specs.Request.{SayOptions, SayTexts, concatenated};
+ghost use Rattle.getopts_c.specs.Answer.{IsAnswer, IsAnswered, IsCanonicalOf, IsLineOf, FillsFront};
+>>>>>>> c
 ghost use Rattle.getopts_c.specs.Answer.{IsRowsOf, IsShortUsageOf, IsUsageOf};
 ghost use Rattle.getopts.specs.Same.{fault_name};
 ghost use Rattle.getopts_c.specs.Answer.{all_names, fault_status, four_names};
@@ -214,6 +219,7 @@ impl Answer {
         ensures sizes_told { result ≡ 8 → IsOkAnd answer (λ answer.
             (sizes.new.numbers ≡ length answer.body.numbers.items)
             × (sizes.new.bytes ≡ length (string_bytes answer.body.bytes))) }
+        ensures lawful { result ≢ 6 → result ≢ 7 → IsOk answer }
         ensures bad { result ≡ 7 → IsErrOf answer Refusal.Bad }
         ensures written { result < 6 → IsOkAnd answer (λ answer. (result ≡ answer.status)
             × FillsFront answer.body.numbers.items numbers.new sizes.new.numbers
@@ -303,10 +309,14 @@ pub(crate) fn answer_to(
         request.entry.stop request.entry.long_only words.entry.bytes.now words.entry.lens.now
         answer.status answer.body.numbers.items (string_bytes answer.body.bytes)) }
     ensures status { IfOk result (λ answer. answer.status < 6) }
-    ensures bad { IfErr result (λ refusal. refusal ≡ Refusal.Bad → SayNoOptions
+    ensures lawful { OnOk result (SayOptions
         request.entry.texts.now request.entry.lens.now request.entry.kinds.now
         request.entry.stop request.entry.long_only
-        ⊎ SayNoTexts words.entry.bytes.now words.entry.lens.now) }
+        × SayTexts words.entry.bytes.now words.entry.lens.now) }
+    ensures bad { IfErr result (λ refusal. refusal ≡ Refusal.Bad → (¬ (SayOptions
+        request.entry.texts.now request.entry.lens.now request.entry.kinds.now
+        request.entry.stop request.entry.long_only))
+        ⊎ (¬ (SayTexts words.entry.bytes.now words.entry.lens.now))) }
 {
     let pieces = request.texts(alloc)?;
     let groups = in_fours(pieces.as_slice())?;
@@ -338,10 +348,12 @@ pub(crate) fn usage_of(alloc: Global, request: Request<'_>, brief: &[u8]) -> Res
         request.entry.long_only brief.now (string_bytes answer.body.bytes)) }
     ensures numbers { IfOk result (λ answer. answer.body.numbers.items ≡ []) }
     ensures status { IfOk result (λ answer. answer.status < 6) }
-    ensures bad { IfErr result (λ refusal. refusal ≡ Refusal.Bad → SayNoOptions
+    ensures lawful { OnOk result (SayOptions
         request.entry.texts.now request.entry.lens.now request.entry.kinds.now
-        false request.entry.long_only
-        ⊎ (¬ (IsUtf8 brief.now))) }
+        false request.entry.long_only × IsUtf8 brief.now) }
+    ensures bad { IfErr result (λ refusal. refusal ≡ Refusal.Bad → (¬ (SayOptions
+        request.entry.texts.now request.entry.lens.now request.entry.kinds.now
+        false request.entry.long_only)) ⊎ (¬ (IsUtf8 brief.now))) }
 {
     let options = request.options(alloc)?;
     let text = options.usage(alloc, text_of(brief)?)?;
@@ -361,9 +373,12 @@ pub(crate) fn short_usage_of(
         program.now (string_bytes answer.body.bytes)) }
     ensures numbers { IfOk result (λ answer. answer.body.numbers.items ≡ []) }
     ensures status { IfOk result (λ answer. answer.status < 6) }
-    ensures bad { IfErr result (λ refusal. refusal ≡ Refusal.Bad → SayNoOptions
-        request.entry.texts.now request.entry.lens.now request.entry.kinds.now false false
-        ⊎ (¬ (IsUtf8 program.now))) }
+    ensures lawful { OnOk result (SayOptions
+        request.entry.texts.now request.entry.lens.now request.entry.kinds.now
+        false false × IsUtf8 program.now) }
+    ensures bad { IfErr result (λ refusal. refusal ≡ Refusal.Bad → (¬ (SayOptions
+        request.entry.texts.now request.entry.lens.now request.entry.kinds.now
+        false false)) ⊎ (¬ (IsUtf8 program.now))) }
 {
     let options = request.options(alloc)?;
     Ok(of_text(alloc, options.short_usage(alloc, text_of(program)?)?))
@@ -389,9 +404,12 @@ pub(crate) fn rows_of(alloc: Global, request: Request<'_>) -> Result<Answer, Ref
         request.entry.texts.now request.entry.lens.now request.entry.kinds.now
         request.entry.long_only answer.body.numbers.items (string_bytes answer.body.bytes)) }
     ensures status { IfOk result (λ answer. answer.status < 6) }
-    ensures bad { IfErr result (λ refusal. refusal ≡ Refusal.Bad → SayNoOptions
+    ensures lawful { OnOk result (SayOptions
         request.entry.texts.now request.entry.lens.now request.entry.kinds.now
         false request.entry.long_only) }
+    ensures bad { IfErr result (λ refusal. refusal ≡ Refusal.Bad → ¬ (SayOptions
+        request.entry.texts.now request.entry.lens.now request.entry.kinds.now
+        false request.entry.long_only)) }
 {
     let options = request.options(alloc)?;
     let rows = options.usage_rows(alloc)?;
@@ -424,10 +442,14 @@ pub(crate) fn line_of(
         request.entry.stop request.entry.long_only words.entry.bytes.now words.entry.lens.now
         answer.status answer.body.numbers.items (string_bytes answer.body.bytes)) }
     ensures status { IfOk result (λ answer. answer.status < 6) }
-    ensures bad { IfErr result (λ refusal. refusal ≡ Refusal.Bad → SayNoOptions
+    ensures lawful { OnOk result (SayOptions
         request.entry.texts.now request.entry.lens.now request.entry.kinds.now
         request.entry.stop request.entry.long_only
-        ⊎ SayNoTexts words.entry.bytes.now words.entry.lens.now) }
+        × SayTexts words.entry.bytes.now words.entry.lens.now) }
+    ensures bad { IfErr result (λ refusal. refusal ≡ Refusal.Bad → (¬ (SayOptions
+        request.entry.texts.now request.entry.lens.now request.entry.kinds.now
+        request.entry.stop request.entry.long_only))
+        ⊎ (¬ (SayTexts words.entry.bytes.now words.entry.lens.now))) }
 {
     let options = request.options(alloc)?;
     let words = cut(alloc, words.bytes, words.lens)?;

@@ -1,13 +1,21 @@
 //! `getopts` for callers that are not Rattle: C, and Rust through C's calls.
+//!
+//! Each export answers a status: 0, or 1 to 5 for a fault; 6 where memory was refused; 7 where nothing
+//! lawful is what the bytes say; 8 where there was too little room.
 #![tactic(auto)]
 
-ghost use Rattle.std.specs.Prelude.{◌≡◌, ◌≢◌, ◌<◌, ◌≤◌, ◌⊎◌, ℕ, Bool, false, List, [], length, take};
+ghost use Rattle.std.specs.Prelude.{◌≡◌, ◌≢◌, ◌<◌, ◌≤◌, ◌⊎◌, ℕ, Bool, false, List, []};
+ghost use Rattle.std.specs.Prelude.{length, take};
 ghost use Rattle.std.specs.Str.{IsUtf8};
 ghost use Rattle.getopts.specs.CanonAnswers.{HasOneAnswer};
 ghost use Rattle.getopts.specs.Fail.{Fault};
 ghost use Rattle.getopts.specs.Matches.{Matched};
 ghost use Rattle.getopts.specs.Names.{Text};
+<<<<<<< HEAD
 ghost use Rattle.getopts_c.specs.Request.{IsCut, IsRequest, SayNoOptions, SayNoTexts, concatenated};
+=======
+ghost use Rattle.getopts_c.specs.Request.{IsCut, IsRequest, SayOptions, SayTexts, concatenated};
+>>>>>>> c
 ghost use Rattle.getopts_c.specs.Answer.{HasSize, HasSizes, IsAnswered, IsCanonicalOf, IsRowsOf};
 ghost use Rattle.getopts_c.specs.Answer.{IsShortUsageOf, IsUsageOf, TellAlike};
 ghost use Rattle.getopts.specs.Same.{fault_name};
@@ -50,8 +58,10 @@ pub extern "C" fn getopts_c_parse(
         (length numbers.old < sizes.new.numbers) ⊎ (length bytes.old < sizes.new.bytes) }
     ensures sizes_told { result ≡ 8 → HasSizes (IsAnswered texts.now lens.now kinds.now
         stop long_only words.now word_lens.now) sizes.new.numbers sizes.new.bytes }
-    ensures bad { result ≡ 7 → SayNoOptions texts.now lens.now kinds.now stop long_only
-        ⊎ SayNoTexts words.now word_lens.now }
+    ensures lawful { result ≢ 6 → result ≢ 7 → SayOptions texts.now lens.now kinds.now
+        stop long_only × SayTexts words.now word_lens.now }
+    ensures bad { result ≡ 7 → (¬ (SayOptions texts.now lens.now kinds.now stop long_only))
+        ⊎ (¬ (SayTexts words.now word_lens.now)) }
     ensures answered { result < 6 → IsAnswered texts.now lens.now kinds.now stop long_only
         words.now word_lens.now
         result (take sizes.new.numbers numbers.new) (take sizes.new.bytes bytes.new) }
@@ -88,7 +98,9 @@ pub extern "C" fn getopts_c_usage(
     ensures small { result ≡ 8 → length bytes.old < sizes.new.bytes }
     ensures sizes_told { result ≡ 8 → HasSize (IsUsageOf texts.now lens.now kinds.now
         long_only brief.now) sizes.new.bytes }
-    ensures bad { result ≡ 7 → SayNoOptions texts.now lens.now kinds.now false long_only
+    ensures lawful { result ≢ 6 → result ≢ 7 → SayOptions texts.now lens.now kinds.now
+        false long_only × IsUtf8 brief.now }
+    ensures bad { result ≡ 7 → (¬ (SayOptions texts.now lens.now kinds.now false long_only))
         ⊎ (¬ (IsUtf8 brief.now)) }
     ensures usage { result < 6 → IsUsageOf texts.now lens.now kinds.now long_only brief.now
         (take sizes.new.bytes bytes.new) }
@@ -120,7 +132,9 @@ pub extern "C" fn getopts_c_short_usage(
     ensures small { result ≡ 8 → length bytes.old < sizes.new.bytes }
     ensures sizes_told { result ≡ 8 → HasSize (IsShortUsageOf texts.now lens.now kinds.now
         program.now) sizes.new.bytes }
-    ensures bad { result ≡ 7 → SayNoOptions texts.now lens.now kinds.now false false
+    ensures lawful { result ≢ 6 → result ≢ 7 → SayOptions texts.now lens.now kinds.now
+        false false × IsUtf8 program.now }
+    ensures bad { result ≡ 7 → (¬ (SayOptions texts.now lens.now kinds.now false false))
         ⊎ (¬ (IsUtf8 program.now)) }
     ensures usage { result < 6 → IsShortUsageOf texts.now lens.now kinds.now program.now
         (take sizes.new.bytes bytes.new) }
@@ -160,7 +174,9 @@ pub extern "C" fn getopts_c_usage_rows(
         (length numbers.old < sizes.new.numbers) ⊎ (length bytes.old < sizes.new.bytes) }
     ensures sizes_told { result ≡ 8 → HasSizes (λ _. IsRowsOf texts.now lens.now kinds.now
         long_only) sizes.new.numbers sizes.new.bytes }
-    ensures bad { result ≡ 7 → SayNoOptions texts.now lens.now kinds.now false long_only }
+    ensures lawful { result ≢ 6 → result ≢ 7 → SayOptions texts.now lens.now kinds.now
+        false long_only }
+    ensures bad { result ≡ 7 → ¬ (SayOptions texts.now lens.now kinds.now false long_only) }
     ensures rows { result < 6 → IsRowsOf texts.now lens.now kinds.now long_only
         (take sizes.new.numbers numbers.new) (take sizes.new.bytes bytes.new) }
 {
@@ -198,8 +214,10 @@ pub extern "C" fn getopts_c_canonical(
         (length numbers.old < sizes.new.numbers) ⊎ (length bytes.old < sizes.new.bytes) }
     ensures sizes_told { result ≡ 8 → HasSizes (IsCanonicalOf texts.now lens.now kinds.now
         stop long_only words.now word_lens.now) sizes.new.numbers sizes.new.bytes }
-    ensures bad { result ≡ 7 → SayNoOptions texts.now lens.now kinds.now stop long_only
-        ⊎ SayNoTexts words.now word_lens.now }
+    ensures lawful { result ≢ 6 → result ≢ 7 → SayOptions texts.now lens.now kinds.now
+        stop long_only × SayTexts words.now word_lens.now }
+    ensures bad { result ≡ 7 → (¬ (SayOptions texts.now lens.now kinds.now stop long_only))
+        ⊎ (¬ (SayTexts words.now word_lens.now)) }
     ensures answered { result < 6 → IsCanonicalOf texts.now lens.now kinds.now stop long_only
         words.now word_lens.now
         result (take sizes.new.numbers numbers.new) (take sizes.new.bytes bytes.new) }

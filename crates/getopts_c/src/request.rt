@@ -4,14 +4,14 @@ ghost use Rattle.std.specs.Prelude.{◌≡◌, ◌≢◌, IfErr, IfNone, IfOk, I
 ghost use Rattle.std.specs.Prelude.{List, [], length, map};
 ghost use Rattle.std.specs.List.{AllByRecursion, flat_map};
 ghost use Rattle.std.specs.Str.{IsUtf8};
-ghost use Rattle.getopts.specs.Names.{texts};
-ghost use Rattle.getopts.specs.Options.{Group, with_group};
+ghost use Rattle.getopts.specs.Names.{AreTexts, IsLawfullyNamed, texts};
+ghost use Rattle.getopts.specs.Options.{AreLawfullyNamed, Group, with_group};
 ghost use Rattle.getopts_c.specs.Request.{IsCut, IsDeclaredBy, IsRequest};
-ghost use Rattle.getopts_c.specs.Request.{DeclareNoOptions, SayNoGroup, SayNoOptions, SayNoTexts};
+ghost use Rattle.getopts_c.specs.Request.{DeclareNoOptions, SayNoGroup, SayOptions, SayTexts};
 ghost use Rattle.getopts_c.specs.Request.{group_number, group_texts, kind_number};
 ghost use Rattle.getopts_c.specs.declared.request.Refusal.TheVariants.{NoMemory};
 
-use getopts::{HasArg, Occur, Options, ParsingStyle, names_lawful};
+use getopts::{HasArg, Occur, Options, ParsingStyle, are_texts, names_lawful};
 use std::alloc::{AllocError, AllocFailed, Global};
 
 /// Why a request has no answer.
@@ -59,6 +59,7 @@ pub(crate) struct Words<'r> {
 /// Bytes as a text.
 pub(crate) fn text_of(bytes: &[u8]) -> Result<&str, Refusal>
     ensures same { IfOk result (λ text. text.now ≡ bytes.now) }
+    ensures utf8 { OnOk result (IsUtf8 bytes.now) }
     ensures bad { OnErr result (¬ (IsUtf8 bytes.now)) }
 {
     match str::from_utf8(bytes) {
@@ -74,8 +75,9 @@ pub(crate) fn cut<'t>(
     lens: &[usize],
 ) -> Result<Vec<&'t str>, Refusal>
     ensures cut { IfOk result (λ pieces. IsCut bytes.now lens.now (texts pieces.items)) }
+    ensures utf8 { IfOk result (λ pieces. AreTexts (texts pieces.items)) }
     ensures bad { IfErr result (λ refusal.
-        refusal ≡ Refusal.Bad → SayNoTexts bytes.now lens.now) }
+        refusal ≡ Refusal.Bad → ¬ (SayTexts bytes.now lens.now)) }
 {
     let mut rest = text_of(bytes)?;
     let mut pieces = Vec::with_capacity(alloc, lens.len())?;
@@ -87,6 +89,7 @@ pub(crate) fn cut<'t>(
         rest = after;
     }
     if rest.is_empty() {
+        are_texts(pieces.as_slice());
         Ok(pieces)
     } else {
         Err(Refusal::Bad)
@@ -116,7 +119,8 @@ fn kinds_of(kind: u8) -> Option<(HasArg, Occur)>
 /// Adds a group.
 fn add_group(options: &mut Options, group: &[&str; 4], kind: u8) -> Result<(), Refusal>
     ensures added { OnOk result ((added : Group) × (options.new ≡ with_group options.old added)
-        × (group_texts added ≡ texts group.now) × (group_number added ≡ kind)) }
+        × (group_texts added ≡ texts group.now) × (group_number added ≡ kind)
+        × IsLawfullyNamed added.known.names) }
     ensures bad { IfErr result (λ refusal.
         refusal ≡ Refusal.Bad → SayNoGroup (texts group.now) kind) }
 {
@@ -153,6 +157,7 @@ fn options_of(
 ) -> Result<Options, Refusal>
     ensures declared { IfOk result (λ options.
         IsDeclaredBy (map texts groups.now) kinds.now stop long_only options) }
+    ensures named { IfOk result (λ options. AreLawfullyNamed options.groups) }
     ensures bad { IfErr result (λ refusal. refusal ≡ Refusal.Bad
         → DeclareNoOptions (map texts groups.now) kinds.now stop long_only) }
 {
@@ -187,8 +192,9 @@ impl<'r> Request<'r> {
     pub(crate) fn texts(&self, alloc: Global) -> Result<Vec<&'r str>, Refusal>
         ensures cut { IfOk result (λ pieces.
             IsCut self.now.texts.now self.now.lens.now (texts pieces.items)) }
+        ensures utf8 { IfOk result (λ pieces. AreTexts (texts pieces.items)) }
         ensures bad { IfErr result (λ refusal. refusal ≡ Refusal.Bad
-            → SayNoTexts self.now.texts.now self.now.lens.now) }
+            → ¬ (SayTexts self.now.texts.now self.now.lens.now)) }
     {
         cut(alloc, self.texts, self.lens)
     }
@@ -198,6 +204,7 @@ impl<'r> Request<'r> {
         ensures declared { IfOk result (λ options.
             IsDeclaredBy (map texts groups.now) self.now.kinds.now self.now.stop
             self.now.long_only options) }
+        ensures named { IfOk result (λ options. AreLawfullyNamed options.groups) }
         ensures bad { IfErr result (λ refusal. refusal ≡ Refusal.Bad
             → DeclareNoOptions (map texts groups.now) self.now.kinds.now self.now.stop
             self.now.long_only) }
@@ -209,9 +216,11 @@ impl<'r> Request<'r> {
     pub(crate) fn options(&self, alloc: Global) -> Result<Options, Refusal>
         ensures request { IfOk result (λ options. IsRequest self.now.texts.now self.now.lens.now
             self.now.kinds.now self.now.stop self.now.long_only options) }
-        ensures bad { IfErr result (λ refusal. refusal ≡ Refusal.Bad
-            → SayNoOptions self.now.texts.now self.now.lens.now
+        ensures lawful { OnOk result (SayOptions self.now.texts.now self.now.lens.now
             self.now.kinds.now self.now.stop self.now.long_only) }
+        ensures bad { IfErr result (λ refusal. refusal ≡ Refusal.Bad
+            → ¬ (SayOptions self.now.texts.now self.now.lens.now
+            self.now.kinds.now self.now.stop self.now.long_only)) }
     {
         let texts = self.texts(alloc)?;
         self.options_by(alloc, in_fours(texts.as_slice())?)

@@ -1,6 +1,6 @@
 use Rattle.std.proofs.Common.{◌∙◌, ap, inl}
 use Rattle.getopts.specs.Names.{texts}
-use Rattle.getopts_c.proofs.BadLemmas.{handed_on, no_options_of_count, no_options_of_groups}
+use Rattle.getopts_c.proofs.BadLemmas.{handed_on, no_options_of_count, no_options_of_groups, no_options_of_texts, options_said}
 use Rattle.getopts_c.proofs.RequestLemmas.{names_are, request_is}
 use Rattle.getopts_c.proofs.answer.answer_to.Goals as goal
 
@@ -36,3 +36,21 @@ returns-in_err-options-clause-bad c =
     c.in_ok-pieces.pieces.items c.in_ok-groups.groups.now c.in_ok-pieces.ensures.cut
     (c.in_ok-groups.ensures.same ∙ ap texts c.as_slice.ensures.value) c.in_ok-groups.ensures.fours
     (c.in_err-options.ensures.bad bad)))
+
+pub returns-in_err-pieces-clause-bad : goal.returns-in_err-pieces-clause-bad
+returns-in_err-pieces-clause-bad c =
+    let request = c.args.request in
+    handed_on c.from_residual.result _ _ c.from_residual.ensures.1 (λ bad.
+    inl (no_options_of_texts request.texts.now request.lens.now request.kinds.now request.stop request.long_only (c.in_err-pieces.ensures.bad bad)))
+
+pub returns-clause-lawful : goal.returns-clause-lawful
+returns-clause-lawful c =
+    let request = c.args.request in (
+      options_said request.texts.now request.lens.now request.kinds.now request.stop request.long_only
+          (texts c.in_ok-pieces.pieces.items) c.in_ok-options.options c.in_ok-pieces.ensures.cut c.in_ok-pieces.ensures.utf8
+          (request_is request.texts.now request.lens.now request.kinds.now request.stop request.long_only
+          c.in_ok-pieces.pieces.items c.in_ok-groups.groups.now c.in_ok-options.options c.in_ok-pieces.ensures.cut
+          (c.in_ok-groups.ensures.same ∙ ap texts c.as_slice.ensures.value) c.in_ok-options.ensures.declared)
+          c.in_ok-options.ensures.named,
+      record { words = texts c.in_ok-words.words.items; words_are = c.in_ok-words.ensures.cut; utf8 = c.in_ok-words.ensures.utf8 },
+    )
