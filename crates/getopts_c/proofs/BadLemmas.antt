@@ -11,13 +11,8 @@ use Rattle.std.specs.Str.{IsUtf8, IsCharBoundary}
 use Rattle.getopts.specs.Names.{Text, AreTexts, texts}
 use Rattle.getopts.specs.Options.{Group, Declared, AreLawfullyNamed}
 use Rattle.getopts_c.proofs.LawLemmas.{cut_once, same_front}
-<<<<<<< HEAD
-use Rattle.getopts_c.specs.Request.{concatenated, IsCut, group_number, group_texts}
-use Rattle.getopts_c.specs.Request.{DeclareNoOptions, SayNoGroup, SayNoOptions, SayNoTexts}
-=======
 use Rattle.getopts_c.specs.Request.{concatenated, IsCut, IsRequest, group_number, group_texts}
 use Rattle.getopts_c.specs.Request.{DeclareNoOptions, SayNoGroup, SayOptions, SayTexts}
->>>>>>> c
 
 -- texts one after the other are a text
 IsUtf8-concatenated : (words : List Text) → AreTexts words → IsUtf8 (concatenated words)
@@ -25,13 +20,8 @@ IsUtf8-concatenated [] utf8 = IsUtf8-nil
 IsUtf8-concatenated (word ∷ words) utf8 = IsUtf8-append word (concatenated words) utf8.0 (IsUtf8-concatenated words utf8.1)
 
 -- bytes that are no text say no texts
-<<<<<<< HEAD
-pub no_text : (bytes : Text) (lens : List ℕ) → ¬ (IsUtf8 bytes) → SayNoTexts bytes lens
-no_text bytes lens bad words cut utf8 = bad (subst IsUtf8 (sym cut.bytes_are) (IsUtf8-concatenated words utf8))
-=======
 pub no_text : (bytes : Text) (lens : List ℕ) → ¬ (IsUtf8 bytes) → ¬ (SayTexts bytes lens)
 no_text bytes lens bad said = bad (subst IsUtf8 (sym said.words_are.bytes_are) (IsUtf8-concatenated said.words said.utf8))
->>>>>>> c
 
 -- what words say after the texts that are cut off
 record AreLeft (rest : Text) (lens : List ℕ) (words : List Text) : Type 0 where
@@ -63,15 +53,9 @@ first_ends rest len more (word ∷ words) left =
 
 -- where the rest can't be cut, no texts are said
 pub no_cut : (bytes : Text) (lens : List ℕ) (pieces : List Text) (rest : Text) (at : ℕ)
-<<<<<<< HEAD
-    → bytes ≡ concatenated pieces ++ rest → take at lens ≡ map length pieces → at < length lens
-    → ¬ (IsCharBoundary rest (get_or lens at 0)) → SayNoTexts bytes lens
-no_cut bytes lens pieces rest at bytes_are lens_are within bad words cut utf8 =
-=======
     → bytes ≡ concatenated pieces ++ rest → take at lens ≡ map length pieces → at < length lens
     → ¬ (IsCharBoundary rest (get_or lens at 0)) → ¬ (SayTexts bytes lens)
 no_cut bytes lens pieces rest at bytes_are lens_are within bad said =
->>>>>>> c
     let more = drop (suc at) lens in
     let sizes : map length said.words ≡ map length pieces ++ (get_or lens at 0 ∷ more) =
     sym said.words_are.lens_are ∙ split_at lens at 0 within ∙ ap (λ front. front ++ get_or lens at 0 ∷ more) lens_are in
@@ -85,17 +69,10 @@ none_left rest (word ∷ words) left = absurd (let e : [] ≡ length word ∷ ma
 
 -- where bytes are left over, no texts are said
 pub no_end : (bytes : Text) (lens : List ℕ) (pieces : List Text) (rest : Text)
-<<<<<<< HEAD
-    → bytes ≡ concatenated pieces ++ rest → lens ≡ map length pieces → rest ≢ [] → SayNoTexts bytes lens
-no_end bytes lens pieces rest bytes_are lens_are bad words cut utf8 =
-    let left = left_of pieces words rest [] (sym cut.bytes_are ∙ bytes_are)
-    (sym cut.lens_are ∙ lens_are ∙ sym (append-nil (map length pieces))) utf8 in
-=======
     → bytes ≡ concatenated pieces ++ rest → lens ≡ map length pieces → rest ≢ [] → ¬ (SayTexts bytes lens)
 no_end bytes lens pieces rest bytes_are lens_are bad said =
     let left = left_of pieces said.words rest [] (sym said.words_are.bytes_are ∙ bytes_are)
     (sym said.words_are.lens_are ∙ lens_are ∙ sym (append-nil (map length pieces))) said.utf8 in
->>>>>>> c
     bad (none_left rest left.0 left.1)
 
 -- groups have no group that isn't there

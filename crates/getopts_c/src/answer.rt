@@ -8,13 +8,8 @@ ghost use Rattle.std.specs.String.{string_bytes};
 ghost use Rattle.getopts.specs.Names.{texts};
 ghost use Rattle.getopts.specs.Fail.{fault_of};
 ghost use Rattle.getopts.specs.Held.OfGroup.{pair_view};
-<<<<<<< HEAD
-ghost use Rattle.getopts_c.specs.Request.{SayNoOptions, SayNoTexts, concatenated};
-ghost use Rattle.getopts_c.specs.Answer.{IsAnswer, IsAnswered, IsCanonicalOf, IsLineOf, FillsFront};
-=======
 ghost use Rattle.getopts_c.specs.Request.{SayOptions, SayTexts, concatenated};
 ghost use Rattle.getopts_c.specs.Answer.{IsAnswer, IsAnswered, IsCanonicalOf, IsLineOf, FillsFront};
->>>>>>> c
 ghost use Rattle.getopts_c.specs.Answer.{IsRowsOf, IsShortUsageOf, IsUsageOf};
 ghost use Rattle.getopts.specs.Same.{fault_name};
 ghost use Rattle.getopts_c.specs.Answer.{all_names, fault_status, four_names};

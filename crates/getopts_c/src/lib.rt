@@ -11,11 +11,7 @@ ghost use Rattle.getopts.specs.CanonAnswers.{HasOneAnswer};
 ghost use Rattle.getopts.specs.Fail.{Fault};
 ghost use Rattle.getopts.specs.Matches.{Matched};
 ghost use Rattle.getopts.specs.Names.{Text};
-<<<<<<< HEAD
-ghost use Rattle.getopts_c.specs.Request.{IsCut, IsRequest, SayNoOptions, SayNoTexts, concatenated};
-=======
 ghost use Rattle.getopts_c.specs.Request.{IsCut, IsRequest, SayOptions, SayTexts, concatenated};
->>>>>>> c
 ghost use Rattle.getopts_c.specs.Answer.{HasSize, HasSizes, IsAnswered, IsCanonicalOf, IsRowsOf};
 ghost use Rattle.getopts_c.specs.Answer.{IsShortUsageOf, IsUsageOf, TellAlike};
 ghost use Rattle.getopts.specs.Same.{fault_name};
