@@ -1,5 +1,6 @@
 -- The program: its options, and the text and the status that words have.
-use Rattle.std.specs.Prelude.{◌≡◌, ◌⊎◌, ℕ, Bool, true, false, Option, List, [], ◌∷◌, ◌++◌, length, codes, decimal}
+use Rattle.std.specs.Prelude.{◌≡◌, ◌⊎◌, ℕ, Bool, true, false, Option}
+use Rattle.std.specs.Prelude.{List, [], ◌∷◌, ◌++◌, length, codes, decimal}
 use Rattle.std.specs.List.{flat_map}
 use Rattle.std.specs.Io.KnownBytes.{Appends}
 use Rattle.getopts.specs.Accessors.{found_of, is_present, pairs_of, positions_of}
@@ -32,8 +33,8 @@ abbrev pub program_options : Declared
 program_options = record { groups = program_groups; style = FloatingFrees; long_only = false }
 
 -- the end of a line
-abbrev pub line_end : Text
-line_end = 10 ∷ []
+abbrev pub newline : Text
+newline = 10 ∷ []
 
 -- the mark of a position: a space, `@` and the number
 abbrev pub position_mark : ℕ → Text
@@ -43,23 +44,23 @@ position_mark position = codes " @" ++ decimal position
 abbrev pub count_line : Text → List Found → Text
 count_line name founds =
     name ++ (codes ": " ++ (decimal (length founds)
-    ++ (flat_map position_mark (positions_of founds) ++ line_end)))
+    ++ (flat_map position_mark (positions_of founds) ++ newline)))
 
 -- the line `name @position = value`
 abbrev pub value_line : Text → ℕ × Text → Text
 value_line name pair =
-    name ++ (codes " @" ++ (decimal pair.0 ++ (codes " = " ++ (pair.1 ++ line_end))))
+    name ++ (codes " @" ++ (decimal pair.0 ++ (codes " = " ++ (pair.1 ++ newline))))
 
 -- the line `free: word`
 abbrev pub free_line : Text → Text
-free_line word = codes "free: " ++ (word ++ line_end)
+free_line word = codes "free: " ++ (word ++ newline)
 
 -- the line `line: word`
 abbrev pub word_line : Text → Text
-word_line word = codes "line: " ++ (word ++ line_end)
+word_line word = codes "line: " ++ (word ++ newline)
 
--- the lines of an option with this name and these occurrences: how many they are and where, and each
--- value with its position
+-- the lines of an option with this name and these occurrences: how many they are and where, and
+-- each value with its position
 abbrev pub option_lines : Text → List Found → Text
 option_lines name founds = count_line name founds ++ flat_map (value_line name) (pairs_of founds)
 
@@ -86,7 +87,7 @@ content_text content = flat_map word_line (canonical_line program_groups content
 
 -- the line of a fault: the program's name, and what the fault says
 abbrev pub fault_line : Fault → Text
-fault_line fault = codes "getopts_show: " ++ (fault_text fault ++ line_end)
+fault_line fault = codes "getopts_show: " ++ (fault_text fault ++ newline)
 
 -- words are accepted by the program's options
 abbrev pub AreAccepted : List Text → Type 0
@@ -97,12 +98,12 @@ abbrev pub asks_help : Matched → Bool
 asks_help matches = is_present matches.groups (codes "help")
 
 -- the line before the options in the program's help
-abbrev pub brief : Text
-brief = codes "Usage: getopts_show [options] FILE"
+abbrev pub help_brief : Text
+help_brief = codes "Usage: getopts_show [options] FILE"
 
 -- the program's help: the usage text of its options, which is one alone
 abbrev pub IsHelpText : Text → Type 0
-IsHelpText text = IsTheOnly (IsUsageText program_options brief) text
+IsHelpText text = IsTheOnly (IsUsageText program_options help_brief) text
 
 -- The text and the status of words. Where they are accepted, and the matches ask for help, that is
 -- the program's help; where the matches don't, the text of the matches and of the content that the
@@ -116,8 +117,8 @@ pub data IsProgramText (words : List Text) : Text → ℕ → Type 0 where
   refused : (fault : Fault) → IsRefused program_options words fault
       → IsProgramText words (fault_line fault) 2
 
--- the statuses: 0 where the program's help or what accepted words say was shown, 2 where the fault of
--- refused words was, 3 where memory was refused, 4 where a write or the flush failed
+-- the statuses: 0 where the program's help or what accepted words say was shown, 2 where the fault
+-- of refused words was, 3 where memory was refused, 4 where a write or the flush failed
 abbrev pub IsStatus : ℕ → Type 0
 IsStatus status = (status ≡ 0) ⊎ (status ≡ 2) ⊎ (status ≡ 3) ⊎ (status ≡ 4)
 
@@ -127,8 +128,8 @@ IsDone status = (status ≡ 0) ⊎ (status ≡ 2)
 
 -- the words have no other text, and no other status
 abbrev pub IsOnlyText : List Text → Text → ℕ → Type 0
-IsOnlyText words text status =
-    (other : Text) (another : ℕ) → IsProgramText words other another → (other ≡ text) × (another ≡ status)
+IsOnlyText words text status = (other : Text) (another : ℕ)
+    → IsProgramText words other another → (other ≡ text) × (another ≡ status)
 
 -- what a writer holds has grown by the one text of these words, which have this status
 pub record ShowsText (old new : Option (List ℕ)) (words : List Text) (status : ℕ) : Type 0 where

@@ -1,5 +1,5 @@
 -- A program with subcommands: its options, and the subcommand of a line.
-use Rattle.std.specs.Prelude.{◌≡◌, Bool, List, [], ◌∷◌, false, map, codes}
+use Rattle.std.specs.Prelude.{◌≡◌, List, [], ◌∷◌, false, map, codes}
 use Rattle.std.specs.String.{string_bytes}
 use Rattle.getopts.specs.Accessors.{is_present}
 use Rattle.getopts.specs.Matches.{Matched}

@@ -1,11 +1,14 @@
 -- A compiler driver: its options, and the job of a line.
-use Rattle.std.specs.Prelude.{◌≡◌, List, [], ◌∷◌, false, map, codes, Some}
+use Rattle.std.specs.Prelude.{◌≡◌, ◌≢◌, List, [], ◌∷◌, false, map, codes, Some}
 use Rattle.std.specs.String.{string_bytes}
 use Rattle.getopts.specs.Accessors.{first_value, found_of, values_of}
 use Rattle.getopts.specs.Matches.{Matched}
 use Rattle.getopts.specs.Names.{Text}
 use Rattle.getopts.specs.Options.{Declared, group_of}
-use Rattle.getopts.specs.Parse.{IsAccepted}
+use Rattle.getopts.specs.Parse.{Reads, IsAccepted}
+use Rattle.getopts.specs.Scan.{Argument, attached, separate, two, ends_in, Item, long, cluster}
+use Rattle.getopts.specs.Scan.{Tail}
+use Rattle.getopts.specs.ScanLaws.{words_of, reading_of}
 use Rattle.getopts.specs.declared.groups.HasArg.TheVariants.{Yes}
 use Rattle.getopts.specs.declared.groups.Occur.TheVariants.{Req, Multi}
 use Rattle.getopts.specs.declared.groups.ParsingStyle.TheVariants.{FloatingFrees}
@@ -28,5 +31,32 @@ pub record IsJobOf (words : List Text) (job : Job) : Type 0 where
   pub matches : Matched
   pub accepted : IsAccepted compile_options words matches
   pub input : first_value (found_of matches.groups (codes "input")) ≡ Some (string_bytes job.input)
-  pub outputs : map string_bytes job.outputs.items ≡ values_of (found_of matches.groups (codes "output"))
+  pub outputs :
+      map string_bytes job.outputs.items ≡ values_of (found_of matches.groups (codes "output"))
   pub folders : map string_bytes job.folders.items ≡ values_of (found_of matches.groups (codes "L"))
+
+-- a line that has the one item has a job, and the line with the other in its place has the same
+abbrev pub GivesTheSameJob : Item → Item → Type 0
+GivesTheSameJob item other = (front back : List Item) (tail : Tail) (words : List Text) (job : Job)
+    → Reads compile_options words (reading_of front (item ∷ []) back tail)
+    → IsJobOf words job
+    → IsJobOf (words_of (reading_of front (other ∷ []) back tail)) job
+
+-- `--output` and its file
+abbrev pub long_output : Argument → Item
+long_output file = long two (codes "output") file
+
+-- `-o` and its file; 111 is the byte `o`
+abbrev pub short_output : Argument → Item
+short_output file = cluster [] (ends_in 111 file)
+
+-- An output's file is attached or separate, and the job is the same.
+pub record OutputsMayBeAttached : Type 0 where
+  pub long_separate : (file : Text)
+      → GivesTheSameJob (long_output (attached file)) (long_output (separate file))
+  pub long_attached : (file : Text)
+      → GivesTheSameJob (long_output (separate file)) (long_output (attached file))
+  pub short_separate : (file : Text)
+      → GivesTheSameJob (short_output (attached file)) (short_output (separate file))
+  pub short_attached : (file : Text) → file ≢ []
+      → GivesTheSameJob (short_output (separate file)) (short_output (attached file))

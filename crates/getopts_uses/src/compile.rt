@@ -1,11 +1,11 @@
 //! A compiler driver: a required input, several outputs, and search folders in order.
 
-ghost use Rattle.std.specs.Prelude.{◌≡◌, IfOk};
+ghost use Rattle.std.specs.Prelude.{◌≡◌, IfOk, OnOk};
 ghost use Rattle.getopts.specs.Names.{texts};
-ghost use Rattle.getopts_uses.specs.Compile.{compile_options, IsJobOf};
+ghost use Rattle.getopts_uses.specs.Compile.{compile_options, IsJobOf, OutputsMayBeAttached};
 
 use crate::line::read;
-use getopts::{Fail, Options};
+use getopts::{Fail, Options, one_reading_one_canonical_line};
 use std::alloc::{AllocError, Global};
 
 /// What the driver does.
@@ -28,11 +28,13 @@ fn options(alloc: Global) -> Result<Options, AllocError>
     Ok(options)
 }
 
-/// The job of a line.
+/// The job of a line. An output's file is attached to its name or separate, and the job is the same.
 pub fn read_job(alloc: Global, words: &[&str]) -> Result<Job, Fail>
-    ensures { IfOk result (IsJobOf (texts words.now)) }
+    ensures job { IfOk result (IsJobOf (texts words.now)) }
+    ensures outputs { OnOk result OutputsMayBeAttached }
 {
     let options = options(alloc)?;
+    one_reading_one_canonical_line(&options);
     let matches = read(alloc, &options, words)?;
     Ok(Job {
         input: matches.opt_str(alloc, "input")?.unwrap(),

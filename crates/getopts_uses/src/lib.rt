@@ -15,5 +15,5 @@ pub use cache::key_of;
 pub use compile::{Job, read_job};
 pub use lists::{any_given, asks_only, count_of, level_of};
 pub use required::{input_count, input_itself, input_of, verbose_count};
-pub use search::{Refusal, Settings, read_settings};
+pub use search::{Refusal, Settings, help_rows, help_text, read_settings};
 pub use subcommand::{Command, read_command};

@@ -1,9 +1,11 @@
 //! A line of words, as a list.
 
-ghost use Rattle.std.specs.Prelude.{IfOk, IfErr};
+ghost use Rattle.std.specs.Prelude.{IfOk, IfErr, OnOk};
 ghost use Rattle.getopts.specs.Fail.{Tells};
 ghost use Rattle.getopts.specs.Names.{texts};
+ghost use Rattle.getopts.specs.Options.{grammar_of};
 ghost use Rattle.getopts.specs.Parse.{IsAccepted, IsRefused};
+ghost use Rattle.getopts.specs.ScanLaws.{LongAttachedOrSeparate, ShortAttachedOrSeparate};
 ghost use Rattle.getopts.specs.Told.{DefineDeclared, HoldRequiredOnce, HoldNeededValues, HaveLastWordsFree};
 
 use getopts::Options;
@@ -18,6 +20,8 @@ pub(crate) fn read(alloc: Global, options: &Options, words: &[&str]) -> getopts:
     ensures needed { IfOk result (λ matches. HoldNeededValues options.now matches.groups) }
     ensures free_last { IfOk result (λ matches.
         HaveLastWordsFree options.now (texts words.now) matches.free) }
+    ensures long_argument { OnOk result (LongAttachedOrSeparate (grammar_of options.now)) }
+    ensures short_argument { OnOk result (ShortAttachedOrSeparate (grammar_of options.now)) }
 {
     options.parse(alloc, words.iter().copied())
 }

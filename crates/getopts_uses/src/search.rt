@@ -1,8 +1,8 @@
 //! A search tool: flags, a number, an optional colour, help and files.
 
-ghost use Rattle.std.specs.Prelude.{◌≡◌, IfOk};
+ghost use Rattle.std.specs.Prelude.{◌≡◌, map, string_bytes, IfOk};
 ghost use Rattle.getopts.specs.Names.{texts};
-ghost use Rattle.getopts_uses.specs.Search.{search_options, AreSettingsOf};
+ghost use Rattle.getopts_uses.specs.Search.{search_options, AreSettingsOf, IsSearchHelp, AreSearchRows};
 
 use crate::line::read;
 use getopts::{Fail, Options};
@@ -55,7 +55,7 @@ fn options(alloc: Global) -> Result<Options, AllocError>
     let mut options = Options::new(alloc);
     options
         .optflag("i", "ignore-case", "match either case")?
-        .optopt("m", "max-count", "stop after so many", "NUM")?
+        .optopt("m", "max-count", "stop after NUM", "NUM")?
         .optflagopt("", "color", "colour the matches", "WHEN")?
         .optflag("h", "help", "print this help")?;
     Ok(options)
@@ -74,4 +74,20 @@ pub fn read_settings(alloc: Global, words: &[&str]) -> Result<Settings, Refusal>
         help: matches.opt_present("help"),
         files: matches.free,
     })
+}
+
+/// The tool's help: how it is called, and each of its options with what it does.
+pub fn help_text(alloc: Global) -> Result<String, AllocError>
+    ensures { IfOk result (λ text. IsSearchHelp (string_bytes text)) }
+{
+    let options = options(alloc)?;
+    let brief = options.short_usage(alloc, "search")?;
+    options.usage(alloc, brief.as_str())
+}
+
+/// The rows of the options in the help, for a layout of one's own.
+pub fn help_rows(alloc: Global) -> Result<Vec<String>, AllocError>
+    ensures { IfOk result (λ rows. AreSearchRows (map string_bytes rows.items)) }
+{
+    options(alloc)?.usage_rows(alloc)
 }

@@ -1,6 +1,6 @@
 //! Real lines, and what they give.
 
-use crate::{key_of, read_command, read_job, read_settings};
+use crate::{help_rows, help_text, key_of, read_command, read_job, read_settings};
 use getopts::{Fail as LineFail, Options};
 use std::alloc::{AllocError, Global};
 use std::test::Fail;
@@ -23,6 +23,19 @@ fn settings_of_a_search(rt: HostRuntime) -> Result<(), Fail> {
 fn a_number_that_is_none_is_refused(rt: HostRuntime) -> Result<(), Fail> {
     assert!(rt; read_settings(rt.alloc(), &["-m", "many"]).is_err());
     assert!(rt; read_settings(rt.alloc(), &["-m"]).is_err());
+    Ok(())
+}
+
+#[test]
+fn help_of_a_search(rt: HostRuntime) -> Result<(), Fail> {
+    let text = help_text(rt.alloc())?;
+    assert_eq!(rt;
+        text.as_str(),
+        "Usage: search [-i] [-m NUM] [--color [WHEN]] [-h]\n\nOptions:\n    -i, --ignore-case   match either case\n    -m, --max-count NUM stop after NUM\n        --color [WHEN]  colour the matches\n    -h, --help          print this help\n"
+    );
+    let rows = help_rows(rt.alloc())?;
+    assert_eq!(rt; rows.len(), 4);
+    assert_eq!(rt; rows[3].as_str(), "    -h, --help          print this help");
     Ok(())
 }
 

@@ -1,6 +1,6 @@
 -- The words that the iterator gives are those of the list.
-use Rattle.std.proofs.Common.{◌≡◌, List, Bor, ap, ◌∙◌, subst}
-use Rattle.std.proofs.lemmas.Result.{IfOk-weaker, IfErr-weaker}
+use Rattle.std.proofs.Common.{List, Bor, ap, ◌∙◌, subst}
+use Rattle.std.proofs.lemmas.Result.{IfOk-weaker}
 use Rattle.getopts.specs.Names.{Text, texts}
 use Rattle.getopts.specs.Parse.{IsAccepted}
 use Rattle.getopts.specs.Matches.{Matched}
