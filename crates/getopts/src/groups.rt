@@ -172,8 +172,12 @@ impl Groups {
         ensures ok { OnOk result (self.new ≡ self.old ++ known_with kinds short.now long.now ∷ []) }
         ensures err { OnErr result (self.new ≡ self.old) }
     {
-        let first = FIRST_GROUPS.saturating_sub(self.kinds.len());
-        self.kinds.reserve(first.max(1))?;
+        let groups = if self.kinds.is_empty() {
+            FIRST_GROUPS
+        } else {
+            1
+        };
+        self.kinds.reserve(groups)?;
         self.names.push_pair(short, long)?;
         self.kinds.push(kinds)?;
         Ok(())

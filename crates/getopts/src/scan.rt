@@ -1,6 +1,6 @@
 //! Reading words as items, from the first to the last.
 
-ghost use Rattle.std.specs.Prelude.{◌≡◌, ◌≢◌, ◌<◌, ◌∷◌, ◌++◌, [], ℕ, length, MatchOption, OnSome, Some, None, true, false, IfOk, IfErr, slice_index, encode_utf8};
+ghost use Rattle.std.specs.Prelude.{◌≡◌, ◌≢◌, ◌↔◌, IsTrue, ◌<◌, ◌∷◌, ◌++◌, [], ℕ, length, MatchOption, OnSome, Some, None, true, false, IfOk, IfErr, slice_index, encode_utf8};
 ghost use Rattle.std.specs.Char.{IsScalar};
 ghost use Rattle.std.specs.Str.{IsCharBoundary};
 ghost use Rattle.std.specs.Option.{option_copied};
@@ -25,12 +25,30 @@ pub(crate) struct Scanner<'o> {
     pub table: &'o Table,
 }
 
+/// The text after a dash at the front.
+fn after_dash(text: &str) -> Option<&str>
+    ensures { MatchOption result ((rest : Text) → text.now ≢ dash ∷ rest)
+        (λ rest. text.now ≡ dash ∷ rest.now) }
+{
+    if text.is_empty() || text.as_bytes()[0] != b'-' {
+        return None;
+    }
+    Some(&text[1..])
+}
+
+/// Whether a text is one dash.
+fn is_dash(text: &str) -> bool
+    ensures { IsTrue result ↔ (text.now ≡ dash ∷ []) }
+{
+    text.len() == 1 && text.as_bytes()[0] == b'-'
+}
+
 /// The text after the first dash of a dashed word.
 fn dashed_text(word: &str) -> Option<&str>
     ensures { MatchOption result (is_dashed word.now ≡ false)
         (λ text. (is_dashed word.now ≡ true) × (word.now ≡ dash ∷ text.now) × (text.now ≢ [])) }
 {
-    let text = word.strip_prefix('-')?;
+    let text = after_dash(word)?;
     if text.is_empty() { None } else { Some(text) }
 }
 
@@ -221,7 +239,7 @@ impl<'o> Scanner<'o> {
             (IsShortForm (scanner_grammar self.now) (dash ∷ text.now) text.now)
             (λ long. IsInLongForm (scanner_grammar self.now) (dash ∷ text.now) long.now) }
     {
-        match text.strip_prefix('-') {
+        match after_dash(text) {
             Some(long) => Some(long),
             None if self.options.is_long_only() => Some(text),
             None => None,
@@ -283,7 +301,7 @@ impl<'o> Scanner<'o> {
                 at += 1;
                 continue;
             };
-            if text == "-" {
+            if is_dash(text) {
                 let trailing_start = (!after.is_empty()).then_some(free.len());
                 free.extend_from_slice(after)?;
                 return Ok(Line {

@@ -135,15 +135,19 @@ impl Texts {
     }
 
     /// Adds two texts as the last. An error leaves the list as it was.
+    #[inline(always)]
     pub(crate) fn push_pair(&mut self, first: &str, second: &str) -> Result<(), AllocError>
         ensures ok { OnOk result (self.new ≡ self.old ++ first.now ∷ second.now ∷ []) }
         ensures err { OnErr result (self.new ≡ self.old) }
     {
         let bytes = first.len().checked_add(second.len()).ok_or(AllocError)?;
-        let texts = FIRST_TEXTS.saturating_sub(self.ends.len());
-        let room = FIRST_BYTES.saturating_sub(self.text.len());
-        self.ends.reserve(texts.max(2))?;
-        self.text.reserve(room.max(bytes))?;
+        if self.ends.is_empty() {
+            self.ends.reserve(FIRST_TEXTS)?;
+            self.text.reserve(bytes.max(FIRST_BYTES))?;
+        } else {
+            self.ends.reserve(2)?;
+            self.text.reserve(bytes)?;
+        }
         self.text.push_str(first)?;
         self.ends.push_reserved(self.text.len());
         self.text.push_str(second)?;

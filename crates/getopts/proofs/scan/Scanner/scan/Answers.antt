@@ -1,5 +1,5 @@
 -- Each turn reads one more item, and each end is that of a reading or a fault.
-use Rattle.std.proofs.Common.{◌≡◌, ◌+◌, ◌++◌, ◌∷◌, [], List, drop, take, ◌-◌, eqb, length, Bor, refl, sym, ap, ◌∙◌, arith, rules}
+use Rattle.std.proofs.Common.{◌≡◌, ◌+◌, ◌++◌, ◌∷◌, List, drop, take, ◌-◌, eqb, length, Bor, refl, sym, ap, ◌∙◌, arith, rules}
 use Rattle.std.proofs.lemmas.List.{map-append, append-nil, drop_all}
 use Rattle.std.proofs.lemmas.Result.{err_from_is_err_and}
 use Rattle.getopts.specs.Scan.{dash, line_end, stop, rest, free_items, trailing_after, IsFaultAt, IsScanFault}
@@ -42,11 +42,11 @@ returns-then-eq-clause-ok c =
       trailing = refl;
     }
 
-pub returns-then-eq-2-clause-ok : goal.returns-then-eq-2-clause-ok
-returns-then-eq-2-clause-ok c =
+pub returns-then-is_dash-clause-ok : goal.returns-then-is_dash-clause-ok
+returns-then-is_dash-clause-ok c =
     let before = c.items.invariant in
     let after = take-drop c.args.words.now (c.items.at + 1) in
-    let text_is : c.in-Some.text.now ≡ dash ∷ [] = search rules in
+    let text_is = c.is_dash.ensures.0 c.if-is_dash.true in
     record {
       reading = record { items = before.items; tail = stop (texts (drop (c.items.at + 1) c.args.words.now)) };
       reads = IsReading-stop (scanner_grammar c.args.self.now) c.args.words.now c.items.at _ _ before _ (omega arith) (c.in-Some.ensures.1 ∙ ap (λ (t : Text). dash ∷ t) text_is);
