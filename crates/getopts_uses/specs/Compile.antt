@@ -8,7 +8,7 @@ use Rattle.getopts.specs.Options.{Declared, group_of}
 use Rattle.getopts.specs.Parse.{Reads, IsAccepted}
 use Rattle.getopts.specs.Scan.{Argument, attached, separate, two, ends_in, Item, long, cluster}
 use Rattle.getopts.specs.Scan.{Tail}
-use Rattle.getopts.specs.ScanLaws.{words_of, reading_of}
+use Rattle.getopts.specs.ScanLaws.{spelled_words, reading_of}
 use Rattle.getopts.specs.declared.groups.HasArg.TheVariants.{Yes}
 use Rattle.getopts.specs.declared.groups.Occur.TheVariants.{Req, Multi}
 use Rattle.getopts.specs.declared.groups.ParsingStyle.TheVariants.{FloatingFrees}
@@ -40,7 +40,7 @@ abbrev pub GivesTheSameJob : Item → Item → Type 0
 GivesTheSameJob item other = (front back : List Item) (tail : Tail) (words : List Text) (job : Job)
     → Reads compile_options words (reading_of front (item ∷ []) back tail)
     → IsJobOf words job
-    → IsJobOf (words_of (reading_of front (other ∷ []) back tail)) job
+    → IsJobOf (spelled_words (reading_of front (other ∷ []) back tail)) job
 
 -- `--output` and its file
 abbrev pub long_output : Argument → Item
