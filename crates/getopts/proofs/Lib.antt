@@ -5,6 +5,7 @@ pub mod CanonicalLemmas
 pub mod CountLemmas
 pub mod FailLemmas
 pub mod IndexLemmas
+pub mod KeyLemmas
 pub mod LineLemmas
 pub mod MatchesLemmas
 pub mod NamesLemmas

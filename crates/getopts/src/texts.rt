@@ -5,6 +5,7 @@ ghost use Rattle.std.specs.Option.{option_copied};
 ghost use Rattle.std.specs.Cmp.Lexicographic.{pointwise};
 ghost use Rattle.std.specs.Cmp.Rules.{comparing};
 ghost use Rattle.std.proofs.Common.{rules};
+ghost use Rattle.getopts.specs.Texts.{IsOfBytes};
 
 use std::alloc::{AllocError, Global};
 use std::marker::Model;
@@ -39,6 +40,8 @@ impl Model for Texts {
 }
 
 impl Texts {
+    ghost use Rattle.getopts.specs.Texts.{AreOfBytes};
+
     /// No texts. Takes no memory.
     pub(crate) fn new(alloc: Global) -> Texts
         ensures { result ≡ [] }
@@ -89,6 +92,13 @@ impl Texts {
             return None;
         }
         Some((self.get(2 * place)?, self.get(2 * place + 1)?))
+    }
+
+    /// Each text is of bytes: a law to cite, of which nothing is left once built.
+    pub(crate) fn are_of_bytes(&self)
+        ensures { AreOfBytes self.now }
+    {
+        is_of_bytes(&self.text);
     }
 
     /// Copies of words.
@@ -163,6 +173,11 @@ impl PartialEq for Texts {
         self.text == other.text && self.ends == other.ends
     }
 }
+
+/// A `&str` is of bytes.
+fn is_of_bytes(text: &str)
+    ensures { IsOfBytes text.now }
+{}
 
 /// The bytes of all the words, or the most that a `usize` holds.
 fn bytes_of(words: &[&str]) -> usize {
