@@ -175,7 +175,7 @@ impl PartialEq for Texts {
 }
 
 /// A `&str` is of bytes.
-fn is_of_bytes(text: &str)
+pub(crate) fn is_of_bytes(text: &str)
     ensures { IsOfBytes text.now }
 {}
 
