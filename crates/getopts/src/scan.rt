@@ -52,8 +52,8 @@ fn dashed_text(word: &str) -> Option<&str>
     if text.is_empty() { None } else { Some(text) }
 }
 
-/// The name of a text in long form, and its attached argument. Names are short, so its bytes are looked
-/// at one by one.
+/// The name of a text in long form, and its attached argument. Names are short, so its bytes are
+/// looked at one by one.
 fn name_and_argument(text: &str) -> (&str, Option<&str>)
     ensures name { holds_equals result.0.now ≡ false }
     ensures text { text.now ≡ result.0.now ++ with_equals (option_copied result.1) }
