@@ -1,7 +1,7 @@
 -- The laws of the canonical line.
 use Rattle.std.proofs.Common.{◌≡◌, ◌≢◌, ◌⊎◌, ◌↔◌, ℕ, zero, suc, ◌+◌, ◌==◌, Bool, true, false, cond, List, [], ◌∷◌, ◌++◌, length, map, Option, Some, None, refl, sym, ap, ◌∙◌, subst, inl, inr, arith, append-nil}
 use Rattle.std.proofs.lemmas.Bool.{cases_Bool, or_cases, or_left, or_right, true≢false}
-use Rattle.std.proofs.lemmas.List.{append_cancel_right, length-map, map-append}
+use Rattle.std.proofs.lemmas.List.{append_cancel_right, length-map}
 use Rattle.std.proofs.lemmas.List.Elements.{All-contains, All-from_recursion}
 use Rattle.std.proofs.lemmas.Option.{none-some, option_and_then_some, same_Some, slice_get-get_or}
 use Rattle.std.specs.Prelude.{slice_get}
@@ -9,7 +9,7 @@ use Rattle.std.specs.List.{AllByRecursion, Contains, filter, flat_map}
 use Rattle.std.specs.Option.{option_and_then, unwrap_or}
 use Rattle.getopts.specs.Names.{Text, Names, IsLawfullyNamed, main_name, resolution}
 use Rattle.getopts.specs.Options.{Known, Group, Declared, AreLawfullyNamed, names_of, knowns_of, Grammar, kind_at, kind_of, grammar_of}
-use Rattle.getopts.specs.Scan.{dash, equals_sign, begins_with_dash, holds_equals, stop_word, Argument, none, attached, separate, one, two, flags, ends_in, end_text, attached_argument, argument_words, value_of, with_equals, Item, free, long, cluster, spelled_all, FitsLong, FitsEnd, IsFlag, IsLawfulItem, AreWellFollowed, Reading, IsReading, Mention, mention, mentions, Occurrence, occurrence_at, word_count, occurrences_after, occurrences_of, free_items}
+use Rattle.getopts.specs.Scan.{dash, equals_sign, begins_with_dash, holds_equals, stop_word, Argument, none, attached, separate, one, two, flags, ends_in, end_text, attached_argument, argument_words, value_of, with_equals, Item, free, long, cluster, spelled_all, FitsLong, FitsEnd, IsFlag, IsLawfulItem, AreWellFollowed, Reading, IsReading, Mention, mention, mentions, Occurrence, occurrences_of, free_items}
 use Rattle.getopts.specs.ScanLaws.{mention_of, mentions_of}
 use Rattle.getopts.specs.Matches.{found_at, matched, FitsCount, KeepsCounts}
 use Rattle.getopts.specs.Canon.{Content, content_of, main_at, HasPlainMain, AnswersMain, FitsKind, FitsGroup, IsPlain, IsSound, IsFitting, canonical_word, canonical_line, attached_value, canonical_item, canonical_reading, with_setting, IsCountKeeping, Says, ReadsBackEverywhere, SaysNothingElse, IsOnlyContent, HasCanonicalLine, HasNoItem, HasUnwritable}

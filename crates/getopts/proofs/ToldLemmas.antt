@@ -1,21 +1,21 @@
 -- What accepted matches tell of the names that the options declare.
 use Rattle.std.proofs.Common.{◌≡◌, ◌==◌, ◌<◌, ◌+◌, ℕ, zero, suc, Bool, true, false, cond, List, [], ◌∷◌, ◌++◌, length, append_assoc, map, slice_get, Option, Some, None, IsSome, refl, ap, sym, subst, ◌∙◌, arith, add-zero, zero-add, Result, Ok, Err, IfOk}
 use Rattle.std.specs.List.{AllByRecursion, filter}
-use Rattle.std.specs.Option.{option_map, option_and_then}
+use Rattle.std.specs.Option.{option_map}
 use Rattle.std.proofs.lemmas.Bool.{eqb-true}
 use Rattle.std.proofs.lemmas.Option.{option_and_then_some, same_Some}
 use Rattle.getopts.specs.Names.{Text, Names, resolution}
-use Rattle.getopts.specs.Options.{Known, Group, Grammar, Declared, Declares, names_of, knowns_of, kind_at, kind_of, occurrence_of, grammar_of}
+use Rattle.getopts.specs.Options.{Known, Group, Grammar, Declared, names_of, knowns_of, kind_at, grammar_of}
 use Rattle.getopts.specs.Scan.{Occurrence, Item, free, long, cluster, Tail, line_end, stop, rest, stop_word, spelled_all, tail_words, tail_frees, free_items, free_words, IsLawfulItem, Reading, IsReading, occurrences_of}
-use Rattle.getopts.specs.Matches.{Found, Matched, MatchedGroup, found_at, matched, matches_of, FitsCount, KeepsCounts}
-use Rattle.getopts.specs.Accessors.{IsDefined, place_of, found_of, found_in, first_value}
+use Rattle.getopts.specs.Matches.{Found, Matched, MatchedGroup, found_at, matched, FitsCount, KeepsCounts}
+use Rattle.getopts.specs.Accessors.{place_of, found_of, found_in, first_value}
 use Rattle.getopts.specs.Canon.{FitsKind, FitsGroup}
 use Rattle.getopts.specs.Parse.{IsAccepted}
 use Rattle.getopts.specs.Told.{HaveLastWordsFree, HaveValuesFor, AreGroupsOf, HaveValuesByKind, DefineDeclared, HoldRequiredOnce, HoldNeededValues}
 use Rattle.getopts.specs.ScanLaws.{EndIn, mention_of}
 use Rattle.getopts.specs.declared.groups.ParsingStyle.TheVariants.{FloatingFrees, StopAtFirstFree}
 use Rattle.getopts.specs.declared.groups.HasArg.{HasArg}
-use Rattle.getopts.specs.declared.groups.HasArg.TheVariants.{Yes, No, Maybe}
+use Rattle.getopts.specs.declared.groups.HasArg.TheVariants.{Yes}
 use Rattle.getopts.specs.declared.groups.Occur.{Occur}
 use Rattle.getopts.specs.declared.groups.Occur.TheVariants.{Req}
 use Rattle.getopts.proofs.CanonLemmas.{IsFitting-reading}

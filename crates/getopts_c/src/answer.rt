@@ -126,9 +126,9 @@ impl Body {
     {
         if matches.opt_defined(name) {
             let positions = matches.opt_positions(alloc, name)?;
-            self.push_positions(positions.as_slice())?;
+            self.push_positions(&positions)?;
             let pairs = matches.opt_strs_pos(alloc, name)?;
-            self.push_pairs(pairs.as_slice())
+            self.push_pairs(&pairs)
         } else {
             self.push_positions(&[])?;
             self.push_pairs(&[])
@@ -222,7 +222,7 @@ impl Answer {
     {
         match answer {
             Ok(answer) => {
-                let all_numbers = answer.body.numbers.as_slice();
+                let all_numbers = &answer.body.numbers;
                 let all_bytes = answer.body.bytes.as_bytes();
                 *sizes = Sizes {
                     numbers: all_numbers.len(),
@@ -314,10 +314,10 @@ pub(crate) fn answer_to(
         ⊎ (¬ (SayTexts words.entry.bytes.now words.entry.lens.now))) }
 {
     let pieces = request.texts(alloc)?;
-    let groups = in_fours(pieces.as_slice())?;
+    let groups = in_fours(&pieces)?;
     let options = request.options_by(alloc, groups)?;
     let words = cut(alloc, words.bytes, words.lens)?;
-    Ok(answer_by(alloc, &options, groups, words.as_slice())?)
+    Ok(answer_by(alloc, &options, groups, &words)?)
 }
 
 /// The answer that is a text.
@@ -408,7 +408,7 @@ pub(crate) fn rows_of(alloc: Global, request: Request<'_>) -> Result<Answer, Ref
 {
     let options = request.options(alloc)?;
     let rows = options.usage_rows(alloc)?;
-    Ok(of_texts(alloc, rows.as_slice())?)
+    Ok(of_texts(alloc, &rows)?)
 }
 
 /// The answer that is the canonical line of words by options, or that there is none.
@@ -417,7 +417,7 @@ fn line_by(alloc: Global, options: &Options, words: &[&str]) -> Result<Answer, A
         answer.status answer.body.numbers.items (string_bytes answer.body.bytes)) }
 {
     match options.canonical(alloc, words.iter().copied()) {
-        Ok(Some(line)) => of_texts(alloc, line.as_slice()),
+        Ok(Some(line)) => of_texts(alloc, &line),
         Ok(None) => Ok(Answer {
             status: 0,
             body: Body::new(alloc),
@@ -448,5 +448,5 @@ pub(crate) fn line_of(
 {
     let options = request.options(alloc)?;
     let words = cut(alloc, words.bytes, words.lens)?;
-    Ok(line_by(alloc, &options, words.as_slice())?)
+    Ok(line_by(alloc, &options, &words)?)
 }

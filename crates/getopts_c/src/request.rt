@@ -89,7 +89,7 @@ pub(crate) fn cut<'t>(
         rest = after;
     }
     if rest.is_empty() {
-        are_texts(pieces.as_slice());
+        are_texts(&pieces);
         Ok(pieces)
     } else {
         Err(Refusal::Bad)
@@ -223,6 +223,6 @@ impl<'r> Request<'r> {
             self.now.kinds.now self.now.stop self.now.long_only)) }
     {
         let texts = self.texts(alloc)?;
-        self.options_by(alloc, in_fours(texts.as_slice())?)
+        self.options_by(alloc, in_fours(&texts)?)
     }
 }

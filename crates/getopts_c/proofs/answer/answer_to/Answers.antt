@@ -12,11 +12,11 @@ returns-clause-answered c =
     let request = c.args.request in
     record {
       options = c.in_ok-options.options;
-      line = texts c.as_slice-2.result.now;
+      line = texts c.deref-2.result.now;
       options_are = request_is request.texts.now request.lens.now request.kinds.now request.stop request.long_only
           c.in_ok-pieces.pieces.items c.in_ok-groups.groups.now c.in_ok-options.options c.in_ok-pieces.ensures.cut
-          (c.in_ok-groups.ensures.same ∙ ap texts c.as_slice.ensures.value) c.in_ok-options.ensures.declared;
-      line_is = rw c.as_slice-2.ensures.value c.in_ok-words.ensures.cut;
+          (c.in_ok-groups.ensures.same ∙ ap texts c.deref.ensures.value) c.in_ok-options.ensures.declared;
+      line_is = rw c.deref-2.ensures.value c.in_ok-words.ensures.cut;
       answer_is = c.in_ok-answer_by.ensures;
     }
 
@@ -26,7 +26,7 @@ returns-in_err-groups-clause-bad c =
     handed_on c.from_residual-in_err-groups.result _ _ c.from_residual-in_err-groups.ensures.1 (λ _.
     inl (no_options_of_count request.texts.now request.lens.now request.kinds.now request.stop request.long_only
     (texts c.in_ok-pieces.pieces.items) c.in_ok-pieces.ensures.cut
-    (λ groups are. c.in_err-groups.ensures.bad groups (ap texts c.as_slice.ensures.value ∙ are))))
+    (λ groups are. c.in_err-groups.ensures.bad groups (ap texts c.deref.ensures.value ∙ are))))
 
 pub returns-in_err-options-clause-bad : goal.returns-in_err-options-clause-bad
 returns-in_err-options-clause-bad c =
@@ -34,7 +34,7 @@ returns-in_err-options-clause-bad c =
     handed_on c.from_residual-in_err-options.result _ _ c.from_residual-in_err-options.ensures.1 (λ bad.
     inl (no_options_of_groups request.texts.now request.lens.now request.kinds.now request.stop request.long_only
     c.in_ok-pieces.pieces.items c.in_ok-groups.groups.now c.in_ok-pieces.ensures.cut
-    (c.in_ok-groups.ensures.same ∙ ap texts c.as_slice.ensures.value) c.in_ok-groups.ensures.fours
+    (c.in_ok-groups.ensures.same ∙ ap texts c.deref.ensures.value) c.in_ok-groups.ensures.fours
     (c.in_err-options.ensures.bad bad)))
 
 pub returns-in_err-pieces-clause-bad : goal.returns-in_err-pieces-clause-bad
@@ -50,7 +50,7 @@ returns-clause-lawful c =
           (texts c.in_ok-pieces.pieces.items) c.in_ok-options.options c.in_ok-pieces.ensures.cut c.in_ok-pieces.ensures.utf8
           (request_is request.texts.now request.lens.now request.kinds.now request.stop request.long_only
           c.in_ok-pieces.pieces.items c.in_ok-groups.groups.now c.in_ok-options.options c.in_ok-pieces.ensures.cut
-          (c.in_ok-groups.ensures.same ∙ ap texts c.as_slice.ensures.value) c.in_ok-options.ensures.declared)
+          (c.in_ok-groups.ensures.same ∙ ap texts c.deref.ensures.value) c.in_ok-options.ensures.declared)
           c.in_ok-options.ensures.named,
       record { words = texts c.in_ok-words.words.items; words_are = c.in_ok-words.ensures.cut; utf8 = c.in_ok-words.ensures.utf8 },
     )

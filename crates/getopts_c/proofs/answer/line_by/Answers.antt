@@ -15,7 +15,7 @@ returns-in-Ok-Some c =
     let words_are = source.2.2 ∙ (c.iter.ensures.runs source.0 (source.0).seen).4 (source.2.0 ∙ told.2)
     ∙ ap (λ iter. iter.rest.now) source.1 ∙ c.iter.ensures.rest in
     let line = map string_bytes c.in-Ok-Some.line.items in
-    let slice = ap (map string_bytes) c.as_slice.ensures.value in
+    let slice = ap (map string_bytes) c.deref.ensures.value in
     let are = c.of_texts.ensures in
     of_three _ _ _
     (λ answer. IsLineOf c.args.options.now (texts c.args.words.now) answer.status answer.body.numbers.items (string_bytes answer.body.bytes))

@@ -7,7 +7,7 @@ pub returns-clause-rows : goal.returns-clause-rows
 returns-clause-rows c =
     let request = c.args.request in
     let options = c.in_ok-options.options in
-    let slice = ap (map string_bytes) c.as_slice.ensures.value in
+    let slice = ap (map string_bytes) c.deref.ensures.value in
     record {
       options = options;
       rows = map string_bytes c.in_ok-rows.rows.items;

@@ -11,7 +11,7 @@ returns-clause-request c =
     let request = c.args.self.now in
     IfOk-weaker c.options_by.result _ (λ options. IsRequest request.texts.now request.lens.now request.kinds.now request.stop request.long_only options)
     (λ options is. request_is request.texts.now request.lens.now request.kinds.now request.stop request.long_only
-    c.in_ok-texts.texts.items c.in_ok-in_fours.field-0.now options c.in_ok-texts.ensures.cut (c.in_ok-in_fours.ensures.same ∙ ap texts c.as_slice.ensures.value) is)
+    c.in_ok-texts.texts.items c.in_ok-in_fours.field-0.now options c.in_ok-texts.ensures.cut (c.in_ok-in_fours.ensures.same ∙ ap texts c.deref.ensures.value) is)
     c.options_by.ensures.declared
 
 pub returns-in_err-in_fours-clause-bad : goal.returns-in_err-in_fours-clause-bad
@@ -20,7 +20,7 @@ returns-in_err-in_fours-clause-bad c =
     handed_on c.from_residual-in_err-in_fours.result _ _ c.from_residual-in_err-in_fours.ensures.1 (λ _.
     no_options_of_count request.texts.now request.lens.now request.kinds.now request.stop request.long_only
     (texts c.in_ok-texts.texts.items) c.in_ok-texts.ensures.cut
-    (λ groups are. c.in_err-in_fours.ensures.bad groups (ap texts c.as_slice.ensures.value ∙ are)))
+    (λ groups are. c.in_err-in_fours.ensures.bad groups (ap texts c.deref.ensures.value ∙ are)))
 
 pub returns-clause-bad : goal.returns-clause-bad
 returns-clause-bad c =
@@ -28,7 +28,7 @@ returns-clause-bad c =
     IfErr-weaker c.options_by.result _ _ (λ refusal follows bad.
     no_options_of_groups request.texts.now request.lens.now request.kinds.now request.stop request.long_only
     c.in_ok-texts.texts.items c.in_ok-in_fours.field-0.now c.in_ok-texts.ensures.cut
-    (c.in_ok-in_fours.ensures.same ∙ ap texts c.as_slice.ensures.value) c.in_ok-in_fours.ensures.fours (follows bad))
+    (c.in_ok-in_fours.ensures.same ∙ ap texts c.deref.ensures.value) c.in_ok-in_fours.ensures.fours (follows bad))
     c.options_by.ensures.bad
 
 pub returns-in_err-texts-clause-bad : goal.returns-in_err-texts-clause-bad
@@ -45,5 +45,5 @@ returns-clause-lawful c =
     (λ options is named. options_said request.texts.now request.lens.now request.kinds.now request.stop request.long_only
     (texts c.in_ok-texts.texts.items) options c.in_ok-texts.ensures.cut c.in_ok-texts.ensures.utf8
     (request_is request.texts.now request.lens.now request.kinds.now request.stop request.long_only
-    c.in_ok-texts.texts.items c.in_ok-in_fours.field-0.now options c.in_ok-texts.ensures.cut (c.in_ok-in_fours.ensures.same ∙ ap texts c.as_slice.ensures.value) is)
+    c.in_ok-texts.texts.items c.in_ok-in_fours.field-0.now options c.in_ok-texts.ensures.cut (c.in_ok-in_fours.ensures.same ∙ ap texts c.deref.ensures.value) is)
     named)
