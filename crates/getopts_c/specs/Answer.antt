@@ -74,7 +74,8 @@ matches_numbers names matches = flat_map (name_numbers matches.groups) names
 
 -- the bytes of matches, by these names
 abbrev pub matches_bytes : List Text → Matched → Text
-matches_bytes names matches = flat_map (name_bytes matches.groups) names ++ concatenated matches.free
+matches_bytes names matches =
+    flat_map (name_bytes matches.groups) names ++ concatenated matches.free
 
 -- the status of a fault
 abbrev pub fault_status : Fault → ℕ
