@@ -5,11 +5,11 @@ use Rattle.std.proofs.lemmas.List.{length-map}
 use Rattle.getopts.specs.Names.{Text, resolution}
 use Rattle.getopts.specs.Options.{Known, Declared, names_of, knowns_of, grammar_of}
 use Rattle.getopts.specs.Scan.{Reading, Mention, Occurrence, occurrences_of, free_words}
-use Rattle.getopts.specs.ScanLaws.{mention_of, mentions_of, spelled_words, one_higher_after, AreSameButForPositions, AreHigherAfter, AreLowerAfter, ReadsAlike}
+use Rattle.getopts.specs.ScanLaws.{mention_of, mentions_of}
+use Rattle.getopts.specs.Canon.{Content}
 use Rattle.getopts.specs.Matches.{Found, Matched, found_at, matched, matches_of, KeepsCounts}
 use Rattle.getopts.specs.Accessors.{IsReadAs, place_of, found_in, found_of, first_value, values_of}
-use Rattle.getopts.specs.Parse.{Reads, IsAccepted}
-use Rattle.getopts.specs.Theorem.{AcceptedExactlyWhen}
+use Rattle.getopts.specs.Theorem.{AcceptedExactlyWhen, HoldSame, OneContentHoldsSame}
 use Rattle.getopts.proofs.CanonLemmas.{KeepsCounts-mentions}
 use Rattle.getopts.proofs.MatchesLemmas.{knowns-matched}
 use Rattle.getopts.proofs.ToldLemmas.{place_of-groups}
@@ -75,15 +75,8 @@ unfolding first_of_values
 first_value-values [] = refl
 first_value-values (found ∷ founds) = refl
 
--- Matches hold the same but for positions: of each name the counts and the values are the same, and so are the free words.
-pub record HoldSame (matches other : Matched) : Type 0 where
-  pub count : (name : Text) → length (found_of other.groups name) ≡ length (found_of matches.groups name)
-  pub first : (name : Text) → first_value (found_of other.groups name) ≡ first_value (found_of matches.groups name)
-  pub values : (name : Text) → values_of (found_of other.groups name) ≡ values_of (found_of matches.groups name)
-  pub free : other.free ≡ matches.free
-
 -- readings with one content give matches that hold the same but for positions
-pub HoldSame-content : (options : Declared) (old new : Reading) → mentions_of (grammar_of options) new ≡ mentions_of (grammar_of options) old
+HoldSame-content : (options : Declared) (old new : Reading) → mentions_of (grammar_of options) new ≡ mentions_of (grammar_of options) old
     → free_words new ≡ free_words old → HoldSame (matches_of options old) (matches_of options new)
 HoldSame-content options old new same free = record {
   count = λ name. sym (length-map (found_of (matches_of options new).groups name) (λ (found : Found). found.value)) ∙ ap length (alike name) ∙ length-map (found_of (matches_of options old).groups name) (λ (found : Found). found.value);
@@ -94,30 +87,16 @@ HoldSame-content options old new same free = record {
   alike : (name : Text) → values (found_of (matches_of options new).groups name) ≡ values (found_of (matches_of options old).groups name)
   alike = values-found_of options old new same
 
--- occurrences that are one higher or one lower after a position are the same but for positions
-mention_of-one_higher_after : (position : ℕ) (os : List Occurrence) → map mention_of (map (one_higher_after position) os) ≡ map mention_of os
-mention_of-one_higher_after position [] = refl
-mention_of-one_higher_after position (o ∷ os) = ap (λ (more : List Mention). mention_of o ∷ more) (mention_of-one_higher_after position os)
-
-pub AreSameButForPositions-higher : (position : ℕ) (old new : List Occurrence) → AreHigherAfter position old new → AreSameButForPositions position old new
-AreSameButForPositions-higher position old new higher = ap (map mention_of) higher ∙ mention_of-one_higher_after position old
-
-pub AreSameButForPositions-lower : (position : ℕ) (old new : List Occurrence) → AreLowerAfter position old new → AreSameButForPositions position old new
-AreSameButForPositions-lower position old new lower = sym (ap (map mention_of) lower ∙ mention_of-one_higher_after position new)
-
--- An accepted line in another spelling, which reads alike but for positions, is accepted with matches that hold the same but for positions.
-pub IsAccepted-alike : (options : Declared) (words : List Text) (matches : Matched) (position : ℕ) (Alike : List Occurrence → List Occurrence → Type 0) (old new : Reading)
-    → AcceptedExactlyWhen options
-    → ((those these : List Occurrence) → Alike those these → AreSameButForPositions position those these)
-    → IsAccepted options words matches → Reads options words old → ReadsAlike (grammar_of options) Alike old new
-    → IsAccepted options (spelled_words new) (matches_of options new) × HoldSame matches (matches_of options new)
-IsAccepted-alike options words matches position Alike old new accepted_when follows accepted reads alike =
+-- words with the content of accepted words are accepted, with matches that hold the same
+pub OneContentHoldsSame_lem : (options : Declared) → AcceptedExactlyWhen options → OneContentHoldsSame options
+OneContentHoldsSame_lem options accepted_when words others old new matches accepted reads reads_new same =
     let grammar = grammar_of options in
-    let told : mentions_of grammar new ≡ mentions_of grammar old = follows _ _ alike.occurrences in
+    let told : mentions_of grammar new ≡ mentions_of grammar old = ap (λ (content : Content). content.mentions) same in
+    let free : free_words new ≡ free_words old = ap (λ (content : Content). content.free) same in
     let is : old ≡ accepted.reading = (accepted.only old).0 reads in
     let kept : KeepsCounts (matches_of options old).groups = subst (λ (reading : Reading). KeepsCounts (matches_of options reading).groups) (sym is) accepted.counts in
     let matches_are : matches_of options old ≡ matches = ap (matches_of options) is ∙ sym accepted.matches_are in
     let keeps : KeepsCounts (matches_of options new).groups = KeepsCounts-mentions (knowns_of options.groups) grammar grammar old new (sym told) kept in (
-      (accepted_when (spelled_words new) (matches_of options new)).1 (new, record { reads = alike.reads; keeps = keeps }, refl),
-      subst (λ (those : Matched). HoldSame those (matches_of options new)) matches_are (HoldSame-content options old new told alike.free),
+      (accepted_when others (matches_of options new)).1 (new, record { reads = reads_new; keeps = keeps }, refl),
+      subst (λ (those : Matched). HoldSame those (matches_of options new)) matches_are (HoldSame-content options old new told free),
     )

@@ -7,10 +7,10 @@ use Rattle.getopts.specs.Names.{Text}
 use Rattle.getopts.specs.Options.{Known, Grammar}
 use Rattle.getopts.specs.Scan.{dash, is_dashed, begins_with_dash, Argument, none, attached, separate, Dashes, one, two, End, flags, ends_in, Item, free, long, cluster, dash_text, end_text, spelled, spelled_all, MayStandBefore, FitsLong, FitsEnd, IsLawfulEnd, IsLawfulLong, IsLawfulCluster, IsLawfulItem, is_bare, EndsOrIsDashed, AreWellFollowed, Tail, line_end, stop, rest, tail_words, Reading, IsReading, Mention, mentions, Occurrence, occurrence_at, word_count, occurrences_after, occurrences_of, free_items, tail_frees, free_words, trailing_after}
 use Rattle.getopts.specs.Matches.{Found, found_at, matched}
-use Rattle.getopts.specs.ScanLaws.{AreSame, AreSameButForPositions, AreHigherAfter, AreLowerAfter, ReadsAlike, MayStandFor, mentions_of, LongAttachedOrSeparate, ShortAttachedOrSeparate, ClusterSplits, OneDashOrTwo, is_last_bare, joined_reading, HasContentOfBoth, LinesCompose, IsAfterStop, TrailingStartIsAfterStop, IsSubsequence, empty, kept, left_out, FreeWordsAreSubsequence, NeverDecrease, HavePositionsInOrder}
+use Rattle.getopts.specs.ScanLaws.{AreSame, AreAny, AreHigherAfter, AreLowerAfter, ReadsAlike, MayStandFor, mentions_of, positions_in, LongAttachedOrSeparate, ShortAttachedOrSeparate, ClusterSplits, OneDashOrTwo, is_last_bare, joined_reading, HasContentOfBoth, LinesCompose, IsAfterStop, TrailingStartIsAfterStop, IsSubsequence, empty, kept, left_out, FreeWordsAreSubsequence, NeverDecrease, HavePositionsInOrder}
 use Rattle.getopts.specs.declared.groups.HasArg.TheVariants.{Yes}
 use Rattle.getopts.proofs.ScanTexts.{AllByRecursion-append}
-use Rattle.getopts.proofs.ScanPositions.{mentions_of-items, occurrences_of-one_higher}
+use Rattle.getopts.proofs.ScanPositions.{mentions_of-items, positions_in-one_higher}
 use Rattle.getopts.proofs.ScanReadings.{spelled_all-append as spelled_all-before_both}
 
 AllByRecursion-left : {X : Type 0} (P : X → Type 0) (xs ys : List X) → AllByRecursion P (xs ++ ys) → AllByRecursion P xs
@@ -117,21 +117,6 @@ free_items-append (cluster names end ∷ items) others = free_items-append items
 free_items-in_place : (front old new : List Item) → free_items new ≡ free_items old → free_items (front ++ new) ≡ free_items (front ++ old)
 free_items-in_place front old new same = rw (free_items-append front new, same, ← free_items-append front old)
 
--- new items that fit, with alike occurrences and the same free words, read alike
-ReadsAlike-in_place : (grammar : Grammar) (Alike : List Occurrence → List Occurrence → Type 0) (front old new : List Item) (tail : Tail) (words : List Text) → FitInPlace grammar old new (tail_words tail)
-    → Alike (occurrences_after 0 grammar (front ++ old)) (occurrences_after 0 grammar (front ++ new))
-    → free_items new ≡ free_items old
-    → IsReading grammar (record { items = front ++ old; tail = tail }) words
-    → ReadsAlike grammar Alike (record { items = front ++ old; tail = tail }) (record { items = front ++ new; tail = tail })
-ReadsAlike-in_place grammar Alike front old new tail words fit alike same_free reads =
-    let same_words : free_items (front ++ new) ≡ free_items (front ++ old) = free_items-in_place front old new same_free in
-    record {
-      reads = IsReading-in_place grammar front old new tail words fit reads;
-      occurrences = alike;
-      free = ap (λ frees. frees ++ tail_frees tail) same_words;
-      trailing = ap (λ frees. trailing_after (length frees) tail) same_words;
-    }
-
 -- items in front leave the same mentions where the new items have those of the old ones
 mentions_of-in_place : (grammar : Grammar) (front old new : List Item) (tail : Tail) → flat_map (mentions grammar) new ≡ flat_map (mentions grammar) old
     → mentions_of grammar (record { items = front ++ new; tail = tail }) ≡ mentions_of grammar (record { items = front ++ old; tail = tail })
@@ -140,22 +125,41 @@ mentions_of-in_place grammar front old new tail same =
     ∙ rw (flat_map-append (mentions grammar) front new, same, ← flat_map-append (mentions grammar) front old) refl
     ∙ sym (mentions_of-items grammar (record { items = front ++ old; tail = tail }))
 
+-- new items that fit, with the same mentions and free words and with alike positions, read alike
+ReadsAlike-in_place : (grammar : Grammar) (Alike : List ℕ → List ℕ → Type 0) (front old new : List Item) (tail : Tail) (words : List Text) → FitInPlace grammar old new (tail_words tail)
+    → flat_map (mentions grammar) new ≡ flat_map (mentions grammar) old
+    → Alike (positions_in grammar (record { items = front ++ old; tail = tail })) (positions_in grammar (record { items = front ++ new; tail = tail }))
+    → free_items new ≡ free_items old
+    → IsReading grammar (record { items = front ++ old; tail = tail }) words
+    → ReadsAlike grammar Alike (record { items = front ++ old; tail = tail }) (record { items = front ++ new; tail = tail })
+ReadsAlike-in_place grammar Alike front old new tail words fit same alike same_free reads =
+    let same_words : free_items (front ++ new) ≡ free_items (front ++ old) = free_items-in_place front old new same_free in
+    record {
+      reads = IsReading-in_place grammar front old new tail words fit reads;
+      mentions = mentions_of-in_place grammar front old new tail same;
+      free = ap (λ frees. frees ++ tail_frees tail) same_words;
+      trailing = ap (λ frees. trailing_after (length frees) tail) same_words;
+      positions = alike;
+    }
+
 -- Of two items with the same mentions and no free word, one spells one word more: either may stand for the
--- other where it fits, and later occurrences are one higher with the longer one.
+-- other where it fits, and later positions are one higher with the longer one.
 module _ (grammar : Grammar) (item longer : Item) (same : mentions grammar longer ≡ mentions grammar item) (same_free : free_items (longer ∷ []) ≡ free_items (item ∷ []))
     (one_more : word_count (longer ∷ []) ≡ word_count (item ∷ []) + 1) where
   -- the longer one for the other
   MayStandFor-longer : ((back : List Item) (more : List Text) → FitInPlace grammar (item ∷ back) (longer ∷ back) more) → MayStandFor grammar AreHigherAfter (longer ∷ []) item
   MayStandFor-longer fit front back tail words reads =
       ReadsAlike-in_place grammar (AreHigherAfter (word_count front)) front (item ∷ back) (longer ∷ back) tail words (fit back (tail_words tail))
-      (occurrences_of-one_higher grammar item longer back same one_more front tail)
+      (ap (λ (told : List Mention). told ++ flat_map (mentions grammar) back) same)
+      (positions_in-one_higher grammar item longer back same one_more front tail)
       (free_items-append (longer ∷ []) back ∙ ap (λ frees. frees ++ free_items back) same_free ∙ sym (free_items-append (item ∷ []) back)) reads
 
   -- the other for the longer one
   MayStandFor-shorter : ((back : List Item) (more : List Text) → FitInPlace grammar (longer ∷ back) (item ∷ back) more) → MayStandFor grammar AreLowerAfter (item ∷ []) longer
   MayStandFor-shorter fit front back tail words reads =
       ReadsAlike-in_place grammar (AreLowerAfter (word_count front)) front (longer ∷ back) (item ∷ back) tail words (fit back (tail_words tail))
-      (occurrences_of-one_higher grammar item longer back same one_more front tail)
+      (ap (λ (told : List Mention). told ++ flat_map (mentions grammar) back) (sym same))
+      (positions_in-one_higher grammar item longer back same one_more front tail)
       (free_items-append (item ∷ []) back ∙ ap (λ frees. frees ++ free_items back) (sym same_free) ∙ sym (free_items-append (longer ∷ []) back)) reads
 
 -- a lawful long item fits in place of one with the same name
@@ -204,7 +208,9 @@ OneDashOrTwo_lem grammar = record {
         before = MayStandBefore-long_only grammar.long_only other name only plain;
         cut_once = lawful.cut_once;
         resolves = lawful.resolves;
-      })) (occurrences_after-in_place grammar front (long dashes name argument ∷ back) (long other name argument ∷ back) (λ before. refl) 0) refl reads;
+      })) refl
+      (ap (map (λ (o : Occurrence). o.position)) (occurrences_after-in_place grammar front (long dashes name argument ∷ back) (long other name argument ∷ back) (λ before. refl) 0))
+      refl reads;
 }
 
 -- an argument doesn't change how a cluster begins after its dash
@@ -258,10 +264,10 @@ IsLawfulEnd-rest grammar flag names (ends_in option argument) filled lawful = la
 -- a cluster may stand split after its first flag
 MayStandFor-split : (grammar : Grammar) (flag : ℕ) (names : List ℕ) (end : End) → names ++ end_text end ≢ []
     → begins_with_dash (names ++ end_text end) ≡ false
-    → MayStandFor grammar AreSameButForPositions (cluster (flag ∷ []) flags ∷ cluster names end ∷ []) (cluster (flag ∷ names) end)
+    → MayStandFor grammar AreAny (cluster (flag ∷ []) flags ∷ cluster names end ∷ []) (cluster (flag ∷ names) end)
 MayStandFor-split grammar flag names end filled plain front back tail words reads =
-    ReadsAlike-in_place grammar (AreSameButForPositions (word_count front)) front (cluster (flag ∷ names) end ∷ back) (cluster (flag ∷ []) flags ∷ cluster names end ∷ back) tail words fit
-    (mentions_of-in_place grammar front (cluster (flag ∷ names) end ∷ back) (cluster (flag ∷ []) flags ∷ cluster names end ∷ back) tail refl) refl reads
+    ReadsAlike-in_place grammar (AreAny (word_count front)) front (cluster (flag ∷ names) end ∷ back) (cluster (flag ∷ []) flags ∷ cluster names end ∷ back) tail words fit
+    refl tt refl reads
   where
     fit : FitInPlace grammar (cluster (flag ∷ names) end ∷ back) (cluster (flag ∷ []) flags ∷ cluster names end ∷ back) (tail_words tail)
     fit = record {

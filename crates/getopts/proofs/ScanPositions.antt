@@ -9,7 +9,7 @@ use Rattle.getopts.specs.Names.{Text}
 use Rattle.getopts.specs.Options.{Known, Grammar}
 use Rattle.getopts.specs.Scan.{Item, free, long, cluster, spelled, spelled_all, Tail, tail_words, Reading, IsReading, Mention, mentions, Occurrence, occurrence_at, word_count, occurrences_after, occurrences_of}
 use Rattle.getopts.specs.Matches.{Found, found_at, matched}
-use Rattle.getopts.specs.ScanLaws.{mention_of, mentions_of, one_higher_after, StandsInItem, PositionsAreWords, HavePositionsBelow}
+use Rattle.getopts.specs.ScanLaws.{mention_of, mentions_of, positions_in, one_higher_after, StandsInItem, PositionsAreWords, HavePositionsBelow}
 use Rattle.getopts.proofs.ScanTexts.{AllByRecursion-append}
 use Rattle.getopts.proofs.ScanReadings.{spelled_all-append}
 
@@ -44,33 +44,42 @@ mention_of-occurrences_after before grammar (item ∷ items) =
 pub mentions_of-items : (grammar : Grammar) (reading : Reading) → mentions_of grammar reading ≡ flat_map (mentions grammar) reading.items
 mentions_of-items grammar reading = mention_of-occurrences_after 0 grammar reading.items
 
+-- an occurrence, one position higher where it stands after this one
+abbrev raised_after : ℕ → Occurrence → Occurrence
+raised_after position o = record { group = o.group; value = o.value; position = one_higher_after position o.position }
+
+position-raised_after : (position : ℕ) (os : List Occurrence)
+    → map (λ (o : Occurrence). o.position) (map (raised_after position) os) ≡ map (one_higher_after position) (map (λ (o : Occurrence). o.position) os)
+position-raised_after position [] = refl
+position-raised_after position (o ∷ os) = ap (λ (ps : List ℕ). one_higher_after position o.position ∷ ps) (position-raised_after position os)
+
 -- mentions that aren't after this position stay where they are
-one_higher_after-stays : (at position : ℕ) (told : List Mention) → position ≤ at
-    → map (one_higher_after at) (map (occurrence_at position) told) ≡ map (occurrence_at position) told
-one_higher_after-stays at position [] within = refl
-one_higher_after-stays at position (first ∷ told) within =
+raised_after-stays : (at position : ℕ) (told : List Mention) → position ≤ at
+    → map (raised_after at) (map (occurrence_at position) told) ≡ map (occurrence_at position) told
+raised_after-stays at position [] within = refl
+raised_after-stays at position (first ∷ told) within =
     let here : nat_le position at ≡ true = grind (arith, nat_tests) in
-    ap (λ b. record { group = first.group; value = first.value; position = cond b position (position + 1) } ∷ map (one_higher_after at) (map (occurrence_at position) told)) here
-    ∙ ap (λ (os : List Occurrence). occurrence_at position first ∷ os) (one_higher_after-stays at position told within)
+    ap (λ b. record { group = first.group; value = first.value; position = cond b position (position + 1) } ∷ map (raised_after at) (map (occurrence_at position) told)) here
+    ∙ ap (λ (os : List Occurrence). occurrence_at position first ∷ os) (raised_after-stays at position told within)
 
 -- mentions after this position are one higher
-one_higher_after-moves : (at position : ℕ) (told : List Mention) → at < position
-    → map (one_higher_after at) (map (occurrence_at position) told) ≡ map (occurrence_at (position + 1)) told
-one_higher_after-moves at position [] past = refl
-one_higher_after-moves at position (first ∷ told) past =
+raised_after-moves : (at position : ℕ) (told : List Mention) → at < position
+    → map (raised_after at) (map (occurrence_at position) told) ≡ map (occurrence_at (position + 1)) told
+raised_after-moves at position [] past = refl
+raised_after-moves at position (first ∷ told) past =
     let here : nat_le position at ≡ false = grind (arith, nat_tests) in
-    ap (λ b. record { group = first.group; value = first.value; position = cond b position (position + 1) } ∷ map (one_higher_after at) (map (occurrence_at position) told)) here
-    ∙ ap (λ (os : List Occurrence). occurrence_at (position + 1) first ∷ os) (one_higher_after-moves at position told past)
+    ap (λ b. record { group = first.group; value = first.value; position = cond b position (position + 1) } ∷ map (raised_after at) (map (occurrence_at position) told)) here
+    ∙ ap (λ (os : List Occurrence). occurrence_at (position + 1) first ∷ os) (raised_after-moves at position told past)
 
 -- the occurrences of items after this position are one higher
 occurrences_after-moves : (grammar : Grammar) (at before : ℕ) (items : List Item) → at < before
-    → map (one_higher_after at) (occurrences_after before grammar items) ≡ occurrences_after (before + 1) grammar items
+    → map (raised_after at) (occurrences_after before grammar items) ≡ occurrences_after (before + 1) grammar items
 occurrences_after-moves grammar at before [] past = refl
 occurrences_after-moves grammar at before (item ∷ items) past =
     let next = before + word_count (item ∷ []) in
     let later : next + 1 ≡ before + 1 + word_count (item ∷ []) = omega arith in
-    map-append (one_higher_after at) (map (occurrence_at before) (mentions grammar item)) (occurrences_after next grammar items)
-    ∙ ap (λ (os : List Occurrence). os ++ map (one_higher_after at) (occurrences_after next grammar items)) (one_higher_after-moves at before (mentions grammar item) past)
+    map-append (raised_after at) (map (occurrence_at before) (mentions grammar item)) (occurrences_after next grammar items)
+    ∙ ap (λ (os : List Occurrence). os ++ map (raised_after at) (occurrences_after next grammar items)) (raised_after-moves at before (mentions grammar item) past)
     ∙ ap (λ (os : List Occurrence). map (occurrence_at (before + 1)) (mentions grammar item) ++ os)
     (occurrences_after-moves grammar at next items (omega arith) ∙ ap (λ n. occurrences_after n grammar items) later)
 
@@ -78,35 +87,37 @@ occurrences_after-moves grammar at before (item ∷ items) past =
 module _ (grammar : Grammar) (item other : Item) (back : List Item) (same : mentions grammar other ≡ mentions grammar item)
     (longer : word_count (other ∷ []) ≡ word_count (item ∷ []) + 1) where
   -- where the item is the first
-  occurrences_after-here : (before : ℕ) → map (one_higher_after before) (occurrences_after before grammar (item ∷ back)) ≡ occurrences_after before grammar (other ∷ back)
+  occurrences_after-here : (before : ℕ) → map (raised_after before) (occurrences_after before grammar (item ∷ back)) ≡ occurrences_after before grammar (other ∷ back)
   occurrences_after-here before =
       let next = before + word_count (item ∷ []) in
       let later : next + 1 ≡ before + word_count (other ∷ []) = omega arith in
-      map-append (one_higher_after before) (map (occurrence_at before) (mentions grammar item)) (occurrences_after next grammar back)
-      ∙ ap (λ (os : List Occurrence). os ++ map (one_higher_after before) (occurrences_after next grammar back)) (one_higher_after-stays before before (mentions grammar item) (omega arith))
+      map-append (raised_after before) (map (occurrence_at before) (mentions grammar item)) (occurrences_after next grammar back)
+      ∙ ap (λ (os : List Occurrence). os ++ map (raised_after before) (occurrences_after next grammar back)) (raised_after-stays before before (mentions grammar item) (omega arith))
       ∙ ap (λ (os : List Occurrence). map (occurrence_at before) (mentions grammar item) ++ os)
       (occurrences_after-moves grammar before next back (omega (arith, spells_word item [])) ∙ ap (λ n. occurrences_after n grammar back) later)
       ∙ ap (λ (told : List Mention). map (occurrence_at before) told ++ occurrences_after (before + word_count (other ∷ [])) grammar back) (sym same)
 
   -- where items stand before it
   occurrences_after-one_higher : (front : List Item) (before : ℕ)
-      → map (one_higher_after (before + word_count front)) (occurrences_after before grammar (front ++ item ∷ back)) ≡ occurrences_after before grammar (front ++ other ∷ back)
-  occurrences_after-one_higher [] before = ap (λ n. map (one_higher_after n) (occurrences_after before grammar (item ∷ back))) (add-zero before) ∙ occurrences_after-here before
+      → map (raised_after (before + word_count front)) (occurrences_after before grammar (front ++ item ∷ back)) ≡ occurrences_after before grammar (front ++ other ∷ back)
+  occurrences_after-one_higher [] before = ap (λ n. map (raised_after n) (occurrences_after before grammar (item ∷ back))) (add-zero before) ∙ occurrences_after-here before
   occurrences_after-one_higher (first ∷ front) before =
       let at = before + word_count (first ∷ front) in
       let next = before + word_count (first ∷ []) in
       let same_place : at ≡ next + word_count front = omega (arith, word_count-cons first front) in
-      map-append (one_higher_after at) (map (occurrence_at before) (mentions grammar first)) (occurrences_after next grammar (front ++ item ∷ back))
-      ∙ ap (λ (os : List Occurrence). os ++ map (one_higher_after at) (occurrences_after next grammar (front ++ item ∷ back))) (one_higher_after-stays at before (mentions grammar first) (omega arith))
+      map-append (raised_after at) (map (occurrence_at before) (mentions grammar first)) (occurrences_after next grammar (front ++ item ∷ back))
+      ∙ ap (λ (os : List Occurrence). os ++ map (raised_after at) (occurrences_after next grammar (front ++ item ∷ back))) (raised_after-stays at before (mentions grammar first) (omega arith))
       ∙ ap (λ (os : List Occurrence). map (occurrence_at before) (mentions grammar first) ++ os)
-      (ap (λ n. map (one_higher_after n) (occurrences_after next grammar (front ++ item ∷ back))) same_place ∙ occurrences_after-one_higher front next)
+      (ap (λ n. map (raised_after n) (occurrences_after next grammar (front ++ item ∷ back))) same_place ∙ occurrences_after-one_higher front next)
 
   -- in a whole line
-  pub occurrences_of-one_higher : (front : List Item) (tail : Tail)
-      → occurrences_of grammar (record { items = front ++ other ∷ back; tail = tail })
-      ≡ map (one_higher_after (word_count front)) (occurrences_of grammar (record { items = front ++ item ∷ back; tail = tail }))
-  occurrences_of-one_higher front tail =
-      sym (occurrences_after-one_higher front 0) ∙ ap (λ n. map (one_higher_after n) (occurrences_after 0 grammar (front ++ item ∷ back))) (zero-add (word_count front))
+  pub positions_in-one_higher : (front : List Item) (tail : Tail)
+      → positions_in grammar (record { items = front ++ other ∷ back; tail = tail })
+      ≡ map (one_higher_after (word_count front)) (positions_in grammar (record { items = front ++ item ∷ back; tail = tail }))
+  positions_in-one_higher front tail =
+      ap (map (λ (o : Occurrence). o.position))
+      (sym (occurrences_after-one_higher front 0) ∙ ap (λ n. map (raised_after n) (occurrences_after 0 grammar (front ++ item ∷ back))) (zero-add (word_count front)))
+      ∙ position-raised_after (word_count front) (occurrences_after 0 grammar (front ++ item ∷ back))
 
 -- the item of an occurrence, among items with so many words before them
 record IsOfItem (grammar : Grammar) (first : ℕ) (items : List Item) (occurrence : Occurrence) : Type 0 where

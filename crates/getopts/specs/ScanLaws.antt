@@ -1,7 +1,7 @@
 -- Laws of readings: which items may stand for others, how lines compose, and what free words, the
 -- trailing start and positions keep to. Each is about every reading of every line.
-use Rattle.std.specs.Prelude.{◌≡◌, ◌≢◌, ℕ, ◌+◌, ◌<◌, nat_le, if◌then◌else◌, Bool, false, true, List}
-use Rattle.std.specs.Prelude.{[], ◌∷◌, ◌++◌, length, map, drop, slice_get, Contains, Some}
+use Rattle.std.specs.Prelude.{◌≡◌, ◌≢◌, ℕ, ◌+◌, ◌<◌, nat_le, if◌then◌else◌, ⊤, Bool, false, true}
+use Rattle.std.specs.Prelude.{List, [], ◌∷◌, ◌++◌, length, map, drop, slice_get, Contains, Some}
 use Rattle.std.specs.List.{AllByRecursion}
 use Rattle.std.specs.List.Sorted.{IsNonDecreasingBy}
 use Rattle.getopts.specs.Names.{Text}
@@ -30,43 +30,44 @@ spelled_words reading = spelled_all reading.items (tail_words reading.tail)
 abbrev pub reading_of : List Item → List Item → List Item → Tail → Reading
 reading_of front middle back tail = record { items = front ++ (middle ++ back); tail = tail }
 
--- How the occurrences of a new reading may differ from those of the old one, where an item at this
+-- the positions of a reading's occurrences, in the order of the line
+abbrev pub positions_in : Grammar → Reading → List ℕ
+positions_in grammar reading = map (λ o. o.position) (occurrences_of grammar reading)
+
+-- How the positions of a new reading may differ from those of the old one, where an item at this
 -- position was replaced. They are the same.
-abbrev pub AreSame : ℕ → List Occurrence → List Occurrence → Type 0
+abbrev pub AreSame : ℕ → List ℕ → List ℕ → Type 0
 AreSame position old new = new ≡ old
 
--- they are the same but for positions
-abbrev pub AreSameButForPositions : ℕ → List Occurrence → List Occurrence → Type 0
-AreSameButForPositions position old new = map mention_of new ≡ map mention_of old
+-- they may be any
+abbrev pub AreAny : ℕ → List ℕ → List ℕ → Type 0
+AreAny position old new = ⊤
 
--- the occurrence, one position higher where it stands after this one
-abbrev pub one_higher_after : ℕ → Occurrence → Occurrence
-one_higher_after position o = record {
-  group = o.group;
-  value = o.value;
-  position = if nat_le o.position position then o.position else o.position + 1;
-}
+-- the position, or the next where it stands after this one
+abbrev pub one_higher_after : ℕ → ℕ → ℕ
+one_higher_after position other = if nat_le other position then other else other + 1
 
--- those after the item are one position higher
-abbrev pub AreHigherAfter : ℕ → List Occurrence → List Occurrence → Type 0
+-- those after the item are one higher
+abbrev pub AreHigherAfter : ℕ → List ℕ → List ℕ → Type 0
 AreHigherAfter position old new = new ≡ map (one_higher_after position) old
 
--- those after the item are one position lower: one higher, they are the old ones
-abbrev pub AreLowerAfter : ℕ → List Occurrence → List Occurrence → Type 0
+-- those after the item are one lower: one higher, they are the old ones
+abbrev pub AreLowerAfter : ℕ → List ℕ → List ℕ → Type 0
 AreLowerAfter position old new = old ≡ map (one_higher_after position) new
 
--- The new reading is one of the words that it spells, its occurrences are to the old one's as
--- `Alike` says, and it has the old one's free words and trailing start.
-pub record ReadsAlike (grammar : Grammar) (Alike : List Occurrence → List Occurrence → Type 0)
-    (old new : Reading) : Type 0 where
+-- The new reading is one of the words that it spells, it has the old one's mentions, free words and
+-- trailing start, and its positions are to the old one's as `Alike` says.
+pub record ReadsAlike (grammar : Grammar) (Alike : List ℕ → List ℕ → Type 0) (old new : Reading)
+    : Type 0 where
   pub reads : IsReading grammar new (spelled_words new)
-  pub occurrences : Alike (occurrences_of grammar old) (occurrences_of grammar new)
+  pub mentions : mentions_of grammar new ≡ mentions_of grammar old
   pub free : free_words new ≡ free_words old
   pub trailing : trailing_start new ≡ trailing_start old
+  pub positions : Alike (positions_in grammar old) (positions_in grammar new)
 
 -- wherever the item stands in a reading of a line, the reading with the others in its place is
 -- alike, where `Alike` may ask for the item's position
-abbrev pub MayStandFor : Grammar → (ℕ → List Occurrence → List Occurrence → Type 0)
+abbrev pub MayStandFor : Grammar → (ℕ → List ℕ → List ℕ → Type 0)
     → List Item → Item → Type 0
 MayStandFor grammar Alike others item = (front back : List Item) (tail : Tail) (words : List Text)
     → IsReading grammar (reading_of front (item ∷ []) back tail) words
@@ -107,7 +108,7 @@ pub record ClusterSplits (grammar : Grammar) : Type 0 where
   pub after_flag : (flag : ℕ) (names : List ℕ) (end : End)
       → names ++ end_text end ≢ []
       → begins_with_dash (names ++ end_text end) ≡ false
-      → MayStandFor grammar AreSameButForPositions
+      → MayStandFor grammar AreAny
       (cluster (flag ∷ []) flags ∷ cluster names end ∷ []) (cluster (flag ∷ names) end)
 
 -- One dash or two: in long-only mode `-name` and `--name` read alike, where the name doesn't begin

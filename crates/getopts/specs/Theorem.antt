@@ -1,5 +1,6 @@
 -- The main theorem: what `parse` answers to which words, and when two canonical lines are equal.
-use Rattle.std.specs.Prelude.{◌≡◌, ◌↔◌, ◌⊎◌, List}
+use Rattle.std.specs.Prelude.{◌≡◌, ◌↔◌, ◌⊎◌, List, length}
+use Rattle.getopts.specs.Accessors.{found_of, first_value, values_of}
 use Rattle.getopts.specs.Only.{IsTheOnly}
 use Rattle.getopts.specs.Names.{Text, AreTexts}
 use Rattle.getopts.specs.Options.{Declared, grammar_of}
@@ -61,6 +62,27 @@ abbrev pub OneReadingGivesAll : Declared → Type 0
 OneReadingGivesAll options = (words : List Text) (reading : Reading)
     → IsCountKeeping options reading words
     → GivesAll options words reading
+
+-- two matches hold the same but for positions: for each name as many occurrences with the same
+-- values, and the same free words
+pub record HoldSame (matches other : Matched) : Type 0 where
+  pub count : (name : Text)
+      → length (found_of other.groups name) ≡ length (found_of matches.groups name)
+  pub first : (name : Text)
+      → first_value (found_of other.groups name) ≡ first_value (found_of matches.groups name)
+  pub values : (name : Text)
+      → values_of (found_of other.groups name) ≡ values_of (found_of matches.groups name)
+  pub free : other.free ≡ matches.free
+
+-- Words with the content of accepted words are accepted, with matches that hold the same.
+abbrev pub OneContentHoldsSame : Declared → Type 0
+OneContentHoldsSame options = (words others : List Text) (reading other : Reading)
+    (matches : Matched)
+    → IsAccepted options words matches
+    → Reads options words reading → Reads options others other
+    → content_of (grammar_of options) other ≡ content_of (grammar_of options) reading
+    → IsAccepted options others (matches_of options other)
+    × HoldSame matches (matches_of options other)
 
 -- Two plain contents that lines say, in styles and modes that may differ, have equal canonical
 -- lines exactly if they are equal.

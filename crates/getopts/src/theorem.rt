@@ -2,7 +2,7 @@
 
 ghost use Rattle.getopts.specs.Canon.{IsSound, IsFitting, ReadsBackEverywhere, SaysNothingElse, IsItsOwn, IsOnlyContent};
 ghost use Rattle.getopts.specs.CanonAnswers.{EachContent, EachPlainContent, AnsweredLinesTell};
-ghost use Rattle.getopts.specs.Theorem.{OneReading, AcceptedExactlyWhen, RefusedExactlyWhen, OneOfThree, OneReadingGivesAll, CanonicalLinesTell};
+ghost use Rattle.getopts.specs.Theorem.{OneReading, AcceptedExactlyWhen, RefusedExactlyWhen, OneOfThree, OneReadingGivesAll, OneContentHoldsSame, CanonicalLinesTell};
 
 use crate::options::Options;
 
@@ -24,6 +24,9 @@ pub fn one_reading_one_canonical_line(options: &Options)
 
     // That reading gives the matches of `parse`, and the line of `canonical`.
     ensures gives_all { OneReadingGivesAll options.now }
+
+    // Words that say the same give matches that are the same but for positions.
+    ensures holds_same { OneContentHoldsSame options.now }
 
     // Canonical lines are equal exactly if they say the same: of contents, and of answers.
     ensures canonical_lines_tell { CanonicalLinesTell options.now }

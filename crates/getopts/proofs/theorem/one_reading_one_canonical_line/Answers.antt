@@ -1,4 +1,5 @@
 -- What the options keep makes their names lawful, and so the laws hold.
+use Rattle.getopts.proofs.CallerLemmas.{OneContentHoldsSame_lem}
 use Rattle.getopts.proofs.CanonLemmas.{IsSound-says, IsFitting-says}
 use Rattle.getopts.proofs.TheoremLemmas.{OneReading-options, AcceptedExactlyWhen-options, RefusedExactlyWhen-options, OneOfThree-options, OneReadingGivesAll-options, CanonicalLinesTell-options, AnsweredLinesTell-options, HasCanonicalLine-options}
 use Rattle.getopts.proofs.theorem.one_reading_one_canonical_line.Goals as goal
@@ -15,6 +16,7 @@ returns c =
       refused = RefusedExactlyWhen-options options lawful shorts;
       one_of_three = OneOfThree-options options lawful shorts;
       gives_all = OneReadingGivesAll-options options lawful shorts;
+      holds_same = OneContentHoldsSame_lem options (AcceptedExactlyWhen-options options lawful shorts);
       canonical_lines_tell = CanonicalLinesTell-options options lawful shorts;
       answered_lines_tell = AnsweredLinesTell-options options lawful shorts;
       reads_back = λ words content says plain. (laws words content says plain).reads_back;
