@@ -80,9 +80,12 @@ groups_back (group ∷ groups) (other ∷ others) rest left more after count num
     (sym (append_assoc (flat_map found_numbers group.found) (flat_map group_numbers groups) rest) ∙ behind
     ∙ append_assoc (flat_map found_numbers other.found) (flat_map group_numbers others) left)
     (sym (append_assoc (group_bytes group) (flat_map group_bytes groups) more) ∙ bytes ∙ append_assoc (group_bytes other) (flat_map group_bytes others) after) in
-    let follow = groups_back groups others rest left more after (omega arith) first.1 first.2 in
-    (ap (λ (fs : List Found). fs ∷ map (λ (group : MatchedGroup). group.found) groups) first.0
-    ∙ ap (λ (lists : List (List Found)). other.found ∷ lists) follow.0, follow.1, follow.2)
+    let follow = groups_back groups others rest left more after (omega arith) first.1 first.2 in (
+      ap (λ (fs : List Found). fs ∷ map (λ (group : MatchedGroup). group.found) groups) first.0
+          ∙ ap (λ (lists : List (List Found)). other.found ∷ lists) follow.0,
+      follow.1,
+      follow.2,
+    )
 
 -- texts, from their numbers and their bytes
 pub texts_back : (words others : List Text) → text_numbers words ≡ text_numbers others → concatenated words ≡ concatenated others → words ≡ others
@@ -112,14 +115,14 @@ pub matches_back : (names : List Text) (matches others : Matched)
     → matches_numbers names matches ≡ matches_numbers names others → matches_bytes matches ≡ matches_bytes others
     → TellAlike names matches others
 matches_back names matches others numbers bytes =
-    let behind : Matched → List ℕ = λ m. (length m.groups ∷ flat_map group_numbers m.groups) ++ text_numbers m.free ++ optional_number m.trailing_start ∷ [] in
+    let behind : Matched → List ℕ = λ m. (length m.groups ∷ flat_map group_numbers m.groups) ++ (text_numbers m.free ++ optional_number m.trailing_start ∷ []) in
     let named = same_front (map (place_number matches.groups) names) (map (place_number others.groups) names) (behind matches) (behind others) numbers
     (length-map names (place_number matches.groups) ∙ sym (length-map names (place_number others.groups))) in
-    let whole : length matches.groups ∷ (flat_map group_numbers matches.groups ++ text_numbers matches.free ++ optional_number matches.trailing_start ∷ [])
-    ≡ length others.groups ∷ (flat_map group_numbers others.groups ++ text_numbers others.free ++ optional_number others.trailing_start ∷ []) = named.1 in
+    let whole : length matches.groups ∷ (flat_map group_numbers matches.groups ++ (text_numbers matches.free ++ optional_number matches.trailing_start ∷ []))
+    ≡ length others.groups ∷ (flat_map group_numbers others.groups ++ (text_numbers others.free ++ optional_number others.trailing_start ∷ [])) = named.1 in
     let count : length matches.groups ≡ length others.groups = cc in
-    let rest : flat_map group_numbers matches.groups ++ text_numbers matches.free ++ optional_number matches.trailing_start ∷ []
-    ≡ flat_map group_numbers others.groups ++ text_numbers others.free ++ optional_number others.trailing_start ∷ [] = cc in
+    let rest : flat_map group_numbers matches.groups ++ (text_numbers matches.free ++ optional_number matches.trailing_start ∷ [])
+    ≡ flat_map group_numbers others.groups ++ (text_numbers others.free ++ optional_number others.trailing_start ∷ []) = cc in
     let found = groups_back matches.groups others.groups _ _ (concatenated matches.free) (concatenated others.free) count rest bytes in
     let free = free_back matches others found.1 found.2 in
     record {

@@ -63,8 +63,8 @@ text_numbers words = length words ∷ map length words
 -- numbers of each, those of the free words, and a number for the trailing start.
 abbrev pub matches_numbers : List Text → Matched → List ℕ
 matches_numbers names matches = map (place_number matches.groups) names
-    ++ (length matches.groups ∷ flat_map group_numbers matches.groups)
-    ++ text_numbers matches.free ++ optional_number matches.trailing_start ∷ []
+    ++ ((length matches.groups ∷ flat_map group_numbers matches.groups)
+    ++ (text_numbers matches.free ++ optional_number matches.trailing_start ∷ []))
 
 -- the bytes of matches: those of the groups, and the free words
 abbrev pub matches_bytes : Matched → Text

@@ -50,7 +50,7 @@ pub(crate) struct Answer {
 }
 
 impl Body {
-    /// Nothing yet.
+    /// Nothing.
     fn new(alloc: Global) -> Body
         ensures numbers { result.numbers.items ≡ [] }
         ensures bytes { string_bytes result.bytes ≡ [] }
@@ -59,6 +59,17 @@ impl Body {
             numbers: Vec::new(alloc),
             bytes: String::new(alloc),
         }
+    }
+
+    /// Nothing yet, with room for so many numbers and bytes.
+    fn with_capacity(alloc: Global, numbers: usize, bytes: usize) -> Result<Body, AllocError>
+        ensures numbers { IfOk result (λ body. body.numbers.items ≡ []) }
+        ensures bytes { IfOk result (λ body. string_bytes body.bytes ≡ []) }
+    {
+        Ok(Body {
+            numbers: Vec::with_capacity(alloc, numbers)?,
+            bytes: String::with_capacity(alloc, bytes)?,
+        })
     }
 
     /// Adds a text, and its length.
@@ -119,11 +130,7 @@ impl Body {
     }
 
     /// Adds where the names of these groups stand.
-    fn push_all_places(
-        &mut self,
-        matches: &Matches,
-        groups: &[[&str; 4]],
-    ) -> Result<(), AllocError>
+    fn push_all_places(&mut self, matches: &Matches, groups: &[[&str; 4]]) -> Result<(), AllocError>
         ensures numbers { OnOk result (self.new.numbers.items
             ≡ self.old.numbers.items ++ map (place_number matches.now.groups)
             (flat_map four_names (map texts groups.now))) }
@@ -245,20 +252,27 @@ fn refused(alloc: Global, fail: &Fail) -> Result<Answer, AllocError>
         Fail::UnexpectedArgument(name) => (5, name),
         Fail::OutOfMemory => return Err(AllocError),
     };
-    let mut body = Body::new(alloc);
+    let mut body = Body::with_capacity(alloc, 1, name.len())?;
     body.push_text(name.as_str())?;
     Ok(Answer { status, body })
 }
 
-/// The answer that tells matches, by the names of these groups, which are theirs.
-fn accepted(alloc: Global, matches: &Matches, groups: &[[&str; 4]]) -> Result<Answer, AllocError>
+/// The answer that tells matches, by the names of these groups, which are theirs, with room for so many
+/// bytes and for the numbers of most lines.
+fn accepted(
+    alloc: Global,
+    matches: &Matches,
+    groups: &[[&str; 4]],
+    bytes: usize,
+) -> Result<Answer, AllocError>
     requires { length groups.now ≡ length matches.now.groups }
     ensures { IfOk result (λ answer. (answer.status ≡ 0)
         × (answer.body.numbers.items
         ≡ matches_numbers (flat_map four_names (map texts groups.now)) matches.now)
         × (string_bytes answer.body.bytes ≡ matches_bytes matches.now)) }
 {
-    let mut body = Body::new(alloc);
+    let numbers = groups.len().saturating_mul(4).saturating_add(16);
+    let mut body = Body::with_capacity(alloc, numbers, bytes)?;
     body.push_all_places(matches, groups)?;
     body.push_groups(matches, groups.len())?;
     body.push_texts(&matches.free)?;
@@ -266,12 +280,13 @@ fn accepted(alloc: Global, matches: &Matches, groups: &[[&str; 4]]) -> Result<An
     Ok(Answer { status: 0, body })
 }
 
-/// The answer to a line by options, which are those of these groups.
+/// The answer to a line by options, which are those of these groups, where the words have so many bytes.
 fn answer_by(
     alloc: Global,
     options: &Options,
     groups: &[[&str; 4]],
     words: &[&str],
+    bytes: usize,
 ) -> Result<Answer, AllocError>
     requires names { all_names options.now.groups ≡ flat_map four_names (map texts groups.now) }
     requires count { length groups.now ≡ length options.now.groups }
@@ -279,7 +294,7 @@ fn answer_by(
         answer.status answer.body.numbers.items (string_bytes answer.body.bytes)) }
 {
     match options.parse(alloc, words.iter().copied()) {
-        Ok(matches) => accepted(alloc, &matches, groups),
+        Ok(matches) => accepted(alloc, &matches, groups, bytes),
         Err(fail) => refused(alloc, &fail),
     }
 }
@@ -307,8 +322,9 @@ pub(crate) fn answer_to(
     let pieces = request.texts(alloc)?;
     let groups = in_fours(&pieces)?;
     let options = request.options_by(alloc, groups)?;
+    let bytes = words.bytes.len();
     let words = cut(alloc, words.bytes, words.lens)?;
-    Ok(answer_by(alloc, &options, groups, &words)?)
+    Ok(answer_by(alloc, &options, groups, &words, bytes)?)
 }
 
 /// The answer that is a text.
@@ -378,7 +394,7 @@ fn of_texts(alloc: Global, words: &[String]) -> Result<Answer, AllocError>
     ensures bytes { IfOk result (λ answer.
         string_bytes answer.body.bytes ≡ concatenated (map string_bytes words.now)) }
 {
-    let mut body = Body::new(alloc);
+    let mut body = Body::with_capacity(alloc, words.len().saturating_add(1), 0)?;
     body.push_texts(words)?;
     Ok(Answer { status: 0, body })
 }

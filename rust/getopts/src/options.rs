@@ -45,6 +45,8 @@ pub enum Occur {
 pub struct Names {
     pub texts: Texts,
     pub kinds: Vec<u8>,
+    /// Whether some option has two empty names.
+    pub nameless: bool,
 }
 
 /// Options that a program declares, a parsing style and a mode.
@@ -120,6 +122,7 @@ impl Options {
             names.texts.push(text);
         }
         names.kinds.push(3 * hasarg as u8 + occur as u8);
+        names.nameless |= short_name.is_empty() && long_name.is_empty();
         for text in [short_name, long_name, hint, desc] {
             self.texts.push(text);
         }
@@ -234,8 +237,7 @@ impl Options {
 
     /// Panics where an option has two empty names, which no line can be read by.
     fn check_names(&self) {
-        let lens = &self.names.texts.lens;
-        if lens.chunks_exact(4).any(|four| four == [0; 4]) {
+        if self.names.nameless {
             panic!("this long-format option was given no name");
         }
     }
