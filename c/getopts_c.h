@@ -50,11 +50,12 @@ enum {
 
 /* Reads words by options.
  *
- * The numbers are, for each name of each group in order, the short one and the long one: how many
- * occurrences the option of that name has, the position of each, how many of them have a value, and
- * of each of those its position and its value's length. Then how many free words there are, and the
- * length of each; then 0, or 1 and the number of free words before those after `--`. The bytes are the
- * values and the free words in that order. A position is the index of a word. */
+ * The numbers are, for each name of each group in order, the short one and the long one, 1 and the place
+ * of the group that it names, from 0, or 0 where it names none. Then how many groups there are, and for
+ * each of them how many occurrences it has, and of each of those its position and 1 and its value's
+ * length, or 0 where it has no value. Then how many free words there are, and the length of each; then 1
+ * and the number of free words before those after `--`, or 0. The bytes are the values and the free words
+ * in that order. A position is the index of a word. */
 uint32_t getopts_c_parse(
     const uint8_t *texts,    /* of each group the short name, the long name, the hint, the description */
     size_t texts_len,        /* how many bytes they are together */

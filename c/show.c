@@ -58,36 +58,58 @@ static bool push(struct texts *texts, const char *text) {
     return true;
 }
 
+/* Where the occurrences of a group begin. */
+struct start {
+    const size_t *number;
+    const uint8_t *text;
+};
+
+/* The number after the occurrences that begin at a number, and the text after theirs. */
+static struct start after_group(struct start group) {
+    for (size_t count = *group.number++; count > 0; count--, group.number += 2)
+        if (group.number[1] > 0)
+            group.text += group.number[1] - 1;
+    return group;
+}
+
+/* Shows the occurrences of a group under a name. */
+static void occurrences(FILE *out, const char *name, struct start group) {
+    size_t count = *group.number++;
+    fprintf(out, "%s: %zu", name, count);
+    for (size_t nth = 0; nth < count; nth++)
+        fprintf(out, " @%zu", group.number[2 * nth]);
+    fprintf(out, "\n");
+    for (; count > 0; count--, group.number += 2) {
+        if (group.number[1] == 0)
+            continue;
+        fprintf(out, "%s @%zu = %.*s\n", name, group.number[0], (int)group.number[1] - 1,
+            (const char *)group.text);
+        group.text += group.number[1] - 1;
+    }
+}
+
 /* Shows the matches that an answer holds, and tells whether they ask for help. */
 static bool matches(FILE *out) {
-    const size_t *number = read.numbers;
-    const uint8_t *text = read.bytes;
-    bool help = false;
-    for (int name = 0; name < 2 * GROUPS; name++) {
-        const char *const *group = groups[name / 2];
-        bool is_main = group[name % 2][0] != '\0' && (name % 2 == 1 || group[1][0] == '\0');
-        size_t count = *number++;
-        if (is_main && strcmp(group[name % 2], "help") == 0)
-            help = count > 0;
-        if (is_main && out != NULL)
-            fprintf(out, "%s: %zu", group[name % 2], count);
-        for (; count > 0; count--, number++)
-            if (is_main && out != NULL)
-                fprintf(out, " @%zu", *number);
-        if (is_main && out != NULL)
-            fprintf(out, "\n");
-        for (size_t values = *number++; values > 0; values--) {
-            size_t position = *number++;
-            if (is_main && out != NULL)
-                fprintf(out, "%s @%zu = %.*s\n", group[name % 2], position, (int)*number,
-                    (const char *)text);
-            text += *number++;
-        }
+    static struct start starts[GROUPS];
+    struct start next = { read.numbers + 2 * GROUPS + 1, read.bytes };
+    for (int group = 0; group < GROUPS; group++) {
+        starts[group] = next;
+        next = after_group(next);
     }
-    for (size_t free = *number++; free > 0; free--) {
+    bool help = false;
+    for (int group = 0; group < GROUPS; group++) {
+        int named = groups[group][1][0] != '\0';
+        const char *name = groups[group][named];
+        struct start given = starts[read.numbers[2 * group + named] - 1];
+        if (strcmp(name, "help") == 0)
+            help = *given.number > 0;
         if (out != NULL)
-            fprintf(out, "free: %.*s\n", (int)*number, (const char *)text);
-        text += *number++;
+            occurrences(out, name, given);
+    }
+    for (size_t free = *next.number++; free > 0; free--) {
+        if (out != NULL)
+            fprintf(out, "free: %.*s\n", (int)*next.number, (const char *)next.text);
+        next.text += *next.number++;
     }
     return help;
 }

@@ -137,7 +137,7 @@ if compare fetch "${flags[@]}" >"$room/said" 2>&1; then
     check "the comparer" compare build "${flags[@]}" --release
     check "20,000 random lines" "$room/target/release/compare" 20000 && tail -n 1 "$room/said"
     # A planted difference is told.
-    sed -i 's|Some(given.first_value().unwrap_or(def).to_string())|Some(def.to_string())|' \
+    sed -i 's|Some(value.unwrap_or(def).to_string())|Some(def.to_string())|' \
         "$room/getopts/src/matches.rs"
     check "the comparer with a planted difference" compare build "${flags[@]}" --release
     check "a planted difference is told" bash -c "! '$room/target/release/compare' 2000"

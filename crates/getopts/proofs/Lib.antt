@@ -9,7 +9,7 @@ pub mod KeyLemmas
 pub mod LineLemmas
 pub mod MatchesLemmas
 pub mod NamesLemmas
-pub mod OfGroupLemmas
+pub mod OccurrencesLemmas
 pub mod OnlyLemmas
 pub mod OptionsLemmas
 pub mod PairsLemmas

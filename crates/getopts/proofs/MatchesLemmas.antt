@@ -22,7 +22,7 @@ use Rattle.getopts.specs.Accessors.{AreHeldLawfully, found_in, found_of, place_o
 use Rattle.getopts.specs.Same.{same_known, same_found, same_matched_group}
 use Rattle.getopts.specs.Held.Groups.{HaveLawfulNames}
 use Rattle.getopts.specs.Held.Found.{given_view}
-use Rattle.getopts.specs.Held.OfGroup.{found_part, pair_view}
+use Rattle.getopts.specs.Held.Occurrences.{found_part, pair_view}
 use Rattle.getopts.specs.Held.Accepted.{index_of}
 use Rattle.getopts.specs.declared.line.Given.{Given}
 use Rattle.getopts.proofs.CountLemmas.{groups-given, length-matched}

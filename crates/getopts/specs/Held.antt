@@ -3,5 +3,5 @@ pub mod Groups
 pub mod Options
 pub mod Found
 pub mod Accepted
-pub mod OfGroup
+pub mod Occurrences
 pub mod Matches

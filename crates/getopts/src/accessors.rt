@@ -7,7 +7,7 @@ ghost use Rattle.std.specs.String.{string_bytes};
 ghost use Rattle.getopts.specs.Names.{texts};
 
 use crate::matches::Matches;
-use crate::of_group::OfGroup;
+use crate::occurrences::Occurrences;
 use std::alloc::{AllocError, Global};
 use std::str::FromStr;
 
@@ -22,22 +22,29 @@ fn copied(alloc: Global, text: Option<&str>) -> Result<Option<String>, AllocErro
 }
 
 impl Matches {
-    ghost use Rattle.getopts.specs.Held.OfGroup.{pair_view};
+    ghost use Rattle.getopts.specs.Held.Occurrences.{pair_view};
     ghost use Rattle.getopts.specs.Accessors.{IsDefined, AreDefined, AreHeldLawfully, OneGroupOneAnswer, IsReadAs, IsReadOr, place_of, found_in, found_of, is_present, positions_of, values_of, pairs_of, first_value, first_value_or, first_value_among};
 
-    /// The place of the group that a name resolves to.
-    fn place_of(&self, name: &str) -> Option<usize>
+    /// The place of the option group that a name resolves to, from 0, in the order of declaration.
+    ///
+    /// Names of one group have the same place. The answer is `None` where `opt_defined` is false. The
+    /// Rust has no such call.
+    pub fn opt_place(&self, name: &str) -> Option<usize>
         ensures place { result ≡ place_of self.now.groups name.now }
         ensures lawful { AreHeldLawfully self.now.groups }
     {
         self.table.resolve(self.groups.names(), name)
     }
 
-    /// The occurrences of the group at a place.
-    pub(crate) fn given_at(&self, place: usize) -> OfGroup<'_>
+    /// The occurrences of the option group at a place, in the order of the line, lent and not copied.
+    ///
+    /// `opt_place` answers the place of a name. There are none where the option wasn't given, nor past
+    /// the last group. After `-v -o x` by `optopt("o",..)` and `optflag("v",..)` those at 0 are one of
+    /// position 1 and value `x`. The Rust has no such call.
+    pub fn occurrences_at(&self, place: usize) -> Occurrences<'_>
         ensures { result ≡ found_in self.now.groups (Some place) }
     {
-        OfGroup {
+        Occurrences {
             given: &self.given,
             values: &self.values,
             places: self.index.places(place),
@@ -45,12 +52,12 @@ impl Matches {
     }
 
     /// The occurrences of the group that a name resolves to. Of an undefined name there are none.
-    fn given_of(&self, name: &str) -> OfGroup<'_>
+    fn given_of(&self, name: &str) -> Occurrences<'_>
         ensures { result ≡ found_of self.now.groups name.now }
     {
-        match self.place_of(name) {
-            Some(place) => self.given_at(place),
-            None => OfGroup {
+        match self.opt_place(name) {
+            Some(place) => self.occurrences_at(place),
+            None => Occurrences {
                 given: &[],
                 values: &self.values,
                 places: &[],
@@ -62,7 +69,7 @@ impl Matches {
     fn has(&self, name: &str) -> bool
         ensures { result ≡ is_present self.now.groups name.now }
     {
-        self.given_of(name).len() > 0
+        self.given_of(name).count() > 0
     }
 
     /// Whether a name resolves to a group.
@@ -76,7 +83,7 @@ impl Matches {
         ensures one_group { OneGroupOneAnswer self.now.groups name.now }
         ensures lawful { AreHeldLawfully self.now.groups }
     {
-        self.place_of(name).is_some()
+        self.opt_place(name).is_some()
     }
 
     /// How often an option was given, by any of its names: 0 where it wasn't.
@@ -86,7 +93,7 @@ impl Matches {
         requires { IsDefined self.now.groups name.now }
         ensures { result ≡ length (found_of self.now.groups name.now) }
     {
-        self.given_of(name).len()
+        self.given_of(name).count()
     }
 
     /// Whether an option was given at least once, by any of its names.

@@ -27,7 +27,10 @@ impl Matches {
             return false;
         }
         for place in 0..self.groups.len() {
-            if !self.given_at(place).same(&other.given_at(place)) {
+            if !self
+                .occurrences_at(place)
+                .same(&other.occurrences_at(place))
+            {
                 return false;
             }
         }

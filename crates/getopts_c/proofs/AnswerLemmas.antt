@@ -1,24 +1,31 @@
 -- What an answer is, from what its parts are.
-use Rattle.std.proofs.Common.{◌≡◌, ℕ, List, [], ◌∷◌, ◌++◌, length, get_or, ap, subst, sym, append_assoc, append-nil, ◌∙◌, inl, inr, arith}
-use Rattle.std.specs.List.{flat_map}
+use Rattle.std.proofs.Common.{◌≡◌, ℕ, zero, suc, ◌+◌, List, [], ◌∷◌, ◌++◌, length, map, take, get_or, slice_get, ap, subst, sym, append_assoc, append-nil, ◌∙◌, inl, inr, arith}
+use Rattle.std.proofs.lemmas.Grind.{flat_map-append}
+use Rattle.std.proofs.lemmas.List.{length-map}
+use Rattle.std.specs.List.{flat_map, cons_option}
+use Rattle.std.specs.Option.{option_map}
 use Rattle.std.specs.Prelude.{◌<◌, ◌⊎◌, IfNone, IfSome, ⊤, Result, Ok, Err, IfOk, OnOk, IsOkAnd, Option, Some, None, MatchOption, IsSomeAnd}
 use Rattle.std.specs.Borrow.{Bor}
 use Rattle.getopts.specs.Fail.{Fault, argument_missing, unrecognized_option, option_missing, option_duplicated, unexpected_argument}
 use Rattle.getopts.specs.Names.{texts}
-use Rattle.getopts.specs.Matches.{Matched}
+use Rattle.getopts.specs.Accessors.{found_in, place_of}
+use Rattle.getopts.specs.Held.Occurrences.{held_found}
+use Rattle.getopts.specs.Matches.{Found, Matched, MatchedGroup}
+use Rattle.getopts.proofs.OccurrencesLemmas.{founds-more}
 use Rattle.getopts.specs.Names.{Text}
-use Rattle.getopts.specs.Options.{Declared}
+use Rattle.getopts.specs.Options.{Group, Declared}
+use Rattle.getopts.specs.Told.{AreGroupsOf}
 use Rattle.getopts.specs.Parse.{IsAccepted, IsRefused}
 use Rattle.getopts.specs.CanonAnswers.{IsWritten as IsCanonicalLine, IsUnwritable}
 use Rattle.getopts_c.specs.Request.{concatenated}
 use Rattle.getopts_c.specs.Answer.{HasSize, HasSizes, IsLineOf, written, unwritable, unaccepted, text_numbers}
 use Rattle.getopts.specs.Same.{fault_name}
-use Rattle.getopts_c.specs.Answer.{IsAnswer, accepted, refused, all_names, four_names, fault_status, matches_bytes, matches_numbers}
+use Rattle.getopts_c.specs.Answer.{IsAnswer, accepted, refused, all_names, four_names, fault_status, matches_bytes, matches_numbers, optional_number, place_number}
 
 -- the answer to accepted words
 pub accepted_answer : (options : Declared) (words items : List (Bor Text)) (names : List Text) (matches : Matched) (status : ℕ) (numbers : List ℕ) (bytes : Text)
     → all_names options.groups ≡ names → items ≡ words → IsAccepted options (texts items) matches
-    → (status ≡ 0) × (numbers ≡ matches_numbers names matches) × (bytes ≡ matches_bytes names matches)
+    → (status ≡ 0) × (numbers ≡ matches_numbers names matches) × (bytes ≡ matches_bytes matches)
     → IsAnswer options (texts words) status numbers bytes
 accepted_answer options words items names matches status numbers bytes names_are items_are is are =
     rw (are.0, are.1, are.2, ← names_are, ← items_are) (accepted matches is)
@@ -54,13 +61,62 @@ pub on_ok_so : {T E P Q : Type 0} (answer : Result T E) → OnOk answer P → (P
 on_ok_so (Ok t) is so = so is
 on_ok_so (Err e) is so = tt
 
--- what is added for the first name of four texts and then for the second is added for each name of them
-pub two_added : {A : Type 0} (f : Text → List A) (old mid new : List A) (group : List (Bor Text)) (d : Bor Text) → length group ≡ 4
-    → mid ≡ old ++ f (get_or group 0 d).now → new ≡ mid ++ f (get_or group 1 d).now → new ≡ old ++ flat_map f (four_names (texts group))
-two_added f old mid new [] d is first second = absurd (omega arith)
-two_added f old mid new (a ∷ []) d is first second = absurd (omega arith)
-two_added f old mid new (a ∷ b ∷ group) d is first second =
-    second ∙ ap (λ xs. xs ++ f b.now) first ∙ append_assoc old (f a.now) (f b.now) ∙ ap (λ xs. old ++ (f a.now ++ xs)) (sym (append-nil (f b.now)))
+-- what is added for the places of the first two of four texts is added for the two names
+pub two_added : (groups : List MatchedGroup) (old mid new : List ℕ) (group : List (Bor Text)) (d : Bor Text) (short long : Option ℕ) → length group ≡ 4
+    → short ≡ place_of groups (get_or group 0 d).now → long ≡ place_of groups (get_or group 1 d).now
+    → mid ≡ old ++ optional_number short ∷ [] → new ≡ mid ++ optional_number long ∷ [] → new ≡ old ++ map (place_number groups) (four_names (texts group))
+two_added groups old mid new [] d short long is short_is long_is first second = absurd (omega arith)
+two_added groups old mid new (a ∷ []) d short long is short_is long_is first second = absurd (omega arith)
+two_added groups old mid new (a ∷ b ∷ group) d short long is short_is long_is first second =
+    second ∙ ap (λ xs. xs ++ optional_number long ∷ []) first ∙ append_assoc old (optional_number short ∷ []) (optional_number long ∷ [])
+    ∙ ap (λ place. old ++ optional_number place ∷ optional_number long ∷ []) short_is ∙ ap (λ place. old ++ place_number groups a.now ∷ optional_number place ∷ []) long_is
+
+module _ {A : Type 0} (f : Found → List A) (founds : List Found) (i : ℕ) (next : Option (ℕ × Option (Bor Text))) (is : option_map held_found next ≡ slice_get founds i)
+    (initial old new : List A) (before : old ≡ initial ++ flat_map f (take i founds)) where
+  -- the front with the next occurrence, if there is one
+  front_more : initial ++ flat_map f (take (i + 1) founds) ≡ old ++ flat_map f (cons_option (option_map held_found next) [])
+  front_more =
+      ap (λ front. initial ++ flat_map f front) (founds-more founds i next is)
+      ∙ ap (λ xs. initial ++ xs) (flat_map-append f (take i founds) (cons_option (option_map held_found next) []))
+      ∙ sym (append_assoc initial (flat_map f (take i founds)) (flat_map f (cons_option (option_map held_found next) [])))
+      ∙ ap (λ xs. xs ++ flat_map f (cons_option (option_map held_found next) [])) (sym before)
+
+  -- what was added for a front, and then for the next occurrence, was added for one more
+  pub occurrence_added : (pair : ℕ × Option (Bor Text)) → next ≡ Some pair → new ≡ old ++ f (held_found pair) → new ≡ initial ++ flat_map f (take (i + 1) founds)
+  occurrence_added pair there added =
+      added ∙ ap (λ xs. old ++ xs) (sym (append-nil (f (held_found pair))))
+      ∙ ap (λ o. old ++ flat_map f (cons_option (option_map held_found o) [])) (sym there) ∙ sym front_more
+
+  -- and where there is none, nothing more is
+  pub none_added : next ≡ None → new ≡ old → new ≡ initial ++ flat_map f (take (i + 1) founds)
+  none_added none same =
+      same ∙ sym (append-nil old) ∙ ap (λ o. old ++ flat_map f (cons_option (option_map held_found o) [])) (sym none) ∙ sym front_more
+
+-- one more group of a front, by its occurrences
+group_more : {A : Type 0} (f : List Found → List A) (groups : List MatchedGroup) (i : ℕ) → i < length groups
+    → flat_map (λ (group : MatchedGroup). f group.found) (take (i + 1) groups) ≡ flat_map (λ (group : MatchedGroup). f group.found) (take i groups) ++ f (found_in groups (Some i))
+group_more f [] i within = absurd (omega arith)
+group_more f (group ∷ groups) zero within = append-nil (f group.found)
+group_more f (group ∷ groups) (suc i) within =
+    let later : suc i + 1 ≡ suc (i + 1) = omega arith in
+    ap (λ n. flat_map (λ (group : MatchedGroup). f group.found) (take n (group ∷ groups))) later
+    ∙ ap (λ more. f group.found ++ more) (group_more f groups i (omega arith))
+    ∙ sym (append_assoc (f group.found) (flat_map (λ (group : MatchedGroup). f group.found) (take i groups)) (f (found_in groups (Some i))))
+
+-- what was added for a front, and then for the next group, was added for one group more
+pub more_added : {A : Type 0} (f : List Found → List A) (groups : List MatchedGroup) (i : ℕ) (initial old new : List A) (founds : List Found)
+    → i < length groups → founds ≡ found_in groups (Some i)
+    → old ≡ initial ++ flat_map (λ (group : MatchedGroup). f group.found) (take i groups) → new ≡ old ++ f founds
+    → new ≡ initial ++ flat_map (λ (group : MatchedGroup). f group.found) (take (i + 1) groups)
+more_added f groups i initial old new founds within is before added =
+    let front = flat_map (λ (group : MatchedGroup). f group.found) (take i groups) in
+    added ∙ ap (λ xs. xs ++ f founds) before ∙ append_assoc initial front (f founds)
+    ∙ ap (λ fs. initial ++ (front ++ f fs)) is ∙ ap (λ xs. initial ++ xs) (sym (group_more f groups i within))
+
+-- matches hold as many groups as the options have
+pub as_many_groups : (options : Declared) (groups : List MatchedGroup) → AreGroupsOf options groups → length groups ≡ length options.groups
+as_many_groups options groups are =
+    sym (length-map groups (λ (group : MatchedGroup). group.known)) ∙ ap length are ∙ length-map options.groups (λ (group : Group). group.known)
 
 -- the canonical line of words that have one
 pub written_line : (options : Declared) (words items : List (Bor Text)) (line : List Text)

@@ -1,86 +1,91 @@
 -- An answer says one thing: it can be read back.
-use Rattle.std.proofs.Common.{◌≡◌, ℕ, ◌*◌, List, [], ◌∷◌, ◌++◌, Option, Some, None, length, map, refl, sym, ap, append_assoc, ◌∙◌, arith}
+use Rattle.std.proofs.Common.{◌≡◌, ℕ, List, [], ◌∷◌, ◌++◌, Option, Some, None, length, map, refl, sym, ap, append_assoc, ◌∙◌, arith}
 use Rattle.std.proofs.lemmas.List.{length-map}
-use Rattle.std.specs.List.{AllByRecursion, flat_map}
-use Rattle.std.specs.Prelude.{◌==◌, if◌then◌else◌}
-use Rattle.getopts.specs.Accessors.{found_of, positions_of, pairs_of}
+use Rattle.std.specs.List.{flat_map}
+use Rattle.std.specs.Option.{option_map}
+use Rattle.std.specs.Prelude.{◌==◌, if◌then◌else◌, unwrap_or}
+use Rattle.getopts.specs.Accessors.{place_of}
 use Rattle.getopts.specs.Fail.{Fault, argument_missing, unrecognized_option, option_missing, option_duplicated, unexpected_argument}
 use Rattle.getopts.specs.Matches.{Found, Matched, MatchedGroup}
 use Rattle.getopts.specs.Names.{Text}
-use Rattle.getopts_c.proofs.LawLemmas.{cut_once, same_front}
 use Rattle.getopts.specs.Same.{fault_name}
-use Rattle.getopts_c.specs.Answer.{TellAlike, TellSame, fault_status, found_bytes, found_numbers}
-use Rattle.getopts_c.specs.Answer.{matches_bytes, matches_numbers, name_bytes, name_numbers, pair_numbers, pairs_bytes, pairs_numbers}
-use Rattle.getopts_c.specs.Answer.{text_numbers, trailing_number}
+use Rattle.getopts_c.proofs.LawLemmas.{cut_once, same_front}
+use Rattle.getopts_c.specs.Answer.{TellAlike, fault_status, found_bytes, found_numbers, group_bytes, group_numbers}
+use Rattle.getopts_c.specs.Answer.{matches_bytes, matches_numbers, optional_number, place_number, text_numbers}
 use Rattle.getopts_c.specs.Request.{concatenated}
 
--- numbers with their count before them, and what follows
-counted : (xs ys rest left : List ℕ) → (length xs ∷ xs) ++ rest ≡ (length ys ∷ ys) ++ left → (xs ≡ ys) × (rest ≡ left)
-counted xs ys rest left same =
-    let whole : length xs ∷ (xs ++ rest) ≡ length ys ∷ (ys ++ left) = same in
-    let size : length xs ≡ length ys = cc in
-    let items : xs ++ rest ≡ ys ++ left = cc in
-    same_front xs ys rest left items size
+-- one that may be there, from its number
+optional_back : (one other : Option ℕ) → optional_number one ≡ optional_number other → one ≡ other
+optional_back None None same = refl
+optional_back None (Some other) same = absurd (omega arith)
+optional_back (Some one) None same = absurd (omega arith)
+optional_back (Some one) (Some other) same = ap Some (let e : one ≡ other = omega arith in e)
 
--- a position with a value has two numbers
-length-pairs : (pairs : List (ℕ × Text)) → length (flat_map pair_numbers pairs) ≡ length pairs * 2
-length-pairs [] = refl
-length-pairs (pair ∷ pairs) = let more = length-pairs pairs in omega arith
+-- where names stand, from their numbers
+places_back : (groups others : List MatchedGroup) (names : List Text) → map (place_number groups) names ≡ map (place_number others) names
+    → map (place_of groups) names ≡ map (place_of others) names
+places_back groups others [] same = refl
+places_back groups others (name ∷ names) same =
+    let first : place_number groups name ≡ place_number others name = cc in
+    let more : map (place_number groups) names ≡ map (place_number others) names = cc in
+    ap (λ place. place ∷ map (place_of groups) names) (optional_back (place_of groups name) (place_of others name) first)
+    ∙ ap (λ places. place_of others name ∷ places) (places_back groups others names more)
 
--- the numbers of positions with values, and what follows
-pairs_front : (pairs others : List (ℕ × Text)) (rest left : List ℕ) → pairs_numbers pairs ++ rest ≡ pairs_numbers others ++ left
-    → (flat_map pair_numbers pairs ≡ flat_map pair_numbers others) × (rest ≡ left)
-pairs_front pairs others rest left same =
-    let whole : length pairs ∷ (flat_map pair_numbers pairs ++ rest) ≡ length others ∷ (flat_map pair_numbers others ++ left) = same in
-    let size : length pairs ≡ length others = cc in
-    let items : flat_map pair_numbers pairs ++ rest ≡ flat_map pair_numbers others ++ left = cc in
-    same_front (flat_map pair_numbers pairs) (flat_map pair_numbers others) rest left items
-    (length-pairs pairs ∙ ap (λ n. n * 2) size ∙ sym (length-pairs others))
+-- a value, from its number and its bytes, and the bytes that follow
+value_back : (value other : Option Text) (more after : Text) → optional_number (option_map length value) ≡ optional_number (option_map length other)
+    → unwrap_or value [] ++ more ≡ unwrap_or other [] ++ after → (value ≡ other) × (more ≡ after)
+value_back None None more after size bytes = (refl, bytes)
+value_back None (Some other) more after size bytes = absurd (omega arith)
+value_back (Some value) None more after size bytes = absurd (omega arith)
+value_back (Some value) (Some other) more after size bytes =
+    let lens : length value ≡ length other = omega arith in
+    let both = same_front value other more after bytes lens in
+    (ap Some both.0, both.1)
 
--- positions with values, from their numbers and their bytes, and the bytes that follow
-pairs_back : (pairs others : List (ℕ × Text)) (rest left : Text) → flat_map pair_numbers pairs ≡ flat_map pair_numbers others
-    → pairs_bytes pairs ++ rest ≡ pairs_bytes others ++ left → (pairs ≡ others) × (rest ≡ left)
-pairs_back [] [] rest left numbers bytes = (refl, bytes)
-pairs_back [] (other ∷ others) rest left numbers bytes = absurd cc
-pairs_back (pair ∷ pairs) [] rest left numbers bytes = absurd cc
-pairs_back (pair ∷ pairs) (other ∷ others) rest left numbers bytes =
-    let whole : pair.0 ∷ length pair.1 ∷ flat_map pair_numbers pairs ≡ other.0 ∷ length other.1 ∷ flat_map pair_numbers others = numbers in
-    let position : pair.0 ≡ other.0 = cc in
-    let size : length pair.1 ≡ length other.1 = cc in
-    let more : flat_map pair_numbers pairs ≡ flat_map pair_numbers others = cc in
-    let value = same_front pair.1 other.1 (pairs_bytes pairs ++ rest) (pairs_bytes others ++ left)
-    (sym (append_assoc pair.1 (pairs_bytes pairs) rest) ∙ bytes ∙ append_assoc other.1 (pairs_bytes others) left) size in
-    let follow = pairs_back pairs others rest left more value.1 in
-    (ap (λ p. (p, pair.1) ∷ pairs) position ∙ ap (λ v. (other.0, v) ∷ pairs) value.0 ∙ ap (λ ps. other ∷ ps) follow.0, follow.1)
+-- as many occurrences, from their numbers and their bytes, and what follows them
+founds_back : (founds others : List Found) (rest left : List ℕ) (more after : Text) → length founds ≡ length others
+    → flat_map found_numbers founds ++ rest ≡ flat_map found_numbers others ++ left → flat_map found_bytes founds ++ more ≡ flat_map found_bytes others ++ after
+    → (founds ≡ others) × (rest ≡ left) × (more ≡ after)
+founds_back [] [] rest left more after count numbers bytes = (refl, numbers, bytes)
+founds_back [] (other ∷ others) rest left more after count numbers bytes = absurd (omega arith)
+founds_back (found ∷ founds) [] rest left more after count numbers bytes = absurd (omega arith)
+founds_back (found ∷ founds) (other ∷ others) rest left more after count numbers bytes =
+    let whole : found.position ∷ optional_number (option_map length found.value) ∷ (flat_map found_numbers founds ++ rest)
+    ≡ other.position ∷ optional_number (option_map length other.value) ∷ (flat_map found_numbers others ++ left) = numbers in
+    let position : found.position ≡ other.position = cc in
+    let size : optional_number (option_map length found.value) ≡ optional_number (option_map length other.value) = cc in
+    let behind : flat_map found_numbers founds ++ rest ≡ flat_map found_numbers others ++ left = cc in
+    let value = value_back found.value other.value (flat_map found_bytes founds ++ more) (flat_map found_bytes others ++ after) size
+    (sym (append_assoc (found_bytes found) (flat_map found_bytes founds) more) ∙ bytes ∙ append_assoc (found_bytes other) (flat_map found_bytes others) after) in
+    let follow = founds_back founds others rest left more after (omega arith) behind value.1 in
+    let first : found ≡ other = ap (λ (n : ℕ). record { position = n; value = found.value }) position ∙ ap (λ (v : Option Text). record { position = other.position; value = v }) value.0 in
+    (ap (λ (f : Found). f ∷ founds) first ∙ ap (λ (fs : List Found). other ∷ fs) follow.0, follow.1, follow.2)
 
--- what an option's numbers and bytes tell, and what follows them
-found_back : (founds others : List Found) (rest left : List ℕ) (more after : Text)
-    → found_numbers founds ++ rest ≡ found_numbers others ++ left → found_bytes founds ++ more ≡ found_bytes others ++ after
-    → (positions_of founds ≡ positions_of others) × (pairs_of founds ≡ pairs_of others) × (rest ≡ left) × (more ≡ after)
-found_back founds others rest left more after numbers bytes =
-    let whole = sym (append_assoc (length (positions_of founds) ∷ positions_of founds) (pairs_numbers (pairs_of founds)) rest) ∙ numbers
-    ∙ append_assoc (length (positions_of others) ∷ positions_of others) (pairs_numbers (pairs_of others)) left in
-    let positions = counted (positions_of founds) (positions_of others) (pairs_numbers (pairs_of founds) ++ rest) (pairs_numbers (pairs_of others) ++ left) whole in
-    let front = pairs_front (pairs_of founds) (pairs_of others) rest left positions.1 in
-    let pairs = pairs_back (pairs_of founds) (pairs_of others) more after front.0 bytes in
-    (positions.0, pairs.0, front.1, pairs.1)
-
--- what the numbers and bytes of names tell, and what follows them
-names_back : (groups others : List MatchedGroup) (names : List Text) (rest left : List ℕ) (more after : Text)
-    → flat_map (name_numbers groups) names ++ rest ≡ flat_map (name_numbers others) names ++ left
-    → flat_map (name_bytes groups) names ++ more ≡ flat_map (name_bytes others) names ++ after
-    → AllByRecursion (TellSame groups others) names × (rest ≡ left) × (more ≡ after)
-names_back groups others [] rest left more after numbers bytes = (tt, numbers, bytes)
-names_back groups others (name ∷ names) rest left more after numbers bytes =
-    let first = found_back (found_of groups name) (found_of others name)
-    (flat_map (name_numbers groups) names ++ rest) (flat_map (name_numbers others) names ++ left)
-    (flat_map (name_bytes groups) names ++ more) (flat_map (name_bytes others) names ++ after)
-    (sym (append_assoc (name_numbers groups name) (flat_map (name_numbers groups) names) rest) ∙ numbers
-    ∙ append_assoc (name_numbers others name) (flat_map (name_numbers others) names) left)
-    (sym (append_assoc (name_bytes groups name) (flat_map (name_bytes groups) names) more) ∙ bytes
-    ∙ append_assoc (name_bytes others name) (flat_map (name_bytes others) names) after) in
-    let others_back = names_back groups others names rest left more after first.2 first.3 in
-    ((record { positions = first.0; pairs = first.1 }, others_back.0), others_back.1, others_back.2)
+-- the occurrences of as many groups, from their numbers and their bytes, and what follows them
+groups_back : (groups others : List MatchedGroup) (rest left : List ℕ) (more after : Text) → length groups ≡ length others
+    → flat_map group_numbers groups ++ rest ≡ flat_map group_numbers others ++ left → flat_map group_bytes groups ++ more ≡ flat_map group_bytes others ++ after
+    → (map (λ (group : MatchedGroup). group.found) groups ≡ map (λ (group : MatchedGroup). group.found) others) × (rest ≡ left) × (more ≡ after)
+groups_back [] [] rest left more after count numbers bytes = (refl, numbers, bytes)
+groups_back [] (other ∷ others) rest left more after count numbers bytes = absurd (omega arith)
+groups_back (group ∷ groups) [] rest left more after count numbers bytes = absurd (omega arith)
+groups_back (group ∷ groups) (other ∷ others) rest left more after count numbers bytes =
+    let whole : length group.found ∷ ((flat_map found_numbers group.found ++ flat_map group_numbers groups) ++ rest)
+    ≡ length other.found ∷ ((flat_map found_numbers other.found ++ flat_map group_numbers others) ++ left) = numbers in
+    let size : length group.found ≡ length other.found = cc in
+    let behind : (flat_map found_numbers group.found ++ flat_map group_numbers groups) ++ rest
+    ≡ (flat_map found_numbers other.found ++ flat_map group_numbers others) ++ left = cc in
+    let first = founds_back group.found other.found
+    (flat_map group_numbers groups ++ rest) (flat_map group_numbers others ++ left)
+    (flat_map group_bytes groups ++ more) (flat_map group_bytes others ++ after) size
+    (sym (append_assoc (flat_map found_numbers group.found) (flat_map group_numbers groups) rest) ∙ behind
+    ∙ append_assoc (flat_map found_numbers other.found) (flat_map group_numbers others) left)
+    (sym (append_assoc (group_bytes group) (flat_map group_bytes groups) more) ∙ bytes ∙ append_assoc (group_bytes other) (flat_map group_bytes others) after) in
+    let follow = groups_back groups others rest left more after (omega arith) first.1 first.2 in (
+      ap (λ (fs : List Found). fs ∷ map (λ (group : MatchedGroup). group.found) groups) first.0
+          ∙ ap (λ (lists : List (List Found)). other.found ∷ lists) follow.0,
+      follow.1,
+      follow.2,
+    )
 
 -- texts, from their numbers and their bytes
 pub texts_back : (words others : List Text) → text_numbers words ≡ text_numbers others → concatenated words ≡ concatenated others → words ≡ others
@@ -89,37 +94,43 @@ texts_back words others numbers bytes =
     cut_once (concatenated words) (map length words) words others
     (record { bytes_are = refl; lens_are = refl }) (record { bytes_are = bytes; lens_are = lens })
 
--- the trailing start, from its number
-trailing_back : (start other : Option ℕ) → trailing_number start ≡ trailing_number other → start ≡ other
-trailing_back None None same = refl
-trailing_back None (Some other) same = absurd (omega arith)
-trailing_back (Some start) None same = absurd (omega arith)
-trailing_back (Some start) (Some other) same = ap Some (let e : start ≡ other = omega arith in e)
-
 -- the free words and the trailing start, from their numbers and the words' bytes
 free_back : (matches others : Matched)
-    → text_numbers matches.free ++ trailing_number matches.trailing_start ∷ [] ≡ text_numbers others.free ++ trailing_number others.trailing_start ∷ []
+    → text_numbers matches.free ++ optional_number matches.trailing_start ∷ [] ≡ text_numbers others.free ++ optional_number others.trailing_start ∷ []
     → concatenated matches.free ≡ concatenated others.free
     → (matches.free ≡ others.free) × (matches.trailing_start ≡ others.trailing_start)
 free_back matches others numbers bytes =
-    let whole : length matches.free ∷ (map length matches.free ++ trailing_number matches.trailing_start ∷ [])
-    ≡ length others.free ∷ (map length others.free ++ trailing_number others.trailing_start ∷ []) = numbers in
+    let whole : length matches.free ∷ (map length matches.free ++ optional_number matches.trailing_start ∷ [])
+    ≡ length others.free ∷ (map length others.free ++ optional_number others.trailing_start ∷ []) = numbers in
     let count : length matches.free ≡ length others.free = cc in
-    let rest : map length matches.free ++ trailing_number matches.trailing_start ∷ []
-    ≡ map length others.free ++ trailing_number others.trailing_start ∷ [] = cc in
+    let rest : map length matches.free ++ optional_number matches.trailing_start ∷ []
+    ≡ map length others.free ++ optional_number others.trailing_start ∷ [] = cc in
     let split = same_front (map length matches.free) (map length others.free) _ _ rest
     (length-map matches.free length ∙ count ∙ sym (length-map others.free length)) in
-    let start : trailing_number matches.trailing_start ≡ trailing_number others.trailing_start = let e = split.1 in cc in
-    (texts_back matches.free others.free (let lens = split.0 in cc) bytes, trailing_back matches.trailing_start others.trailing_start start)
+    let start : optional_number matches.trailing_start ≡ optional_number others.trailing_start = let e = split.1 in cc in
+    (texts_back matches.free others.free (let lens = split.0 in cc) bytes, optional_back matches.trailing_start others.trailing_start start)
 
 -- what matches tell, from their numbers and their bytes
 pub matches_back : (names : List Text) (matches others : Matched)
-    → matches_numbers names matches ≡ matches_numbers names others → matches_bytes names matches ≡ matches_bytes names others
+    → matches_numbers names matches ≡ matches_numbers names others → matches_bytes matches ≡ matches_bytes others
     → TellAlike names matches others
 matches_back names matches others numbers bytes =
-    let named = names_back matches.groups others.groups names _ _ (concatenated matches.free) (concatenated others.free) numbers bytes in
-    let free = free_back matches others named.1 named.2 in
-    record { options = named.0; free = free.0; trailing_start = free.1 }
+    let behind : Matched → List ℕ = λ m. (length m.groups ∷ flat_map group_numbers m.groups) ++ (text_numbers m.free ++ optional_number m.trailing_start ∷ []) in
+    let named = same_front (map (place_number matches.groups) names) (map (place_number others.groups) names) (behind matches) (behind others) numbers
+    (length-map names (place_number matches.groups) ∙ sym (length-map names (place_number others.groups))) in
+    let whole : length matches.groups ∷ (flat_map group_numbers matches.groups ++ (text_numbers matches.free ++ optional_number matches.trailing_start ∷ []))
+    ≡ length others.groups ∷ (flat_map group_numbers others.groups ++ (text_numbers others.free ++ optional_number others.trailing_start ∷ [])) = named.1 in
+    let count : length matches.groups ≡ length others.groups = cc in
+    let rest : flat_map group_numbers matches.groups ++ (text_numbers matches.free ++ optional_number matches.trailing_start ∷ [])
+    ≡ flat_map group_numbers others.groups ++ (text_numbers others.free ++ optional_number others.trailing_start ∷ []) = cc in
+    let found = groups_back matches.groups others.groups _ _ (concatenated matches.free) (concatenated others.free) count rest bytes in
+    let free = free_back matches others found.1 found.2 in
+    record {
+      places = places_back matches.groups others.groups names named.0;
+      found = found.0;
+      free = free.0;
+      trailing_start = free.1;
+    }
 
 -- the fault that a status and a name say
 abbrev fault_from : ℕ → Text → Fault

@@ -1,5 +1,6 @@
 -- Texts in fours.
 use Rattle.std.proofs.Common.{◌≡◌, ℕ, zero, suc, ◌*◌, Bool, List, [], ◌∷◌, ◌++◌, length, map, refl, ap, sym, subst, ◌∙◌, arith}
+use Rattle.std.proofs.lemmas.List.{length-map}
 use Rattle.std.specs.Borrow.{Bor}
 use Rattle.std.specs.List.{flat_map}
 use Rattle.std.specs.Simd.{first_chunks}
@@ -36,6 +37,10 @@ names_of_fours (group ∷ groups) = ap (λ rest. group.known.names.short ∷ gro
 -- the names of groups are those of fours that are the groups' texts
 pub names_are : (fours : List (List (Bor Text))) (groups : List Group) → map texts fours ≡ map group_texts groups → all_names groups ≡ flat_map four_names (map texts fours)
 names_are fours groups are = names_of_fours groups ∙ ap (flat_map four_names) (sym are)
+
+-- there are as many fours as groups
+pub as_many : (fours : List (List (Bor Text))) (groups : List Group) → map texts fours ≡ map group_texts groups → length fours ≡ length groups
+as_many fours groups are = sym (length-map fours texts) ∙ ap length are ∙ length-map groups group_texts
 
 -- a request, by its texts in fours
 pub request_is : (bytes : Text) (lens kinds : List ℕ) (stop long_only : Bool) (pieces : List (Bor Text)) (fours : List (List (Bor Text))) (options : Declared)

@@ -1,8 +1,9 @@
 -- The numbers and the bytes that tell what words give.
 use Rattle.std.specs.Prelude.{◌≡◌, ℕ, ◌+◌, Bool, List, [], ◌∷◌, ◌++◌, length, map, take}
-use Rattle.std.specs.Prelude.{Option, Some, None, false}
-use Rattle.std.specs.List.{AllByRecursion, flat_map}
-use Rattle.getopts.specs.Accessors.{found_of, positions_of, pairs_of}
+use Rattle.std.specs.Prelude.{Option, Some, None, false, unwrap_or}
+use Rattle.std.specs.List.{flat_map}
+use Rattle.std.specs.Option.{option_map}
+use Rattle.getopts.specs.Accessors.{place_of}
 use Rattle.getopts.specs.Fail.{Fault, argument_missing, unrecognized_option}
 use Rattle.getopts.specs.Fail.{option_missing, option_duplicated, unexpected_argument}
 use Rattle.getopts.specs.Matches.{Found, Matched, MatchedGroup}
@@ -15,34 +16,30 @@ use Rattle.getopts.specs.Same.{fault_name}
 use Rattle.getopts.specs.Usage.{AreUsageRows, IsUsageText, short_usage_text}
 use Rattle.getopts_c.specs.Request.{concatenated, IsCut, IsRequest}
 
--- a position, and the length of the value there
-abbrev pub pair_numbers : ℕ × Text → List ℕ
-pair_numbers pair = pair.0 ∷ length pair.1 ∷ []
+-- a number for one that may be there: one more than it, or nought
+abbrev pub optional_number : Option ℕ → ℕ
+optional_number None = 0
+optional_number (Some number) = number + 1
 
--- the numbers of positions with values: how many, and of each the position and the value's length
-abbrev pub pairs_numbers : List (ℕ × Text) → List ℕ
-pairs_numbers pairs = length pairs ∷ flat_map pair_numbers pairs
+-- the numbers of an occurrence: its position, and a number for its value's length
+abbrev pub found_numbers : Found → List ℕ
+found_numbers found = found.position ∷ optional_number (option_map length found.value) ∷ []
 
--- the bytes of positions with values: the values
-abbrev pub pairs_bytes : List (ℕ × Text) → Text
-pairs_bytes pairs = flat_map (λ pair. pair.1) pairs
+-- the bytes of an occurrence: its value, if it has one
+abbrev pub found_bytes : Found → Text
+found_bytes found = unwrap_or found.value []
 
--- the numbers of occurrences: how many, their positions, and the numbers of those that have a value
-abbrev pub found_numbers : List Found → List ℕ
-found_numbers founds = (length (positions_of founds) ∷ positions_of founds)
-    ++ pairs_numbers (pairs_of founds)
+-- the numbers of a group: how many occurrences it has, and those of each
+abbrev pub group_numbers : MatchedGroup → List ℕ
+group_numbers group = length group.found ∷ flat_map found_numbers group.found
 
--- the bytes of occurrences: their values
-abbrev pub found_bytes : List Found → Text
-found_bytes founds = pairs_bytes (pairs_of founds)
+-- the bytes of a group: those of its occurrences
+abbrev pub group_bytes : MatchedGroup → Text
+group_bytes group = flat_map found_bytes group.found
 
--- the numbers of the option that a name resolves to
-abbrev pub name_numbers : List MatchedGroup → Text → List ℕ
-name_numbers groups name = found_numbers (found_of groups name)
-
--- the bytes of the option that a name resolves to
-abbrev pub name_bytes : List MatchedGroup → Text → Text
-name_bytes groups name = found_bytes (found_of groups name)
+-- a number for the place of the group that a name resolves to
+abbrev pub place_number : List MatchedGroup → Text → ℕ
+place_number groups name = optional_number (place_of groups name)
 
 -- the two names of each group
 abbrev pub group_names : Group → List Text
@@ -58,24 +55,20 @@ four_names [] = []
 four_names (short ∷ []) = []
 four_names (short ∷ long ∷ more) = short ∷ long ∷ []
 
--- a number for where the words after the stop begin
-abbrev pub trailing_number : Option ℕ → ℕ
-trailing_number None = 0
-trailing_number (Some start) = start + 1
-
 -- the numbers of texts: how many, and the length of each
 abbrev pub text_numbers : List Text → List ℕ
 text_numbers words = length words ∷ map length words
 
--- the numbers of matches, by these names
+-- The numbers of matches, by these names: where each name stands, how many groups there are and the
+-- numbers of each, those of the free words, and a number for the trailing start.
 abbrev pub matches_numbers : List Text → Matched → List ℕ
-matches_numbers names matches = flat_map (name_numbers matches.groups) names
-    ++ (text_numbers matches.free ++ trailing_number matches.trailing_start ∷ [])
+matches_numbers names matches = map (place_number matches.groups) names
+    ++ ((length matches.groups ∷ flat_map group_numbers matches.groups)
+    ++ (text_numbers matches.free ++ optional_number matches.trailing_start ∷ []))
 
--- the bytes of matches, by these names
-abbrev pub matches_bytes : List Text → Matched → Text
-matches_bytes names matches =
-    flat_map (name_bytes matches.groups) names ++ concatenated matches.free
+-- the bytes of matches: those of the groups, and the free words
+abbrev pub matches_bytes : Matched → Text
+matches_bytes matches = flat_map group_bytes matches.groups ++ concatenated matches.free
 
 -- the status of a fault
 abbrev pub fault_status : Fault → ℕ
@@ -90,7 +83,7 @@ fault_status (unexpected_argument name) = 5
 pub data IsAnswer (options : Declared) (line : List Text) : ℕ → List ℕ → Text → Type 0 where
   accepted : (matches : Matched) → IsAccepted options line matches
       → IsAnswer options line 0 (matches_numbers (all_names options.groups) matches)
-      (matches_bytes (all_names options.groups) matches)
+      (matches_bytes matches)
   refused : (fault : Fault) → IsRefused options line fault
       → IsAnswer options line (fault_status fault)
       (length (fault_name fault) ∷ []) (fault_name fault)
@@ -163,14 +156,10 @@ HasSizes Answers numbers_size bytes_size =
 abbrev pub HasSize : (Text → Type 0) → ℕ → Type 0
 HasSize IsSuchText size = (text : Text) × IsSuchText text × (size ≡ length text)
 
--- two matches tell the same of an option: its positions, and its positions with values
-pub record TellSame (groups others : List MatchedGroup) (name : Text) : Type 0 where
-  pub positions : positions_of (found_of groups name) ≡ positions_of (found_of others name)
-  pub pairs : pairs_of (found_of groups name) ≡ pairs_of (found_of others name)
-
--- Two matches tell the same of the option of each name, and have the same free words and the same
--- trailing start.
+-- Two matches tell the same: each of these names resolves alike, the groups have the same
+-- occurrences, and the free words and the trailing start are the same.
 pub record TellAlike (names : List Text) (matches others : Matched) : Type 0 where
-  pub options : AllByRecursion (TellSame matches.groups others.groups) names
+  pub places : map (place_of matches.groups) names ≡ map (place_of others.groups) names
+  pub found : map (λ group. group.found) matches.groups ≡ map (λ group. group.found) others.groups
   pub free : matches.free ≡ others.free
   pub trailing_start : matches.trailing_start ≡ others.trailing_start

@@ -7,17 +7,18 @@ ghost use Rattle.std.specs.Str.{IsUtf8};
 ghost use Rattle.std.specs.String.{string_bytes};
 ghost use Rattle.getopts.specs.Names.{texts};
 ghost use Rattle.getopts.specs.Fail.{fault_of};
-ghost use Rattle.getopts.specs.Held.OfGroup.{pair_view};
+ghost use Rattle.getopts.specs.Held.Occurrences.{held_found};
 ghost use Rattle.getopts_c.specs.Request.{SayOptions, SayTexts, concatenated};
 ghost use Rattle.getopts_c.specs.Answer.{IsAnswer, IsAnswered, IsCanonicalOf, IsLineOf, FillsFront};
 ghost use Rattle.getopts_c.specs.Answer.{IsRowsOf, IsShortUsageOf, IsUsageOf};
 ghost use Rattle.getopts.specs.Same.{fault_name};
 ghost use Rattle.getopts_c.specs.Answer.{all_names, fault_status, four_names};
-ghost use Rattle.getopts_c.specs.Answer.{matches_bytes, matches_numbers, name_bytes, name_numbers};
-ghost use Rattle.getopts_c.specs.Answer.{pairs_bytes, pairs_numbers, text_numbers, trailing_number};
+ghost use Rattle.getopts_c.specs.Answer.{found_bytes, found_numbers, group_bytes, group_numbers};
+ghost use Rattle.getopts_c.specs.Answer.{matches_bytes, matches_numbers, optional_number};
+ghost use Rattle.getopts_c.specs.Answer.{place_number, text_numbers};
 
 use crate::request::{Refusal, Request, Words, cut, in_fours, text_of};
-use getopts::{Fail, Matches, Options};
+use getopts::{Fail, Matches, Occurrences, Options};
 use std::alloc::{AllocError, Global};
 
 /// How much an answer takes.
@@ -49,7 +50,7 @@ pub(crate) struct Answer {
 }
 
 impl Body {
-    /// Nothing yet.
+    /// Nothing.
     fn new(alloc: Global) -> Body
         ensures numbers { result.numbers.items ≡ [] }
         ensures bytes { string_bytes result.bytes ≡ [] }
@@ -58,6 +59,17 @@ impl Body {
             numbers: Vec::new(alloc),
             bytes: String::new(alloc),
         }
+    }
+
+    /// Nothing yet, with room for so many numbers and bytes.
+    fn with_capacity(alloc: Global, numbers: usize, bytes: usize) -> Result<Body, AllocError>
+        ensures numbers { IfOk result (λ body. body.numbers.items ≡ []) }
+        ensures bytes { IfOk result (λ body. string_bytes body.bytes ≡ []) }
+    {
+        Ok(Body {
+            numbers: Vec::with_capacity(alloc, numbers)?,
+            bytes: String::with_capacity(alloc, bytes)?,
+        })
     }
 
     /// Adds a text, and its length.
@@ -85,107 +97,16 @@ impl Body {
         Ok(())
     }
 
-    /// Adds positions: how many they are, and each.
-    fn push_positions(&mut self, positions: &[usize]) -> Result<(), AllocError>
+    /// Adds a number for one that may be there: one more than it, or nought.
+    fn push_optional(&mut self, number: Option<usize>) -> Result<(), AllocError>
         ensures numbers { OnOk result (self.new.numbers.items
-            ≡ self.old.numbers.items ++ length positions.now ∷ positions.now) }
+            ≡ self.old.numbers.items ++ optional_number number ∷ []) }
         ensures bytes { OnOk result (string_bytes self.new.bytes
             ≡ string_bytes self.old.bytes) }
     {
-        self.numbers.push(positions.len())?;
-        self.numbers.extend_from_slice(positions)
-    }
-
-    /// Adds positions with values: how many they are, and each.
-    fn push_pairs(&mut self, pairs: &[(usize, String)]) -> Result<(), AllocError>
-        ensures numbers { OnOk result (self.new.numbers.items
-            ≡ self.old.numbers.items ++ pairs_numbers (map pair_view pairs.now)) }
-        ensures bytes { OnOk result (string_bytes self.new.bytes
-            ≡ string_bytes self.old.bytes ++ pairs_bytes (map pair_view pairs.now)) }
-    {
-        self.numbers.push(pairs.len())?;
-        for pair in pairs {
-            self.numbers.push(pair.0)?;
-            self.push_text(pair.1.as_str())?;
-        }
-        Ok(())
-    }
-
-    /// Adds the occurrences of the option that a name resolves to: their positions, and the
-    /// position and the value of each that has one. Of a name that doesn't resolve there are none.
-    fn push_option(
-        &mut self,
-        alloc: Global,
-        matches: &Matches,
-        name: &str,
-    ) -> Result<(), AllocError>
-        ensures numbers { OnOk result (self.new.numbers.items
-            ≡ self.old.numbers.items ++ name_numbers matches.now.groups name.now) }
-        ensures bytes { OnOk result (string_bytes self.new.bytes
-            ≡ string_bytes self.old.bytes ++ name_bytes matches.now.groups name.now) }
-    {
-        if matches.opt_defined(name) {
-            let positions = matches.opt_positions(alloc, name)?;
-            self.push_positions(&positions)?;
-            let pairs = matches.opt_strs_pos(alloc, name)?;
-            self.push_pairs(&pairs)
-        } else {
-            self.push_positions(&[])?;
-            self.push_pairs(&[])
-        }
-    }
-
-    /// Adds the occurrences of the options that the names of this group resolve to, the first two
-    /// of its four texts.
-    fn push_names(
-        &mut self,
-        alloc: Global,
-        matches: &Matches,
-        group: &[&str; 4],
-    ) -> Result<(), AllocError>
-        ensures numbers { OnOk result (self.new.numbers.items
-            ≡ self.old.numbers.items ++ flat_map (name_numbers matches.now.groups)
-            (four_names (texts group.now))) }
-        ensures bytes { OnOk result (string_bytes self.new.bytes
-            ≡ string_bytes self.old.bytes ++ flat_map (name_bytes matches.now.groups)
-            (four_names (texts group.now))) }
-    {
-        let [short, long, _, _] = group;
-        self.push_option(alloc, matches, short)?;
-        self.push_option(alloc, matches, long)
-    }
-
-    /// Adds the occurrences of the options that the names of these groups resolve to, the first two
-    /// of each four texts.
-    fn push_options(
-        &mut self,
-        alloc: Global,
-        matches: &Matches,
-        groups: &[[&str; 4]],
-    ) -> Result<(), AllocError>
-        ensures numbers { OnOk result (self.new.numbers.items
-            ≡ self.old.numbers.items ++ flat_map (name_numbers matches.now.groups)
-            (flat_map four_names (map texts groups.now))) }
-        ensures bytes { OnOk result (string_bytes self.new.bytes
-            ≡ string_bytes self.old.bytes ++ flat_map (name_bytes matches.now.groups)
-            (flat_map four_names (map texts groups.now))) }
-    {
-        for group in groups {
-            self.push_names(alloc, matches, group)?;
-        }
-        Ok(())
-    }
-
-    /// Adds where the words after the stop begin, counted from one, or nought.
-    fn push_trailing(&mut self, start: Option<usize>) -> Result<(), AllocError>
-        ensures numbers { OnOk result (self.new.numbers.items
-            ≡ self.old.numbers.items ++ trailing_number start ∷ []) }
-        ensures bytes { OnOk result (string_bytes self.new.bytes
-            ≡ string_bytes self.old.bytes) }
-    {
-        let number = match start {
-            Some(start) => {
-                let Some(number) = start.checked_add(1) else {
+        let number = match number {
+            Some(number) => {
+                let Some(number) = number.checked_add(1) else {
                     return Err(AllocError);
                 };
                 number
@@ -193,6 +114,81 @@ impl Body {
             None => 0,
         };
         Ok(self.numbers.push(number)?)
+    }
+
+    /// Adds where the names of a group stand, the first two of its four texts.
+    fn push_places(&mut self, matches: &Matches, group: &[&str; 4]) -> Result<(), AllocError>
+        ensures numbers { OnOk result (self.new.numbers.items
+            ≡ self.old.numbers.items ++ map (place_number matches.now.groups)
+            (four_names (texts group.now))) }
+        ensures bytes { OnOk result (string_bytes self.new.bytes
+            ≡ string_bytes self.old.bytes) }
+    {
+        let [short, long, _, _] = group;
+        self.push_optional(matches.opt_place(short))?;
+        self.push_optional(matches.opt_place(long))
+    }
+
+    /// Adds where the names of these groups stand.
+    fn push_all_places(&mut self, matches: &Matches, groups: &[[&str; 4]]) -> Result<(), AllocError>
+        ensures numbers { OnOk result (self.new.numbers.items
+            ≡ self.old.numbers.items ++ map (place_number matches.now.groups)
+            (flat_map four_names (map texts groups.now))) }
+        ensures bytes { OnOk result (string_bytes self.new.bytes
+            ≡ string_bytes self.old.bytes) }
+    {
+        for group in groups {
+            self.push_places(matches, group)?;
+        }
+        Ok(())
+    }
+
+    /// Adds an occurrence: its position, and a number for its value's length.
+    fn push_occurrence(&mut self, position: usize, value: Option<&str>) -> Result<(), AllocError>
+        ensures numbers { OnOk result (self.new.numbers.items
+            ≡ self.old.numbers.items ++ found_numbers (held_found (position, value.entry))) }
+        ensures bytes { OnOk result (string_bytes self.new.bytes
+            ≡ string_bytes self.old.bytes ++ found_bytes (held_found (position, value.entry))) }
+    {
+        self.numbers.push(position)?;
+        match value {
+            Some(value) => {
+                self.push_optional(Some(value.len()))?;
+                self.bytes.push_str(value)
+            }
+            None => self.push_optional(None),
+        }
+    }
+
+    /// Adds occurrences: how many they are, and each.
+    fn push_occurrences(&mut self, occurrences: &Occurrences<'_>) -> Result<(), AllocError>
+        ensures numbers { OnOk result (self.new.numbers.items ≡ self.old.numbers.items
+            ++ length occurrences.now ∷ flat_map found_numbers occurrences.now) }
+        ensures bytes { OnOk result (string_bytes self.new.bytes
+            ≡ string_bytes self.old.bytes ++ flat_map found_bytes occurrences.now) }
+    {
+        self.numbers.push(occurrences.count())?;
+        for nth in 0..occurrences.count() {
+            if let Some((position, value)) = occurrences.get(nth) {
+                self.push_occurrence(position, value)?;
+            }
+        }
+        Ok(())
+    }
+
+    /// Adds what the groups of matches have, so many: how many they are, and the occurrences of each.
+    fn push_groups(&mut self, matches: &Matches, count: usize) -> Result<(), AllocError>
+        requires { count ≡ length matches.now.groups }
+        ensures numbers { OnOk result (self.new.numbers.items ≡ self.old.numbers.items
+            ++ length matches.now.groups ∷ flat_map group_numbers matches.now.groups) }
+        ensures bytes { OnOk result (string_bytes self.new.bytes
+            ≡ string_bytes self.old.bytes ++ flat_map group_bytes matches.now.groups) }
+    {
+        self.numbers.push(count)?;
+        for place in 0..count {
+            self.push_occurrences(&matches.occurrences_at(place))?;
+        }
+        Ok(())
     }
 }
 
@@ -256,39 +252,49 @@ fn refused(alloc: Global, fail: &Fail) -> Result<Answer, AllocError>
         Fail::UnexpectedArgument(name) => (5, name),
         Fail::OutOfMemory => return Err(AllocError),
     };
-    let mut body = Body::new(alloc);
+    let mut body = Body::with_capacity(alloc, 1, name.len())?;
     body.push_text(name.as_str())?;
     Ok(Answer { status, body })
 }
 
-/// The answer that tells matches, by the names of these groups.
-fn accepted(alloc: Global, matches: &Matches, groups: &[[&str; 4]]) -> Result<Answer, AllocError>
+/// The answer that tells matches, by the names of these groups, which are theirs, with room for so many
+/// bytes and for the numbers of most lines.
+fn accepted(
+    alloc: Global,
+    matches: &Matches,
+    groups: &[[&str; 4]],
+    bytes: usize,
+) -> Result<Answer, AllocError>
+    requires { length groups.now ≡ length matches.now.groups }
     ensures { IfOk result (λ answer. (answer.status ≡ 0)
         × (answer.body.numbers.items
         ≡ matches_numbers (flat_map four_names (map texts groups.now)) matches.now)
-        × (string_bytes answer.body.bytes
-        ≡ matches_bytes (flat_map four_names (map texts groups.now)) matches.now)) }
+        × (string_bytes answer.body.bytes ≡ matches_bytes matches.now)) }
 {
-    let mut body = Body::new(alloc);
-    body.push_options(alloc, matches, groups)?;
+    let numbers = groups.len().saturating_mul(4).saturating_add(16);
+    let mut body = Body::with_capacity(alloc, numbers, bytes)?;
+    body.push_all_places(matches, groups)?;
+    body.push_groups(matches, groups.len())?;
     body.push_texts(&matches.free)?;
-    body.push_trailing(matches.free_trailing_start())?;
+    body.push_optional(matches.free_trailing_start())?;
     Ok(Answer { status: 0, body })
 }
 
-/// The answer to a line by options, which are those of these groups.
+/// The answer to a line by options, which are those of these groups, where the words have so many bytes.
 fn answer_by(
     alloc: Global,
     options: &Options,
     groups: &[[&str; 4]],
     words: &[&str],
+    bytes: usize,
 ) -> Result<Answer, AllocError>
-    requires { all_names options.now.groups ≡ flat_map four_names (map texts groups.now) }
+    requires names { all_names options.now.groups ≡ flat_map four_names (map texts groups.now) }
+    requires count { length groups.now ≡ length options.now.groups }
     ensures { IfOk result (λ answer. IsAnswer options.now (texts words.now)
         answer.status answer.body.numbers.items (string_bytes answer.body.bytes)) }
 {
     match options.parse(alloc, words.iter().copied()) {
-        Ok(matches) => accepted(alloc, &matches, groups),
+        Ok(matches) => accepted(alloc, &matches, groups, bytes),
         Err(fail) => refused(alloc, &fail),
     }
 }
@@ -316,8 +322,9 @@ pub(crate) fn answer_to(
     let pieces = request.texts(alloc)?;
     let groups = in_fours(&pieces)?;
     let options = request.options_by(alloc, groups)?;
+    let bytes = words.bytes.len();
     let words = cut(alloc, words.bytes, words.lens)?;
-    Ok(answer_by(alloc, &options, groups, &words)?)
+    Ok(answer_by(alloc, &options, groups, &words, bytes)?)
 }
 
 /// The answer that is a text.
@@ -387,7 +394,7 @@ fn of_texts(alloc: Global, words: &[String]) -> Result<Answer, AllocError>
     ensures bytes { IfOk result (λ answer.
         string_bytes answer.body.bytes ≡ concatenated (map string_bytes words.now)) }
 {
-    let mut body = Body::new(alloc);
+    let mut body = Body::with_capacity(alloc, words.len().saturating_add(1), 0)?;
     body.push_texts(words)?;
     Ok(Answer { status: 0, body })
 }

@@ -242,12 +242,12 @@ pub fn requests_say_one_thing()
 
 /// Numbers and bytes tell one thing at most: a law to cite, which does nothing.
 ///
-/// By the same names they tell the same positions, values, free words and trailing start. A status
+/// By the same names they tell the same places, occurrences, free words and trailing start. A status
 /// and a name tell one fault. Texts are those of their numbers and bytes, and have numbers always.
 pub fn answers_say_one_thing()
     ensures matches { (names : List Text) (matches others : Matched)
         → matches_numbers names matches ≡ matches_numbers names others
-        → matches_bytes names matches ≡ matches_bytes names others
+        → matches_bytes matches ≡ matches_bytes others
         → TellAlike names matches others }
     ensures fault { (fault other : Fault) → fault_status fault ≡ fault_status other
         → fault_name fault ≡ fault_name other → fault ≡ other }

@@ -57,7 +57,7 @@ fn status_of(alloc: Global, kind: u8, words: &[u8], lens: &[usize]) -> u32 {
 
 #[test]
 fn accepted_words_are_told(rt: HostRuntime) {
-    let mut numbers = [9; 14];
+    let mut numbers = [9; 10];
     let mut bytes = [b'.'; 8];
     let (status, sizes) = parsed(
         rt.alloc(),
@@ -68,9 +68,9 @@ fn accepted_words_are_told(rt: HostRuntime) {
         &mut bytes,
     );
     assert_eq!(rt; status, 0);
-    assert_eq!(rt; sizes.numbers, 13);
-    assert_eq!(rt; numbers, [1, 0, 1, 0, 2, 1, 0, 1, 0, 2, 1, 1, 0, 9]);
-    assert_eq!(rt; bytes.as_slice(), b"ababx...".as_slice());
+    assert_eq!(rt; sizes.numbers, 9);
+    assert_eq!(rt; numbers, [1, 1, 1, 1, 0, 3, 1, 1, 0, 9]);
+    assert_eq!(rt; bytes.as_slice(), b"abx.....".as_slice());
 }
 
 #[test]

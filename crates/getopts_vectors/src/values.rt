@@ -1,6 +1,6 @@
 //! Values read as a type, and values where the first occurrence has none.
 
-use crate::fixtures::Adding::{Opt, Optflag, Optflagopt};
+use crate::fixtures::Adding::{Opt, Optflag, Optflagmulti, Optflagopt, Optopt};
 use crate::fixtures::Answer::{Count, Default, FirstStr, Str, Strs, StrsPos};
 use crate::fixtures::Meaning::Accepted;
 use crate::fixtures::{Group, Table, accepted, declared, expect_lines, need_defined};
@@ -28,6 +28,26 @@ fn later_value_does_not_stand_for_the_first(rt: HostRuntime) -> Result<(), Fail>
         )],
     )];
     expect_lines(&rt, rt.alloc(), TABLES)?;
+    Ok(())
+}
+
+#[test]
+fn occurrences_are_lent(rt: HostRuntime) -> Result<(), Fail> {
+    let alloc = rt.alloc();
+    let groups = &[(Optopt, "o", "output"), (Optflagmulti, "v", "")];
+    let options = declared(&rt, alloc, groups)?;
+    let matches = accepted(&rt, alloc, &options, &["-v", "-o", "x", "-vv"]);
+    assert_eq!(rt; matches.opt_place("output"), Some(0));
+    assert_eq!(rt; matches.opt_place("v"), Some(1));
+    assert_eq!(rt; matches.opt_place("w"), None);
+    let outputs = matches.occurrences_at(0);
+    assert_eq!(rt; outputs.count(), 1);
+    assert_eq!(rt; outputs.get(0), Some((1, Some("x"))));
+    assert_eq!(rt; outputs.get(1), None);
+    let verbose = matches.occurrences_at(1);
+    assert_eq!(rt; verbose.count(), 3);
+    assert_eq!(rt; verbose.get(2), Some((3, None)));
+    assert_eq!(rt; matches.occurrences_at(2).count(), 0);
     Ok(())
 }
 

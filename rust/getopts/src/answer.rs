@@ -18,14 +18,22 @@ pub struct Answer {
     pub text: String,
 }
 
+/// So many zeros. A small block that was let go before is taken again, which `vec!` doesn't do: it asks
+/// for a block of zeros.
+fn filled<N: Clone + Default>(count: usize) -> Vec<N> {
+    let mut numbers = Vec::with_capacity(count);
+    numbers.resize(count, N::default());
+    numbers
+}
+
 impl Answer {
     /// What the archive answers, asked with a guessed room, and again with the room that it told
     /// where that was too small.
     pub fn of(numbers: usize, bytes: usize, mut ask: impl FnMut(Room<'_>) -> u32) -> Answer {
         let mut sizes = Sizes { numbers, bytes };
         loop {
-            let mut numbers = vec![0; sizes.numbers];
-            let mut bytes = vec![0; sizes.bytes];
+            let mut numbers = filled(sizes.numbers);
+            let mut bytes = filled(sizes.bytes);
             let status = ask(Room {
                 numbers: &mut numbers,
                 bytes: &mut bytes,

@@ -7,13 +7,14 @@ use std::result::Result;
 use std::str::FromStr;
 use std::sync::Arc;
 
-/// Where the answer for a name begins: its first number and its first byte.
+/// Where the occurrences of a group begin: their first number and their first byte.
 type Start = (usize, usize);
 
 /// What an accepted line gave: the options by name, and the words that are no option.
 #[derive(Clone, Debug, PartialEq, Eq)]
 pub struct Matches {
     names: Arc<Names>,
+    /// Where each name stands, one more than the place of its group, and then the groups.
     numbers: Vec<usize>,
     text: String,
     starts: Vec<Start>,
@@ -22,44 +23,51 @@ pub struct Matches {
     trailing: Option<usize>,
 }
 
-/// The occurrences of one option: their positions, and its values, each after a position and a length.
+/// The occurrences of one option: the position of each and its value's length and one more, or nought,
+/// and the values.
 #[derive(Clone, Copy)]
 struct Given<'m> {
-    positions: &'m [usize],
-    pairs: &'m [usize],
+    numbers: &'m [usize],
     text: &'m str,
 }
 
 impl<'m> Given<'m> {
     fn read(reader: &mut Reader<'m>) -> Given<'m> {
         let count = reader.number();
-        let positions = reader.numbers(count);
-        let count = reader.number();
-        let pairs = reader.numbers(2 * count);
-        let len = pairs.chunks(2).map(|pair| pair[1]).sum();
+        let numbers = reader.numbers(2 * count);
+        let len = numbers.chunks_exact(2).map(|pair| pair[1].saturating_sub(1)).sum();
         let text = reader.bytes(len);
-        Given {
-            positions,
-            pairs,
-            text,
-        }
+        Given { numbers, text }
     }
 
-    /// The positions and values of the occurrences that have one.
-    fn values(self) -> impl Iterator<Item = (usize, &'m str)> {
+    fn count(self) -> usize {
+        self.numbers.len() / 2
+    }
+
+    fn positions(self) -> impl Iterator<Item = usize> + 'm {
+        self.numbers.chunks_exact(2).map(|pair| pair[0])
+    }
+
+    /// The position and the value, if there is one, of each occurrence.
+    fn iter(self) -> impl Iterator<Item = (usize, Option<&'m str>)> {
         let mut rest = self.text;
-        self.pairs.chunks(2).map(move |pair| {
-            let (value, after) = rest.split_at(pair[1]);
-            rest = after;
+        self.numbers.chunks_exact(2).map(move |pair| {
+            let value = pair[1].checked_sub(1).map(|len| {
+                let (value, after) = rest.split_at(len);
+                rest = after;
+                value
+            });
             (pair[0], value)
         })
     }
 
-    /// The first occurrence's value. One word holds at most one occurrence of an option that takes a
-    /// value, so the first value is that of the first occurrence where their positions are the same.
+    /// The positions and values of the occurrences that have one.
+    fn values(self) -> impl Iterator<Item = (usize, &'m str)> {
+        self.iter().filter_map(|(position, value)| Some((position, value?)))
+    }
+
     fn first_value(self) -> Option<&'m str> {
-        let (position, value) = self.values().next()?;
-        (self.positions.first() == Some(&position)).then_some(value)
+        self.iter().next()?.1
     }
 }
 
@@ -72,8 +80,9 @@ impl Matches {
             let (numbers, bytes) = reader.left();
             (all_numbers - numbers, all_bytes - bytes)
         };
-        let mut starts = Vec::with_capacity(names.names.lens.len());
-        for _ in &names.names.lens {
+        reader.numbers(2 * names.kinds.len());
+        let mut starts = Vec::with_capacity(names.kinds.len());
+        for _ in 0..reader.number() {
             starts.push(start(&reader));
             Given::read(&mut reader);
         }
@@ -93,8 +102,10 @@ impl Matches {
     }
 
     fn find(&self, name: &str) -> Option<Given<'_>> {
-        let place = self.names.names.iter().position(|n| !n.is_empty() && n == name)?;
-        let (number, byte) = self.starts[place];
+        let at = self.names.texts.iter().position(|n| !n.is_empty() && n == name)?;
+        // Of the four texts of a group the first two are its names.
+        let group = self.numbers[at / 4 * 2 + at % 4].checked_sub(1)?;
+        let (number, byte) = self.starts[group];
         let mut reader = Reader::new(&self.numbers[number..], &self.text[byte..]);
         Some(Given::read(&mut reader))
     }
@@ -122,7 +133,7 @@ impl Matches {
 
     /// How often an option was given, by any of its names.
     pub fn opt_count(&self, name: &str) -> usize {
-        self.given(name).positions.len()
+        self.given(name).count()
     }
 
     /// The positions of an option's occurrences: indexes of words, a separate argument counted.
@@ -134,12 +145,12 @@ impl Matches {
     /// assert_eq!(matches.opt_positions("v"), [0, 3, 3]);
     /// ```
     pub fn opt_positions(&self, name: &str) -> Vec<usize> {
-        self.given(name).positions.to_vec()
+        self.given(name).positions().collect()
     }
 
     /// Whether the option of some name in the list was given. A name that no option has doesn't count.
     pub fn opts_present(&self, names: &[String]) -> bool {
-        let given = |given: Given<'_>| !given.positions.is_empty();
+        let given = |given: Given<'_>| given.count() > 0;
         names.iter().any(|name| self.find(name).is_some_and(given))
     }
 
@@ -197,9 +208,8 @@ impl Matches {
     /// The value of an option's first occurrence, or `def` where that has none. `None` where the
     /// option wasn't given.
     pub fn opt_default(&self, name: &str, def: &str) -> Option<String> {
-        let given = self.given(name);
-        given.positions.first()?;
-        Some(given.first_value().unwrap_or(def).to_string())
+        let (_, value) = self.given(name).iter().next()?;
+        Some(value.unwrap_or(def).to_string())
     }
 
     /// The value of an option's first occurrence, read as a `T`.

@@ -39,11 +39,14 @@ pub enum Occur {
     Multi,
 }
 
-/// The names and kinds of options, which matches share: the short and the long name of each.
+/// The names and kinds of options, which matches share. The texts of each are its short name, its long
+/// name, and two empty ones: a line is read without hints and descriptions.
 #[derive(Clone, Debug, Default, PartialEq, Eq)]
 pub struct Names {
-    pub names: Texts,
+    pub texts: Texts,
     pub kinds: Vec<u8>,
+    /// Whether some option has two empty names.
+    pub nameless: bool,
 }
 
 /// Options that a program declares, a parsing style and a mode.
@@ -115,9 +118,11 @@ impl Options {
              character, or an empty string for none"
         );
         let names = Arc::make_mut(&mut self.names);
-        names.names.push(short_name);
-        names.names.push(long_name);
+        for text in [short_name, long_name, "", ""] {
+            names.texts.push(text);
+        }
         names.kinds.push(3 * hasarg as u8 + occur as u8);
+        names.nameless |= short_name.is_empty() && long_name.is_empty();
         for text in [short_name, long_name, hint, desc] {
             self.texts.push(text);
         }
@@ -214,10 +219,10 @@ impl Options {
         self.opt(short_name, long_name, desc, hint, HasArg::Yes, Occur::Req)
     }
 
-    fn request(&self) -> Request<'_> {
+    fn request<'r>(&'r self, texts: &'r Texts) -> Request<'r> {
         Request {
-            texts: &self.texts.text,
-            lens: &self.texts.lens,
+            texts: &texts.text,
+            lens: &texts.lens,
             kinds: &self.names.kinds,
             stop: self.style == ParsingStyle::StopAtFirstFree,
             long_only: self.long_only,
@@ -226,14 +231,13 @@ impl Options {
 
     /// The room that most lines take.
     fn room(&self, words: &Texts) -> (usize, usize) {
-        let numbers = 4 * self.names.kinds.len() + 6 * words.lens.len() + 16;
-        (numbers, 2 * words.text.len() + 16)
+        let numbers = 3 * self.names.kinds.len() + 4 * words.lens.len() + 8;
+        (numbers, words.text.len() + 16)
     }
 
     /// Panics where an option has two empty names, which no line can be read by.
     fn check_names(&self) {
-        let lens = &self.names.names.lens;
-        if lens.chunks(2).any(|pair| pair == [0, 0]) {
+        if self.names.nameless {
             panic!("this long-format option was given no name");
         }
     }
@@ -260,7 +264,7 @@ impl Options {
         let words = words_of(args)?;
         let (numbers, bytes) = self.room(&words);
         let answer = Answer::of(numbers, bytes, |room| {
-            archive::parse(self.request(), words.words(), room)
+            archive::parse(self.request(&self.names.texts), words.words(), room)
         });
         Ok(Matches::of(Arc::clone(&self.names), answer.accepted()?))
     }
@@ -289,7 +293,7 @@ impl Options {
         let words = words_of(args)?;
         let (numbers, bytes) = self.room(&words);
         let answer = Answer::of(numbers, bytes, |room| {
-            archive::canonical(self.request(), words.words(), room)
+            archive::canonical(self.request(&self.names.texts), words.words(), room)
         })
         .accepted()?;
         if answer.numbers.is_empty() {
@@ -312,7 +316,7 @@ impl Options {
     /// ```
     pub fn short_usage(&self, program_name: &str) -> String {
         Answer::of(0, self.usage_room(program_name), |room| {
-            archive::short_usage(self.request(), program_name, room)
+            archive::short_usage(self.request(&self.texts), program_name, room)
         })
         .text
     }
@@ -327,7 +331,7 @@ impl Options {
     /// ```
     pub fn usage(&self, brief: &str) -> String {
         Answer::of(0, self.usage_room(brief), |room| {
-            archive::usage(self.request(), brief, room)
+            archive::usage(self.request(&self.texts), brief, room)
         })
         .text
     }
@@ -346,7 +350,7 @@ impl Options {
     ) -> String {
         let numbers = self.names.kinds.len() + 1;
         let answer = Answer::of(numbers, self.usage_room(""), |room| {
-            archive::usage_rows(self.request(), room)
+            archive::usage_rows(self.request(&self.texts), room)
         });
         let rows = Reader::new(&answer.numbers, &answer.text).texts();
         formatter(&mut rows.into_iter())

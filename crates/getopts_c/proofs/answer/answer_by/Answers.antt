@@ -1,12 +1,15 @@
-use Rattle.std.proofs.Common.{◌≡◌, ◌∙◌, ◌∷◌, [], ap, length, map, string_bytes}
+use Rattle.std.proofs.Common.{◌≡◌, ◌∙◌, ◌∷◌, [], ap, length, map, string_bytes, sym}
 use Rattle.std.proofs.lemmas.Result.{IfOk-weaker}
 use Rattle.std.specs.List.{flat_map}
 use Rattle.getopts.specs.Fail.{Fault, fault_of}
 use Rattle.getopts.specs.Names.{texts}
 use Rattle.getopts.specs.Same.{fault_name}
 use Rattle.getopts_c.specs.Answer.{IsAnswer, fault_status, four_names}
-use Rattle.getopts_c.proofs.AnswerLemmas.{accepted_answer, refused_answer, told_fault}
+use Rattle.getopts_c.proofs.AnswerLemmas.{accepted_answer, as_many_groups, refused_answer, told_fault}
 use Rattle.getopts_c.proofs.answer.answer_by.Goals as goal
+
+pub accepted-requires : goal.accepted-requires
+accepted-requires c = c.requires.count ∙ sym (as_many_groups c.args.options.now c.in-Ok.matches.groups c.in-Ok.ensures.groups)
 
 pub returns-in-Ok : goal.returns-in-Ok
 returns-in-Ok c =
@@ -18,7 +21,7 @@ returns-in-Ok c =
     IfOk-weaker c.accepted.result _
     (λ answer. IsAnswer c.args.options.now (texts c.args.words.now) answer.status answer.body.numbers.items (string_bytes answer.body.bytes))
     (λ answer are. accepted_answer c.args.options.now c.args.words.now (told.0).items names c.in-Ok.matches answer.status answer.body.numbers.items
-    (string_bytes answer.body.bytes) c.requires words_are told.3 are)
+    (string_bytes answer.body.bytes) c.requires.names words_are told.3 are)
     c.accepted.ensures
 
 pub returns-in-Err : goal.returns-in-Err

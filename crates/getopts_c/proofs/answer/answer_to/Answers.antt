@@ -1,11 +1,14 @@
 use Rattle.std.proofs.Common.{◌∙◌, ap, inl}
 use Rattle.getopts.specs.Names.{texts}
 use Rattle.getopts_c.proofs.BadLemmas.{handed_on, no_options_of_count, no_options_of_groups, no_options_of_texts, options_said}
-use Rattle.getopts_c.proofs.RequestLemmas.{names_are, request_is}
+use Rattle.getopts_c.proofs.RequestLemmas.{as_many, names_are, request_is}
 use Rattle.getopts_c.proofs.answer.answer_to.Goals as goal
 
 pub answer_by-requires : goal.answer_by-requires
-answer_by-requires c = names_are c.in_ok-groups.groups.now c.in_ok-options.options.groups c.in_ok-options.ensures.declared.fours_are
+answer_by-requires c = record {
+  names = names_are c.in_ok-groups.groups.now c.in_ok-options.options.groups c.in_ok-options.ensures.declared.fours_are;
+  count = as_many c.in_ok-groups.groups.now c.in_ok-options.options.groups c.in_ok-options.ensures.declared.fours_are;
+}
 
 pub returns-clause-answered : goal.returns-clause-answered
 returns-clause-answered c =

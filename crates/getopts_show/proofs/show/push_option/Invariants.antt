@@ -1,7 +1,7 @@
 use Rattle.std.proofs.Common.{◌≡◌, ◌++◌, map, take}
 use Rattle.std.specs.List.{flat_map}
 use Rattle.std.specs.String.{string_bytes}
-use Rattle.getopts.specs.Held.OfGroup.{pair_view}
+use Rattle.getopts.specs.Held.Occurrences.{pair_view}
 use Rattle.getopts_show.specs.Program.{value_line}
 use Rattle.getopts_show.proofs.show.push_option.Given as goal
 

@@ -22,7 +22,7 @@ returns-then-ne c = sym (differ_known c.args.self.now.groups c.args.other.now.gr
 pub returns-then-not-same : goal.returns-then-not-same
 returns-then-not-same c =
     sym (differ_found c.args.self.now.groups c.args.other.now.groups c.loop-place.place
-    ((λ i. pointwise same_found (sym c.given_at.ensures i) (sym c.given_at-in-loop-place.ensures i)) ∙ sym c.same.ensures ∙ c.if-not-same.true))
+    ((λ i. pointwise same_found (sym c.occurrences_at.ensures i) (sym c.occurrences_at-in-loop-place.ensures i)) ∙ sym c.same.ensures ∙ c.if-not-same.true))
 
 pub returns : goal.returns
 returns c =

@@ -1,0 +1,137 @@
+-- The occurrences of a group, by the places where they stand.
+use Rattle.std.proofs.Common.{◌≡◌, ◌<◌, ◌≤◌, ◌+◌, ℕ, zero, suc, ◌==◌, ◌&&◌, Bool, true, false, List, [], ◌∷◌, ◌++◌, map, length, take, slice_get, Option, Bor, Some, None, refl, ap, sym, ◌∙◌, arith, zero-le}
+use Rattle.std.specs.List.{AllByRecursion, filter_map, cons_option}
+use Rattle.std.specs.Cmp.Lexicographic.{pointwise}
+use Rattle.std.specs.Option.{option_copied, option_eq, option_map}
+use Rattle.std.proofs.lemmas.List.{length-map, map-append, take_all}
+use Rattle.std.proofs.lemmas.Bool.{and_from, and_parts, and_left, and_right, false≢true}
+use Rattle.std.proofs.lemmas.List.Elements.{filter_map-append}
+use Rattle.std.proofs.lemmas.Option.{slice_get-map, slice_get_past}
+use Rattle.getopts.specs.Names.{Text}
+use Rattle.getopts.specs.Matches.{Found}
+use Rattle.getopts.specs.Accessors.{positions_of, values_of, pair_of, pairs_of}
+use Rattle.getopts.specs.Held.Found.{given_view}
+use Rattle.getopts.specs.Held.Occurrences.{found_part, held_found}
+use Rattle.getopts.specs.Same.{same_found}
+use Rattle.getopts.specs.declared.line.Given.{Given}
+
+-- a list has an element at each place within it
+element : {X : Type 0} (xs : List X) (i : ℕ) → i < length xs → (x : X) × (slice_get xs i ≡ Some x)
+element [] i within = absurd (omega arith)
+element (x ∷ xs) zero within = (x, refl)
+element (x ∷ xs) (suc i) within = element xs i (omega arith)
+
+-- as many elements as places
+length-at_places : {X : Type 0} (xs : List X) (places : List ℕ) → AllByRecursion (λ place. place < length xs) places → length (filter_map (λ place. slice_get xs place) places) ≡ length places
+length-at_places xs [] all = refl
+length-at_places {X} xs (p ∷ places) all =
+    ap (λ (o : Option X). length (cons_option o (filter_map (λ place. slice_get xs place) places))) ((element xs p all.0).1)
+    ∙ ap suc (length-at_places xs places all.1)
+
+-- the element at one of the places
+slice_get-at_places : {X : Type 0} (xs : List X) (places : List ℕ) (i place : ℕ) → AllByRecursion (λ place. place < length xs) places → slice_get places i ≡ Some place
+    → slice_get (filter_map (λ place. slice_get xs place) places) i ≡ slice_get xs place
+slice_get-at_places xs [] i place all at = cc at
+slice_get-at_places {X} xs (p ∷ places) zero place all at =
+    let same : p ≡ place = cc in
+    ap (λ (o : Option X). slice_get (cons_option o (filter_map (λ place. slice_get xs place) places)) 0) ((element xs p all.0).1)
+    ∙ sym ((element xs p all.0).1) ∙ ap (λ (n : ℕ). slice_get xs n) same
+slice_get-at_places {X} xs (p ∷ places) (suc i) place all at =
+    ap (λ (o : Option X). slice_get (cons_option o (filter_map (λ place. slice_get xs place) places)) (suc i)) ((element xs p all.0).1)
+    ∙ slice_get-at_places xs places i place all.1 at
+
+module _ (values : List Text) (given : List Given) (places : List ℕ) (all : AllByRecursion (λ place. place < length given) places) where
+  -- the occurrences at these places
+  abbrev founds : List Found
+  founds = map (λ g. found_part (given_view values g)) (filter_map (λ place. slice_get given place) places)
+
+  -- as many occurrences as places
+  pub length-founds : length founds ≡ length places
+  length-founds = length-map (filter_map (λ place. slice_get given place) places) (λ g. found_part (given_view values g)) ∙ length-at_places given places all
+
+  -- past the last place there is nothing
+  pub founds-past : (i : ℕ) → length places ≤ i → slice_get founds i ≡ None
+  founds-past i past = slice_get_past founds i (omega (arith, length-founds))
+
+  -- the occurrence at one of the places
+  pub founds-at : (i place : ℕ) (g : Given) → slice_get places i ≡ Some place → slice_get given place ≡ Some g → slice_get founds i ≡ Some (found_part (given_view values g))
+  founds-at i place g at there =
+      slice_get-map (λ g. found_part (given_view values g)) (filter_map (λ place. slice_get given place) places) i
+      ∙ ap (λ (o : Option Given). option_map (λ g. found_part (given_view values g)) o) (slice_get-at_places given places i place all at ∙ there)
+
+-- one more element of a front, if there is one
+take-more : {X : Type 0} (xs : List X) (i : ℕ) → take (i + 1) xs ≡ take i xs ++ cons_option (slice_get xs i) []
+take-more {X} [] i =
+    let none : (n : ℕ) → take {A = X} n [] ≡ [] = λ n. take_all n [] zero-le in
+    none (i + 1) ∙ sym (ap (λ (xs : List X). xs ++ []) (none i))
+take-more (x ∷ xs) zero = refl
+take-more (x ∷ xs) (suc i) =
+    let later : suc i + 1 ≡ suc (i + 1) = omega arith in
+    ap (λ n. take n (x ∷ xs)) later ∙ ap (λ more. x ∷ more) (take-more xs i)
+
+module _ (founds : List Found) (i : ℕ) (next : Option (ℕ × Option (Bor Text))) (is : option_map held_found next ≡ slice_get founds i) where
+  -- one more occurrence of a front, as it is read
+  pub founds-more : take (i + 1) founds ≡ take i founds ++ cons_option (option_map held_found next) []
+  founds-more = take-more founds i ∙ ap (λ (o : Option Found). take i founds ++ cons_option o []) (sym is)
+
+  -- its position
+  pub positions-more : positions_of (take (i + 1) founds) ≡ positions_of (take i founds) ++ positions_of (cons_option (option_map held_found next) [])
+  positions-more = ap positions_of founds-more ∙ map-append (λ (found : Found). found.position) (take i founds) (cons_option (option_map held_found next) [])
+
+  -- its value
+  pub values-more : values_of (take (i + 1) founds) ≡ values_of (take i founds) ++ values_of (cons_option (option_map held_found next) [])
+  values-more = ap values_of founds-more ∙ filter_map-append (λ (found : Found). found.value) (take i founds) (cons_option (option_map held_found next) [])
+
+  -- its position and value
+  pub pairs-more : pairs_of (take (i + 1) founds) ≡ pairs_of (take i founds) ++ pairs_of (cons_option (option_map held_found next) [])
+  pairs-more = ap pairs_of founds-more ∙ filter_map-append pair_of (take i founds) (cons_option (option_map held_found next) [])
+
+module _ {X : Type 0} (E : X → X → Bool) where
+  -- lists that differ at a place differ
+  pointwise-differ : (xs ys : List X) (i : ℕ) → option_eq E (slice_get xs i) (slice_get ys i) ≡ false → pointwise E xs ys ≡ false
+  pointwise-differ [] [] i differ = differ
+  pointwise-differ [] (y ∷ ys) i differ = refl
+  pointwise-differ (x ∷ xs) [] i differ = refl
+  pointwise-differ (x ∷ xs) (y ∷ ys) zero differ = and_left (E x y) (pointwise E xs ys) differ
+  pointwise-differ (x ∷ xs) (y ∷ ys) (suc i) differ = and_right (E x y) (pointwise E xs ys) (pointwise-differ xs ys i differ)
+
+  -- fronts that are the same, with one more element that is
+  pointwise-take_more : (xs ys : List X) (i : ℕ) → pointwise E (take i xs) (take i ys) ≡ true → option_eq E (slice_get xs i) (slice_get ys i) ≡ true → pointwise E (take (i + 1) xs) (take (i + 1) ys) ≡ true
+  pointwise-take_more [] [] i same here = let none : length {A = X} [] ≤ i + 1 = omega arith in rw (take_all (i + 1) [] none)
+  pointwise-take_more [] (y ∷ ys) zero same here = absurd (false≢true here)
+  pointwise-take_more [] (y ∷ ys) (suc i) same here = absurd (false≢true same)
+  pointwise-take_more (x ∷ xs) [] zero same here = absurd (false≢true here)
+  pointwise-take_more (x ∷ xs) [] (suc i) same here = absurd (false≢true same)
+  pointwise-take_more (x ∷ xs) (y ∷ ys) zero same here = and_from (E x y) true here refl
+  pointwise-take_more (x ∷ xs) (y ∷ ys) (suc i) same here =
+      let later : suc i + 1 ≡ suc (i + 1) = omega arith in
+      let parts = and_parts (E x y) (pointwise E (take i xs) (take i ys)) same in
+      rw later (and_from (E x y) (pointwise E (take (i + 1) xs) (take (i + 1) ys)) parts.0 (pointwise-take_more xs ys i parts.1 here))
+
+-- two occurrences as they are read, compared as the code compares them
+abbrev pub same_read : Option (ℕ × Option (Bor Text)) → Option (ℕ × Option (Bor Text)) → Bool
+same_read = option_eq (λ a b. a.0 == b.0 && option_eq (λ text other. pointwise ◌==◌ text.now other.now) a.1 b.1)
+
+-- this is how occurrences are compared
+same_read-found : (a b : Option (ℕ × Option (Bor Text))) → option_eq same_found (option_map held_found a) (option_map held_found b) ≡ same_read a b
+same_read-found None None = refl
+same_read-found None (Some b) = refl
+same_read-found (Some a) None = refl
+same_read-found (Some a) (Some b) = ap (λ (same : Bool). a.0 == b.0 && same) (values a.1 b.1) where
+  values : (v w : Option (Bor Text)) → option_eq (pointwise ◌==◌) (option_copied v) (option_copied w) ≡ option_eq (λ text other. pointwise ◌==◌ text.now other.now) v w
+  values None None = refl
+  values None (Some w) = refl
+  values (Some v) None = refl
+  values (Some v) (Some w) = refl
+
+module _ (founds others : List Found) (i : ℕ) (a b : Option (ℕ × Option (Bor Text))) (is : option_map held_found a ≡ slice_get founds i) (other_is : option_map held_found b ≡ slice_get others i) where
+  here : option_eq same_found (slice_get founds i) (slice_get others i) ≡ same_read a b
+  here = (λ j. option_eq same_found (sym is j) (sym other_is j)) ∙ same_read-found a b
+
+  -- occurrences that are read as different ones
+  pub founds-differ : same_read a b ≡ false → pointwise same_found founds others ≡ false
+  founds-differ differ = pointwise-differ same_found founds others i (here ∙ differ)
+
+  -- one more occurrence that is read as the same
+  pub founds-same : same_read a b ≡ true → pointwise same_found (take i founds) (take i others) ≡ true → pointwise same_found (take (i + 1) founds) (take (i + 1) others) ≡ true
+  founds-same same before = pointwise-take_more same_found founds others i before (here ∙ same)

@@ -1,0 +1,11 @@
+-- As many occurrences, of which the ones so far are the same.
+use Rattle.std.proofs.Common.{◌≡◌, true, length, take}
+use Rattle.std.specs.Cmp.Lexicographic.{pointwise}
+use Rattle.getopts.specs.Same.{same_found}
+use Rattle.getopts.proofs.occurrences.Occurrences.same.Given as goal
+
+abbrev pub invariant-loop-nth : goal.invariant-loop-nth
+invariant-loop-nth l = record {
+  as_many : length l.self ≡ length l.other;
+  same : pointwise same_found (take l.nth l.self) (take l.nth l.other) ≡ true;
+}

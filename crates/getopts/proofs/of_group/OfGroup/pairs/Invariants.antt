@@ -1,8 +1,0 @@
--- The pairs so far are those of the occurrences so far.
-use Rattle.std.proofs.Common.{◌≡◌, map, take}
-use Rattle.getopts.specs.Accessors.{pairs_of}
-use Rattle.getopts.specs.Held.OfGroup.{pair_view}
-use Rattle.getopts.proofs.of_group.OfGroup.pairs.Given as goal
-
-abbrev pub invariant-loop-nth : goal.invariant-loop-nth
-invariant-loop-nth l = map pair_view l.pairs.items ≡ pairs_of (take l.nth l.self)

@@ -1,8 +1,0 @@
--- One more occurrence has its value, if any.
-use Rattle.std.proofs.Common.{arith}
-use Rattle.std.proofs.lemmas.Grind.{common_steps}
-use Rattle.getopts.proofs.OfGroupLemmas.{values-more}
-use Rattle.getopts.proofs.of_group.OfGroup.values.Goals as goal
-
-pub loop-nth-preserved : goal.loop-nth-preserved
-loop-nth-preserved c = let more = values-more c.args.self.now c.loop-nth.nth c.get.result c.get.ensures in grind (arith, common_steps)

@@ -1,0 +1,125 @@
+//! The occurrences of one option group among those that matches hold.
+
+ghost use Rattle.std.specs.Prelude.{◌≡◌, map, length, slice_get, IfOk};
+ghost use Rattle.std.specs.Cmp.Lexicographic.{pointwise};
+ghost use Rattle.std.specs.Option.{option_copied, option_map};
+ghost use Rattle.std.specs.String.{string_bytes};
+ghost use Rattle.getopts.specs.Accessors.{positions_of, values_of, pairs_of, first_value, first_value_or};
+ghost use Rattle.getopts.specs.Held.Occurrences.{held_found, pair_view};
+ghost use Rattle.getopts.specs.Same.{same_found};
+
+use crate::line::Given;
+use crate::texts::Texts;
+use std::alloc::{AllocError, Global};
+use std::marker::Model;
+
+/// The occurrences of one option group, in the order of the line, lent by the matches.
+///
+/// `Matches::occurrences_at` answers them. No text is copied.
+#[derive(Debug, Drop)]
+pub struct Occurrences<'m> {
+    pub(crate) given: &'m [Given],
+    pub(crate) values: &'m Texts,
+    pub(crate) places: &'m [usize],
+}
+
+impl<'m> Model for Occurrences<'m> {
+    ghost use Rattle.std.specs.Prelude.{List};
+    ghost use Rattle.getopts.specs.Matches.{Found};
+    ghost use Rattle.getopts.specs.Held.Occurrences.{occurrences_view, ArePlacesOf};
+
+    ghost Value = { List Found };
+
+    ghost view = { occurrences_view };
+
+    ghost invariant = { ArePlacesOf };
+}
+
+impl<'m> Occurrences<'m> {
+    /// How many they are.
+    pub fn count(&self) -> usize
+        ensures { result ≡ length self.now }
+    {
+        self.places.len()
+    }
+
+    /// The position of one of them, counted from 0, and its value if it has one. Past the last there is
+    /// none.
+    pub fn get(&self, nth: usize) -> Option<(usize, Option<&'m str>)>
+        ensures { option_map held_found result ≡ slice_get self.now nth }
+    {
+        let given = self.given.get(*self.places.get(nth)?)?;
+        let value = match given.value {
+            Some(place) => self.values.get(place),
+            None => None,
+        };
+        Some((given.position, value))
+    }
+
+    pub(crate) fn positions(&self, alloc: Global) -> Result<Vec<usize>, AllocError>
+        ensures { IfOk result (λ positions. positions.items ≡ positions_of self.now) }
+    {
+        let mut positions = Vec::with_capacity(alloc, self.count())?;
+        for nth in 0..self.count() {
+            if let Some((position, _)) = self.get(nth) {
+                positions.push(position)?;
+            }
+        }
+        Ok(positions)
+    }
+
+    pub(crate) fn values(&self, alloc: Global) -> Result<Vec<String>, AllocError>
+        ensures { IfOk result (λ values. map string_bytes values.items ≡ values_of self.now) }
+    {
+        let mut values = Vec::new(alloc);
+        for nth in 0..self.count() {
+            if let Some((_, Some(value))) = self.get(nth) {
+                values.push(String::from_str(alloc, value)?)?;
+            }
+        }
+        Ok(values)
+    }
+
+    pub(crate) fn pairs(&self, alloc: Global) -> Result<Vec<(usize, String)>, AllocError>
+        ensures { IfOk result (λ pairs. map pair_view pairs.items ≡ pairs_of self.now) }
+    {
+        let mut pairs = Vec::new(alloc);
+        for nth in 0..self.count() {
+            if let Some((position, Some(value))) = self.get(nth) {
+                pairs.push((position, String::from_str(alloc, value)?))?;
+            }
+        }
+        Ok(pairs)
+    }
+
+    /// The value of the first occurrence.
+    pub(crate) fn first_value(&self) -> Option<&'m str>
+        ensures { option_copied result ≡ first_value self.now }
+    {
+        let (_, value) = self.get(0)?;
+        value
+    }
+
+    /// The value of the first occurrence, or this text where that has none.
+    pub(crate) fn first_value_or(&self, fallback: &'m str) -> Option<&'m str>
+        ensures { option_copied result ≡ first_value_or self.now fallback.now }
+    {
+        let (_, value) = self.get(0)?;
+        Some(value.unwrap_or(fallback))
+    }
+
+    /// Whether two groups have occurrences of the same positions and values in the same order.
+    pub(crate) fn same(&self, other: &Occurrences<'_>) -> bool
+        ensures { result ≡ pointwise same_found self.now other.now }
+    {
+        if self.count() != other.count() {
+            return false;
+        }
+        for nth in 0..self.count() {
+            if self.get(nth) != other.get(nth) {
+                return false;
+            }
+        }
+        true
+    }
+}
