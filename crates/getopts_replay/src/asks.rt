@@ -21,7 +21,7 @@ pub fn accepted(alloc: Global, matches: &Matches, answer: &mut Answer) -> Result
         Some(start) => answer.number(alloc, start)?,
         None => answer.text("-")?,
     }
-    answer.texts(matches.free.as_slice())?;
+    answer.texts(&matches.free)?;
     answer.end()
 }
 
@@ -79,7 +79,7 @@ pub fn usage_rows(alloc: Global, options: &Options, answer: &mut Answer) -> Resu
         format!(in alloc; "{count} rows")
     })?;
     answer.text(made.as_str())?;
-    answer.texts(given.as_slice())?;
+    answer.texts(&given)?;
     answer.end()
 }
 
@@ -89,7 +89,7 @@ pub fn wrapped(alloc: Global, limit: &str, desc: &str, answer: &mut Answer) -> R
         return Err(WRONG_FIELDS);
     };
     let rows = each_split_within(alloc, desc, limit)?;
-    answer.texts(rows.as_slice())?;
+    answer.texts(&rows)?;
     answer.end()?;
     Ok(())
 }
@@ -105,7 +105,7 @@ pub fn canonical(
     match options.canonical(alloc, words.iter().copied()) {
         Ok(Some(line)) => {
             answer.text("line")?;
-            answer.texts(line.as_slice())?;
+            answer.texts(&line)?;
         }
         Ok(None) => answer.text("none")?,
         Err(fail) => {
@@ -136,7 +136,7 @@ pub fn option(
     answer.optional(matches.opt_default(alloc, name, default)?.as_deref())?;
     answer.end()?;
     answer.word("strs")?;
-    answer.texts(matches.opt_strs(alloc, name)?.as_slice())?;
+    answer.texts(&matches.opt_strs(alloc, name)?)?;
     answer.end()?;
     answer.word("pairs")?;
     for (_, text) in &matches.opt_strs_pos(alloc, name)? {
@@ -226,10 +226,10 @@ pub fn any(
 ) -> Result<(), AllocError> {
     answer.truth(matches.opts_present(names))?;
     let borrowed: Vec<&str> = names.iter().map(|name| name.as_str()).collect(alloc)?;
-    if are_defined(matches, names) && all_defined(matches, borrowed.as_slice()) {
-        answer.truth(matches.opts_present_any(borrowed.as_slice()))?;
+    if are_defined(matches, names) && all_defined(matches, &borrowed) {
+        answer.truth(matches.opts_present_any(&borrowed))?;
         answer.optional(matches.opts_str(alloc, names)?.as_deref())?;
-        let first = matches.opts_str_first(alloc, borrowed.as_slice())?;
+        let first = matches.opts_str_first(alloc, &borrowed)?;
         answer.optional(first.as_deref())?;
     } else {
         answer.text("undefined")?;

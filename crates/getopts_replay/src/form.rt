@@ -100,7 +100,7 @@ impl Answer {
     }
 
     pub fn bytes(&self) -> &[u8] {
-        self.bytes.as_slice()
+        &self.bytes
     }
 
     /// Forgets the lines, and keeps their memory for others.

@@ -33,7 +33,7 @@ fn answer_lines<R: BufRead, W: Write>(
             Err(error) => return Err(unread(&error, number)),
         }
         answer.clear();
-        if let Err(trouble) = answer_line(alloc, &mut session, line.as_slice(), &mut answer) {
+        if let Err(trouble) = answer_line(alloc, &mut session, &line, &mut answer) {
             return Err(trouble.at(number));
         }
         if out.write_all(answer.bytes()).is_err() {

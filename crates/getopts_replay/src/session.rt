@@ -88,11 +88,11 @@ impl Session {
             fields.push(text_of_field(alloc, part)?)?;
         }
         if word == "case" {
-            self.begin(alloc, fields.as_slice(), answer)
+            self.begin(alloc, &fields, answer)
         } else if !self.begun {
             Err(Trouble::Flawed(Flaw::NoCase))
         } else {
-            self.follow(alloc, word, fields.as_slice(), answer)
+            self.follow(alloc, word, &fields, answer)
         }
     }
 
