@@ -17,7 +17,7 @@ ghost use Rattle.getopts.specs.CanonAnswers.{IsParseAnswer, IsCanonicalAnswer, H
 use crate::fail::Fail;
 use crate::line::{AcceptedLine, Line};
 use crate::options::Options;
-use crate::words::words_of;
+use crate::words::words_from;
 use std::alloc::{AllocError, Global};
 
 /// Whether a text holds `=`.
@@ -148,7 +148,7 @@ impl Options {
         ensures refused { IfErr result (λ fail. Tells fail (λ fault. WholeRun I.next_gives args
             (λ run. IsRefused self.now (texts run.items) fault))) }
     {
-        let words = words_of(alloc, args)?;
+        let words = words_from(alloc, args)?;
         self.canonical_words(alloc, words)
     }
 }

@@ -12,7 +12,7 @@ use crate::matches::Matches;
 use crate::options::Options;
 use crate::scan::Scanner;
 use crate::table::Table;
-use crate::words::{are_texts, words_of};
+use crate::words::{are_texts, words_from};
 use std::alloc::Global;
 
 impl Options {
@@ -120,7 +120,7 @@ impl Options {
         ensures free_last { IfOk result (λ matches. WholeRun I.next_gives args
             (λ run. HaveLastWordsFree self.now (texts run.items) matches.free)) }
     {
-        let words = words_of(alloc, args)?;
+        let words = words_from(alloc, args)?;
         self.parse_words(alloc, words)
     }
 }

@@ -13,7 +13,7 @@ use std::alloc::{AllocError, Global};
 pub(crate) const FIRST_ROOM: usize = 1024;
 
 /// The words that an iterator gives, in order. Each request for room that is refused is answered.
-pub(crate) fn words_of<'a, I: Iterator<Item = &'a str> + Drop>(
+pub(crate) fn words_from<'a, I: Iterator<Item = &'a str> + Drop>(
     alloc: Global,
     args: I,
 ) -> Result<Vec<&'a str>, AllocError>

@@ -292,7 +292,7 @@ impl Options {
         self.check_names();
         let words = words_of(args)?;
         let (numbers, bytes) = self.room(&words);
-        let answer = Answer::of(numbers, bytes, |room| {
+        let answer = Answer::of(numbers, 2 * bytes, |room| {
             archive::canonical(self.request(&self.names.texts), words.words(), room)
         })
         .accepted()?;
