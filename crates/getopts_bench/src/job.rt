@@ -15,7 +15,7 @@ pub enum Job {
     Declare(Line),
     /// Reads the words.
     Read(Line),
-    /// Takes each count and value.
+    /// Takes each count and value, copied.
     Accessors(Line),
     /// Writes the canonical line.
     Canonical(Line),

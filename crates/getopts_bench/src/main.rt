@@ -6,10 +6,11 @@
 //!
 //! - `small` has 5 options and 3 words, `long` 5 options and 1,000 words, `many` 200 options and
 //!   400 words. A turn declares the options, reads the words, and takes the count and the values
-//!   of each option and the free words. It adds up the counts and the lengths of the texts.
+//!   of each option, which are lent, and the free words. It adds up the counts and the lengths of
+//!   the texts.
 //! - `declare-LINE`, `read-LINE` and `accessors-LINE` are the parts of that turn. What comes
 //!   before the part is done once, before the turns. A turn adds the number of options or of free
-//!   words, or what the accessors give.
+//!   words, or what the accessors that copy values give.
 //! - `canonical-LINE` writes the canonical line. A turn adds the lengths of its words.
 //! - `equal` compares the matches of a thousand `-ab` and of a thousand `-ba` by 1,000 options. A
 //!   turn adds 1 where they are equal.

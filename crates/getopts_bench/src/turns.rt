@@ -4,7 +4,7 @@ use crate::input::{
     Input, Kind, Named, input_of, memory_input, numbered_options, thousand_of, thousand_options,
 };
 use crate::job::Job;
-use getopts::{Fail, Matches, Options};
+use getopts::{Fail, Matches, Occurrences, Options};
 use std::alloc::{AllocError, Global};
 
 /// The line before the options in a usage text.
@@ -31,7 +31,7 @@ fn whole(alloc: Global, input: &Input, times: usize) -> Result<usize, Fail> {
     for _ in 0..times {
         let options = declared(alloc, &input.options)?;
         let matches = matches_of(alloc, &options, &input.words)?;
-        sum = sum.wrapping_add(taken(alloc, &matches, &input.options)?);
+        sum = sum.wrapping_add(taken(&matches, &input.options));
     }
     Ok(sum)
 }
@@ -57,13 +57,13 @@ fn read(alloc: Global, input: &Input, times: usize) -> Result<usize, Fail> {
     Ok(sum)
 }
 
-/// Turns that take what matches give.
+/// Turns that take what matches give, with the values copied.
 fn accessors(alloc: Global, input: &Input, times: usize) -> Result<usize, Fail> {
     let options = declared(alloc, &input.options)?;
     let matches = matches_of(alloc, &options, &input.words)?;
     let mut sum = 0usize;
     for _ in 0..times {
-        sum = sum.wrapping_add(taken(alloc, &matches, &input.options)?);
+        sum = sum.wrapping_add(copied(alloc, &matches, &input.options)?);
     }
     Ok(sum)
 }
@@ -154,7 +154,32 @@ fn matches_of(alloc: Global, options: &Options, words: &[String]) -> Result<Matc
 
 /// What matches give, added up: for each option its count and the lengths of its values, and the
 /// lengths of the free words.
-fn taken(alloc: Global, matches: &Matches, named: &[Named]) -> Result<usize, AllocError> {
+fn taken(matches: &Matches, named: &[Named]) -> usize {
+    let mut sum = total_length(&matches.free);
+    for option in named {
+        if let Some(place) = matches.opt_place(option.main()) {
+            let occurrences = matches.occurrences_at(place);
+            sum = sum
+                .wrapping_add(occurrences.count())
+                .wrapping_add(values_length(&occurrences));
+        }
+    }
+    sum
+}
+
+/// The lengths of the values of occurrences, added up.
+fn values_length(occurrences: &Occurrences<'_>) -> usize {
+    let mut sum = 0usize;
+    for nth in 0..occurrences.count() {
+        if let Some((_, Some(value))) = occurrences.get(nth) {
+            sum = sum.wrapping_add(value.len());
+        }
+    }
+    sum
+}
+
+/// What matches give, added up, with the values copied.
+fn copied(alloc: Global, matches: &Matches, named: &[Named]) -> Result<usize, AllocError> {
     let mut sum = total_length(&matches.free);
     for option in named {
         let name = option.main();

@@ -19,7 +19,7 @@ const SETTINGS: [(ParsingStyle, bool); 4] = [
     (StopAtFirstFree, true),
 ];
 
-// Stops unless the words have this canonical line.
+/// Stops unless the words have this canonical line.
 fn expect_canonical(
     rt: &impl Abort,
     alloc: Global,
@@ -36,7 +36,7 @@ fn expect_canonical(
     }
 }
 
-// Stops unless in both styles and both modes the line is accepted, and is its own canonical line.
+/// Stops unless in both styles and both modes the line is accepted, and is its own canonical line.
 fn expect_its_own(rt: &impl Abort, alloc: Global, options: &mut Options, line: &[&str]) {
     for (style, long_only) in SETTINGS {
         options.parsing_style(style).long_only(long_only);
@@ -45,7 +45,7 @@ fn expect_its_own(rt: &impl Abort, alloc: Global, options: &mut Options, line: &
     }
 }
 
-// Stops unless in this style and mode, by these groups, each line has the canonical line beside it.
+/// Stops unless in this style and mode, by these groups, each line has the canonical line beside it.
 fn expect_rows(
     rt: &impl Abort,
     alloc: Global,

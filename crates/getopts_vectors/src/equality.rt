@@ -10,7 +10,7 @@ use std::alloc::{AllocError, Global};
 use std::process::Abort;
 use std::test::Fail;
 
-// Whether by these groups the two lines give equal matches.
+/// Whether by these groups the two lines give equal matches.
 fn same_matches(
     rt: &impl Abort,
     alloc: Global,

@@ -30,7 +30,7 @@ fn texts_of_faults(rt: HostRuntime) -> Result<(), Fail> {
     Ok(())
 }
 
-// Stops unless this text is written whole, whatever width and precision are asked for.
+/// Stops unless this text is written whole, whatever width and precision are asked for.
 fn expect_whole(
     rt: &impl Abort,
     alloc: Global,

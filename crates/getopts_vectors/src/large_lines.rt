@@ -16,7 +16,7 @@ const MANY: usize = 100_000;
 
 const ANSWERS: &[Answer] = &[Count("v", MANY)];
 
-// The positions of an option.
+/// The positions of an option.
 fn positions(
     rt: &impl Abort,
     alloc: Global,
@@ -76,7 +76,7 @@ fn many_free_words(rt: HostRuntime) -> Result<(), Fail> {
     Ok(())
 }
 
-// Flags from `n199` down to `n000`, and then `n100` once more, with the short name `x`.
+/// Flags from `n199` down to `n000`, and then `n100` once more, with the short name `x`.
 fn two_hundred_flags(rt: &impl Abort, alloc: Global) -> Result<Options, AllocError> {
     let mut options = Options::new(alloc);
     for number in (0..200).rev() {

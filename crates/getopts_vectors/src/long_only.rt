@@ -8,7 +8,7 @@ use std::alloc::{AllocError, Global};
 use std::process::Abort;
 use std::test::Fail;
 
-// Stops unless in long-only mode each of these lines means what stands beside it.
+/// Stops unless in long-only mode each of these lines means what stands beside it.
 fn expect_long_only(rt: &impl Abort, alloc: Global, tables: &[Table]) -> Result<(), AllocError> {
     expect_lines_in(rt, alloc, ParsingStyle::FloatingFrees, true, tables)
 }

@@ -6,7 +6,7 @@ use getopts::wrap::each_split_within;
 use getopts::{Fail, Options};
 use std::alloc::{AllocError, Global};
 
-// Options with an argument `o`/`output` and a flag `v`/`verbose`.
+/// Options with an argument `o`/`output` and a flag `v`/`verbose`.
 fn copying(alloc: Global) -> Result<Options, AllocError> {
     let mut options = Options::new(alloc);
     options

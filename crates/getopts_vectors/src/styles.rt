@@ -7,7 +7,7 @@ use std::alloc::{AllocError, Global};
 use std::process::Abort;
 use std::test::Fail;
 
-// Stops unless each of these lines means what stands beside it, where the first free word ends the options.
+/// Stops unless each of these lines means what stands beside it, where the first free word ends the options.
 fn expect_stopping(rt: &impl Abort, alloc: Global, tables: &[Table]) -> Result<(), AllocError> {
     expect_lines_in(rt, alloc, ParsingStyle::StopAtFirstFree, false, tables)
 }

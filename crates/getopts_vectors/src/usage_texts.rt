@@ -29,7 +29,7 @@ fn flag<'a>(short: &'a str, long: &'a str, desc: &'a str) -> Row<'a> {
     (short, long, desc, "", HasArg::No, Occur::Optional)
 }
 
-// Options with these groups.
+/// Options with these groups.
 fn declared(
     rt: &impl Abort,
     alloc: Global,
@@ -45,7 +45,7 @@ fn declared(
     Ok(options)
 }
 
-// Stops unless the usage text is this one.
+/// Stops unless the usage text is this one.
 fn expect_usage(
     rt: &impl Abort,
     alloc: Global,
@@ -59,7 +59,7 @@ fn expect_usage(
     Ok(())
 }
 
-// Stops unless this is the one line of the options.
+/// Stops unless this is the one line of the options.
 fn expect_short_usage(
     rt: &impl Abort,
     alloc: Global,
@@ -318,7 +318,7 @@ fn pads_a_head_below_24_columns(rt: HostRuntime) -> Result<(), Fail> {
     Ok(())
 }
 
-// Stops unless these are the rows that the closure of `usage_with_format` is given.
+/// Stops unless these are the rows that the closure of `usage_with_format` is given.
 fn expect_usage_rows(
     rt: &impl Abort,
     alloc: Global,

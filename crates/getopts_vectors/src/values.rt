@@ -51,13 +51,13 @@ fn occurrences_are_lent(rt: HostRuntime) -> Result<(), Fail> {
     Ok(())
 }
 
-// What these matches give for the name, read as a `T`.
+/// What these matches give for the name, read as a `T`.
 fn read<T: FromStr>(rt: &impl Abort, matches: &Matches, name: &str) -> Result<Option<T>, T::Err> {
     need_defined(rt, matches, name);
     matches.opt_get(name)
 }
 
-// What these matches give for the name, read as a `T`, or this default.
+/// What these matches give for the name, read as a `T`, or this default.
 fn read_or<T: FromStr + Drop>(
     rt: &impl Abort,
     matches: &Matches,

@@ -8,7 +8,7 @@ use std::test::Fail;
 
 const MARY: &str = "\nMary had a little lamb\nLittle lamb\n";
 
-// Stops unless the rows are these, all of them and in this order.
+/// Stops unless the rows are these, all of them and in this order.
 fn expect_rows(
     rt: &impl Abort,
     alloc: Global,
