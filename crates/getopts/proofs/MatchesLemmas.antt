@@ -11,7 +11,7 @@ use Rattle.std.proofs.lemmas.Bool.{true≢false, cases_lt, and_cases, and_left, 
 use Rattle.std.proofs.lemmas.List.{length-map, at_drop_more}
 use Rattle.std.proofs.lemmas.List.Elements.{recursion_from_All}
 use Rattle.std.proofs.lemmas.Option.{slice_get_past}
-use Rattle.getopts.specs.Names.{Text, Names, texts, resolution}
+use Rattle.getopts.specs.Names.{Text, Names, resolution}
 use Rattle.getopts.specs.Options.{Known}
 use Rattle.getopts.specs.Pairs.{name_texts}
 use Rattle.getopts.specs.Table.{names_in}
@@ -122,11 +122,11 @@ texts_of_held_pairs pairs founds same = views pairs ∙ ap (map (λ (pair : ℕ 
   views (pair ∷ ps) = ap (λ (more : List Text). string_bytes pair.1 ∷ more) (views ps)
 
 -- the value for the first of some names, by that for the first name
-pub first_value_among-next : (groups : List MatchedGroup) (names : List (Bor Text)) (i : ℕ) (past : Bor Text) (founds : List Found) (value : Option (Bor Text)) → i < length names → founds ≡ found_of groups (get_or names i past).now → option_copied value ≡ first_value founds
-    → first_value_among groups (texts (drop i names)) ≡ option_or (option_copied value) (first_value_among groups (texts (drop (i + 1) names)))
-first_value_among-next groups names i past founds value within found first =
-    at_drop_more (λ (ns : List (Bor Text)). first_value_among groups (texts ns)) names i past within
-    ∙ ap (λ (o : Option Text). option_or o (first_value_among groups (texts (drop (i + 1) names)))) (sym (first ∙ ap first_value found))
+pub first_value_among-next : {T : Type 0} (text : T → Text) (groups : List MatchedGroup) (names : List T) (i : ℕ) (past : T) (name : Text) (founds : List Found) (value : Option (Bor Text)) → i < length names → name ≡ text (get_or names i past) → founds ≡ found_of groups name → option_copied value ≡ first_value founds
+    → first_value_among groups (map text (drop i names)) ≡ option_or (option_copied value) (first_value_among groups (map text (drop (i + 1) names)))
+first_value_among-next {T} text groups names i past name founds value within named found first =
+    at_drop_more (λ (ns : List T). first_value_among groups (map text ns)) names i past within
+    ∙ ap (λ (o : Option Text). option_or o (first_value_among groups (map text (drop (i + 1) names)))) (sym (first ∙ ap first_value (found ∙ ap (found_of groups) named)))
 
 -- groups with their occurrences are not the same where what is known of them isn't
 pub differ_known : (groups others : List MatchedGroup) → pointwise same_known (map (λ (group : MatchedGroup). group.known) groups) (map (λ (group : MatchedGroup). group.known) others) ≡ false → pointwise same_matched_group groups others ≡ false

@@ -9,6 +9,7 @@ ghost use Rattle.getopts.specs.Names.{texts};
 use crate::matches::Matches;
 use crate::occurrences::Occurrences;
 use std::alloc::{AllocError, Global};
+use std::convert::AsStr;
 use std::str::FromStr;
 
 /// A copy of a text, if there is one.
@@ -254,6 +255,18 @@ impl Matches {
         names.iter().any(|name| self.has(name))
     }
 
+    /// The value of the first occurrence, by the first of these names whose option has one there.
+    fn first_among<T: AsStr>(&self, names: &[T]) -> Option<&str>
+        ensures { option_copied result ≡ first_value_among self.now.groups (map T.text names.now) }
+    {
+        for name in names {
+            if let Some(value) = self.given_of(name.as_str()).first_value() {
+                return Some(value);
+            }
+        }
+        None
+    }
+
     /// The value for the first name in the list whose option's first occurrence has a value.
     ///
     /// All names have to be defined, which `opt_defined` tests of each, where the Rust doesn't look at the
@@ -264,12 +277,7 @@ impl Matches {
         ensures { IfOk result (λ value. option_map string_bytes value
             ≡ first_value_among self.now.groups (map string_bytes names.now)) }
     {
-        for name in names {
-            if let Some(value) = self.given_of(name.as_str()).first_value() {
-                return copied(alloc, Some(value));
-            }
-        }
-        Ok(None)
+        copied(alloc, self.first_among(names))
     }
 
     /// The value for the first name in the list whose option's first occurrence has a value, as
@@ -286,11 +294,6 @@ impl Matches {
         ensures { IfOk result (λ value. option_map string_bytes value
             ≡ first_value_among self.now.groups (texts names.now)) }
     {
-        for name in names {
-            if let Some(value) = self.given_of(name).first_value() {
-                return copied(alloc, Some(value));
-            }
-        }
-        Ok(None)
+        copied(alloc, self.first_among(names))
     }
 }
