@@ -1,14 +1,13 @@
 -- What matches hold, by the groups and the one list that the code has.
-use Rattle.std.proofs.Common.{◌≡◌, ◌==◌, ℕ, suc, zero, ◌+◌, ◌<◌, ◌≤◌, Bool, true, false, cond, List, [], ◌∷◌, map, length, filter, Option, Some, None, unwrap_or, slice_get, get_or, drop, refl, ap, sym, ◌∙◌, subst, inl, inr, arith, zero-add}
+use Rattle.std.proofs.Common.{◌≡◌, ◌==◌, ℕ, suc, zero, ◌+◌, ◌<◌, ◌≤◌, Bool, true, false, cond, List, [], ◌∷◌, map, length, filter, Option, Some, None, unwrap_or, slice_get, refl, ap, sym, ◌∙◌, subst, inl, inr, arith, zero-add}
 use Rattle.std.specs.Cmp.Lexicographic.{pointwise}
-use Rattle.std.specs.Borrow.{Bor}
 use Rattle.std.specs.List.{AllByRecursion, filter_map, cons_option}
-use Rattle.std.specs.Option.{option_copied, option_map, option_map_or, option_or}
+use Rattle.std.specs.Option.{option_map, option_map_or}
 use Rattle.std.specs.String.{string_bytes}
 use Rattle.std.specs.declared.string.String.{String}
 use Rattle.std.specs.declared.alloc.Global.{Global}
 use Rattle.std.proofs.lemmas.Bool.{true≢false, cases_lt, and_cases, and_left, and_right, and_parts, and_from}
-use Rattle.std.proofs.lemmas.List.{length-map, at_drop_more}
+use Rattle.std.proofs.lemmas.List.{length-map}
 use Rattle.std.proofs.lemmas.List.Elements.{recursion_from_All}
 use Rattle.std.proofs.lemmas.Option.{slice_get_past}
 use Rattle.getopts.specs.Names.{Text, Names, resolution}
@@ -18,7 +17,7 @@ use Rattle.getopts.specs.Table.{names_in}
 use Rattle.getopts.specs.Index.{places_of}
 use Rattle.getopts.specs.Scan.{Occurrence}
 use Rattle.getopts.specs.Matches.{Found, MatchedGroup, found_at, matched}
-use Rattle.getopts.specs.Accessors.{AreHeldLawfully, found_in, found_of, place_of, values_of, pairs_of, first_value, first_value_among}
+use Rattle.getopts.specs.Accessors.{AreHeldLawfully, found_in, place_of, values_of, pairs_of}
 use Rattle.getopts.specs.Same.{same_known, same_found, same_matched_group}
 use Rattle.getopts.specs.Held.Groups.{HaveLawfulNames}
 use Rattle.getopts.specs.Held.Found.{given_view}
@@ -120,13 +119,6 @@ texts_of_held_pairs pairs founds same = views pairs ∙ ap (map (λ (pair : ℕ 
   views : (ps : List (ℕ × String Global)) → map (λ (pair : ℕ × String Global). string_bytes pair.1) ps ≡ map (λ (pair : ℕ × Text). pair.1) (map pair_view ps)
   views [] = refl
   views (pair ∷ ps) = ap (λ (more : List Text). string_bytes pair.1 ∷ more) (views ps)
-
--- the value for the first of some names, by that for the first name
-pub first_value_among-next : {T : Type 0} (text : T → Text) (groups : List MatchedGroup) (names : List T) (i : ℕ) (past : T) (name : Text) (founds : List Found) (value : Option (Bor Text)) → i < length names → name ≡ text (get_or names i past) → founds ≡ found_of groups name → option_copied value ≡ first_value founds
-    → first_value_among groups (map text (drop i names)) ≡ option_or (option_copied value) (first_value_among groups (map text (drop (i + 1) names)))
-first_value_among-next {T} text groups names i past name founds value within named found first =
-    at_drop_more (λ (ns : List T). first_value_among groups (map text ns)) names i past within
-    ∙ ap (λ (o : Option Text). option_or o (first_value_among groups (map text (drop (i + 1) names)))) (sym (first ∙ ap first_value (found ∙ ap (found_of groups) named)))
 
 -- groups with their occurrences are not the same where what is known of them isn't
 pub differ_known : (groups others : List MatchedGroup) → pointwise same_known (map (λ (group : MatchedGroup). group.known) groups) (map (λ (group : MatchedGroup). group.known) others) ≡ false → pointwise same_matched_group groups others ≡ false
