@@ -1,6 +1,9 @@
 //! Reads its arguments as options, and shows what they are.
 #![tactic(auto)]
 
+ghost use Rattle.std.specs.Prelude.{IfOk};
+ghost use Rattle.getopts_show.specs.Program.{IsStatus};
+
 mod show;
 #[cfg(test)]
 mod tests;
@@ -18,7 +21,9 @@ fn main(rt: HostRuntime) -> ExitCode {
 
 /// The status of `show` for the system's words. An error comes where they can't be read or held, and
 /// then nothing is written.
-fn run(rt: &HostRuntime) -> io::Result<u8> {
+fn run(rt: &HostRuntime) -> io::Result<u8>
+    ensures { IfOk result IsStatus }
+{
     let words = system_words(rt)?;
     let texts = texts_of(rt.alloc(), &words)?;
     Ok(show(rt.alloc(), &texts, &mut io::writer(rt)))
