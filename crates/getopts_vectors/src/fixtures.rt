@@ -290,64 +290,6 @@ pub fn expect_answer(
             need_defined(rt, matches, name);
             assert_eq!(rt; matches.opt_count(name), count, "{name:?} in {words:?}");
         }
-        Answer::Positions(name, expected) => {
-            need_defined(rt, matches, name);
-            let positions = matches.opt_positions(alloc, name)?;
-            assert_eq!(rt; positions.as_slice(), expected, "{name:?} in {words:?}");
-        }
-        Answer::Strs(name, expected) => {
-            need_defined(rt, matches, name);
-            let values = matches.opt_strs(alloc, name)?;
-            assert!(rt;
-                same_texts(&values, expected),
-                "{values:?} of {name:?} in {words:?}"
-            );
-        }
-        Answer::StrsPos(name, expected) => {
-            need_defined(rt, matches, name);
-            let pairs = matches.opt_strs_pos(alloc, name)?;
-            assert!(rt;
-                same_pairs(&pairs, expected),
-                "{pairs:?} of {name:?} in {words:?}"
-            );
-        }
-        Answer::Str(name, expected) => {
-            need_defined(rt, matches, name);
-            let value = matches.opt_str(alloc, name)?;
-            assert_eq!(rt; value.as_deref(), expected, "{name:?} in {words:?}");
-        }
-        Answer::Default(name, def, expected) => {
-            need_defined(rt, matches, name);
-            let value = matches.opt_default(alloc, name, def)?;
-            assert_eq!(rt;
-                value.as_deref(),
-                expected,
-                "{name:?} or {def:?} in {words:?}"
-            );
-        }
-        Answer::AnyPresent(names, present) => {
-            let owned = strings(alloc, names)?;
-            assert_eq!(rt;
-                matches.opts_present(&owned),
-                present,
-                "{names:?} in {words:?}"
-            );
-            need_all_defined(rt, matches, names);
-            assert_eq!(rt;
-                matches.opts_present_any(names),
-                present,
-                "{names:?} in {words:?}"
-            );
-        }
-        Answer::FirstStr(names, expected) => {
-            let owned = strings(alloc, names)?;
-            need_all_strings_defined(rt, matches, &owned);
-            let value = matches.opts_str(alloc, &owned)?;
-            assert_eq!(rt; value.as_deref(), expected, "{names:?} in {words:?}");
-            need_all_defined(rt, matches, names);
-            let value = matches.opts_str_first(alloc, names)?;
-            assert_eq!(rt; value.as_deref(), expected, "{names:?} in {words:?}");
-        }
         Answer::Free(expected) => {
             let free = &matches.free;
             assert!(rt;
@@ -358,7 +300,146 @@ pub fn expect_answer(
         Answer::TrailingStart(start) => {
             assert_eq!(rt; matches.free_trailing_start(), start, "in {words:?}");
         }
+        Answer::Positions(name, expected) => {
+            expect_positions(rt, alloc, matches, name, expected, words)?;
+        }
+        Answer::Strs(name, expected) => expect_strs(rt, alloc, matches, name, expected, words)?,
+        Answer::StrsPos(name, expected) => {
+            expect_strs_pos(rt, alloc, matches, name, expected, words)?;
+        }
+        Answer::Str(name, expected) => expect_str(rt, alloc, matches, name, expected, words)?,
+        Answer::Default(name, def, expected) => {
+            expect_default(rt, alloc, matches, name, def, expected, words)?;
+        }
+        Answer::AnyPresent(names, present) => {
+            expect_any_present(rt, alloc, matches, names, present, words)?;
+        }
+        Answer::FirstStr(names, expected) => {
+            expect_first_str(rt, alloc, matches, names, expected, words)?;
+        }
     }
+    Ok(())
+}
+
+fn expect_positions(
+    rt: &impl Abort,
+    alloc: Global,
+    matches: &Matches,
+    name: &str,
+    expected: &[usize],
+    words: &[&str],
+) -> Result<(), AllocError> {
+    need_defined(rt, matches, name);
+    let positions = matches.opt_positions(alloc, name)?;
+    assert_eq!(rt; positions.as_slice(), expected, "{name:?} in {words:?}");
+    Ok(())
+}
+
+fn expect_strs(
+    rt: &impl Abort,
+    alloc: Global,
+    matches: &Matches,
+    name: &str,
+    expected: &[&str],
+    words: &[&str],
+) -> Result<(), AllocError> {
+    need_defined(rt, matches, name);
+    let values = matches.opt_strs(alloc, name)?;
+    assert!(rt;
+        same_texts(&values, expected),
+        "{values:?} of {name:?} in {words:?}"
+    );
+    Ok(())
+}
+
+fn expect_strs_pos(
+    rt: &impl Abort,
+    alloc: Global,
+    matches: &Matches,
+    name: &str,
+    expected: &[(usize, &str)],
+    words: &[&str],
+) -> Result<(), AllocError> {
+    need_defined(rt, matches, name);
+    let pairs = matches.opt_strs_pos(alloc, name)?;
+    assert!(rt;
+        same_pairs(&pairs, expected),
+        "{pairs:?} of {name:?} in {words:?}"
+    );
+    Ok(())
+}
+
+fn expect_str(
+    rt: &impl Abort,
+    alloc: Global,
+    matches: &Matches,
+    name: &str,
+    expected: Option<&str>,
+    words: &[&str],
+) -> Result<(), AllocError> {
+    need_defined(rt, matches, name);
+    let value = matches.opt_str(alloc, name)?;
+    assert_eq!(rt; value.as_deref(), expected, "{name:?} in {words:?}");
+    Ok(())
+}
+
+fn expect_default(
+    rt: &impl Abort,
+    alloc: Global,
+    matches: &Matches,
+    name: &str,
+    def: &str,
+    expected: Option<&str>,
+    words: &[&str],
+) -> Result<(), AllocError> {
+    need_defined(rt, matches, name);
+    let value = matches.opt_default(alloc, name, def)?;
+    assert_eq!(rt;
+        value.as_deref(),
+        expected,
+        "{name:?} or {def:?} in {words:?}"
+    );
+    Ok(())
+}
+
+fn expect_any_present(
+    rt: &impl Abort,
+    alloc: Global,
+    matches: &Matches,
+    names: &[&str],
+    present: bool,
+    words: &[&str],
+) -> Result<(), AllocError> {
+    let owned = strings(alloc, names)?;
+    assert_eq!(rt;
+        matches.opts_present(&owned),
+        present,
+        "{names:?} in {words:?}"
+    );
+    need_all_defined(rt, matches, names);
+    assert_eq!(rt;
+        matches.opts_present_any(names),
+        present,
+        "{names:?} in {words:?}"
+    );
+    Ok(())
+}
+
+fn expect_first_str(
+    rt: &impl Abort,
+    alloc: Global,
+    matches: &Matches,
+    names: &[&str],
+    expected: Option<&str>,
+    words: &[&str],
+) -> Result<(), AllocError> {
+    let owned = strings(alloc, names)?;
+    need_all_strings_defined(rt, matches, &owned);
+    let value = matches.opts_str(alloc, &owned)?;
+    assert_eq!(rt; value.as_deref(), expected, "{names:?} in {words:?}");
+    need_all_defined(rt, matches, names);
+    let value = matches.opts_str_first(alloc, names)?;
+    assert_eq!(rt; value.as_deref(), expected, "{names:?} in {words:?}");
     Ok(())
 }
 
