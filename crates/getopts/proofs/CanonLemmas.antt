@@ -12,7 +12,7 @@ use Rattle.getopts.specs.Options.{Known, Group, Declared, AreLawfullyNamed, name
 use Rattle.getopts.specs.Scan.{dash, equals_sign, begins_with_dash, holds_equals, stop_word, Argument, none, attached, separate, one, two, flags, ends_in, end_text, attached_argument, argument_words, value_of, with_equals, Item, free, long, cluster, spelled_all, FitsLong, FitsEnd, IsFlag, IsLawfulItem, AreWellFollowed, Reading, IsReading, Mention, mention, mentions, Occurrence, occurrences_of, free_items}
 use Rattle.getopts.specs.ScanLaws.{mention_of, mentions_of}
 use Rattle.getopts.specs.Matches.{found_at, matched, FitsCount, KeepsCounts}
-use Rattle.getopts.specs.Canon.{Content, content_of, main_at, HasPlainMain, AnswersMain, FitsKind, FitsGroup, IsPlain, IsSound, IsFitting, canonical_word, canonical_line, attached_value, canonical_item, canonical_reading, with_setting, IsCountKeeping, Says, ReadsBackEverywhere, SaysNothingElse, IsOnlyContent, HasCanonicalLine, HasNoItem, HasUnwritable}
+use Rattle.getopts.specs.Canon.{Content, content_of, main_at, HasPlainMain, AnswersMain, FitsKind, IsPlain, IsSound, canonical_word, canonical_line, attached_value, canonical_item, canonical_reading, with_setting, IsCountKeeping, Says, ReadsBackEverywhere, SaysNothingElse, IsOnlyContent, HasCanonicalLine, HasNoItem, HasUnwritable}
 use Rattle.getopts.specs.Theorem.{CanonicalLinesTell}
 use Rattle.getopts.specs.declared.groups.HasArg.{HasArg}
 use Rattle.getopts.specs.declared.groups.HasArg.TheVariants.{Yes, No, Maybe}
@@ -41,6 +41,14 @@ main_at-filled : (groups : List Group) (place : ℕ) → AreLawfullyNamed groups
 main_at-filled groups place lawful own empty =
     let no_name = resolution-nil (names_of groups) (AllByRecursion-map IsLawfullyNamed (λ group. group.known.names) groups lawful) in
     none-some place (sym no_name ∙ (rw empty at own))
+
+-- a mentioned group is there, and its kind may have the value
+abbrev pub FitsGroup : List Group → Mention → Type 0
+FitsGroup groups m = (kind : HasArg) × (kind_at groups m.group ≡ Some kind) × FitsKind kind m.value
+
+-- fitting content: each mentioned group is there, and its kind may have the value
+abbrev pub IsFitting : List Group → Content → Type 0
+IsFitting groups content = AllByRecursion (FitsGroup groups) content.mentions
 
 -- a mention as a lawful item may have it
 record IsGood (groups : List Group) (m : Mention) : Type 0 where
@@ -353,7 +361,6 @@ HasCanonicalLine-says options words content lawful named says plain =
     let nothing_else = SaysNothingElse-reads_back options content named back in
     record {
       sound = sound;
-      fitting = IsFitting-says options words content says;
       reads_back = back;
       says_nothing_else = nothing_else;
       its_own = λ other says_other. ap (canonical_line options.groups) (nothing_else other says_other);

@@ -9,7 +9,7 @@ use Rattle.getopts.specs.Options.{Known, Group, Grammar, Declared, names_of, kno
 use Rattle.getopts.specs.Scan.{Occurrence, Item, free, long, cluster, Tail, line_end, stop, rest, stop_word, spelled_all, tail_words, tail_frees, free_items, free_words, IsLawfulItem, Reading, IsReading, occurrences_of}
 use Rattle.getopts.specs.Matches.{Found, Matched, MatchedGroup, found_at, matched, FitsCount, KeepsCounts}
 use Rattle.getopts.specs.Accessors.{place_of, found_of, found_in, first_value}
-use Rattle.getopts.specs.Canon.{FitsKind, FitsGroup}
+use Rattle.getopts.specs.Canon.{FitsKind}
 use Rattle.getopts.specs.Parse.{IsAccepted}
 use Rattle.getopts.specs.Told.{HaveLastWordsFree, HaveValuesFor, AreGroupsOf, HaveValuesByKind, DefineDeclared, HoldRequiredOnce, HoldNeededValues}
 use Rattle.getopts.specs.ScanLaws.{EndIn, mention_of}
@@ -18,7 +18,7 @@ use Rattle.getopts.specs.declared.groups.HasArg.{HasArg}
 use Rattle.getopts.specs.declared.groups.HasArg.TheVariants.{Yes}
 use Rattle.getopts.specs.declared.groups.Occur.{Occur}
 use Rattle.getopts.specs.declared.groups.Occur.TheVariants.{Req}
-use Rattle.getopts.proofs.CanonLemmas.{IsFitting-reading}
+use Rattle.getopts.proofs.CanonLemmas.{FitsGroup, IsFitting-reading}
 use Rattle.getopts.proofs.MatchesLemmas.{knowns-matched}
 use Rattle.getopts.proofs.ScanReadings.{spelled_all-append}
 

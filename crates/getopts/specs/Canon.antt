@@ -5,7 +5,7 @@ use Rattle.std.specs.Prelude.{None, slice_get}
 use Rattle.std.specs.List.{AllByRecursion, Contains}
 use Rattle.std.specs.Option.{option_map_or}
 use Rattle.getopts.specs.Names.{Text, main_name, resolution}
-use Rattle.getopts.specs.Options.{Group, Declared, names_of, kind_at, Grammar, grammar_of}
+use Rattle.getopts.specs.Options.{Group, Declared, names_of, Grammar, grammar_of}
 use Rattle.getopts.specs.Scan.{holds_equals, stop_word, Argument, none, attached, two, Item, long}
 use Rattle.getopts.specs.Scan.{long_word, spelled, IsLawfulItem, stop, Reading, IsReading, Mention}
 use Rattle.getopts.specs.Scan.{mentions, free_words}
@@ -48,10 +48,6 @@ FitsKind Yes None = ⊥
 FitsKind Yes (Some value) = ⊤
 FitsKind Maybe value = ⊤
 
--- a mentioned group is there, and its kind may have the value
-abbrev pub FitsGroup : List Group → Mention → Type 0
-FitsGroup groups m = (kind : HasArg) × (kind_at groups m.group ≡ Some kind) × FitsKind kind m.value
-
 -- plain content: no mentioned group has a main name that holds `=`
 abbrev pub IsPlain : List Group → Content → Type 0
 IsPlain groups content = AllByRecursion (λ m. HasPlainMain groups m.group) content.mentions
@@ -59,10 +55,6 @@ IsPlain groups content = AllByRecursion (λ m. HasPlainMain groups m.group) cont
 -- sound content: each mentioned group is what its own main name resolves to
 abbrev pub IsSound : List Group → Content → Type 0
 IsSound groups content = AllByRecursion (λ m. AnswersMain groups m.group) content.mentions
-
--- fitting content: each mentioned group is there, and its kind may have the value
-abbrev pub IsFitting : List Group → Content → Type 0
-IsFitting groups content = AllByRecursion (FitsGroup groups) content.mentions
 
 -- the canonical word of a mention: `--main`, or `--main=value` where it has a value
 abbrev pub canonical_word : List Group → Mention → Text
@@ -142,7 +134,6 @@ IsOnlyContent groups content = (other : Content) → IsSound groups other → Is
 -- the laws of the canonical line of a content that is plain and that some line says
 pub record HasCanonicalLine (options : Declared) (content : Content) : Type 0 where
   pub sound : IsSound options.groups content
-  pub fitting : IsFitting options.groups content
   pub reads_back : ReadsBackEverywhere options content
   pub says_nothing_else : SaysNothingElse options content
   pub its_own : IsItsOwn options content

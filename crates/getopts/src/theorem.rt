@@ -1,6 +1,6 @@
 //! The main theorem, as a law to cite.
 
-ghost use Rattle.getopts.specs.Canon.{IsSound, IsFitting, ReadsBackEverywhere, SaysNothingElse, IsItsOwn, IsOnlyContent};
+ghost use Rattle.getopts.specs.Canon.{IsSound, ReadsBackEverywhere, SaysNothingElse, IsItsOwn, IsOnlyContent};
 ghost use Rattle.getopts.specs.CanonAnswers.{EachContent, EachPlainContent, AnsweredLinesTell};
 ghost use Rattle.getopts.specs.Theorem.{OneReading, AcceptedExactlyWhen, RefusedExactlyWhen, OneOfThree, OneReadingGivesAll, OneContentHoldsSame, CanonicalLinesTell};
 
@@ -38,9 +38,8 @@ pub fn one_reading_one_canonical_line(options: &Options)
     ensures its_own { EachPlainContent options.now (IsItsOwn options.now) }
     ensures only_content { EachPlainContent options.now (IsOnlyContent options.now.groups) }
 
-    // What lines say: options that are there, with values that fit their kinds.
+    // Each option that a line mentions is what its own main name stands for.
     ensures sound { EachContent options.now (IsSound options.now.groups) }
-    ensures fitting { EachContent options.now (IsFitting options.now.groups) }
 {
     let _groups = options.groups();
 }

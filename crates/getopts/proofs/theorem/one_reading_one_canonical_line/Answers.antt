@@ -1,6 +1,6 @@
 -- What the options keep makes their names lawful, and so the laws hold.
 use Rattle.getopts.proofs.CallerLemmas.{OneContentHoldsSame_lem}
-use Rattle.getopts.proofs.CanonLemmas.{IsSound-says, IsFitting-says}
+use Rattle.getopts.proofs.CanonLemmas.{IsSound-says}
 use Rattle.getopts.proofs.TheoremLemmas.{OneReading-options, AcceptedExactlyWhen-options, RefusedExactlyWhen-options, OneOfThree-options, OneReadingGivesAll-options, CanonicalLinesTell-options, AnsweredLinesTell-options, HasCanonicalLine-options}
 use Rattle.getopts.proofs.theorem.one_reading_one_canonical_line.Goals as goal
 
@@ -24,5 +24,4 @@ returns c =
       its_own = λ words content says plain. (laws words content says plain).its_own;
       only_content = λ words content says plain. (laws words content says plain).only;
       sound = IsSound-says options;
-      fitting = IsFitting-says options;
     }
