@@ -1,4 +1,5 @@
 pub mod Cache
 pub mod Command
 pub mod Compile
+pub mod Lists
 pub mod Search

@@ -1,9 +1,11 @@
 //! A wrapper that logs and caches by the lines that it is given, whatever options they are read by.
 
-ghost use Rattle.std.specs.Prelude.{map, IfOk, IfSome};
+ghost use Rattle.std.specs.Prelude.{map, IfOk, IfErr, IfSome, IfNone};
 ghost use Rattle.std.specs.String.{string_bytes};
-ghost use Rattle.getopts.specs.CanonAnswers.{IsWritten};
+ghost use Rattle.getopts.specs.CanonAnswers.{IsWritten, IsUnwritable};
+ghost use Rattle.getopts.specs.Fail.{Tells};
 ghost use Rattle.getopts.specs.Names.{texts};
+ghost use Rattle.getopts.specs.Parse.{IsRefused};
 ghost use Rattle.getopts_uses.specs.Cache.{KeysTell};
 
 use getopts::{Fail, Options, one_reading_one_canonical_line};
@@ -14,6 +16,9 @@ use std::alloc::Global;
 pub fn key_of(alloc: Global, options: &Options, words: &[&str]) -> Result<Option<Vec<String>>, Fail>
     ensures written { IfOk result (λ key. IfSome key (λ key.
         IsWritten options.now (texts words.now) (map string_bytes key.items))) }
+    ensures unwritable { IfOk result (λ key. IfNone key
+        (IsUnwritable options.now (texts words.now))) }
+    ensures refused { IfErr result (λ fail. Tells fail (IsRefused options.now (texts words.now))) }
     ensures tells { KeysTell options.now }
 {
     one_reading_one_canonical_line(options);

@@ -1,7 +1,9 @@
 //! A compiler driver: a required input, several outputs, and search folders in order.
 
-ghost use Rattle.std.specs.Prelude.{◌≡◌, IfOk, OnOk};
+ghost use Rattle.std.specs.Prelude.{◌≡◌, IfOk, IfErr, OnOk};
+ghost use Rattle.getopts.specs.Fail.{Tells};
 ghost use Rattle.getopts.specs.Names.{texts};
+ghost use Rattle.getopts.specs.Parse.{IsRefused};
 ghost use Rattle.getopts_uses.specs.Compile.{compile_options, IsJobOf, OutputsMayBeAttached};
 
 use crate::line::read;
@@ -31,6 +33,8 @@ fn options(alloc: Global) -> Result<Options, AllocError>
 /// The job of a line. An output's file is attached to its name or separate, and the job is the same.
 pub fn read_job(alloc: Global, words: &[&str]) -> Result<Job, Fail>
     ensures job { IfOk result (IsJobOf (texts words.now)) }
+    ensures refused { IfErr result (λ fail.
+        Tells fail (IsRefused compile_options (texts words.now))) }
     ensures outputs { OnOk result OutputsMayBeAttached }
 {
     let options = options(alloc)?;

@@ -1,11 +1,13 @@
 //! Names that come at run time, and lists of them.
 
-ghost use Rattle.std.specs.Prelude.{◌≡◌, ◌↔◌, length, codes, IfSome, IsSome, IsTrue};
+ghost use Rattle.std.specs.Prelude.{◌≡◌, ◌↔◌, [], ◌∷◌, length, codes, IfOk, IfSome, IsSome, IsTrue};
 ghost use Rattle.std.specs.List.{list_any};
 ghost use Rattle.getopts.specs.Accessors.{IsDefined, AreDefined, found_of, is_present};
 ghost use Rattle.getopts.specs.Names.{texts};
 ghost use Rattle.getopts.specs.Options.{Declares};
+ghost use Rattle.getopts_uses.specs.Lists.{IsLevelOf};
 
+use crate::line::read;
 use getopts::{Matches, Options};
 use std::alloc::Global;
 
@@ -33,14 +35,15 @@ fn level(matches: &Matches) -> usize
 /// The level of a line.
 pub fn level_of(alloc: Global, options: &Options, words: &[&str]) -> anyhow::Result<usize>
     requires { Declares options.now (codes "verbose") }
+    ensures { IfOk result (IsLevelOf options.now (texts words.now)) }
 {
-    let matches = options.parse(alloc, words.iter().copied())?;
+    let matches = read(alloc, options, words)?;
     Ok(level(&matches))
 }
 
 /// Whether all names are defined.
 fn all_defined(matches: &Matches, names: &[&str]) -> bool
-    ensures { IsTrue result → AreDefined matches.now.groups (texts names.now) }
+    ensures { IsTrue result ↔ AreDefined matches.now.groups (texts names.now) }
 {
     match names {
         [first, others @ ..] => matches.opt_defined(first) && all_defined(matches, others),
@@ -50,7 +53,8 @@ fn all_defined(matches: &Matches, names: &[&str]) -> bool
 
 /// Whether one of these options was given, where all names are defined.
 pub fn any_given(matches: &Matches, names: &[&str]) -> Option<bool>
-    ensures { IfSome result (λ given. given
+    ensures defined { IsSome result ↔ AreDefined matches.now.groups (texts names.now) }
+    ensures given { IfSome result (λ given. given
         ≡ list_any (λ name. is_present matches.now.groups name.now) names.now) }
 {
     if all_defined(matches, names) {
@@ -64,6 +68,8 @@ pub fn any_given(matches: &Matches, names: &[&str]) -> Option<bool>
 pub fn asks_only(matches: &Matches) -> bool
     requires help { IsDefined matches.now.groups (codes "help") }
     requires version { IsDefined matches.now.groups (codes "version") }
+    ensures { result ≡ list_any (is_present matches.now.groups)
+        (codes "help" ∷ codes "version" ∷ []) }
 {
     matches.opts_present_any(&["help", "version"])
 }

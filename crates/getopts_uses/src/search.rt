@@ -1,8 +1,9 @@
 //! A search tool: flags, a number, an optional colour, help and files.
 
-ghost use Rattle.std.specs.Prelude.{◌≡◌, map, string_bytes, IfOk};
+ghost use Rattle.std.specs.Prelude.{◌≡◌, map, string_bytes, IfOk, IfErr};
 ghost use Rattle.getopts.specs.Names.{texts};
-ghost use Rattle.getopts_uses.specs.Search.{search_options, AreSettingsOf, IsSearchHelp, AreSearchRows};
+ghost use Rattle.getopts_uses.specs.declared.search.Refusal.TheVariants.{Line, Number, OutOfMemory};
+ghost use Rattle.getopts_uses.specs.Search.{search_options, AreSettingsOf, IsRefusalOf, IsSearchHelp, AreSearchRows};
 
 use crate::line::read;
 use getopts::{Fail, Options};
@@ -31,18 +32,24 @@ pub enum Refusal {
 }
 
 impl From<Fail> for Refusal {
+    ghost from_gives = { λ fail refusal. refusal ≡ Line fail };
+
     fn from(fail: Fail) -> Refusal {
         Refusal::Line(fail)
     }
 }
 
 impl From<ParseIntError> for Refusal {
+    ghost from_gives = { λ error refusal. refusal ≡ Number error };
+
     fn from(error: ParseIntError) -> Refusal {
         Refusal::Number(error)
     }
 }
 
 impl From<AllocError> for Refusal {
+    ghost from_gives = { λ _ refusal. refusal ≡ OutOfMemory };
+
     fn from(_error: AllocError) -> Refusal {
         Refusal::OutOfMemory
     }
@@ -63,7 +70,8 @@ fn options(alloc: Global) -> Result<Options, AllocError>
 
 /// The settings of a line.
 pub fn read_settings(alloc: Global, words: &[&str]) -> Result<Settings, Refusal>
-    ensures { IfOk result (AreSettingsOf (texts words.now)) }
+    ensures settings { IfOk result (AreSettingsOf (texts words.now)) }
+    ensures refused { IfErr result (IsRefusalOf (texts words.now)) }
 {
     let options = options(alloc)?;
     let matches = read(alloc, &options, words)?;

@@ -1,8 +1,10 @@
 //! A program with subcommands: the first free word names one, and the words after it are its own.
 
-ghost use Rattle.std.specs.Prelude.{◌≡◌, map, IfOk, MatchOption};
+ghost use Rattle.std.specs.Prelude.{◌≡◌, map, IfOk, IfErr, MatchOption};
 ghost use Rattle.std.specs.String.{string_bytes};
+ghost use Rattle.getopts.specs.Fail.{Tells};
 ghost use Rattle.getopts.specs.Names.{texts};
+ghost use Rattle.getopts.specs.Parse.{IsRefused};
 ghost use Rattle.getopts_uses.specs.Command.{command_options, IsCommandOf, NamesNone};
 
 use crate::line::read;
@@ -41,8 +43,10 @@ fn copied(alloc: Global, words: &[String]) -> Result<Vec<String>, AllocError>
 
 /// The subcommand of a line, and the words that are handed on to it.
 pub fn read_command(alloc: Global, words: &[&str]) -> Result<Option<Command>, Fail>
-    ensures { IfOk result (λ command.
+    ensures command { IfOk result (λ command.
         MatchOption command (NamesNone (texts words.now)) (IsCommandOf (texts words.now))) }
+    ensures refused { IfErr result (λ fail.
+        Tells fail (IsRefused command_options (texts words.now))) }
 {
     let options = options(alloc)?;
     let matches = read(alloc, &options, words)?;
