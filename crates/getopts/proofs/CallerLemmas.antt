@@ -5,7 +5,7 @@ use Rattle.std.proofs.lemmas.List.{length-map}
 use Rattle.getopts.specs.Names.{Text, resolution}
 use Rattle.getopts.specs.Options.{Grammar, Known, Declared, names_of, knowns_of, grammar_of}
 use Rattle.getopts.specs.Scan.{Reading, Mention, Occurrence, occurrence_at, occurrences_of, free_words}
-use Rattle.getopts.specs.ScanLaws.{mention_of, mentions_of, positions_in}
+use Rattle.getopts.specs.ScanLaws.{mentions_of, positions_in}
 use Rattle.getopts.specs.Canon.{Content}
 use Rattle.getopts.specs.Matches.{Found, Matched, found_at, matched, matches_of, KeepsCounts}
 use Rattle.getopts.specs.Accessors.{IsReadAs, place_of, found_in, found_of, first_value, values_of}
@@ -32,16 +32,16 @@ values_at place ms = map (λ (m : Mention). m.value) (filter (λ (m : Mention). 
 abbrev values : List Found → List (Option Text)
 values founds = map (λ (found : Found). found.value) founds
 
-values-found_at : (place : ℕ) (os : List Occurrence) → values (found_at place os) ≡ values_at place (map mention_of os)
+values-found_at : (place : ℕ) (os : List Occurrence) → values (found_at place os) ≡ values_at place (map (λ (o : Occurrence). o.mention) os)
 values-found_at place [] = refl
-values-found_at place (o ∷ os) = here (o.group == place) (values-found_at place os) where
-  here : (is : Bool) → values (found_at place os) ≡ values_at place (map mention_of os)
-      → values (map (λ (o : Occurrence). record { position = o.position; value = o.value }) (cond is (o ∷ filter (λ (o : Occurrence). o.group == place) os) (filter (λ (o : Occurrence). o.group == place) os)))
-      ≡ map (λ (m : Mention). m.value) (cond is (mention_of o ∷ filter (λ (m : Mention). m.group == place) (map mention_of os)) (filter (λ (m : Mention). m.group == place) (map mention_of os)))
-  here true others = ap (λ (more : List (Option Text)). o.value ∷ more) others
+values-found_at place (o ∷ os) = here (o.mention.group == place) (values-found_at place os) where
+  here : (is : Bool) → values (found_at place os) ≡ values_at place (map (λ (o : Occurrence). o.mention) os)
+      → values (map (λ (o : Occurrence). record { position = o.position; value = o.mention.value }) (cond is (o ∷ filter (λ (o : Occurrence). o.mention.group == place) os) (filter (λ (o : Occurrence). o.mention.group == place) os)))
+      ≡ map (λ (m : Mention). m.value) (cond is (o.mention ∷ filter (λ (m : Mention). m.group == place) (map (λ (o : Occurrence). o.mention) os)) (filter (λ (m : Mention). m.group == place) (map (λ (o : Occurrence). o.mention) os)))
+  here true others = ap (λ (more : List (Option Text)). o.mention.value ∷ more) others
   here false others = others
 
-values-found_in : (knowns : List Known) (first i : ℕ) (old new : List Occurrence) → map mention_of new ≡ map mention_of old
+values-found_in : (knowns : List Known) (first i : ℕ) (old new : List Occurrence) → map (λ (o : Occurrence). o.mention) new ≡ map (λ (o : Occurrence). o.mention) old
     → values (found_in (matched first knowns new) (Some i)) ≡ values (found_in (matched first knowns old) (Some i))
 values-found_in [] first i old new same = refl
 values-found_in (known ∷ knowns) first zero old new same = values-found_at first new ∙ ap (values_at first) same ∙ sym (values-found_at first old)
@@ -109,15 +109,15 @@ put_at (position ∷ positions) (m ∷ ms) = occurrence_at position m ∷ put_at
 put_at [] ms = []
 put_at positions [] = []
 
-put_at-parts : (os : List Occurrence) → put_at (map (λ (o : Occurrence). o.position) os) (map mention_of os) ≡ os
+put_at-parts : (os : List Occurrence) → put_at (map (λ (o : Occurrence). o.position) os) (map (λ (o : Occurrence). o.mention) os) ≡ os
 unfolding put_at
 put_at-parts [] = refl
 put_at-parts (o ∷ os) = ap (λ (more : List Occurrence). o ∷ more) (put_at-parts os)
 
-put_at-moved : (move : ℕ → ℕ) (os : List Occurrence) → put_at (map move (map (λ (o : Occurrence). o.position) os)) (map mention_of os) ≡ map (λ (o : Occurrence). occurrence_at (move o.position) (mention_of o)) os
+put_at-moved : (move : ℕ → ℕ) (os : List Occurrence) → put_at (map move (map (λ (o : Occurrence). o.position) os)) (map (λ (o : Occurrence). o.mention) os) ≡ map (λ (o : Occurrence). occurrence_at (move o.position) o.mention) os
 unfolding put_at
 put_at-moved move [] = refl
-put_at-moved move (o ∷ os) = ap (λ (more : List Occurrence). occurrence_at (move o.position) (mention_of o) ∷ more) (put_at-moved move os)
+put_at-moved move (o ∷ os) = ap (λ (more : List Occurrence). occurrence_at (move o.position) o.mention ∷ more) (put_at-moved move os)
 
 -- readings that mention the same at the same positions have the same occurrences
 pub occurrences-same : (grammar : Grammar) (old new : Reading) → mentions_of grammar new ≡ mentions_of grammar old → positions_in grammar new ≡ positions_in grammar old
@@ -130,7 +130,7 @@ occurrences-same grammar old new told places =
 
 -- and readings that mention the same at positions that were moved have the occurrences so moved
 pub occurrences-moved : (move : ℕ → ℕ) (grammar : Grammar) (old new : Reading) → mentions_of grammar new ≡ mentions_of grammar old → positions_in grammar new ≡ map move (positions_in grammar old)
-    → occurrences_of grammar new ≡ map (λ (o : Occurrence). occurrence_at (move o.position) (mention_of o)) (occurrences_of grammar old)
+    → occurrences_of grammar new ≡ map (λ (o : Occurrence). occurrence_at (move o.position) o.mention) (occurrences_of grammar old)
 occurrences-moved move grammar old new told places =
     sym (put_at-parts (occurrences_of grammar new))
     ∙ ap (λ (ms : List Mention). put_at (positions_in grammar new) ms) told

@@ -10,7 +10,7 @@ use Rattle.std.specs.Option.{option_and_then, unwrap_or}
 use Rattle.getopts.specs.Names.{Text, Names, IsLawfullyNamed, main_name, resolution}
 use Rattle.getopts.specs.Options.{Known, Group, Declared, AreLawfullyNamed, names_of, knowns_of, Grammar, kind_at, kind_of, grammar_of}
 use Rattle.getopts.specs.Scan.{dash, equals_sign, begins_with_dash, holds_equals, stop_word, Argument, none, attached, separate, one, two, flags, ends_in, end_text, attached_argument, argument_words, value_of, with_equals, Item, free, long, cluster, spelled_all, FitsLong, FitsEnd, IsFlag, IsLawfulItem, AreWellFollowed, Reading, IsReading, Mention, mention, mentions, Occurrence, occurrences_of, free_items}
-use Rattle.getopts.specs.ScanLaws.{mention_of, mentions_of}
+use Rattle.getopts.specs.ScanLaws.{mentions_of}
 use Rattle.getopts.specs.Matches.{found_at, matched, FitsCount, KeepsCounts}
 use Rattle.getopts.specs.Canon.{Content, content_of, main_at, HasPlainMain, AnswersMain, FitsKind, IsPlain, IsSound, canonical_word, canonical_line, attached_value, canonical_item, canonical_reading, with_setting, IsCountKeeping, Says, ReadsBackEverywhere, SaysNothingElse, IsOnlyContent, HasCanonicalLine, HasNoItem, HasUnwritable}
 use Rattle.getopts.specs.Theorem.{CanonicalLinesTell}
@@ -221,7 +221,7 @@ count_at place ms = length (filter (λ m. m.group == place) ms)
 length-found_at : (place : ℕ) (grammar : Grammar) (reading : Reading)
     → length (found_at place (occurrences_of grammar reading)) ≡ count_at place (mentions_of grammar reading)
 length-found_at place grammar reading =
-    length-map _ _ ∙ sym (length-filter-map (λ m. m.group == place) mention_of (occurrences_of grammar reading))
+    length-map _ _ ∙ sym (length-filter-map (λ m. m.group == place) (λ (o : Occurrence). o.mention) (occurrences_of grammar reading))
 
 -- the counts depend on the number of occurrences for each place
 KeepsCounts-numbers : (knowns : List Known) (place : ℕ) (old new : List Occurrence)

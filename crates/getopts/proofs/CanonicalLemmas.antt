@@ -7,7 +7,7 @@ use Rattle.getopts.specs.Names.{Text, texts}
 use Rattle.getopts.specs.Options.{Group, Declared, AreLawfullyNamed, grammar_of, knowns_of}
 use Rattle.getopts.specs.Fail.{Fault}
 use Rattle.getopts.specs.Scan.{equals_sign, holds_equals, Reading, IsScanFault, Occurrence}
-use Rattle.getopts.specs.ScanLaws.{mention_of, mentions_of}
+use Rattle.getopts.specs.ScanLaws.{mentions_of}
 use Rattle.getopts.specs.Line.{line_content}
 use Rattle.getopts.specs.Matches.{Matched, MatchedGroup, matches_of, matched, KeepsCount, KeepsCounts, IsCountFault, broken_count}
 use Rattle.getopts.specs.Parse.{Reads, IsAccepted, BreaksCounts, IsRefused}
@@ -30,23 +30,23 @@ holds_equals-found text true there at =
 holds_equals-found text false there at = sym (holds_equals-none text (λ k within is. true≢false (sym (at k within is))))
 
 -- occurrences of groups whose main names hold no `=`
-pub plain-list_all : (groups : List Group) (found : List Occurrence) → list_all (λ o. not (holds_equals (main_at groups o.group))) found ≡ true
-    → AllByRecursion (λ m. HasPlainMain groups m.group) (map mention_of found)
+pub plain-list_all : (groups : List Group) (found : List Occurrence) → list_all (λ o. not (holds_equals (main_at groups o.mention.group))) found ≡ true
+    → AllByRecursion (λ m. HasPlainMain groups m.group) (map (λ (o : Occurrence). o.mention) found)
 plain-list_all groups [] all = tt
 plain-list_all groups (o ∷ found) all =
-    let parts = and_parts (not (holds_equals (main_at groups o.group))) (list_all (λ p. not (holds_equals (main_at groups p.group))) found) all in
-    (not-true (holds_equals (main_at groups o.group)) parts.0, plain-list_all groups found parts.1)
+    let parts = and_parts (not (holds_equals (main_at groups o.mention.group))) (list_all (λ p. not (holds_equals (main_at groups p.mention.group))) found) all in
+    (not-true (holds_equals (main_at groups o.mention.group)) parts.0, plain-list_all groups found parts.1)
 
-list_all-plain : (groups : List Group) (found : List Occurrence) → AllByRecursion (λ m. HasPlainMain groups m.group) (map mention_of found)
-    → list_all (λ o. not (holds_equals (main_at groups o.group))) found ≡ true
+list_all-plain : (groups : List Group) (found : List Occurrence) → AllByRecursion (λ m. HasPlainMain groups m.group) (map (λ (o : Occurrence). o.mention) found)
+    → list_all (λ o. not (holds_equals (main_at groups o.mention.group))) found ≡ true
 list_all-plain groups [] plain = refl
 list_all-plain groups (o ∷ found) plain =
-    and_from (not (holds_equals (main_at groups o.group))) (list_all (λ p. not (holds_equals (main_at groups p.group))) found)
-    (not_from_false (holds_equals (main_at groups o.group)) plain.0) (list_all-plain groups found plain.1)
+    and_from (not (holds_equals (main_at groups o.mention.group))) (list_all (λ p. not (holds_equals (main_at groups p.mention.group))) found)
+    (not_from_false (holds_equals (main_at groups o.mention.group)) plain.0) (list_all-plain groups found plain.1)
 
 -- an occurrence of a group whose main name holds `=`
-pub not_plain-list_all : (groups : List Group) (found : List Occurrence) → list_all (λ o. not (holds_equals (main_at groups o.group))) found ≡ false
-    → ¬ (AllByRecursion (λ m. HasPlainMain groups m.group) (map mention_of found))
+pub not_plain-list_all : (groups : List Group) (found : List Occurrence) → list_all (λ o. not (holds_equals (main_at groups o.mention.group))) found ≡ false
+    → ¬ (AllByRecursion (λ m. HasPlainMain groups m.group) (map (λ (o : Occurrence). o.mention) found))
 not_plain-list_all groups found some plain = true≢false (sym (list_all-plain groups found plain) ∙ some)
 
 -- what words are accepted with is what a reading says that keeps the counts
@@ -71,8 +71,8 @@ module _ (options : Declared) (words : List Text) (accepted : AcceptedLine) (is 
   pub IsAcceptedWith-line : IsAcceptedWith options words (line_content accepted.line)
   IsAcceptedWith-line =
       let reading = is.reads.reading in
-      let told : map mention_of accepted.line.found ≡ mentions_of (grammar_of options) reading =
-      ap (map mention_of) is.reads.occurrences in
+      let told : map (λ (o : Occurrence). o.mention) accepted.line.found ≡ mentions_of (grammar_of options) reading =
+      ap (map (λ (o : Occurrence). o.mention)) is.reads.occurrences in
       record {
         reading = reading;
         only = only_reads options is.lawful is.shorts words reading is.reads.reads;
@@ -91,7 +91,7 @@ module _ (options : Declared) (words : List Text) (accepted : AcceptedLine) (is 
   }
 
   -- where they hold no group whose main name holds `=`, the line that is made is theirs
-  pub IsWritten-line : list_all (λ o. not (holds_equals (main_at options.groups o.group))) accepted.line.found ≡ true
+  pub IsWritten-line : list_all (λ o. not (holds_equals (main_at options.groups o.mention.group))) accepted.line.found ≡ true
       → (answer : List Text) → answer ≡ canonical_line options.groups (line_content accepted.line) → IsWritten options words answer
   IsWritten-line plain answer answer_is = record {
     content = line_content accepted.line;
@@ -103,7 +103,7 @@ module _ (options : Declared) (words : List Text) (accepted : AcceptedLine) (is 
   }
 
   -- else some mention can't be written
-  pub IsUnwritable-line : list_all (λ o. not (holds_equals (main_at options.groups o.group))) accepted.line.found ≡ false → IsUnwritable options words
+  pub IsUnwritable-line : list_all (λ o. not (holds_equals (main_at options.groups o.mention.group))) accepted.line.found ≡ false → IsUnwritable options words
   IsUnwritable-line some =
       let not_plain = not_plain-list_all options.groups accepted.line.found some in
       record {

@@ -52,9 +52,9 @@ filter-map {X} {Y} f p (x ∷ xs) = elim (p (f x)) as (λ b. cond b (f x ∷ fil
 -- how many occurrences of a group there are, by the index
 pub length-found_at : (knowns : List Known) (occurrences : List Occurrence) (i : ℕ) → i < length knowns → length (unwrap_or (slice_get (index_of knowns occurrences) i) []) ≡ length (found_at i occurrences)
 length-found_at knowns occurrences i within =
-    let founds : length (found_at i occurrences) ≡ length (filter (λ (o : Occurrence). o.group == i) occurrences) = simp length-map in
-    ap (λ (o : Option (List ℕ)). length (unwrap_or o [])) (slice_get-places_by_group (length knowns) i (map (λ (o : Occurrence). o.group) occurrences) within)
-    ∙ length-places_of (λ (o : Occurrence). o.group) i occurrences ∙ sym founds
+    let founds : length (found_at i occurrences) ≡ length (filter (λ (o : Occurrence). o.mention.group == i) occurrences) = simp length-map in
+    ap (λ (o : Option (List ℕ)). length (unwrap_or o [])) (slice_get-places_by_group (length knowns) i (map (λ (o : Occurrence). o.mention.group) occurrences) within)
+    ∙ length-places_of (λ (o : Occurrence). o.mention.group) i occurrences ∙ sym founds
 
 -- as many matched groups as known ones
 pub length-matched : (first : ℕ) (knowns : List Known) (occurrences : List Occurrence) → length (matched first knowns occurrences) ≡ length knowns
@@ -107,29 +107,29 @@ none_known (known ∷ knowns) zero none = cc none
 none_known (known ∷ knowns) (suc i) none = omega (arith, none_known knowns i none)
 
 -- the groups of occurrences, whatever their values
-pub groups-given : (values : List Text) (given : List Given) → map (λ (g : Given). g.group) given ≡ map (λ (o : Occurrence). o.group) (map (given_view values) given)
+pub groups-given : (values : List Text) (given : List Given) → map (λ (g : Given). g.group) given ≡ map (λ (o : Occurrence). o.mention.group) (map (given_view values) given)
 groups-given values [] = refl
 groups-given values (g ∷ given) = ap (λ (more : List ℕ). g.group ∷ more) (groups-given values given)
 
 -- a test of groups that passes for each group with occurrences passes for each occurrence
 pub list_all-by_group : (p : ℕ → Bool) (occurrences : List Occurrence) → ((group : ℕ) → 0 < length (found_at group occurrences) → p group ≡ true)
-    → list_all (λ o. p o.group) occurrences ≡ true
+    → list_all (λ o. p o.mention.group) occurrences ≡ true
 list_all-by_group p [] each = refl
 list_all-by_group p (o ∷ occurrences) each =
-    let founds : ℕ → Bool → List Found = λ group b. map (λ (o : Occurrence). record { position = o.position; value = o.value }) (cond b (o ∷ filter (λ (o : Occurrence). o.group == group) occurrences) (filter (λ (o : Occurrence). o.group == group) occurrences)) in
-    let same : (o.group == o.group) ≡ true = eq-eqb o.group o.group refl in
-    let here : 0 < length (found_at o.group (o ∷ occurrences)) = rw same (omega arith) in
-    and_from (p o.group) (list_all (λ o. p o.group) occurrences) (each o.group here)
-    (list_all-by_group p occurrences (λ group some. each group (elim (o.group == group) as (λ b. 0 < length (founds group b)) [ true ↦ omega arith | false ↦ some ])))
+    let founds : ℕ → Bool → List Found = λ group b. map (λ (o : Occurrence). record { position = o.position; value = o.mention.value }) (cond b (o ∷ filter (λ (o : Occurrence). o.mention.group == group) occurrences) (filter (λ (o : Occurrence). o.mention.group == group) occurrences)) in
+    let same : (o.mention.group == o.mention.group) ≡ true = eq-eqb o.mention.group o.mention.group refl in
+    let here : 0 < length (found_at o.mention.group (o ∷ occurrences)) = rw same (omega arith) in
+    and_from (p o.mention.group) (list_all (λ o. p o.mention.group) occurrences) (each o.mention.group here)
+    (list_all-by_group p occurrences (λ group some. each group (elim (o.mention.group == group) as (λ b. 0 < length (founds group b)) [ true ↦ omega arith | false ↦ some ])))
 
 -- a test that fails for a group with occurrences fails for one of them
 pub list_all-fails_by_group : (p : ℕ → Bool) (group : ℕ) (occurrences : List Occurrence) → p group ≡ false → 0 < length (found_at group occurrences)
-    → list_all (λ o. p o.group) occurrences ≡ false
+    → list_all (λ o. p o.mention.group) occurrences ≡ false
 list_all-fails_by_group p group [] fails some = absurd (omega arith)
-list_all-fails_by_group p group (o ∷ occurrences) fails some = elim (cases_eq o.group group) [
+list_all-fails_by_group p group (o ∷ occurrences) fails some = elim (cases_eq o.mention.group group) [
   | inl same ↦ rw (same, fails) refl
   | inr other ↦
-      let apart : (o.group == group) ≡ false = ne_eqb o.group group other in
+      let apart : (o.mention.group == group) ≡ false = ne_eqb o.mention.group group other in
       let rest = list_all-fails_by_group p group occurrences fails (rw apart at some) in
-      elim (p o.group) as (λ b. (b && list_all (λ o. p o.group) occurrences) ≡ false) [ true ↦ rest | false ↦ refl ]
+      elim (p o.mention.group) as (λ b. (b && list_all (λ o. p o.mention.group) occurrences) ≡ false) [ true ↦ rest | false ↦ refl ]
 ]

@@ -58,7 +58,7 @@ place_of-matched knowns occurrences name = ap (λ (groups : List Names). resolut
 found_at-given : (values : List Text) (place : ℕ) (given : List Given) → map (λ (g : Given). found_part (given_view values g)) (filter (λ (g : Given). g.group == place) given) ≡ found_at place (map (given_view values) given)
 found_at-given values place [] = refl
 found_at-given values place (g ∷ given) =
-    let occurrences = filter (λ (o : Occurrence). o.group == place) (map (given_view values) given) in
+    let occurrences = filter (λ (o : Occurrence). o.mention.group == place) (map (given_view values) given) in
     elim (g.group == place) as (λ (b : Bool). map (λ (h : Given). found_part (given_view values h)) (cond b (g ∷ filter (λ (h : Given). h.group == place) given) (filter (λ (h : Given). h.group == place) given)) ≡ map found_part (cond b (given_view values g ∷ occurrences) occurrences)) [
       | true ↦ ap (λ (more : List Found). found_part (given_view values g) ∷ more) (found_at-given values place given)
       | false ↦ found_at-given values place given
@@ -72,13 +72,13 @@ module _ (knowns : List Known) (values : List Text) (given : List Given) (place 
   -- of a group that is there, those of its number
   places-there : place < length knowns → given_places ≡ places_of place (map (λ (g : Given). g.group) given)
   places-there there =
-      let groups = map (λ (o : Occurrence). o.group) (map (given_view values) given) in
+      let groups = map (λ (o : Occurrence). o.mention.group) (map (given_view values) given) in
       ap (λ (o : Option (List ℕ)). unwrap_or o []) (slice_get-places_by_group (length knowns) place groups there) ∙ ap (places_of place) (sym (groups-given values given))
 
   -- of any other, none
   places-past : length knowns ≤ place → given_places ≡ []
   places-past past =
-      let groups = map (λ (o : Occurrence). o.group) (map (given_view values) given) in
+      let groups = map (λ (o : Occurrence). o.mention.group) (map (given_view values) given) in
       ap (λ (o : Option (List ℕ)). unwrap_or o []) (slice_get_past (index_of knowns (map (given_view values) given)) place (omega (arith, length-places_by_group (length knowns) groups)))
 
   -- they stand among the occurrences

@@ -54,16 +54,16 @@ module _ (grammar : Grammar) (position : ℕ) (text : Text) where
   -- one more flag
   pub FlagsRead-more : (at group : ℕ) (old new newer : List Occurrence) → IsUtf8 text → at < length text → slice_index text at < 128
       → FlagsRead grammar position text at old new → grammar.place_of (slice_index text at ∷ []) ≡ Some group → IsFlag grammar (slice_index text at)
-      → newer ≡ new ++ record { group = group; value = None; position = position } ∷ []
+      → newer ≡ new ++ record { mention = record { group = group; value = None }; position = position } ∷ []
       → FlagsRead grammar position text (at + 1) old newer
   FlagsRead-more at group old new newer utf8 within ascii before place flag pushed =
       let more : take (at + 1) text ≡ take at text ++ (slice_index text at ∷ []) = take_more text at 0 within in
-      let last : flag_occurrences grammar position (slice_index text at ∷ []) ≡ record { group = group; value = None; position = position } ∷ [] = rw place refl in
+      let last : flag_occurrences grammar position (slice_index text at ∷ []) ≡ record { mention = record { group = group; value = None }; position = position } ∷ [] = rw place refl in
       record {
         flags = subst (AllByRecursion (IsFlag grammar)) (sym more) (flags_push grammar (take at text) (slice_index text at) before.flags flag);
         boundary = IsCharBoundary-after_ascii text at utf8 within ascii;
-        added = pushed ∙ ap (λ (os : List Occurrence). os ++ record { group = group; value = None; position = position } ∷ []) before.added
-            ∙ append_assoc old (flag_occurrences grammar position (take at text)) (record { group = group; value = None; position = position } ∷ [])
+        added = pushed ∙ ap (λ (os : List Occurrence). os ++ record { mention = record { group = group; value = None }; position = position } ∷ []) before.added
+            ∙ append_assoc old (flag_occurrences grammar position (take at text)) (record { mention = record { group = group; value = None }; position = position } ∷ [])
             ∙ ap (λ (os : List Occurrence). old ++ (flag_occurrences grammar position (take at text) ++ os)) (sym last)
             ∙ ap (λ (os : List Occurrence). old ++ os) (sym (map-append (λ name. occurrence_at position (mention grammar (name ∷ []) None)) (take at text) (slice_index text at ∷ [])))
             ∙ ap (λ names. old ++ flag_occurrences grammar position names) (sym more);
@@ -99,15 +99,15 @@ module _ (grammar : Grammar) (position : ℕ) (text : Text) where
       pub AddsItem-ends : (group : ℕ) (kind : HasArg) (value : Option Text) (used : ℕ) (newer : List Occurrence)
           → grammar.place_of (slice_index text at ∷ []) ≡ Some group → grammar.kind_of (slice_index text at ∷ []) ≡ Some kind
           → IsEnding kind (drop (at + 1) text) after value used
-          → newer ≡ new ++ record { group = group; value = value; position = position } ∷ []
+          → newer ≡ new ++ record { mention = record { group = group; value = value }; position = position } ∷ []
           → AddsItem grammar word after position used old newer
       AddsItem-ends group kind value used newer place kind_is ending pushed =
           let parts : text ≡ take at text ++ (slice_index text at ∷ unwrap_or (attached_argument ending.argument) []) =
           text_parts text at within ∙ ap (λ t. take at text ++ (slice_index text at ∷ t)) ending.rest_is in
           let named = λ (name : ℕ). mention grammar (name ∷ []) None in
-          let last : occurrence_at position (mention grammar (slice_index text at ∷ []) (value_of ending.argument)) ∷ [] ≡ record { group = group; value = value; position = position } ∷ [] = rw (place, ← ending.value_is) refl in
+          let last : occurrence_at position (mention grammar (slice_index text at ∷ []) (value_of ending.argument)) ∷ [] ≡ record { mention = record { group = group; value = value }; position = position } ∷ [] = rw (place, ← ending.value_is) refl in
           record {
-            occurrences = flag_occurrences grammar position (take at text) ++ record { group = group; value = value; position = position } ∷ [];
+            occurrences = flag_occurrences grammar position (take at text) ++ record { mention = record { group = group; value = value }; position = position } ∷ [];
             reads = record {
               item = cluster (take at text) (ends_in (slice_index text at) ending.argument);
               within = ending.within;
@@ -126,8 +126,8 @@ module _ (grammar : Grammar) (position : ℕ) (text : Text) where
                   ∙ ap (λ (os : List Occurrence). os ++ occurrence_at position (mention grammar (slice_index text at ∷ []) (value_of ending.argument)) ∷ []) (map-map (occurrence_at position) named (take at text))
                   ∙ ap (λ (os : List Occurrence). flag_occurrences grammar position (take at text) ++ os) last);
             };
-            added = pushed ∙ ap (λ (os : List Occurrence). os ++ record { group = group; value = value; position = position } ∷ []) before.added
-                ∙ append_assoc old (flag_occurrences grammar position (take at text)) (record { group = group; value = value; position = position } ∷ []);
+            added = pushed ∙ ap (λ (os : List Occurrence). os ++ record { mention = record { group = group; value = value }; position = position } ∷ []) before.added
+                ∙ append_assoc old (flag_occurrences grammar position (take at text)) (record { mention = record { group = group; value = value }; position = position } ∷ []);
           }
 
       -- flags, and a character that doesn't resolve

@@ -13,7 +13,7 @@ pub ReadsItem-long : (grammar : Grammar) (word text name : Text) (argument : Arg
     IsInLongForm grammar word text → text ≡ name ++ with_equals (attached_argument argument) → holds_equals name ≡ false →
     grammar.kind_of name ≡ Some kind → grammar.place_of name ≡ Some place → FitsLong kind argument →
     used ≤ length after → after ≡ argument_words argument (drop used after) →
-    ReadsItem grammar word after position used (record { group = place; value = value_of argument; position = position } ∷ [])
+    ReadsItem grammar word after position used (record { mention = record { group = place; value = value_of argument }; position = position } ∷ [])
 ReadsItem-long grammar word text name argument kind place after position used form text_is cut_once kind_is place_is fits within after_is = record {
   item = long form.dashes name argument;
   within = within;
@@ -38,7 +38,7 @@ attached_or_none (Some argument) = attached argument
 pub ReadsItem-attached : (grammar : Grammar) (word text name : Text) (value : Option Text) (kind : HasArg) (place : ℕ) (after : List Text) (position : ℕ) →
     IsInLongForm grammar word text → text ≡ name ++ with_equals value → holds_equals name ≡ false →
     grammar.kind_of name ≡ Some kind → grammar.place_of name ≡ Some place → FitsLong kind (attached_or_none value) →
-    ReadsItem grammar word after position 0 (record { group = place; value = value; position = position } ∷ [])
+    ReadsItem grammar word after position 0 (record { mention = record { group = place; value = value }; position = position } ∷ [])
 ReadsItem-attached grammar word text name None kind place after position form text_is cut_once kind_is place_is fits =
     ReadsItem-long grammar word text name none kind place after position 0 form text_is cut_once kind_is place_is fits zero-le refl
 ReadsItem-attached grammar word text name (Some argument) kind place after position form text_is cut_once kind_is place_is fits =

@@ -417,7 +417,7 @@ NeverDecrease-from_rise low (found ∷ founds) rise (suc i) zero default ordered
 NeverDecrease-from_rise low (found ∷ founds) rise (suc i) (suc j) default ordered in_range = NeverDecrease-from_rise found.position founds rise.1 i j default (omega arith) (omega arith)
 
 -- they still rise where an occurrence at the lowest position stands before them, or is left out
-RiseFrom-more : (here : Bool) (first : Occurrence) (later : List Occurrence) → RiseFrom first.position (map (λ o. record { position = o.position; value = o.value }) later) → RiseFrom first.position (map (λ o. record { position = o.position; value = o.value }) (cond here (first ∷ later) later))
+RiseFrom-more : (here : Bool) (first : Occurrence) (later : List Occurrence) → RiseFrom first.position (map (λ o. record { position = o.position; value = o.mention.value }) later) → RiseFrom first.position (map (λ o. record { position = o.position; value = o.mention.value }) (cond here (first ∷ later) later))
 RiseFrom-more true first later rise = (omega arith, rise)
 RiseFrom-more false first later rise = rise
 

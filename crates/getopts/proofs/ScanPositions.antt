@@ -9,7 +9,7 @@ use Rattle.getopts.specs.Names.{Text}
 use Rattle.getopts.specs.Options.{Known, Grammar}
 use Rattle.getopts.specs.Scan.{Item, free, long, cluster, spelled, spelled_all, Tail, tail_words, Reading, IsReading, Mention, mentions, Occurrence, occurrence_at, word_count, occurrences_after, occurrences_of}
 use Rattle.getopts.specs.Matches.{Found, found_at, matched}
-use Rattle.getopts.specs.ScanLaws.{mention_of, mentions_of, positions_in, one_higher_after, StandsInItem, PositionsAreWords, HavePositionsBelow}
+use Rattle.getopts.specs.ScanLaws.{mentions_of, positions_in, one_higher_after, StandsInItem, PositionsAreWords, HavePositionsBelow}
 use Rattle.getopts.proofs.ScanTexts.{AllByRecursion-append}
 use Rattle.getopts.proofs.ScanReadings.{spelled_all-append}
 
@@ -28,25 +28,25 @@ spells_word (long dashes name argument) more = omega arith
 spells_word (cluster names end) more = omega arith
 
 -- mentions are occurrences without their positions
-mention_of-occurrence_at : (before : ℕ) (ms : List Mention) → map mention_of (map (occurrence_at before) ms) ≡ ms
-mention_of-occurrence_at before [] = refl
-mention_of-occurrence_at before (m ∷ ms) = ap (λ (others : List Mention). m ∷ others) (mention_of-occurrence_at before ms)
+mention-occurrence_at : (before : ℕ) (ms : List Mention) → map (λ (o : Occurrence). o.mention) (map (occurrence_at before) ms) ≡ ms
+mention-occurrence_at before [] = refl
+mention-occurrence_at before (m ∷ ms) = ap (λ (others : List Mention). m ∷ others) (mention-occurrence_at before ms)
 
-mention_of-occurrences_after : (before : ℕ) (grammar : Grammar) (items : List Item)
-    → map mention_of (occurrences_after before grammar items) ≡ flat_map (mentions grammar) items
-mention_of-occurrences_after before grammar [] = refl
-mention_of-occurrences_after before grammar (item ∷ items) =
-    let here = mention_of-occurrence_at before (mentions grammar item) in
-    let after = mention_of-occurrences_after (before + word_count (item ∷ [])) grammar items in
+mention-occurrences_after : (before : ℕ) (grammar : Grammar) (items : List Item)
+    → map (λ (o : Occurrence). o.mention) (occurrences_after before grammar items) ≡ flat_map (mentions grammar) items
+mention-occurrences_after before grammar [] = refl
+mention-occurrences_after before grammar (item ∷ items) =
+    let here = mention-occurrence_at before (mentions grammar item) in
+    let after = mention-occurrences_after (before + word_count (item ∷ [])) grammar items in
     simp (map-append, here, after)
 
 -- what a reading mentions is what its items mention, one after the other
 pub mentions_of-items : (grammar : Grammar) (reading : Reading) → mentions_of grammar reading ≡ flat_map (mentions grammar) reading.items
-mentions_of-items grammar reading = mention_of-occurrences_after 0 grammar reading.items
+mentions_of-items grammar reading = mention-occurrences_after 0 grammar reading.items
 
 -- an occurrence, one position higher where it stands after this one
 abbrev raised_after : ℕ → Occurrence → Occurrence
-raised_after position o = record { group = o.group; value = o.value; position = one_higher_after position o.position }
+raised_after position o = record { mention = o.mention; position = one_higher_after position o.position }
 
 position-raised_after : (position : ℕ) (os : List Occurrence)
     → map (λ (o : Occurrence). o.position) (map (raised_after position) os) ≡ map (one_higher_after position) (map (λ (o : Occurrence). o.position) os)
@@ -59,7 +59,7 @@ raised_after-stays : (at position : ℕ) (told : List Mention) → position ≤ 
 raised_after-stays at position [] within = refl
 raised_after-stays at position (first ∷ told) within =
     let here : nat_le position at ≡ true = grind (arith, nat_tests) in
-    ap (λ b. record { group = first.group; value = first.value; position = cond b position (position + 1) } ∷ map (raised_after at) (map (occurrence_at position) told)) here
+    ap (λ b. record { mention = first; position = cond b position (position + 1) } ∷ map (raised_after at) (map (occurrence_at position) told)) here
     ∙ ap (λ (os : List Occurrence). occurrence_at position first ∷ os) (raised_after-stays at position told within)
 
 -- mentions after this position are one higher
@@ -68,7 +68,7 @@ raised_after-moves : (at position : ℕ) (told : List Mention) → at < position
 raised_after-moves at position [] past = refl
 raised_after-moves at position (first ∷ told) past =
     let here : nat_le position at ≡ false = grind (arith, nat_tests) in
-    ap (λ b. record { group = first.group; value = first.value; position = cond b position (position + 1) } ∷ map (raised_after at) (map (occurrence_at position) told)) here
+    ap (λ b. record { mention = first; position = cond b position (position + 1) } ∷ map (raised_after at) (map (occurrence_at position) told)) here
     ∙ ap (λ (os : List Occurrence). occurrence_at (position + 1) first ∷ os) (raised_after-moves at position told past)
 
 -- the occurrences of items after this position are one higher
@@ -220,8 +220,8 @@ below-occurrences_after grammar count before (item ∷ items) within =
 
 -- the occurrences of one group are, where the first is one of them or not
 below-kept : (count : ℕ) (here : Bool) (first : Occurrence) (later : List Occurrence) → first.position < count
-    → AllByRecursion (λ (found : Found). found.position < count) (map (λ (o : Occurrence). record { position = o.position; value = o.value }) later)
-    → AllByRecursion (λ (found : Found). found.position < count) (map (λ (o : Occurrence). record { position = o.position; value = o.value }) (cond here (first ∷ later) later))
+    → AllByRecursion (λ (found : Found). found.position < count) (map (λ (o : Occurrence). record { position = o.position; value = o.mention.value }) later)
+    → AllByRecursion (λ (found : Found). found.position < count) (map (λ (o : Occurrence). record { position = o.position; value = o.mention.value }) (cond here (first ∷ later) later))
 below-kept count true first later below all = (below, all)
 below-kept count false first later below all = all
 
@@ -229,7 +229,7 @@ below-kept count false first later below all = all
 below-found_at : (count place : ℕ) (occurrences : List Occurrence) → AllByRecursion (λ o. o.position < count) occurrences
     → AllByRecursion (λ (found : Found). found.position < count) (found_at place occurrences)
 below-found_at count place [] all = tt
-below-found_at count place (first ∷ occurrences) all = below-kept count (first.group == place) first _ all.0 (below-found_at count place occurrences all.1)
+below-found_at count place (first ∷ occurrences) all = below-kept count (first.mention.group == place) first _ all.0 (below-found_at count place occurrences all.1)
 
 -- the occurrences of a reading are
 below-occurrences_of : (grammar : Grammar) (reading : Reading) (words : List Text) → IsReading grammar reading words → AllByRecursion (λ o. o.position < length words) (occurrences_of grammar reading)

@@ -12,7 +12,7 @@ use Rattle.getopts.specs.Accessors.{place_of, found_of, found_in, first_value}
 use Rattle.getopts.specs.Canon.{FitsKind}
 use Rattle.getopts.specs.Parse.{IsAccepted}
 use Rattle.getopts.specs.Told.{HaveLastWordsFree, HaveValuesFor, AreGroupsOf, HaveValuesByKind, DefineDeclared, HoldRequiredOnce, HoldNeededValues}
-use Rattle.getopts.specs.ScanLaws.{EndIn, mention_of}
+use Rattle.getopts.specs.ScanLaws.{EndIn}
 use Rattle.getopts.specs.declared.groups.ParsingStyle.TheVariants.{FloatingFrees, StopAtFirstFree}
 use Rattle.getopts.specs.declared.groups.HasArg.{HasArg}
 use Rattle.getopts.specs.declared.groups.HasArg.TheVariants.{Yes}
@@ -106,25 +106,25 @@ module _ (options : Declared) (groups : List MatchedGroup) (are : AreGroupsOf op
 
 -- an occurrence of a group of a kind
 FitsKind-place : (groups : List Group) (o : Occurrence) (place : ℕ) (kind : HasArg) → kind_at groups place ≡ Some kind
-    → FitsGroup groups (mention_of o) → o.group ≡ place → FitsKind kind o.value
+    → FitsGroup groups o.mention → o.mention.group ≡ place → FitsKind kind o.mention.value
 FitsKind-place groups o place kind there fits here =
     let same : fits.0 ≡ kind = same_Some _ _ (sym fits.1 ∙ ap (kind_at groups) here ∙ there) in
-    subst (λ (k : HasArg). FitsKind k o.value) same fits.2
+    subst (λ (k : HasArg). FitsKind k o.mention.value) same fits.2
 
 -- the occurrences of one group have values as its kind wants
 HaveValuesFor-found_at : (groups : List Group) (place : ℕ) (kind : HasArg) → kind_at groups place ≡ Some kind → (occurrences : List Occurrence)
-    → AllByRecursion (λ o. FitsGroup groups (mention_of o)) occurrences → HaveValuesFor kind (found_at place occurrences)
+    → AllByRecursion (λ o. FitsGroup groups o.mention) occurrences → HaveValuesFor kind (found_at place occurrences)
 HaveValuesFor-found_at groups place kind there [] each = tt
-HaveValuesFor-found_at groups place kind there (o ∷ occurrences) each = here (o.group == place) refl (HaveValuesFor-found_at groups place kind there occurrences each.1) where
-  here : (is : Bool) → (o.group == place) ≡ is → HaveValuesFor kind (found_at place occurrences)
-      → HaveValuesFor kind (map (λ (o : Occurrence). record { position = o.position; value = o.value }) (cond is (o ∷ filter (λ (o : Occurrence). o.group == place) occurrences) (filter (λ (o : Occurrence). o.group == place) occurrences)))
-  here true is others = (FitsKind-place groups o place kind there each.0 (eqb-true o.group place is), others)
+HaveValuesFor-found_at groups place kind there (o ∷ occurrences) each = here (o.mention.group == place) refl (HaveValuesFor-found_at groups place kind there occurrences each.1) where
+  here : (is : Bool) → (o.mention.group == place) ≡ is → HaveValuesFor kind (found_at place occurrences)
+      → HaveValuesFor kind (map (λ (o : Occurrence). record { position = o.position; value = o.mention.value }) (cond is (o ∷ filter (λ (o : Occurrence). o.mention.group == place) occurrences) (filter (λ (o : Occurrence). o.mention.group == place) occurrences)))
+  here true is others = (FitsKind-place groups o place kind there each.0 (eqb-true o.mention.group place is), others)
   here false is others = others
 
 -- the groups of matches have values as their kinds want
 HaveValuesByKind-matched : (groups : List Group) (first : ℕ) (knowns : List Known) (occurrences : List Occurrence)
     → ((i : ℕ) (known : Known) → slice_get knowns i ≡ Some known → kind_at groups (first + i) ≡ Some known.kind)
-    → AllByRecursion (λ o. FitsGroup groups (mention_of o)) occurrences → HaveValuesByKind (matched first knowns occurrences)
+    → AllByRecursion (λ o. FitsGroup groups o.mention) occurrences → HaveValuesByKind (matched first knowns occurrences)
 HaveValuesByKind-matched groups first [] occurrences are each = tt
 HaveValuesByKind-matched groups first (known ∷ knowns) occurrences are each = (
   HaveValuesFor-found_at groups first known.kind (subst (λ n. kind_at groups n ≡ Some known.kind) (add-zero first) (are 0 known refl)) occurrences each,
@@ -156,8 +156,8 @@ module _ (options : Declared) (words : List Text) (matches : Matched) (accepted 
   HaveValuesByKind-accepted =
       let occurrences = occurrences_of (grammar_of options) accepted.reading in
       let fits = IsFitting-reading options accepted.reading words ((accepted.only accepted.reading).1 refl) in
-      let each : AllByRecursion (λ o. FitsGroup options.groups (mention_of o)) occurrences =
-      AllByRecursion-unmap (FitsGroup options.groups) mention_of occurrences fits in
+      let each : AllByRecursion (λ o. FitsGroup options.groups o.mention) occurrences =
+      AllByRecursion-unmap (FitsGroup options.groups) (λ (o : Occurrence). o.mention) occurrences fits in
       subst HaveValuesByKind (sym groups_are) (HaveValuesByKind-matched options.groups 0 (knowns_of options.groups) occurrences (λ i known there. subst (λ n. kind_at options.groups n ≡ Some known.kind) (sym (zero-add i)) (kind_at-known options.groups i known there)) each)
 
 -- the words of a tail end in its free words

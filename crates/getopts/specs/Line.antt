@@ -7,7 +7,6 @@ use Rattle.getopts.specs.Options.{Grammar, AreLawfullyNamed, knowns_of, grammar_
 use Rattle.getopts.specs.Held.Groups.{HaveTextsForShorts}
 use Rattle.getopts.specs.Pairs.{name_texts}
 use Rattle.getopts.specs.Table.{IsTableOf}
-use Rattle.getopts.specs.ScanLaws.{mention_of}
 use Rattle.getopts.specs.Canon.{Content}
 use Rattle.getopts.specs.Scan.{dash_text, Dashes, MayStandBefore, Argument, none, FitsEnd, value_of}
 use Rattle.getopts.specs.Scan.{attached_argument, argument_words, EndsOrIsDashed, is_dashed}
@@ -21,8 +20,7 @@ use Rattle.getopts.specs.declared.scan.Scanner.{Scanner}
 -- an occurrence as the code holds it
 abbrev pub occurrence_view : Held → Occurrence
 occurrence_view held = record {
-  group = held.group;
-  value = option_copied held.value;
+  mention = record { group = held.group; value = option_copied held.value };
   position = held.position;
 }
 
@@ -82,4 +80,7 @@ pub record ReadsLine (grammar : Grammar) (words : List Text) (line : Line) : Typ
 
 -- what a line says
 abbrev pub line_content : Line → Content
-line_content line = record { mentions = map mention_of line.found; free = texts line.free.items }
+line_content line = record {
+  mentions = map (λ o. o.mention) line.found;
+  free = texts line.free.items;
+}

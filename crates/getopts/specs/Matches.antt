@@ -28,8 +28,8 @@ pub record Matched : Type 0 where
 -- the occurrences of the group at this place
 abbrev pub found_at : ℕ → List Occurrence → List Found
 found_at place occurrences =
-    map (λ o. record { position = o.position; value = o.value })
-    (filter (λ o. o.group == place) occurrences)
+    map (λ o. record { position = o.position; value = o.mention.value })
+    (filter (λ o. o.mention.group == place) occurrences)
 
 -- each group with its occurrences, where the first group has this place
 abbrev pub matched : ℕ → List Known → List Occurrence → List MatchedGroup

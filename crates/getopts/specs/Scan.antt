@@ -254,16 +254,15 @@ mentions grammar (long dashes name argument) = mention grammar name (value_of ar
 mentions grammar (cluster names end) =
     map (λ name. mention grammar (name ∷ []) None) names ++ end_mentions grammar end
 
--- an occurrence of a group: its place, the value if there is one, and the position in the line,
--- which is the index of the word in which its item begins
+-- an occurrence: what is mentioned, and the position in the line, which is the index of the word in
+-- which its item begins
 pub record Occurrence : Type 0 where
-  pub group : ℕ
-  pub value : Option Text
+  pub mention : Mention
   pub position : ℕ
 
 -- a mention at a position
 abbrev pub occurrence_at : ℕ → Mention → Occurrence
-occurrence_at position m = record { group = m.group; value = m.value; position = position }
+occurrence_at position m = record { mention = m; position = position }
 
 -- the number of words that items spell
 abbrev pub word_count : List Item → ℕ

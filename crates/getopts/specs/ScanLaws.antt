@@ -14,13 +14,9 @@ use Rattle.getopts.specs.Scan.{occurrences_of, free_words, trailing_start}
 use Rattle.getopts.specs.Matches.{Found, MatchedGroup}
 use Rattle.getopts.specs.declared.groups.HasArg.TheVariants.{Yes}
 
--- an occurrence without its position
-abbrev pub mention_of : Occurrence → Mention
-mention_of occurrence = record { group = occurrence.group; value = occurrence.value }
-
 -- what a reading mentions, in the order of the line: its occurrences without their positions
 abbrev pub mentions_of : Grammar → Reading → List Mention
-mentions_of grammar reading = map mention_of (occurrences_of grammar reading)
+mentions_of grammar reading = map (λ o. o.mention) (occurrences_of grammar reading)
 
 -- the words that a reading spells
 abbrev pub spelled_words : Reading → List Text

@@ -30,7 +30,8 @@ fn holds_equals(text: &str) -> bool
 /// Whether no group with an occurrence has a main name that holds `=`.
 fn are_plain(options: &Options, accepted: &AcceptedLine<'_>) -> bool
     requires { IsHeldLine (knowns_of options.now.groups) accepted.now }
-    ensures { result ≡ list_all (λ o. not (holds_equals (main_at options.now.groups o.group)))
+    ensures { result
+        ≡ list_all (λ o. not (holds_equals (main_at options.now.groups o.mention.group)))
         accepted.now.line.found }
 {
     for place in 0..options.group_count() {

@@ -23,7 +23,7 @@ impl<'w> Occurrence<'w> {
     /// An occurrence without a value.
     pub(crate) fn bare(group: usize, position: usize) -> Occurrence<'w>
         ensures { occurrence_view result
-            ≡ record { group = group; value = None; position = position } }
+            ≡ record { mention = record { group = group; value = None }; position = position } }
     {
         Occurrence {
             group,
@@ -35,7 +35,10 @@ impl<'w> Occurrence<'w> {
     /// An occurrence with a value.
     pub(crate) fn with_value(group: usize, position: usize, value: &'w str) -> Occurrence<'w>
         ensures { occurrence_view result
-            ≡ record { group = group; value = Some value.now; position = position } }
+            ≡ record {
+              mention = record { group = group; value = Some value.now };
+              position = position;
+            } }
     {
         Occurrence {
             group,

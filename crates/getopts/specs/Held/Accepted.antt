@@ -10,7 +10,8 @@ use Rattle.getopts.specs.declared.line.AcceptedLine.{AcceptedLine}
 
 -- where the occurrences of each group stand
 abbrev pub index_of : List Known → List Occurrence → List (List ℕ)
-index_of knowns occurrences = places_by_group (length knowns) (map (λ o. o.group) occurrences)
+index_of knowns occurrences =
+    places_by_group (length knowns) (map (λ o. o.mention.group) occurrences)
 
 -- an accepted line stands beside the table and the index of these groups
 pub record IsHeldLine (knowns : List Known) (accepted : AcceptedLine) : Type 0 where

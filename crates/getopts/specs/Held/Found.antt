@@ -10,8 +10,10 @@ use Rattle.getopts.specs.declared.line.Found.TheInside.{Inside}
 -- an occurrence whose value stands at its place among these
 abbrev pub given_view : List Text → Given → Occurrence
 given_view values given = record {
-  group = given.group;
-  value = option_and_then (λ place. slice_get values place) given.value;
+  mention = record {
+    group = given.group;
+    value = option_and_then (λ place. slice_get values place) given.value;
+  };
   position = given.position;
 }
 

@@ -22,7 +22,7 @@ pair_view pair = (pair.0, string_bytes pair.1)
 
 -- an occurrence of a group that is known
 abbrev pub found_part : Occurrence → Found
-found_part occurrence = record { position = occurrence.position; value = occurrence.value }
+found_part occurrence = record { position = occurrence.position; value = occurrence.mention.value }
 
 -- the occurrences of one group
 abbrev pub occurrences_view : Inside → List Found

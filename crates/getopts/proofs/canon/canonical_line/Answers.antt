@@ -5,7 +5,6 @@ use Rattle.std.specs.String.{string_bytes}
 use Rattle.getopts.specs.Names.{Text}
 use Rattle.getopts.specs.Scan.{two, long_word, Occurrence}
 use Rattle.getopts.specs.Canon.{canonical_word}
-use Rattle.getopts.specs.ScanLaws.{mention_of}
 use Rattle.getopts.specs.Line.{occurrence_view}
 use Rattle.getopts.proofs.CountLemmas.{none_past}
 use Rattle.getopts.proofs.LineLemmas.{take-get}
@@ -16,15 +15,15 @@ pub loop-place-preserved : goal.loop-place-preserved
 loop-place-preserved c =
     let groups = c.args.options.now.groups in
     let found = c.args.line.now.found in
-    let words_of = λ (os : List Occurrence). map (canonical_word groups) (map mention_of os) in
+    let words_of = λ (os : List Occurrence). map (canonical_word groups) (map (λ (o : Occurrence). o.mention) os) in
     elim c.match-get.branch [
       | in-Some+in_ok-canonical_word+in_ok-push w ↦
           let occurrence = occurrence_view w.in-Some.occurrence in
-          let word : string_bytes w.in_ok-canonical_word.field-0 ≡ canonical_word groups (mention_of occurrence) =
-          w.in_ok-canonical_word.ensures ∙ ap (λ (main : Text). long_word two main occurrence.value) w.main-main.ensures in
-          let more : words_of (take (c.loop-place.place + 1) found) ≡ words_of (take c.loop-place.place found) ++ canonical_word groups (mention_of occurrence) ∷ [] =
-          ap words_of (take-get found c.loop-place.place occurrence (sym w.in-Some.ensures)) ∙ ap (map (canonical_word groups)) (map-append mention_of (take c.loop-place.place found) (occurrence ∷ []))
-          ∙ map-append (canonical_word groups) (map mention_of (take c.loop-place.place found)) (mention_of occurrence ∷ []) in
+          let word : string_bytes w.in_ok-canonical_word.field-0 ≡ canonical_word groups occurrence.mention =
+          w.in_ok-canonical_word.ensures ∙ ap (λ (main : Text). long_word two main occurrence.mention.value) w.main-main.ensures in
+          let more : words_of (take (c.loop-place.place + 1) found) ≡ words_of (take c.loop-place.place found) ++ canonical_word groups occurrence.mention ∷ [] =
+          ap words_of (take-get found c.loop-place.place occurrence (sym w.in-Some.ensures)) ∙ ap (map (canonical_word groups)) (map-append (λ (o : Occurrence). o.mention) (take c.loop-place.place found) (occurrence ∷ []))
+          ∙ map-append (canonical_word groups) (map (λ (o : Occurrence). o.mention) (take c.loop-place.place found)) (occurrence.mention ∷ []) in
           ap (λ (words : Vec (String Global) Global). map string_bytes words.items) w.words-is ∙ ap (map string_bytes) w.in_ok-push.ensures.items ∙ map-append string_bytes c.loop-place.words.items _
           ∙ (λ i. c.loop-place.invariant i ++ word i ∷ []) ∙ sym more
       | in_default w ↦ absurd (omega (arith, none_past c.args.line.now.found c.loop-place.place w.in_default.ensures))

@@ -11,9 +11,9 @@ use Rattle.getopts.proofs.counts.index_of.Goals as goal
 
 pub returns : goal.returns
 returns c =
-    let listed : map (λ (g : Given). g.group) c.deref.result.now ≡ map (λ (o : Occurrence). o.group) c.args.found.now =
+    let listed : map (λ (g : Given). g.group) c.deref.result.now ≡ map (λ (o : Occurrence). o.mention.group) c.args.found.now =
     ap (map (λ (g : Given). g.group)) c.deref.ensures.value
-    ∙ groups-given (texts c.found.inside.values.items) c.found.inside.given.items ∙ ap (map (λ (o : Occurrence). o.group)) c.found.view_is in
+    ∙ groups-given (texts c.found.inside.values.items) c.found.inside.given.items ∙ ap (map (λ (o : Occurrence). o.mention.group)) c.found.view_is in
     let same : places_by_group c.len.result (map (λ (g : Given). g.group) c.deref.result.now) ≡ index_of c.args.groups.now c.args.found.now =
     (λ i. places_by_group (c.len.ensures i) (listed i)) in
     IfOk-weaker c.of.result (λ (index : List (List ℕ)). index ≡ places_by_group c.len.result (map (λ (g : Given). g.group) c.deref.result.now)) (λ (index : List (List ℕ)). index ≡ index_of c.args.groups.now c.args.found.now)

@@ -26,11 +26,11 @@ returns c =
           ap (λ (inside : Inside). texts inside.values.items) w.self-inside-is ∙ ap texts w.in_ok-push-in-Some.ensures.items ∙ map-append (λ (word : Bor Text). word.now) c.self.inside.values.items _ in
           (λ i. map (given_view (values i)) (items i))
           ∙ given-value before c.self.inside.given.items (record { group = group; position = position; value = Some (length before) }) w.in-Some.value.now have refl
-          ∙ (λ i. c.self.view_is i ++ record { group = group; value = option_copied (sym w.in-Some.is i); position = position } ∷ [])
+          ∙ (λ i. c.self.view_is i ++ record { mention = record { group = group; value = option_copied (sym w.in-Some.is i) }; position = position } ∷ [])
       | in-None w ↦
           let items : c.push-2.new.self.items ≡ c.self.inside.given.items ++ record { group = group; position = position; value = None } ∷ [] =
           c.in_ok-push.ensures.items ∙ (λ i. (w.self-inside-is i).given.items ++ record { group = group; position = position; value = w.value-is i } ∷ []) in
           (λ i. map (given_view (texts (w.self-inside-is i).values.items)) (items i))
           ∙ given-bare before c.self.inside.given.items (record { group = group; position = position; value = None }) refl
-          ∙ (λ i. c.self.view_is i ++ record { group = group; value = option_copied (sym w.in-None.is i); position = position } ∷ [])
+          ∙ (λ i. c.self.view_is i ++ record { mention = record { group = group; value = option_copied (sym w.in-None.is i) }; position = position } ∷ [])
     ]
