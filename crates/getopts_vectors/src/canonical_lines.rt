@@ -1,7 +1,7 @@
 //! Canonical lines: which one a line has, and that it is its own in both styles and both modes.
 
 use crate::fixtures::Adding::{Optflag, Optflagmulti, Optflagopt, Optmulti, Optopt, Reqopt};
-use crate::fixtures::{Fault, Group, accepted, declared, same_texts};
+use crate::fixtures::{Fault, Group, accepted, cluster, declared, expect_fault, same_texts};
 use getopts::ParsingStyle::{FloatingFrees, StopAtFirstFree};
 use getopts::{Options, ParsingStyle};
 use std::alloc::{AllocError, Global};
@@ -12,7 +12,7 @@ use std::test::Fail;
 /// A line, and its canonical line. None stands for an accepted line that has none.
 type Row = (&'static [&'static str], Option<&'static [&'static str]>);
 
-const SETTINGS: [(ParsingStyle, bool); 4] = [
+const SETTINGS: &[(ParsingStyle, bool)] = &[
     (FloatingFrees, false),
     (FloatingFrees, true),
     (StopAtFirstFree, false),
@@ -27,19 +27,26 @@ fn expect_canonical(
     words: &[&str],
     expected: Option<&[&str]>,
 ) {
-    match (options.canonical(alloc, words.iter().copied()), expected) {
-        (Ok(Some(line)), Some(expected)) => {
-            assert!(rt; same_texts(&line, expected), "{line:?} for {words:?}");
-        }
-        (Ok(None), None) => {}
-        (answer, _) => panic!(rt; "{answer:?} for {words:?}"),
+    match options.canonical(alloc, words.iter().copied()) {
+        Ok(Some(line)) => expect_line(rt, &line, words, expected),
+        Ok(None) => assert!(rt; expected.is_none(), "no line for {words:?}"),
+        Err(fail) => panic!(rt; "{fail} for {words:?}"),
     }
+}
+
+/// Stops unless there is an expected line, and this is the one.
+fn expect_line(rt: &impl Abort, line: &[String], words: &[&str], expected: Option<&[&str]>) {
+    let same = match expected {
+        Some(expected) => same_texts(line, expected),
+        None => false,
+    };
+    assert!(rt; same, "{line:?} for {words:?}");
 }
 
 /// Stops unless in both styles and both modes the line is accepted, and is its own canonical line.
 fn expect_its_own(rt: &impl Abort, alloc: Global, options: &mut Options, line: &[&str]) {
     for (style, long_only) in SETTINGS {
-        options.parsing_style(style).long_only(long_only);
+        options.parsing_style(*style).long_only(*long_only);
         accepted(rt, alloc, options, line);
         expect_canonical(rt, alloc, options, line, Some(line));
     }
@@ -279,17 +286,80 @@ fn canonical_lines_of_long_only_lines(rt: HostRuntime) -> Result<(), Fail> {
     Ok(())
 }
 
+/// Stops unless `canonical` refuses the word with this fault.
+fn expect_refused(
+    rt: &impl Abort,
+    alloc: Global,
+    options: &Options,
+    word: &str,
+    fault: Fault,
+) -> Result<(), AllocError> {
+    match options.canonical(alloc, iter::once(word)) {
+        Ok(_) => panic!(rt; "{word:?} is accepted"),
+        Err(fail) => expect_fault(rt, alloc, &fail, fault, &[word]),
+    }
+}
+
 #[test]
 fn canonical_refuses_what_parse_refuses(rt: HostRuntime) -> Result<(), Fail> {
     let alloc = rt.alloc();
     let options = declared(&rt, alloc, &[(Optopt, "p", "a=b")])?;
-    for (word, name) in [("--nope", "nope"), ("--a=b", "a")] {
-        let Err(fail) = options.canonical(alloc, iter::once(word)) else {
-            panic!(rt; "an option that isn't there is accepted");
-        };
-        assert_eq!(rt; fail, Fault::UnrecognizedOption(name).fail(alloc)?);
-    }
+    let fault = Fault::UnrecognizedOption("nope");
+    expect_refused(&rt, alloc, &options, "--nope", fault)?;
+    let fault = Fault::UnrecognizedOption("a");
+    expect_refused(&rt, alloc, &options, "--a=b", fault)?;
     Ok(())
+}
+
+/// The line that `canonical` answered, which has to be there.
+fn need_line(
+    rt: &impl Abort,
+    answer: Result<Option<Vec<String>>, getopts::Fail>,
+    what: &str,
+) -> Vec<String> {
+    match answer {
+        Ok(Some(line)) => line,
+        Ok(None) => panic!(rt; "{what} has no line"),
+        Err(fail) => panic!(rt; "{what} has no line: {fail}"),
+    }
+}
+
+/// Stops unless the line is this many flags, and a stop after them.
+fn expect_flags(rt: &impl Abort, line: &[String], count: usize) {
+    assert_eq!(rt; line.len().checked_sub(count), Some(1));
+    assert!(rt; line.iter().take(count).all(|word| word.as_str() == "--v"));
+    assert_eq!(rt; line.last().map(|word| word.as_str()), Some("--"));
+}
+
+/// Stops unless the line is a stop, and this many free words after it.
+fn expect_free_words(rt: &impl Abort, line: &[String], count: usize) {
+    assert_eq!(rt; line.len().checked_sub(count), Some(1));
+    assert_eq!(rt; line.first().map(|word| word.as_str()), Some("--"));
+    assert!(rt; line.iter().skip(1).all(|word| word.as_str() == "x"));
+}
+
+/// Stops unless this many flags, each in a word of its own and all in one word, have one line of flags.
+fn expect_line_of_flags(
+    rt: &impl Abort,
+    alloc: Global,
+    options: &Options,
+    count: usize,
+) -> Result<(), AllocError> {
+    let answer = options.canonical(alloc, iter::repeat_n("-v", count));
+    let line = need_line(rt, answer, "a line of many words");
+    expect_flags(rt, &line, count);
+    let word = cluster(alloc, count)?;
+    let answer = options.canonical(alloc, iter::once(word.as_str()));
+    let same = need_line(rt, answer, "a long cluster");
+    assert!(rt; same == line);
+    Ok(())
+}
+
+/// Stops unless this many free words have a line of free words.
+fn expect_line_of_free_words(rt: &impl Abort, alloc: Global, options: &Options, count: usize) {
+    let answer = options.canonical(alloc, iter::repeat_n("x", count));
+    let line = need_line(rt, answer, "a line of many free words");
+    expect_free_words(rt, &line, count);
 }
 
 #[test]
@@ -297,25 +367,7 @@ fn canonical_line_of_many_words(rt: HostRuntime) -> Result<(), Fail> {
     const MANY: usize = 100_000;
     let alloc = rt.alloc();
     let options = declared(&rt, alloc, &[(Optflagmulti, "v", "")])?;
-    let Ok(Some(line)) = options.canonical(alloc, iter::repeat_n("-v", MANY)) else {
-        panic!(rt; "many words have no line");
-    };
-    assert_eq!(rt; line.len(), 100_001);
-    assert!(rt; line.iter().take(MANY).all(|word| word.as_str() == "--v"));
-    assert_eq!(rt; line.last().map(|word| word.as_str()), Some("--"));
-    let mut word = String::from_str(alloc, "-")?;
-    for _ in 0..MANY {
-        word.push('v')?;
-    }
-    let Ok(Some(same)) = options.canonical(alloc, iter::once(word.as_str())) else {
-        panic!(rt; "a long cluster has no line");
-    };
-    assert!(rt; same == line);
-    let Ok(Some(line)) = options.canonical(alloc, iter::repeat_n("x", MANY)) else {
-        panic!(rt; "many free words have no line");
-    };
-    assert_eq!(rt; line.len(), 100_001);
-    assert_eq!(rt; line.first().map(|word| word.as_str()), Some("--"));
-    assert!(rt; line.iter().skip(1).all(|word| word.as_str() == "x"));
+    expect_line_of_flags(&rt, alloc, &options, MANY)?;
+    expect_line_of_free_words(&rt, alloc, &options, MANY);
     Ok(())
 }

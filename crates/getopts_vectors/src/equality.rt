@@ -4,11 +4,27 @@ use crate::fixtures::Adding::{Opt, Optflag, Optflagmulti, Optmulti, Reqopt};
 use crate::fixtures::Fault::{
     ArgumentMissing, OptionDuplicated, OptionMissing, UnexpectedArgument, UnrecognizedOption,
 };
-use crate::fixtures::{Fault, Group, Parts, accepted, declared, of_parts};
-use getopts::{Fail as Refusal, HasArg, Occur};
+use crate::fixtures::{
+    Fault, Group, Parts, accepted, declared, expect_clone_of_fault, expect_clone_of_matches,
+    of_parts,
+};
+use getopts::{Fail as Refusal, HasArg, Matches, Occur, Options};
 use std::alloc::{AllocError, Global};
 use std::process::Abort;
 use std::test::Fail;
+
+/// Whether by these options the two lines give equal matches.
+fn same_by(
+    rt: &impl Abort,
+    alloc: Global,
+    options: &Options,
+    left: &[&str],
+    right: &[&str],
+) -> bool {
+    let left = accepted(rt, alloc, options, left);
+    let right = accepted(rt, alloc, options, right);
+    left == right
+}
 
 /// Whether by these groups the two lines give equal matches.
 fn same_matches(
@@ -19,7 +35,7 @@ fn same_matches(
     right: &[&str],
 ) -> Result<bool, AllocError> {
     let options = declared(rt, alloc, groups)?;
-    Ok(accepted(rt, alloc, &options, left) == accepted(rt, alloc, &options, right))
+    Ok(same_by(rt, alloc, &options, left, right))
 }
 
 /// Groups, two lines, and whether these give equal matches.
@@ -58,6 +74,23 @@ fn matches_are_equal_option_by_option(rt: HostRuntime) -> Result<(), Fail> {
     Ok(())
 }
 
+/// The matches of the empty line by a group of these parts.
+fn matches_of_parts(rt: &impl Abort, alloc: Global, parts: Parts) -> Result<Matches, AllocError> {
+    let options = of_parts(rt, alloc, parts)?;
+    Ok(accepted(rt, alloc, &options, &[]))
+}
+
+/// Whether these matches equal those of the empty line by a group of these parts.
+fn same_as_of_parts(
+    rt: &impl Abort,
+    alloc: Global,
+    matches: &Matches,
+    parts: Parts,
+) -> Result<bool, AllocError> {
+    let other = matches_of_parts(rt, alloc, parts)?;
+    Ok(*matches == other)
+}
+
 #[test]
 fn matches_are_equal_in_names_and_kinds(rt: HostRuntime) -> Result<(), Fail> {
     const PARTS: Parts = ("n", "name", "D", "H", HasArg::Yes, Occur::Optional);
@@ -94,12 +127,36 @@ fn matches_are_equal_in_names_and_kinds(rt: HostRuntime) -> Result<(), Fail> {
         ),
     ];
     let alloc = rt.alloc();
-    let matches = accepted(&rt, alloc, &of_parts(&rt, alloc, PARTS)?, &[]);
+    let matches = matches_of_parts(&rt, alloc, PARTS)?;
     for (part, parts, same) in OTHERS {
-        let other = accepted(&rt, alloc, &of_parts(&rt, alloc, *parts)?, &[]);
-        assert_eq!(rt; matches == other, *same, "another {part}");
+        let answer = same_as_of_parts(&rt, alloc, &matches, *parts)?;
+        assert_eq!(rt; answer, *same, "another {part}");
     }
     Ok(())
+}
+
+/// Stops unless a clone of the matches of these words equals them.
+fn expect_clone(
+    rt: &impl Abort,
+    alloc: Global,
+    options: &Options,
+    words: &[&str],
+    state: &str,
+) -> Result<(), AllocError> {
+    let matches = accepted(rt, alloc, options, words);
+    expect_clone_of_matches(rt, &matches, state)
+}
+
+/// Stops unless a clone of the matches of these words equals them, once their free words are cleared.
+fn expect_clone_once_emptied(
+    rt: &impl Abort,
+    alloc: Global,
+    options: &Options,
+    words: &[&str],
+) -> Result<(), AllocError> {
+    let mut matches = accepted(rt, alloc, options, words);
+    matches.free.clear();
+    expect_clone_of_matches(rt, &matches, "with no free words left")
 }
 
 #[test]
@@ -107,12 +164,11 @@ fn clone_of_matches_equals_its_source(rt: HostRuntime) -> Result<(), Fail> {
     const GROUPS: &[Group] = &[(Opt(HasArg::Maybe, Occur::Multi), "c", "color")];
     let alloc = rt.alloc();
     let options = declared(&rt, alloc, GROUPS)?;
-    let matches = accepted(&rt, alloc, &options, &["-c", "--color=x"]);
-    assert!(rt; matches.clone()? == matches, "options alone");
-    let mut matches = accepted(&rt, alloc, &options, &["-c", "x", "y", "--", "z"]);
-    assert!(rt; matches.clone()? == matches, "with free words");
-    matches.free.clear();
-    assert!(rt; matches.clone()? == matches, "with no free words left");
+    let words = &["-c", "--color=x"];
+    expect_clone(&rt, alloc, &options, words, "options alone")?;
+    let words = &["-c", "x", "y", "--", "z"];
+    expect_clone(&rt, alloc, &options, words, "with free words")?;
+    expect_clone_once_emptied(&rt, alloc, &options, words)?;
     Ok(())
 }
 
@@ -127,13 +183,8 @@ fn clone_of_a_fault_equals_its_source(rt: HostRuntime) -> Result<(), Fail> {
     ];
     let alloc = rt.alloc();
     for fault in FAULTS {
-        let fail = fault.fail(alloc)?;
-        assert_eq!(rt; fail.clone()?, fail, "of {fault:?}");
+        expect_clone_of_fault(&rt, &fault.fail(alloc)?)?;
     }
-    assert_eq!(rt;
-        Refusal::OutOfMemory.clone()?,
-        Refusal::OutOfMemory,
-        "of want of memory"
-    );
+    expect_clone_of_fault(&rt, &Refusal::OutOfMemory)?;
     Ok(())
 }

@@ -76,9 +76,11 @@ pub enum Meaning {
 /// A line beside what it has to mean.
 pub type Row = (&'static [&'static str], Meaning);
 
-const HINT: &str = "HINT";
+/// The hint of each group that is declared with one.
+pub const HINT: &str = "HINT";
 
-const DESCRIPTION: &str = "what it does";
+/// The description of each group that is declared.
+pub const DESCRIPTION: &str = "what it does";
 
 /// Options with these groups in this order.
 pub fn declared(rt: &impl Abort, alloc: Global, groups: &[Group]) -> Result<Options, AllocError> {
@@ -211,10 +213,25 @@ fn expect_refused(
     words: &[&str],
     fault: Fault,
 ) -> Result<(), AllocError> {
-    let Err(fail) = line(alloc, options, words) else {
-        panic!(rt; "{words:?} is accepted");
-    };
-    assert_eq!(rt; fail, fault.fail(alloc)?, "of {words:?}");
+    match line(alloc, options, words) {
+        Ok(_) => panic!(rt; "{words:?} is accepted"),
+        Err(fail) => expect_fault(rt, alloc, &fail, fault, words),
+    }
+}
+
+/// Stops unless this is the fault of the words.
+pub fn expect_fault(
+    rt: &impl Abort,
+    alloc: Global,
+    fail: &Fail,
+    fault: Fault,
+    words: &[&str],
+) -> Result<(), AllocError> {
+    let expected = fault.fail(alloc)?;
+    assert!(rt;
+        *fail == expected,
+        "{fail:?} of {words:?}, not {expected:?}"
+    );
     Ok(())
 }
 
@@ -268,6 +285,15 @@ pub fn strings(alloc: Global, texts: &[&str]) -> Result<Vec<String>, AllocError>
         .iter()
         .map(|text| String::from_str(alloc, text))
         .try_collect(alloc)
+}
+
+/// A word of this many letters `v` after a dash.
+pub fn cluster(alloc: Global, count: usize) -> Result<String, AllocError> {
+    let mut word = String::from_str(alloc, "-")?;
+    for _ in 0..count {
+        word.push('v')?;
+    }
+    Ok(word)
 }
 
 /// Stops unless the matches give this answer.
@@ -440,6 +466,61 @@ fn expect_first_str(
     need_all_defined(rt, matches, names);
     let value = matches.opts_str_first(alloc, names)?;
     assert_eq!(rt; value.as_deref(), expected, "{names:?} in {words:?}");
+    Ok(())
+}
+
+/// Stops unless a clone of these options equals them.
+pub fn expect_clone_of_options(
+    rt: &impl Abort,
+    options: &Options,
+    state: &str,
+) -> Result<(), AllocError> {
+    let copy = options.clone()?;
+    assert!(rt; copy == *options, "{state}");
+    Ok(())
+}
+
+/// Stops unless a clone of these matches equals them.
+pub fn expect_clone_of_matches(
+    rt: &impl Abort,
+    matches: &Matches,
+    state: &str,
+) -> Result<(), AllocError> {
+    let copy = matches.clone()?;
+    assert!(rt; copy == *matches, "{state}");
+    Ok(())
+}
+
+/// Stops unless a clone of this fault equals it.
+pub fn expect_clone_of_fault(rt: &impl Abort, fail: &Fail) -> Result<(), AllocError> {
+    let copy = fail.clone()?;
+    assert!(rt; copy == *fail, "{copy:?} of {fail:?}");
+    Ok(())
+}
+
+/// Stops unless the usage text of these options is this one.
+pub fn expect_usage(
+    rt: &impl Abort,
+    alloc: Global,
+    options: &Options,
+    brief: &str,
+    expected: &str,
+) -> Result<(), AllocError> {
+    let text = options.usage(alloc, brief)?;
+    assert_eq!(rt; text.as_str(), expected);
+    Ok(())
+}
+
+/// Stops unless this is the one line of these options.
+pub fn expect_short_usage(
+    rt: &impl Abort,
+    alloc: Global,
+    options: &Options,
+    program_name: &str,
+    expected: &str,
+) -> Result<(), AllocError> {
+    let text = options.short_usage(alloc, program_name)?;
+    assert_eq!(rt; text.as_str(), expected);
     Ok(())
 }
 

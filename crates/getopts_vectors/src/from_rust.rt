@@ -12,6 +12,9 @@ use crate::fixtures::Fault::{
 };
 use crate::fixtures::Meaning::{Accepted, Refused};
 use crate::fixtures::{Group, Meaning, Table, accepted, declared, expect_lines, strings};
+use getopts::Options;
+use std::alloc::Global;
+use std::process::Abort;
 use std::test::Fail;
 
 const PRESENT: Meaning = Accepted(&[Present("t", true), Present("test", true)]);
@@ -292,6 +295,18 @@ fn several_names_at_once(rt: HostRuntime) -> Result<(), Fail> {
     Ok(())
 }
 
+/// Stops unless none of the names is present in the line.
+fn expect_absent(
+    rt: &impl Abort,
+    alloc: Global,
+    options: &Options,
+    words: &[&str],
+    names: &[String],
+) {
+    let matches = accepted(rt, alloc, options, words);
+    assert!(rt; !matches.opts_present(names), "after {words:?}");
+}
+
 #[test]
 fn undefined_name_is_not_present(rt: HostRuntime) -> Result<(), Fail> {
     const GROUPS: &[Group] = &[
@@ -302,10 +317,9 @@ fn undefined_name_is_not_present(rt: HostRuntime) -> Result<(), Fail> {
     let alloc = rt.alloc();
     let options = declared(&rt, alloc, GROUPS)?;
     let thing = strings(alloc, &["thing"])?;
-    let one = accepted(&rt, alloc, &options, &["-e", "foo"]);
-    assert!(rt; !one.opts_present(&thing), "after one option");
-    let both = accepted(&rt, alloc, &options, &["-e", "foo", "--encrypt", "bar"]);
-    assert!(rt; !both.opts_present(&thing), "after two options");
+    expect_absent(&rt, alloc, &options, &["-e", "foo"], &thing);
+    let both = &["-e", "foo", "--encrypt", "bar"];
+    expect_absent(&rt, alloc, &options, both, &thing);
     Ok(())
 }
 

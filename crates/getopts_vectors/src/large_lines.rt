@@ -4,7 +4,7 @@ use crate::fixtures::Adding::{Optflag, Optflagmulti};
 use crate::fixtures::Answer::{Count, Defined, Positions};
 use crate::fixtures::Meaning::Accepted;
 use crate::fixtures::{
-    Answer, Row, accepted, declare, declared, expect_answers, expect_rows, need_defined,
+    Answer, Row, accepted, cluster, declare, declared, expect_answers, expect_rows, need_defined,
 };
 use getopts::{Matches, Options};
 use std::alloc::{AllocError, Global};
@@ -27,13 +27,14 @@ fn positions(
     matches.opt_positions(alloc, name)
 }
 
-#[test]
-fn one_flag_in_each_of_many_words(rt: HostRuntime) -> Result<(), Fail> {
-    let alloc = rt.alloc();
-    let options = declared(&rt, alloc, &[(Optflagmulti, "v", "")])?;
-    let matches = options.parse(alloc, iter::repeat_n("-v", MANY))?;
-    expect_answers(&rt, alloc, &matches, ANSWERS, &["-v", ".."])?;
-    let positions = positions(&rt, alloc, &matches, "v")?;
+/// Stops unless there are many flags in the matches, one in each word.
+fn expect_flag_in_each_word(
+    rt: &impl Abort,
+    alloc: Global,
+    matches: &Matches,
+) -> Result<(), AllocError> {
+    expect_answers(rt, alloc, matches, ANSWERS, &["-v", ".."])?;
+    let positions = positions(rt, alloc, matches, "v")?;
     assert_eq!(rt; positions.len(), MANY, "positions");
     assert_eq!(rt;
         positions.last().copied(),
@@ -44,16 +45,22 @@ fn one_flag_in_each_of_many_words(rt: HostRuntime) -> Result<(), Fail> {
 }
 
 #[test]
-fn many_flags_in_one_word(rt: HostRuntime) -> Result<(), Fail> {
+fn one_flag_in_each_of_many_words(rt: HostRuntime) -> Result<(), Fail> {
     let alloc = rt.alloc();
     let options = declared(&rt, alloc, &[(Optflagmulti, "v", "")])?;
-    let mut word = String::from_str(alloc, "-")?;
-    for _ in 0..MANY {
-        word.push('v')?;
-    }
-    let matches = accepted(&rt, alloc, &options, &[word.as_str()]);
-    expect_answers(&rt, alloc, &matches, ANSWERS, &["-vv.."])?;
-    let positions = positions(&rt, alloc, &matches, "v")?;
+    let matches = options.parse(alloc, iter::repeat_n("-v", MANY))?;
+    expect_flag_in_each_word(&rt, alloc, &matches)?;
+    Ok(())
+}
+
+/// Stops unless there are many flags in the matches, all in the first word.
+fn expect_flags_in_first_word(
+    rt: &impl Abort,
+    alloc: Global,
+    matches: &Matches,
+) -> Result<(), AllocError> {
+    expect_answers(rt, alloc, matches, ANSWERS, &["-vv.."])?;
+    let positions = positions(rt, alloc, matches, "v")?;
     assert_eq!(rt; positions.len(), MANY, "positions");
     assert!(rt;
         positions.iter().all(|position| *position == 0),
@@ -62,26 +69,55 @@ fn many_flags_in_one_word(rt: HostRuntime) -> Result<(), Fail> {
     Ok(())
 }
 
+/// Stops unless a word of many flags is read as these.
+fn expect_cluster(rt: &impl Abort, alloc: Global, options: &Options) -> Result<(), AllocError> {
+    let word = cluster(alloc, MANY)?;
+    let matches = accepted(rt, alloc, options, &[word.as_str()]);
+    expect_flags_in_first_word(rt, alloc, &matches)
+}
+
 #[test]
-fn many_free_words(rt: HostRuntime) -> Result<(), Fail> {
-    let alloc = rt.alloc();
-    let options = declared(&rt, alloc, &[])?;
-    let matches = options.parse(alloc, iter::repeat_n("x", MANY))?;
+fn many_flags_in_one_word(rt: HostRuntime) -> Result<(), Fail> {
+    let options = declared(&rt, rt.alloc(), &[(Optflagmulti, "v", "")])?;
+    expect_cluster(&rt, rt.alloc(), &options)?;
+    Ok(())
+}
+
+/// Stops unless there are many free words, each `x`.
+fn expect_free_words(rt: &impl Abort, matches: &Matches) {
     assert_eq!(rt; matches.free.len(), MANY, "free words");
     assert!(rt;
         matches.free.iter().all(|word| word.as_str() == "x"),
         "another word"
     );
     assert_eq!(rt; matches.free_trailing_start(), None, "trailing start");
+}
+
+#[test]
+fn many_free_words(rt: HostRuntime) -> Result<(), Fail> {
+    let alloc = rt.alloc();
+    let options = declared(&rt, alloc, &[])?;
+    let matches = options.parse(alloc, iter::repeat_n("x", MANY))?;
+    expect_free_words(&rt, &matches);
     Ok(())
+}
+
+/// Adds the flag of this number, as `n007`.
+fn add_numbered(
+    rt: &impl Abort,
+    alloc: Global,
+    options: &mut Options,
+    number: u32,
+) -> Result<(), AllocError> {
+    let name = format!(in alloc; "n{number:03}")?;
+    declare(rt, options, Optflag, "", name.as_str())
 }
 
 /// Flags from `n199` down to `n000`, and then `n100` once more, with the short name `x`.
 fn two_hundred_flags(rt: &impl Abort, alloc: Global) -> Result<Options, AllocError> {
     let mut options = Options::new(alloc);
     for number in (0..200).rev() {
-        let name = format!(in alloc; "n{number:03}")?;
-        declare(rt, &mut options, Optflag, "", name.as_str())?;
+        add_numbered(rt, alloc, &mut options, number)?;
     }
     options.optflag("x", "n100", "the same name again")?;
     Ok(options)

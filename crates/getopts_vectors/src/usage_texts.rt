@@ -1,6 +1,6 @@
 //! Usage texts, byte for byte, and closures that make texts of usage rows.
 
-use crate::fixtures::character_of_no_columns;
+use crate::fixtures::{self, character_of_no_columns};
 use getopts::{HasArg, Occur, Options, names_lawful};
 use std::alloc::{AllocError, Global};
 use std::process::Abort;
@@ -54,9 +54,7 @@ fn expect_usage(
     expected: &str,
 ) -> Result<(), AllocError> {
     let options = declared(rt, alloc, long_only, groups)?;
-    let text = options.usage(alloc, "Usage: fruits")?;
-    assert_eq!(rt; text.as_str(), expected);
-    Ok(())
+    fixtures::expect_usage(rt, alloc, &options, "Usage: fruits", expected)
 }
 
 /// Stops unless this is the one line of the options.
@@ -68,9 +66,7 @@ fn expect_short_usage(
     expected: &str,
 ) -> Result<(), AllocError> {
     let options = declared(rt, alloc, long_only, groups)?;
-    let text = options.short_usage(alloc, "fruits")?;
-    assert_eq!(rt; text.as_str(), expected);
-    Ok(())
+    fixtures::expect_short_usage(rt, alloc, &options, "fruits", expected)
 }
 
 const KINDS: &str = "\
@@ -291,11 +287,8 @@ fn cuts_descriptions_into_words_and_lines(rt: HostRuntime) -> Result<(), Fail> {
 fn shows_no_options(rt: HostRuntime) -> Result<(), Fail> {
     let alloc = rt.alloc();
     let options = Options::new(alloc);
-    assert_eq!(rt; options.usage(alloc, "X")?.as_str(), "X\n\nOptions:\n\n");
-    assert_eq!(rt;
-        options.short_usage(alloc, "fruits")?.as_str(),
-        "Usage: fruits "
-    );
+    fixtures::expect_usage(&rt, alloc, &options, "X", "X\n\nOptions:\n\n")?;
+    fixtures::expect_short_usage(&rt, alloc, &options, "fruits", "Usage: fruits ")?;
     Ok(())
 }
 
@@ -318,6 +311,26 @@ fn pads_a_head_below_24_columns(rt: HostRuntime) -> Result<(), Fail> {
     Ok(())
 }
 
+/// The rows that the closure of `usage_with_format` is given, with `|` between them.
+fn joined_rows(alloc: Global, options: &Options) -> Result<String, AllocError> {
+    options.usage_with_format(alloc, |rows| {
+        let rows: Vec<String> = rows.collect(alloc)?;
+        rows.join(alloc, "|")
+    })
+}
+
+/// Stops unless this is what `joined_rows` gives.
+fn expect_joined_rows(
+    rt: &impl Abort,
+    alloc: Global,
+    options: &Options,
+    expected: &str,
+) -> Result<(), AllocError> {
+    let text = joined_rows(alloc, options)?;
+    assert_eq!(rt; text.as_str(), expected);
+    Ok(())
+}
+
 /// Stops unless these are the rows that the closure of `usage_with_format` is given.
 fn expect_usage_rows(
     rt: &impl Abort,
@@ -326,12 +339,8 @@ fn expect_usage_rows(
     expected: &[&str],
 ) -> Result<(), AllocError> {
     let options = declared(rt, alloc, false, groups)?;
-    let text = options.usage_with_format(alloc, |rows| {
-        let rows: Vec<String> = rows.collect(alloc)?;
-        rows.join(alloc, "|")
-    })?;
-    assert_eq!(rt; text, expected.join(alloc, "|")?);
-    Ok(())
+    let expected = expected.join(alloc, "|")?;
+    expect_joined_rows(rt, alloc, &options, expected.as_str())
 }
 
 #[test]
@@ -363,11 +372,8 @@ fn long_name_of_no_columns_is_not_written(rt: HostRuntime) -> Result<(), Fail> {
     Ok(())
 }
 
-#[test]
-fn calls_the_closure_once(rt: HostRuntime) -> Result<(), Fail> {
-    let alloc = rt.alloc();
-    let groups = [flag("a", "apple", "Apple"), flag("k", "kiwi", "Kiwi")];
-    let options = declared(&rt, alloc, false, &groups)?;
+/// Stops unless the closure is called once, with two rows.
+fn expect_one_call(rt: &impl Abort, alloc: Global, options: &Options) -> Result<(), AllocError> {
     let mut calls = 0u32;
     let text = options.usage_with_format(alloc, |rows| {
         calls = calls.saturating_add(1);
@@ -380,18 +386,49 @@ fn calls_the_closure_once(rt: HostRuntime) -> Result<(), Fail> {
 }
 
 #[test]
-fn hands_back_what_the_closure_answers(rt: HostRuntime) -> Result<(), Fail> {
-    let alloc = rt.alloc();
+fn calls_the_closure_once(rt: HostRuntime) -> Result<(), Fail> {
     let groups = [flag("a", "apple", "Apple"), flag("k", "kiwi", "Kiwi")];
-    let options = declared(&rt, alloc, false, &groups)?;
-    let text = options.usage_with_format(alloc, |_rows| Ok(String::new(alloc)))?;
-    assert_eq!(rt; text.as_str(), "");
-    let refused = options.usage_with_format(alloc, |_rows| Err(AllocError));
-    assert!(rt; refused.is_err());
-    let first = options.usage_with_format(alloc, |mut rows| match rows.next() {
+    let options = declared(&rt, rt.alloc(), false, &groups)?;
+    expect_one_call(&rt, rt.alloc(), &options)?;
+    Ok(())
+}
+
+/// The text of a closure that answers an empty one.
+fn empty_text(alloc: Global, options: &Options) -> Result<String, AllocError> {
+    options.usage_with_format(alloc, |_rows| Ok(String::new(alloc)))
+}
+
+/// The text of a closure that answers that memory was refused.
+fn refused_text(alloc: Global, options: &Options) -> Result<String, AllocError> {
+    options.usage_with_format(alloc, |_rows| Err(AllocError))
+}
+
+/// The text of a closure that answers the first row.
+fn first_row(alloc: Global, options: &Options) -> Result<String, AllocError> {
+    options.usage_with_format(alloc, |mut rows| match rows.next() {
         Some(row) => Ok(row),
         None => Ok(String::new(alloc)),
-    })?;
+    })
+}
+
+/// Stops unless what the closures answer comes back.
+fn expect_answers_back(
+    rt: &impl Abort,
+    alloc: Global,
+    options: &Options,
+) -> Result<(), AllocError> {
+    assert!(rt; refused_text(alloc, options).is_err());
+    let text = empty_text(alloc, options)?;
+    assert_eq!(rt; text.as_str(), "");
+    let first = first_row(alloc, options)?;
     assert_eq!(rt; first.as_str(), "    -a, --apple         Apple");
+    Ok(())
+}
+
+#[test]
+fn hands_back_what_the_closure_answers(rt: HostRuntime) -> Result<(), Fail> {
+    let groups = [flag("a", "apple", "Apple"), flag("k", "kiwi", "Kiwi")];
+    let options = declared(&rt, rt.alloc(), false, &groups)?;
+    expect_answers_back(&rt, rt.alloc(), &options)?;
     Ok(())
 }

@@ -1,6 +1,6 @@
 //! Rows of descriptions, and where a break goes.
 
-use crate::fixtures::character_of_no_columns;
+use crate::fixtures::{character_of_no_columns, same_texts};
 use getopts::wrap::each_split_within;
 use std::alloc::{AllocError, Global};
 use std::process::Abort;
@@ -9,7 +9,7 @@ use std::test::Fail;
 const MARY: &str = "\nMary had a little lamb\nLittle lamb\n";
 
 /// Stops unless the rows are these, all of them and in this order.
-fn expect_rows(
+pub fn expect_rows(
     rt: &impl Abort,
     alloc: Global,
     desc: &str,
@@ -17,10 +17,10 @@ fn expect_rows(
     expected: &[&str],
 ) -> Result<(), AllocError> {
     let rows = each_split_within(alloc, desc, lim)?;
-    assert_eq!(rt; rows.len(), expected.len(), "the rows of {desc:?} at {lim}");
-    for (row, text) in rows.iter().zip(expected) {
-        assert_eq!(rt; row.as_str(), *text, "in {desc:?} at {lim}");
-    }
+    assert!(rt;
+        same_texts(&rows, expected),
+        "{rows:?} of {desc:?} at {lim}"
+    );
     Ok(())
 }
 
