@@ -241,11 +241,7 @@ impl Session {
     ) -> Result<(), Trouble> {
         let words: Vec<&str> = fields.iter().map(|field| field.as_str()).collect(alloc)?;
         let read = self.side.options.parse(alloc, words.iter().copied());
-        match &read {
-            Ok(matches) => asks::accepted(alloc, matches, answer)?,
-            Err(Fail::OutOfMemory) => return Err(Trouble::NoMemory),
-            Err(fail) => asks::refused(alloc, fail, answer)?,
-        }
+        answer_read(alloc, &read, answer)?;
         self.side.read = Some(read);
         Ok(())
     }
@@ -350,6 +346,16 @@ fn ask_by_name(
         ("truth", [default]) => asks::truth(matches, name, default.as_str(), answer),
         _ => Err(WRONG_FIELDS),
     }
+}
+
+/// Answers whether words are accepted, and what they gave.
+fn answer_read(alloc: Global, read: &getopts::Result, answer: &mut Answer) -> Result<(), Trouble> {
+    match read {
+        Ok(matches) => asks::accepted(alloc, matches, answer)?,
+        Err(Fail::OutOfMemory) => return Err(Trouble::NoMemory),
+        Err(fail) => asks::refused(alloc, fail, answer)?,
+    }
+    Ok(())
 }
 
 /// Whether a line with this word asks of what the last words gave.
