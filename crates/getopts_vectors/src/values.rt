@@ -31,12 +31,8 @@ fn later_value_does_not_stand_for_the_first(rt: HostRuntime) -> Result<(), Fail>
     Ok(())
 }
 
-#[test]
-fn occurrences_are_lent(rt: HostRuntime) -> Result<(), Fail> {
-    let alloc = rt.alloc();
-    let groups = &[(Optopt, "o", "output"), (Optflagmulti, "v", "")];
-    let options = declared(&rt, alloc, groups)?;
-    let matches = accepted(&rt, alloc, &options, &["-v", "-o", "x", "-vv"]);
+/// Stops unless the occurrences of `output` and `v` are those of `-v`, `-o`, `x`, `-vv`.
+fn expect_lent(rt: &impl Abort, matches: &Matches) {
     assert_eq!(rt; matches.opt_place("output"), Some(0));
     assert_eq!(rt; matches.opt_place("v"), Some(1));
     assert_eq!(rt; matches.opt_place("w"), None);
@@ -48,6 +44,15 @@ fn occurrences_are_lent(rt: HostRuntime) -> Result<(), Fail> {
     assert_eq!(rt; verbose.count(), 3);
     assert_eq!(rt; verbose.get(2), Some((3, None)));
     assert_eq!(rt; matches.occurrences_at(2).count(), 0);
+}
+
+#[test]
+fn occurrences_are_lent(rt: HostRuntime) -> Result<(), Fail> {
+    let alloc = rt.alloc();
+    let groups = &[(Optopt, "o", "output"), (Optflagmulti, "v", "")];
+    let options = declared(&rt, alloc, groups)?;
+    let matches = accepted(&rt, alloc, &options, &["-v", "-o", "x", "-vv"]);
+    expect_lent(&rt, &matches);
     Ok(())
 }
 
