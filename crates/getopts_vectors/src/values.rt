@@ -73,6 +73,45 @@ fn read_or<T: FromStr + Drop>(
     matches.opt_get_default(name, def)
 }
 
+/// Stops unless the values of `-i true -p 11` are read so.
+fn expect_values_read(rt: &impl Abort, matches: &Matches) {
+    assert_eq!(rt;
+        read::<i32>(rt, matches, "help"),
+        Ok(None),
+        "a flag that isn't there"
+    );
+    assert_eq!(rt;
+        read::<bool>(rt, matches, "i"),
+        Ok(Some(true)),
+        "a truth value"
+    );
+    assert_eq!(rt; read::<i32>(rt, matches, "p"), Ok(Some(11)), "a number");
+    assert!(rt;
+        read::<i32>(rt, matches, "i").is_err(),
+        "a text that is no number"
+    );
+}
+
+/// Stops unless the values of `-i true -p 11`, or these defaults, are read so.
+fn expect_values_read_or(rt: &impl Abort, matches: &Matches) {
+    assert_eq!(rt;
+        read_or::<i32>(rt, matches, "r", 7),
+        Ok(7),
+        "an option that isn't there"
+    );
+    assert_eq!(rt;
+        read_or::<i32>(rt, matches, "help", 10),
+        Ok(10),
+        "a flag that isn't there"
+    );
+    assert_eq!(rt;
+        read_or::<bool>(rt, matches, "i", false),
+        Ok(true),
+        "a truth value"
+    );
+    assert_eq!(rt; read_or::<i32>(rt, matches, "p", 10), Ok(11), "a number");
+}
+
 #[test]
 fn values_read_as_numbers_and_truth_values(rt: HostRuntime) -> Result<(), Fail> {
     const GROUPS: &[Group] = &[
@@ -84,37 +123,8 @@ fn values_read_as_numbers_and_truth_values(rt: HostRuntime) -> Result<(), Fail> 
     let alloc = rt.alloc();
     let options = declared(&rt, alloc, GROUPS)?;
     let matches = accepted(&rt, alloc, &options, &["-i", "true", "-p", "11"]);
-    assert_eq!(rt;
-        read::<i32>(&rt, &matches, "help"),
-        Ok(None),
-        "a flag that isn't there"
-    );
-    assert_eq!(rt;
-        read::<bool>(&rt, &matches, "i"),
-        Ok(Some(true)),
-        "a truth value"
-    );
-    assert_eq!(rt; read::<i32>(&rt, &matches, "p"), Ok(Some(11)), "a number");
-    assert!(rt;
-        read::<i32>(&rt, &matches, "i").is_err(),
-        "a text that is no number"
-    );
-    assert_eq!(rt;
-        read_or::<i32>(&rt, &matches, "r", 7),
-        Ok(7),
-        "an option that isn't there"
-    );
-    assert_eq!(rt;
-        read_or::<i32>(&rt, &matches, "help", 10),
-        Ok(10),
-        "a flag that isn't there"
-    );
-    assert_eq!(rt;
-        read_or::<bool>(&rt, &matches, "i", false),
-        Ok(true),
-        "a truth value"
-    );
-    assert_eq!(rt; read_or::<i32>(&rt, &matches, "p", 10), Ok(11), "a number");
+    expect_values_read(&rt, &matches);
+    expect_values_read_or(&rt, &matches);
     Ok(())
 }
 
@@ -134,6 +144,30 @@ impl FromStr for Unreadable {
     }
 }
 
+/// Stops unless a value of these words can't be read.
+fn expect_cannot_read(rt: &impl Abort, matches: &Matches, words: &[&str]) {
+    assert_eq!(rt;
+        read::<Unreadable>(rt, matches, "c"),
+        Err(CannotRead),
+        "{words:?}"
+    );
+    assert_eq!(rt;
+        read_or(rt, matches, "c", Unreadable),
+        Err(CannotRead),
+        "{words:?}"
+    );
+}
+
+/// Stops unless these words have no value to read.
+fn expect_nothing_to_read(rt: &impl Abort, matches: &Matches, words: &[&str]) {
+    assert_eq!(rt; read::<Unreadable>(rt, matches, "c"), Ok(None), "{words:?}");
+    assert_eq!(rt;
+        read_or(rt, matches, "c", Unreadable),
+        Ok(Unreadable),
+        "{words:?}"
+    );
+}
+
 #[test]
 fn error_of_a_reading_comes_where_the_first_occurrence_has_a_value(
     rt: HostRuntime,
@@ -149,29 +183,11 @@ fn error_of_a_reading_comes_where_the_first_occurrence_has_a_value(
     let options = declared(&rt, alloc, COLOR)?;
     for words in WITH_A_VALUE {
         let matches = accepted(&rt, alloc, &options, words);
-        assert_eq!(rt;
-            read::<Unreadable>(&rt, &matches, "c"),
-            Err(CannotRead),
-            "{words:?}"
-        );
-        assert_eq!(rt;
-            read_or(&rt, &matches, "c", Unreadable),
-            Err(CannotRead),
-            "{words:?}"
-        );
+        expect_cannot_read(&rt, &matches, words);
     }
     for words in WITHOUT {
         let matches = accepted(&rt, alloc, &options, words);
-        assert_eq!(rt;
-            read::<Unreadable>(&rt, &matches, "c"),
-            Ok(None),
-            "{words:?}"
-        );
-        assert_eq!(rt;
-            read_or(&rt, &matches, "c", Unreadable),
-            Ok(Unreadable),
-            "{words:?}"
-        );
+        expect_nothing_to_read(&rt, &matches, words);
     }
     Ok(())
 }
