@@ -1,123 +1,193 @@
--- Each line has an answer of `parse` and of `canonical`.
-use Rattle.std.proofs.Common.{◌⊎◌, ℕ, List, [], ◌∷◌, length, arith, Some, None, Ok, Err, refl, sym, ap, ◌∙◌, inl, inr}
-use Rattle.std.specs.List.{AllByRecursion}
+-- What `parse` and `canonical` answer to words, computed: each line has an answer of both, and no other.
+use Rattle.std.proofs.Common.{◌≡◌, ◌==◌, ℕ, Bool, true, false, not, nat_lt, List, [], ◌∷◌, length, arith, Option, Some, None, Result, Ok, Err, MatchOption, refl, sym, ap, ◌∙◌, inl, inr}
+use Rattle.std.specs.Prelude.{if◌then◌else◌}
+use Rattle.std.specs.List.{AllByRecursion, list_all}
 use Rattle.std.specs.Str.{IsUtf8}
-use Rattle.std.proofs.lemmas.Bool.{cases_Bool, cases_eq, cases_lt, true≢false}
-use Rattle.getopts.specs.Names.{Text}
+use Rattle.std.proofs.lemmas.Bool.{and_parts, not-true, true≢false}
+use Rattle.std.proofs.lemmas.Bool.Decides.{nat_tests}
+use Rattle.getopts.specs.Names.{Text, AreTexts}
 use Rattle.getopts.specs.Options.{Group, Declared, AreLawfullyNamed, grammar_of}
 use Rattle.getopts.specs.Fail.{Fault}
 use Rattle.getopts.specs.Scan.{holds_equals, Mention, Reading, IsReading}
-use Rattle.getopts.specs.Matches.{MatchedGroup, matches_of, FitsCount, KeepsCounts, broken_count, IsCountFault}
-use Rattle.getopts.specs.Parse.{IsRefused}
+use Rattle.getopts.specs.Matches.{Matched, MatchedGroup, matches_of, FitsCount, KeepsCount, KeepsCounts, broken_count, IsCountFault}
 use Rattle.getopts.specs.Canon.{content_of, main_at, HasPlainMain, canonical_line}
 use Rattle.getopts.specs.CanonAnswers.{IsAcceptedWith, IsParseAnswer, IsCanonicalAnswer}
-use Rattle.getopts.specs.Refuted.{HasSomeAnswer, EachLineHasAnswers}
+use Rattle.getopts.specs.Refuted.Forms.{EachLineHasAnswers}
 use Rattle.getopts.specs.declared.groups.Occur.{Occur}
 use Rattle.getopts.specs.declared.groups.Occur.TheVariants.{Req, Optional, Multi}
 use Rattle.getopts.proofs.CanonLemmas.{HasUnwritable-content, HasCanonicalLine-says, Says-reading}
 use Rattle.getopts.proofs.ParseLemmas.{named_here, only_reads, HasNoReading-fault}
-use Rattle.getopts.proofs.ScanReadings.{reading_or_fault}
+use Rattle.getopts.proofs.ScanReadings.{read_reading, read_fault}
+use Rattle.getopts.proofs.ScanTurns.{read}
 
--- a count fits or not
-count_cases : (occurrence : Occur) (count : ℕ) → FitsCount occurrence count ⊎ ¬ (FitsCount occurrence count)
-count_cases Req count = cases_eq count 1
-count_cases Optional count = elim (cases_lt count 2) [ inl fits ↦ inl (omega arith) | inr more ↦ inr (λ fits. omega arith) ]
-count_cases Multi count = inl tt
+-- ---- counts
 
--- all groups keep their counts, or a first one breaks its count
-counts_cases : (groups : List MatchedGroup) → KeepsCounts groups ⊎ ((fault : Fault) × IsCountFault groups fault)
-counts_cases [] = inl tt
-counts_cases (group ∷ groups) = elim (count_cases group.known.occurrence (length group.found)) [
-  | inl kept ↦ elim (counts_cases groups) [
-    | inl others ↦ inl (kept, others)
-    | inr broken ↦
-        let is = broken.1 in
-        inr (
-          broken.0,
+-- whether a group may have so many occurrences
+abbrev pub fits_count : Occur → ℕ → Bool
+fits_count Req count = count == 1
+fits_count Optional count = nat_lt count 2
+fits_count Multi count = true
+
+fits_count-true : (occurrence : Occur) (count : ℕ) → fits_count occurrence count ≡ true → FitsCount occurrence count
+fits_count-true Req count fits = grind (arith, nat_tests)
+fits_count-true Optional count fits = grind (arith, nat_tests)
+fits_count-true Multi count fits = tt
+
+fits_count-false : (occurrence : Occur) (count : ℕ) → fits_count occurrence count ≡ false → ¬ (FitsCount occurrence count)
+fits_count-false Req count breaks = λ fits. grind (arith, nat_tests)
+fits_count-false Optional count breaks = λ fits. grind (arith, nat_tests)
+fits_count-false Multi count breaks = cc
+
+-- the fault of the first group that breaks its count
+abbrev pub first_count_fault : List MatchedGroup → Option Fault
+first_count_fault [] = None
+first_count_fault (group ∷ groups) = if fits_count group.known.occurrence (length group.found) then first_count_fault groups else Some (broken_count group)
+
+-- the groups keep their counts, or this is their fault
+abbrev HaveFault : List MatchedGroup → Option Fault → Type 0
+HaveFault groups fault = MatchOption fault (KeepsCounts groups) (IsCountFault groups)
+
+-- one more group, which keeps its count
+HaveFault-more : (group : MatchedGroup) (groups : List MatchedGroup) (fault : Option Fault) → KeepsCount group → HaveFault groups fault → HaveFault (group ∷ groups) fault
+HaveFault-more group groups None kept others = (kept, others)
+HaveFault-more group groups (Some fault) kept is = record {
+  before = group ∷ is.before;
+  group = is.group;
+  after = is.after;
+  groups_are = ap (λ (gs : List MatchedGroup). group ∷ gs) is.groups_are;
+  kept = (kept, is.kept);
+  broken = is.broken;
+  fault_is = is.fault_is;
+}
+
+-- one more group, which keeps its count or doesn't
+HaveFault-first : (group : MatchedGroup) (groups : List MatchedGroup) → HaveFault groups (first_count_fault groups) → (fits : Bool) → fits_count group.known.occurrence (length group.found) ≡ fits
+    → HaveFault (group ∷ groups) (if fits then first_count_fault groups else Some (broken_count group))
+HaveFault-first group groups others true fits = HaveFault-more group groups (first_count_fault groups) (fits_count-true group.known.occurrence (length group.found) fits) others
+HaveFault-first group groups others false breaks = record {
+  before = [];
+  group = group;
+  after = groups;
+  groups_are = refl;
+  kept = tt;
+  broken = fits_count-false group.known.occurrence (length group.found) breaks;
+  fault_is = refl;
+}
+
+first_count_fault-is : (groups : List MatchedGroup) → HaveFault groups (first_count_fault groups)
+first_count_fault-is [] = tt
+first_count_fault-is (group ∷ groups) = HaveFault-first group groups (first_count_fault-is groups) (fits_count group.known.occurrence (length group.found)) refl
+
+-- ---- plain contents
+
+-- whether no mentioned group has a main name that holds `=`
+abbrev pub is_plain : List Group → List Mention → Bool
+is_plain groups mentions = list_all (λ m. not (holds_equals (main_at groups m.group))) mentions
+
+is_plain-true : (groups : List Group) (mentions : List Mention) → is_plain groups mentions ≡ true → AllByRecursion (λ m. HasPlainMain groups m.group) mentions
+is_plain-true groups [] plain = tt
+is_plain-true groups (m ∷ ms) plain =
+    let parts = and_parts (not (holds_equals (main_at groups m.group))) (is_plain groups ms) plain in
+    (not-true (holds_equals (main_at groups m.group)) parts.0, is_plain-true groups ms parts.1)
+
+is_plain-from : (groups : List Group) (mentions : List Mention) → AllByRecursion (λ m. HasPlainMain groups m.group) mentions → is_plain groups mentions ≡ true
+is_plain-from groups [] plain = refl
+is_plain-from groups (m ∷ ms) plain = rw (plain.0) (is_plain-from groups ms plain.1)
+
+is_plain-false : (groups : List Group) (mentions : List Mention) → is_plain groups mentions ≡ false → ¬ (AllByRecursion (λ m. HasPlainMain groups m.group) mentions)
+is_plain-false groups mentions other = λ plain. true≢false (sym (is_plain-from groups mentions plain) ∙ other)
+
+-- ---- answers
+
+-- the answer of `parse` to words that read so and have this count fault, if any
+abbrev pub parsed : Declared → Reading → Option Fault → Result Matched Fault
+parsed options reading None = Ok (matches_of options reading)
+parsed options reading (Some fault) = Err fault
+
+-- the answer of `parse` to words with this outcome of a reading
+abbrev pub parsed_by : Declared → Result Reading Fault → Result Matched Fault
+parsed_by options (Ok reading) = parsed options reading (first_count_fault (matches_of options reading).groups)
+parsed_by options (Err fault) = Err fault
+
+-- the answer of `parse`
+abbrev pub parse_answer : Declared → List Text → Result Matched Fault
+parse_answer options words = parsed_by options (read (grammar_of options) words)
+
+-- the canonical line of a reading, if it has one
+abbrev pub line_of : Declared → Reading → Option (List Text)
+line_of options reading =
+    if is_plain options.groups (content_of (grammar_of options) reading).mentions
+    then Some (canonical_line options.groups (content_of (grammar_of options) reading)) else None
+
+-- the answer of `canonical` to words that read so and have this count fault, if any
+abbrev pub written : Declared → Reading → Option Fault → Result (Option (List Text)) Fault
+written options reading None = Ok (line_of options reading)
+written options reading (Some fault) = Err fault
+
+-- the answer of `canonical` to words with this outcome of a reading
+abbrev pub written_by : Declared → Result Reading Fault → Result (Option (List Text)) Fault
+written_by options (Ok reading) = written options reading (first_count_fault (matches_of options reading).groups)
+written_by options (Err fault) = Err fault
+
+-- the answer of `canonical`
+abbrev pub canonical_answer : Declared → List Text → Result (Option (List Text)) Fault
+canonical_answer options words = written_by options (read (grammar_of options) words)
+
+module _ (options : Declared) (lawful : AreLawfullyNamed options.groups) (shorts : AllByRecursion (λ group. IsUtf8 group.known.names.short) options.groups)
+    (words : List Text) where
+  module _ (reading : Reading) (reads : IsReading (grammar_of options) reading words) where
+    parsed-is : (fault : Option Fault) → HaveFault (matches_of options reading).groups fault → IsParseAnswer options words (parsed options reading fault)
+    parsed-is None kept = record { reading = reading; only = only_reads options lawful shorts words reading reads; counts = kept; matches_are = refl }
+    parsed-is (Some fault) is = inr (record { reading = reading; only = only_reads options lawful shorts words reading reads; breaks = is })
+
+    module _ (kept : KeepsCounts (matches_of options reading).groups) where
+      accepted : IsAcceptedWith options words (content_of (grammar_of options) reading)
+      accepted = record { reading = reading; only = only_reads options lawful shorts words reading reads; counts = kept; content_is = refl }
+
+      line_of-is : (plain : Bool) → is_plain options.groups (content_of (grammar_of options) reading).mentions ≡ plain
+          → IsCanonicalAnswer options words (Ok (if plain then Some (canonical_line options.groups (content_of (grammar_of options) reading)) else None))
+      line_of-is true plain =
+          let content = content_of (grammar_of options) reading in
+          let is = is_plain-true options.groups content.mentions plain in
           record {
-            before = group ∷ is.before;
-            group = is.group;
-            after = is.after;
-            groups_are = ap (λ (gs : List MatchedGroup). group ∷ gs) is.groups_are;
-            kept = (kept, is.kept);
-            broken = is.broken;
-            fault_is = is.fault_is;
-          },
-        )
-  ]
-  | inr broken ↦ inr (
-    broken_count group,
-    record {
-      before = [];
-      group = group;
-      after = groups;
-      groups_are = refl;
-      kept = tt;
-      broken = broken;
-      fault_is = refl;
-    },
-  )
-]
+            content = content;
+            accepted = accepted;
+            plain = is;
+            line_is = refl;
+            laws = HasCanonicalLine-says options words content lawful (named_here options lawful shorts) (Says-reading options reading words (record { reads = reads; keeps = kept })) is;
+          }
+      line_of-is false other =
+          let content = content_of (grammar_of options) reading in
+          let is = is_plain-false options.groups content.mentions other in
+          record { content = content; accepted = accepted; not_plain = is; unwritable = HasUnwritable-content options content is }
 
--- a content is plain or not
-plain_or_not : (groups : List Group) (ms : List Mention) → AllByRecursion (λ m. HasPlainMain groups m.group) ms ⊎ ¬ (AllByRecursion (λ m. HasPlainMain groups m.group) ms)
-plain_or_not groups [] = inl tt
-plain_or_not groups (m ∷ ms) = elim (cases_Bool (holds_equals (main_at groups m.group))) [
-  | inl holds ↦ inr (λ plain. true≢false (sym holds ∙ plain.0))
-  | inr plain ↦ elim (plain_or_not groups ms) [
-    | inl others ↦ inl (plain, others)
-    | inr other ↦ inr (λ all. other all.1)
-  ]
-]
+    written-is : (fault : Option Fault) → HaveFault (matches_of options reading).groups fault → IsCanonicalAnswer options words (written options reading fault)
+    written-is None kept = line_of-is kept (is_plain options.groups (content_of (grammar_of options) reading).mentions) refl
+    written-is (Some fault) is = inr (record { reading = reading; only = only_reads options lawful shorts words reading reads; breaks = is })
 
-module _ (options : Declared) (lawful : AreLawfullyNamed options.groups) (shorts : AllByRecursion (λ group. IsUtf8 group.known.names.short) options.groups) where
-  module _ (words : List Text) where
-    -- a fault is an answer of both
-    refused : (fault : Fault) → IsRefused options words fault → HasSomeAnswer (IsParseAnswer options words) × HasSomeAnswer (IsCanonicalAnswer options words)
-    refused fault is = ((Err fault, is), (Err fault, is))
+  module _ (texts : AreTexts words) where
+    module _ (fault : Fault) (reads : read (grammar_of options) words ≡ Err fault) where
+      refused : IsParseAnswer options words (Err fault)
+      refused = inl (HasNoReading-fault options lawful shorts words texts fault (read_fault (grammar_of options) (named_here options lawful shorts) words fault texts reads))
 
-    -- what a reading that keeps the counts gives is an answer of both
-    accepted : (reading : Reading) → IsReading (grammar_of options) reading words → KeepsCounts (matches_of options reading).groups
-        → HasSomeAnswer (IsParseAnswer options words) × HasSomeAnswer (IsCanonicalAnswer options words)
-    accepted reading reads kept =
-        let content = content_of (grammar_of options) reading in
-        let only = only_reads options lawful shorts words reading reads in
-        let with_content : IsAcceptedWith options words content = record {
-          reading = reading;
-          only = only;
-          counts = kept;
-          content_is = refl;
-        } in (
-          (Ok (matches_of options reading), record { reading = reading; only = only; counts = kept; matches_are = refl }),
-          elim (plain_or_not options.groups content.mentions) [
-            | inl plain ↦ (
-              Ok (Some (canonical_line options.groups content)),
-              record {
-                content = content;
-                accepted = with_content;
-                plain = plain;
-                line_is = refl;
-                laws = HasCanonicalLine-says options words content lawful (named_here options lawful shorts) (Says-reading options reading words (record { reads = reads; keeps = kept })) plain;
-              },
-            )
-            | inr other ↦ (Ok None, record { content = content; accepted = with_content; not_plain = other; unwritable = HasUnwritable-content options content other })
-          ],
-        )
+    parsed_by-is : (outcome : Result Reading Fault) → read (grammar_of options) words ≡ outcome → IsParseAnswer options words (parsed_by options outcome)
+    parsed_by-is (Ok reading) reads = parsed-is reading (read_reading (grammar_of options) (named_here options lawful shorts) words reading reads)
+        (first_count_fault (matches_of options reading).groups) (first_count_fault-is (matches_of options reading).groups)
+    parsed_by-is (Err fault) reads = refused fault reads
 
-    -- a reading gives an answer of both
-    read_answers : (reading : Reading) → IsReading (grammar_of options) reading words → HasSomeAnswer (IsParseAnswer options words) × HasSomeAnswer (IsCanonicalAnswer options words)
-    read_answers reading reads = elim (counts_cases (matches_of options reading).groups) [
-      | inl kept ↦ accepted reading reads kept
-      | inr broken ↦ refused broken.0 (inr (record {
-        reading = reading;
-        only = only_reads options lawful shorts words reading reads;
-        breaks = broken.1;
-      }))
-    ]
+    written_by-is : (outcome : Result Reading Fault) → read (grammar_of options) words ≡ outcome → IsCanonicalAnswer options words (written_by options outcome)
+    written_by-is (Ok reading) reads = written-is reading (read_reading (grammar_of options) (named_here options lawful shorts) words reading reads)
+        (first_count_fault (matches_of options reading).groups) (first_count_fault-is (matches_of options reading).groups)
+    written_by-is (Err fault) reads = refused fault reads
 
-  -- each line of texts has an answer of both
-  pub EachLineHasAnswers_lem : EachLineHasAnswers options
-  EachLineHasAnswers_lem words texts = elim (reading_or_fault (grammar_of options) (named_here options lawful shorts) words texts) [
-    | inl found ↦ read_answers words found.0 found.1
-    | inr fault ↦ refused words fault.0 (inl (HasNoReading-fault options lawful shorts words texts fault.0 fault.1))
-  ]
+    -- what is computed is the answer of each
+    pub parse_answer-is : IsParseAnswer options words (parse_answer options words)
+    parse_answer-is = parsed_by-is (read (grammar_of options) words) refl
+
+    pub canonical_answer-is : IsCanonicalAnswer options words (canonical_answer options words)
+    canonical_answer-is = written_by-is (read (grammar_of options) words) refl
+
+-- each line of texts has an answer of both
+pub EachLineHasAnswers_lem : (options : Declared) → AreLawfullyNamed options.groups → AllByRecursion (λ group. IsUtf8 group.known.names.short) options.groups → EachLineHasAnswers options
+EachLineHasAnswers_lem options lawful shorts words texts =
+    ((parse_answer options words, parse_answer-is options lawful shorts words texts), (canonical_answer options words, canonical_answer-is options lawful shorts words texts))

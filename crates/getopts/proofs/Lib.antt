@@ -16,6 +16,7 @@ pub mod PairsLemmas
 pub mod ParseLemmas
 pub mod PiecesLemmas
 pub mod RefutedLemmas
+pub mod RefutedTexts
 pub mod SameLemmas
 pub mod ScanClusters
 pub mod ScanItems

@@ -1,27 +1,27 @@
--- Answers to words that are written out: what `read` computes of them is what they are accepted or refused
--- with.
-use Rattle.std.proofs.Common.{◌≡◌, ◌≢◌, ◌==◌, ◌≤◌, ◌+◌, ℕ, zero, suc, Bool, true, false, ◌&&◌, not, nat_lt, List, [], ◌∷◌, length, arith, refl, sym, ap, ◌∙◌, subst, ◌++◌, Option, Some, None, Result, Ok, Err, IfOk, inl, inr}
-use Rattle.std.specs.Prelude.{if◌then◌else◌, MatchResult}
+-- Answers to words that are written out: what is computed of them is their answer, and no other is.
+use Rattle.std.proofs.Common.{◌≡◌, ◌≢◌, ◌==◌, ◌≤◌, ◌+◌, zero, suc, Bool, true, false, ◌&&◌, not, nat_lt, List, [], ◌∷◌, length, arith, refl, sym, ap, ◌∙◌, subst, Option, Result, Ok, Err}
+use Rattle.std.specs.Prelude.{◌↔◌, IsTrue}
 use Rattle.std.specs.List.{AllByRecursion, list_all}
 use Rattle.std.specs.Str.{chars, IsAscii, IsUtf8}
 use Rattle.std.specs.Char.{encode_utf8}
-use Rattle.std.proofs.lemmas.Bool.{and_parts, ltb-true}
+use Rattle.std.proofs.lemmas.Bool.{and_parts, ltb-true, true≢false}
 use Rattle.std.proofs.lemmas.Bool.Decides.{nat_tests}
 use Rattle.std.proofs.lemmas.Str.{IsUtf8-from_ascii}
 use Rattle.getopts.specs.Names.{AreTexts, Text, Names, IsLawfullyNamed}
-use Rattle.getopts.specs.Options.{Group, Declared, AreLawfullyNamed, grammar_of}
+use Rattle.getopts.specs.Options.{Group, Declared, AreLawfullyNamed}
 use Rattle.getopts.specs.Fail.{Fault}
-use Rattle.getopts.specs.Scan.{Reading, IsReading}
-use Rattle.getopts.specs.Matches.{Matched, MatchedGroup, matches_of, FitsCount, KeepsCount, KeepsCounts, broken_count, IsCountFault}
-use Rattle.getopts.specs.Parse.{IsAccepted, IsRefused}
-use Rattle.getopts.specs.Canon.{Content, content_of, IsPlain, canonical_line}
-use Rattle.getopts.specs.CanonAnswers.{IsAcceptedWith, IsWritten, IsUnwritable}
-use Rattle.getopts.specs.Refuted.{IsNoAnswer, IsNoFault, IsNoLine, IsNeverUnwritable}
-use Rattle.getopts.specs.declared.groups.Occur.{Occur}
-use Rattle.getopts.specs.declared.groups.Occur.TheVariants.{Req, Optional, Multi}
-use Rattle.getopts.proofs.NamesLemmas.{named_grammar}
-use Rattle.getopts.proofs.ScanReadings.{reading_read, fault_read, read_reading}
-use Rattle.getopts.proofs.ScanTurns.{IsNamed, read, read_both, turn, item_turn, cluster_turn}
+use Rattle.getopts.specs.Scan.{dash}
+use Rattle.getopts.specs.Matches.{Matched}
+use Rattle.getopts.specs.Parse.{IsAccepted}
+use Rattle.getopts.specs.CanonAnswers.{IsParseAnswer, IsCanonicalAnswer}
+use Rattle.getopts.specs.Refuted.Forms.{Refutes, Answers, e_acute}
+use Rattle.getopts.proofs.AnswerLemmas.{parse_answer, parse_answer-is, canonical_answer, canonical_answer-is}
+use Rattle.getopts.proofs.CanonicalLemmas.{only_matches, only_parse_answer, only_canonical_answer}
+use Rattle.getopts.proofs.ScanTurns.{read, read_both, turn, item_turn, cluster_turn}
+
+-- what a test tells apart isn't equal
+pub differ : {X : Type 0} (same : X → X → Bool) (x y : X) → same x y ≡ false → same y y ≡ true → x ≢ y
+differ same x y apart self = λ equal. true≢false (sym self ∙ ap (λ z. same z y) (sym equal) ∙ apart)
 
 -- What a proof unfolds to compute `read` at options and words that are written out.
 unfoldable pub read_on_literals : Unit {0}
@@ -81,130 +81,95 @@ ascii_text [] ascii i = omega arith
 ascii_text (byte ∷ word) ascii zero = ltb-true byte 128 (and_parts (nat_lt byte 128) (list_all (λ byte. nat_lt byte 128) word) ascii).0
 ascii_text (byte ∷ word) ascii (suc i) = ascii_text word (and_parts (nat_lt byte 128) (list_all (λ byte. nat_lt byte 128) word) ascii).1 i
 
-ascii_texts : (words : List Text) → are_ascii words ≡ true → AreTexts words
+pub ascii_texts : (words : List Text) → are_ascii words ≡ true → AreTexts words
 ascii_texts [] ascii = tt
 ascii_texts (word ∷ words) ascii =
     let parts = and_parts (list_all (λ byte. nat_lt byte 128) word) (are_ascii words) ascii in
     (IsUtf8-from_ascii word (ascii_text word parts.0), ascii_texts words parts.1)
 
-module _ (options : Declared) (plain : are_plain options.groups ≡ true) (words : List Text) where
-  -- the names are names
-  named : IsNamed (grammar_of options)
-  named = let lawful = lawful_groups options.groups plain in named_grammar options lawful.0 lawful.1
+-- a dash and the character `é` are a text
+pub e_acute_text : IsUtf8 (dash ∷ e_acute)
+unfolding encode_utf8
+e_acute_text = (45 ∷ 233 ∷ [], (refl, refl))
 
-  -- Where the words read to this.
-  module _ (reading : Reading) (reads : read (grammar_of options) words ≡ Ok reading) where
-    -- every reading of them is this one
-    only : (other : Reading) → IsReading (grammar_of options) other words → other ≡ reading
-    only other is = let read_is = reading_read (grammar_of options) named other words is in cc
+-- What is asked of an answer of `parse`: of its matches, or which fault it is.
+abbrev pub Asks : {X : Type 0} → (Matched → X → Type 0) → Result Matched Fault → Result X Fault → Type 0
+Asks Asked (Ok matches) (Ok answer) = Asked matches answer
+Asks Asked (Ok matches) (Err fault) = ⊥
+Asks Asked (Err fault) (Ok answer) = ⊥
+Asks Asked (Err fault) (Err other) = other ≡ fault
 
-    -- they are accepted with its matches alone
-    pub matches_are : (matches : Matched) → IsAccepted options words matches → matches ≡ matches_of options reading
-    matches_are matches is = is.matches_are ∙ ap (matches_of options) (only is.reading ((is.only is.reading).1 refl))
+module _ (options : Declared) (plain : are_plain options.groups ≡ true) (words : List Text) (texts : AreTexts words) where
+  parse_is : IsParseAnswer options words (parse_answer options words)
+  parse_is = let lawful = lawful_groups options.groups plain in parse_answer-is options lawful.0 lawful.1 words texts
 
-    -- they are accepted with its content alone
-    pub content_is : (content : Content) → IsAcceptedWith options words content → content ≡ content_of (grammar_of options) reading
-    content_is content is = is.content_is ∙ ap (content_of (grammar_of options)) (only is.reading ((is.only is.reading).1 refl))
+  canonical_is : IsCanonicalAnswer options words (canonical_answer options words)
+  canonical_is = let lawful = lawful_groups options.groups plain in canonical_answer-is options lawful.0 lawful.1 words texts
 
-    -- they have its canonical line alone
-    pub line_is : (line : List Text) → IsWritten options words line → line ≡ canonical_line options.groups (content_of (grammar_of options) reading)
-    line_is line is = is.line_is ∙ ap (canonical_line options.groups) (content_is is.content is.accepted)
+  -- an answer of `canonical` is the one that is computed
+  canonical_refuted : (right wrong : Result (Option (List Text)) Fault) → right ≡ canonical_answer options words → wrong ≢ right → Refutes (IsCanonicalAnswer options words) right wrong
+  canonical_refuted right wrong is other = record {
+    lets_through = subst (IsCanonicalAnswer options words) (sym is) canonical_is;
+    refuses = λ answers. other (only_canonical_answer options words wrong right answers (subst (IsCanonicalAnswer options words) (sym is) canonical_is));
+  }
 
-    -- they have none only where its content isn't plain
-    pub not_plain : IsUnwritable options words → ¬ (IsPlain options.groups (content_of (grammar_of options) reading))
-    not_plain is plain = is.not_plain (subst (IsPlain options.groups) (sym (content_is is.content is.accepted)) plain)
+  module _ {X : Type 0} (Asked : Matched → X → Type 0) where
+    asks_answers : (outcome : Result Matched Fault) (answer : Result X Fault) → IsParseAnswer options words outcome → Asks Asked outcome answer → Answers options words Asked answer
+    asks_answers (Ok matches) (Ok answer) is asked = (matches, is, asked)
+    asks_answers (Ok matches) (Err fault) is asked = absurd asked
+    asks_answers (Err fault) (Ok answer) is asked = absurd asked
+    asks_answers (Err fault) (Err other) is asked = subst (λ f. IsParseAnswer options words (Err f)) (sym asked) is
 
-    -- they are refused for its counts alone
-    pub count_fault : (fault : Fault) → IsRefused options words fault → IsCountFault (matches_of options reading).groups fault
-    count_fault fault (inl is) = absurd (is.no_reading reading (read_reading (grammar_of options) named words reading reads))
-    count_fault fault (inr is) = subst (λ (r : Reading). IsCountFault (matches_of options r).groups fault) (only is.reading ((is.only is.reading).1 refl)) is.breaks
+    answers_asks : (outcome : Result Matched Fault) (answer : Result X Fault) → IsParseAnswer options words outcome → Answers options words Asked answer → Asks Asked outcome answer
+    answers_asks outcome (Ok answer) is answers =
+        subst (λ o. Asks Asked o (Ok answer)) (only_parse_answer options words (Ok answers.0) outcome answers.1 is) answers.2
+    answers_asks outcome (Err fault) is answers =
+        subst (λ o. Asks Asked o (Err fault)) (only_parse_answer options words (Err fault) outcome answers is) refl
 
-  -- Where the words have this fault.
-  module _ (fault : Fault) (reads : read (grammar_of options) words ≡ Err fault) where
-    -- they have no reading
-    pub none : (reading : Reading) → IsReading (grammar_of options) reading words → ⊥
-    none reading is = let read_is = reading_read (grammar_of options) named reading words is in cc
+    -- what is asked of `parse` is asked of the answer that is computed
+    pub refutes_texts : (right wrong : Result X Fault) → Asks Asked (parse_answer options words) right → (Asks Asked (parse_answer options words) wrong → ⊥)
+        → Refutes (Answers options words Asked) right wrong
+    refutes_texts right wrong asked other = record {
+      lets_through = asks_answers (parse_answer options words) right parse_is asked;
+      refuses = λ answers. other (answers_asks (parse_answer options words) wrong parse_is answers);
+    }
 
-    -- they aren't accepted
-    pub not_accepted : (matches : Matched) → IsAccepted options words matches → ⊥
-    not_accepted matches is = none is.reading ((is.only is.reading).1 refl)
+-- Of words of ASCII.
+module _ (options : Declared) (plain : are_plain options.groups ≡ true) (words : List Text) (ascii : are_ascii words ≡ true) where
+  pub refutes_canonical : (right wrong : Result (Option (List Text)) Fault) → right ≡ canonical_answer options words → wrong ≢ right → Refutes (IsCanonicalAnswer options words) right wrong
+  refutes_canonical = canonical_refuted options plain words (ascii_texts words ascii)
 
-    -- they are refused with it alone
-    pub scan_fault : are_ascii words ≡ true → (other : Fault) → IsRefused options words other → other ≡ fault
-    scan_fault ascii other (inl is) = let read_is = fault_read (grammar_of options) named words other (ascii_texts words ascii) ((is.only other).1 refl) in cc
-    scan_fault ascii other (inr is) = absurd (none is.reading ((is.only is.reading).1 refl))
+  pub refutes_parse : {X : Type 0} (Asked : Matched → X → Type 0) (right wrong : Result X Fault) → Asks Asked (parse_answer options words) right
+      → (Asks Asked (parse_answer options words) wrong → ⊥) → Refutes (Answers options words Asked) right wrong
+  refutes_parse = refutes_texts options plain words (ascii_texts words ascii)
 
--- no matches of the words answer so, where those of what they read to don't
-pub no_answer : (options : Declared) → are_plain options.groups ≡ true → (words : List Text) (Answer : Matched → Type 0)
-    → IfOk (read (grammar_of options) words) (λ reading. ¬ (Answer (matches_of options reading)))
-    → IsNoAnswer options words Answer
-no_answer options plain words Answer other = by_outcome (read (grammar_of options) words) refl other where
-  by_outcome : (outcome : Result Reading Fault) → read (grammar_of options) words ≡ outcome → IfOk outcome (λ reading. ¬ (Answer (matches_of options reading)))
-      → IsNoAnswer options words Answer
-  by_outcome (Ok reading) reads other matches is wrong = other (subst Answer (matches_are options plain words reading reads matches is) wrong)
-  by_outcome (Err fault) reads other matches is wrong = not_accepted options plain words fault reads matches is
+  -- the matches that the words are accepted with
+  pub accepted_with : (matches : Matched) → parse_answer options words ≡ Ok matches → IsAccepted options words matches
+  accepted_with matches is = subst (IsParseAnswer options words) is (parse_is options plain words (ascii_texts words ascii))
 
--- this is no line of the words, where what they read to isn't plain or has another
-pub no_line : (options : Declared) → are_plain options.groups ≡ true → (words answer : List Text)
-    → IfOk (read (grammar_of options) words)
-    (λ reading. IsPlain options.groups (content_of (grammar_of options) reading) → answer ≡ canonical_line options.groups (content_of (grammar_of options) reading) → ⊥)
-    → IsNoLine options words answer
-no_line options plain words answer other = by_outcome (read (grammar_of options) words) refl other where
-  by_outcome : (outcome : Result Reading Fault) → read (grammar_of options) words ≡ outcome
-      → IfOk outcome (λ reading. IsPlain options.groups (content_of (grammar_of options) reading) → answer ≡ canonical_line options.groups (content_of (grammar_of options) reading) → ⊥)
-      → IsNoLine options words answer
-  by_outcome (Ok reading) reads other is =
-      other (subst (IsPlain options.groups) (content_is options plain words reading reads is.content is.accepted) is.plain) (line_is options plain words reading reads answer is)
-  by_outcome (Err fault) reads other is = none options plain words fault reads is.accepted.reading ((is.accepted.only is.accepted.reading).1 refl)
+  pub only_with : (matches : Matched) → parse_answer options words ≡ Ok matches → (other : Matched) → IsAccepted options words other → other ≡ matches
+  only_with matches is other accepted = only_matches options words other matches accepted (accepted_with matches is)
 
--- the words have a line, where what they read to is plain
-pub never_unwritable : (options : Declared) → are_plain options.groups ≡ true → (words : List Text)
-    → IfOk (read (grammar_of options) words) (λ reading. IsPlain options.groups (content_of (grammar_of options) reading))
-    → IsNeverUnwritable options words
-never_unwritable options plain words writable = by_outcome (read (grammar_of options) words) refl writable where
-  by_outcome : (outcome : Result Reading Fault) → read (grammar_of options) words ≡ outcome
-      → IfOk outcome (λ reading. IsPlain options.groups (content_of (grammar_of options) reading)) → IsNeverUnwritable options words
-  by_outcome (Ok reading) reads writable is = not_plain options plain words reading reads is writable
-  by_outcome (Err fault) reads writable is = none options plain words fault reads is.accepted.reading ((is.accepted.only is.accepted.reading).1 refl)
+  -- words with a fault are accepted with no matches
+  pub not_accepted : (fault : Fault) → parse_answer options words ≡ Err fault → (matches : Matched) → IsAccepted options words matches → ⊥
+  not_accepted fault is matches accepted =
+      let same : Ok matches ≡ Err fault = only_parse_answer options words (Ok matches) (Err fault) accepted (subst (IsParseAnswer options words) is (parse_is options plain words (ascii_texts words ascii))) in
+      cc
 
--- whether a group may have so many occurrences
-abbrev pub fits_count : Occur → ℕ → Bool
-fits_count Req count = count == 1
-fits_count Optional count = nat_lt count 2
-fits_count Multi count = true
+  -- and have no canonical line, nor the answer that they have none
+  pub not_written : (fault : Fault) → canonical_answer options words ≡ Err fault → (line : Option (List Text)) → IsCanonicalAnswer options words (Ok line) → ⊥
+  not_written fault is line answers =
+      let same : Ok line ≡ Err fault = only_canonical_answer options words (Ok line) (Err fault) answers (subst (IsCanonicalAnswer options words) is (canonical_is options plain words (ascii_texts words ascii))) in
+      cc
 
--- the fault of the first group that breaks its count
-abbrev pub first_count_fault : List MatchedGroup → Option Fault
-first_count_fault [] = None
-first_count_fault (group ∷ groups) = if fits_count group.known.occurrence (length group.found) then first_count_fault groups else Some (broken_count group)
-
-fits_count-true : (occurrence : Occur) (count : ℕ) → FitsCount occurrence count → fits_count occurrence count ≡ true
-fits_count-true Req count fits = grind (arith, nat_tests)
-fits_count-true Optional count fits = grind (arith, nat_tests)
-fits_count-true Multi count fits = refl
-
-fits_count-false : (occurrence : Occur) (count : ℕ) → ¬ (FitsCount occurrence count) → fits_count occurrence count ≡ false
-fits_count-false Req count breaks = grind (arith, nat_tests)
-fits_count-false Optional count breaks = grind (arith, nat_tests)
-fits_count-false Multi count breaks = absurd (breaks tt)
-
--- a count fault is that of the first group that breaks its count
-first_count_fault-is : (groups before after : List MatchedGroup) (group : MatchedGroup) → groups ≡ before ++ group ∷ after → KeepsCounts before → ¬ (KeepsCount group)
-    → first_count_fault groups ≡ Some (broken_count group)
-first_count_fault-is groups before after group groups_are kept broken = ap first_count_fault groups_are ∙ here before kept where
-  here : (before : List MatchedGroup) → KeepsCounts before → first_count_fault (before ++ group ∷ after) ≡ Some (broken_count group)
-  here [] kept = rw (fits_count-false group.known.occurrence (length group.found) broken) refl
-  here (first ∷ before) kept = rw (fits_count-true first.known.occurrence (length first.found) kept.0) (here before kept.1)
-
--- the words have no such fault, where what they read to has another or none
-pub no_fault : (options : Declared) → are_plain options.groups ≡ true → (words : List Text) → are_ascii words ≡ true → (fault : Fault)
-    → MatchResult (read (grammar_of options) words) (λ reading. first_count_fault (matches_of options reading).groups ≢ Some fault) (λ found. fault ≢ found)
-    → IsNoFault options words fault
-no_fault options plain words ascii fault other = by_outcome (read (grammar_of options) words) refl other where
-  by_outcome : (outcome : Result Reading Fault) → read (grammar_of options) words ≡ outcome
-      → MatchResult outcome (λ reading. first_count_fault (matches_of options reading).groups ≢ Some fault) (λ found. fault ≢ found)
-      → IsNoFault options words fault
-  by_outcome (Ok reading) reads other is =
-      let breaks = count_fault options plain words reading reads fault is in
-      other (first_count_fault-is (matches_of options reading).groups breaks.before breaks.after breaks.group breaks.groups_are breaks.kept breaks.broken ∙ ap Some (sym breaks.fault_is))
-  by_outcome (Err found) reads other is = other (scan_fault options plain words found reads ascii fault is)
+-- two lines with the same matches are equal, and not unequal
+pub refutes_unequal : (options : Declared) → are_plain options.groups ≡ true → (words others : List Text) → are_ascii words ≡ true → are_ascii others ≡ true → (matches : Matched)
+    → parse_answer options words ≡ Ok matches → parse_answer options others ≡ Ok matches
+    → Refutes (λ equal. (given : Matched) × (other : Matched) × IsAccepted options words given × IsAccepted options others other × (IsTrue equal ↔ (given ≡ other))) true false
+refutes_unequal options plain words others ascii ascii_others matches is is_other = record {
+  lets_through = (matches, matches, accepted_with options plain words ascii matches is, accepted_with options plain others ascii_others matches is_other, ((λ _. refl), (λ _. refl)));
+  refuses = λ wrong.
+      let first = only_with options plain words ascii matches is wrong.0 wrong.2 in
+      let second = only_with options plain others ascii_others matches is_other wrong.1 wrong.3 in
+      true≢false (sym (wrong.4.1 (first ∙ sym second)));
+}
