@@ -86,10 +86,16 @@ pub(crate) struct Group<'g> {
 }
 
 /// What reading asks of groups: the names of each, the short one first, and its kinds.
-#[derive(Debug, Drop)]
+#[derive(Debug)]
 pub(crate) struct Groups {
     names: Texts,
     kinds: Vec<Kinds>,
+}
+
+impl Drop for Groups {
+    fn drop(self) {
+        let Groups { names: _, kinds: _ } = self;
+    }
 }
 
 impl Model for Groups {

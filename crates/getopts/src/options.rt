@@ -15,13 +15,25 @@ use std::alloc::{AllocError, Global};
 use std::marker::Model;
 
 /// A list of option groups, a parsing style and a mode.
-#[derive(Debug, Drop)]
+#[derive(Debug)]
 pub struct Options {
     alloc: Global,
     groups: Groups,
     help: Texts,
     style: ParsingStyle,
     long_only: bool,
+}
+
+impl Drop for Options {
+    fn drop(self) {
+        let Options {
+            alloc: _,
+            groups: _,
+            help: _,
+            style: _,
+            long_only: _,
+        } = self;
+    }
 }
 
 impl Model for Options {

@@ -19,10 +19,16 @@ const FIRST_BYTES: usize = 64;
 /// A list of texts, held as one text and the places where each of them ends.
 ///
 /// So a copy of the list is two requests for memory.
-#[derive(Debug, Drop)]
+#[derive(Debug)]
 pub(crate) struct Texts {
     text: String,
     ends: Vec<usize>,
+}
+
+impl Drop for Texts {
+    fn drop(self) {
+        let Texts { text: _, ends: _ } = self;
+    }
 }
 
 impl Model for Texts {
