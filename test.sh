@@ -1,8 +1,60 @@
 #!/usr/bin/env bash
-# Proves every crate and its tests and runs them, then runs the programs with memory refused, and then
-# tests the C example and the Rust crate. A folder with the crate getopts 0.2.24 may be given.
-set -euo pipefail
+# Tests this repository.
+# usage: test.sh [--quick] [CRATE]
+#
+# It proves every crate and its tests and runs them, then runs the programs with memory refused, and then
+# tests the C example and the Rust crate. CRATE is a folder with the Rust crate getopts 0.2.24, to compare
+# with. With --quick nothing is proved: tests and programs run unproved, and what needs built programs
+# runs where they are.
+set -uo pipefail
 cd "$(dirname "$0")"
-rt ci
-bash refused/run.sh
-bash rust/test.sh "$@"
+quick=
+if [ "${1:-}" = --quick ]; then
+    quick=1
+    shift
+fi
+if ! command -v rt >/dev/null; then
+    echo "test.sh: no rt on the path; the toolchain's bin folder has to be on it" >&2
+    exit 2
+fi
+if [ $# -gt 0 ] && [ ! -f "$1/Cargo.toml" ]; then
+    echo "test.sh: $1 is no folder of the crate getopts (usage: test.sh [--quick] [CRATE])" >&2
+    exit 2
+fi
+
+# part WHAT COMMAND..: says what begins, runs it, and says how long it took. A part that failed is kept
+# for the end.
+failed=
+part() {
+    local what=$1 start=$SECONDS
+    shift
+    echo "== $what"
+    if "$@"; then
+        echo "== $what: done after $((SECONDS - start)) s"
+    else
+        echo "== $what: FAILED after $((SECONDS - start)) s"
+        failed="$failed; $what"
+        return 1
+    fi
+}
+
+if [ -n "$quick" ]; then
+    part "tests and programs of all crates, unproved" bash quick.sh
+    if [ -x crates/getopts_refused/out/getopts_refused ] && [ -x crates/getopts_show/out/getopts_show ]; then
+        part "refused memory" bash refused/run.sh
+    else
+        echo "skipped: refused memory, whose programs the whole test builds"
+    fi
+    part "C and Rust" bash rust/test.sh --quick "$@"
+    echo "Nothing was proved. 'bash test.sh' proves everything."
+else
+    # Each part stands on what the one before built.
+    part "proofs, edits, tests and programs of all crates" rt ci &&
+        part "refused memory" bash refused/run.sh &&
+        part "C and Rust" bash rust/test.sh "$@"
+fi
+if [ -n "$failed" ]; then
+    echo "failed: ${failed#; }"
+    exit 1
+fi
+echo "all passed after $SECONDS s"

@@ -1,0 +1,111 @@
+#!/usr/bin/env bash
+# Tries the edits of this folder, which the gate doesn't: each turns a body that no public sentence
+# speaks of, and the prover has to refuse it. With --plant it plants wrong bodies in each crate instead.
+# usage: edits/try.sh [--jobs N] [--plant] [CRATE..]
+#
+# Everything is done on copies of the repository, N at once (2 if left out). An edit costs about a minute
+# of a processor after its crate was proved once; what a plant lists is printed with its crate. The last
+# line is 'N passed, M failed'.
+set -euo pipefail
+top=$(cd "$(dirname "$0")/.." && pwd)
+jobs=2 plant=
+while [ $# -gt 0 ]; do
+    case $1 in
+        --jobs) jobs=${2:?--jobs takes a number}; shift 2 ;;
+        --plant) plant=1; shift ;;
+        -*) sed -n '4s/^# //p' "$0" >&2; exit 2 ;;
+        *) break ;;
+    esac
+done
+command -v rt >/dev/null || { echo "no rt on the path: the toolchain's bin folder has to be there" >&2; exit 2; }
+
+room=$(mktemp -d)
+trap 'kill $(jobs -p) 2>/dev/null; rm -rf "$room"' EXIT
+
+# apply EDIT FOLDER: makes an edit in a crate's folder; each of its texts stands there once.
+apply() {
+    python3 - "$1" "$2" <<'PY'
+import sys
+lines = [line for line in open(sys.argv[1], encoding="utf-8").read().split("\n") if line]
+name = f"{sys.argv[2]}/{lines[0].removeprefix('file: ')}"
+text = open(name, encoding="utf-8").read()
+for old, new in zip(lines[1::2], lines[2::2]):
+    old, new = old.removeprefix("old: "), new.removeprefix("new: ")
+    if text.count(old) != 1:
+        sys.exit(f"{sys.argv[1]}: this doesn't stand once in {name}: {old}")
+    text = text.replace(old, new)
+open(name, "w", encoding="utf-8").write(text)
+PY
+}
+
+# try_edit COPY EDIT: says whether the check refuses the edit.
+try_edit() {
+    local copy=$1 edit=$2 crate name status=0
+    crate=$(basename "$(dirname "$edit")") name=$(basename "$edit" .edit)
+    local folder=$copy/crates/$crate
+    cp -a "$folder/src" "$copy/kept"
+    if ! apply "$edit" "$folder" 2>"$copy/said"; then
+        echo "FAILED: $crate: $name: $(cat "$copy/said")"
+    else
+        (cd "$folder" && rt check --jobs 1) >"$copy/said" 2>&1 || status=$?
+        if [ $status = 1 ] && grep -q ': not proved' "$copy/said"; then
+            echo "refused: $crate: $name: $(grep -m1 ': not proved' "$copy/said")"
+        else
+            echo "FAILED: $crate: $name: the check ended with status $status"
+        fi
+    fi
+    rm -rf "$folder/src"
+    mv "$copy/kept" "$folder/src"
+}
+
+# plant_in COPY CRATE: prints what wrong bodies a crate's contracts let through.
+plant_in() {
+    local copy=$1 crate=$2
+    if (cd "$copy/crates/$crate" && rt plant --jobs 1 --minutes 60) >"$copy/said" 2>&1; then
+        echo "planted: $crate: $(tail -n 1 "$copy/said")"
+        grep -E '^ *(proves|no-ensures) ' "$copy/said" | sed "s/^/$crate: /" || true
+    else
+        echo "FAILED: $crate: $(tail -n 1 "$copy/said")"
+    fi
+}
+
+# The crates that are tried, and one line for each thing to do.
+if [ $# = 0 ] && [ -n "$plant" ]; then
+    mapfile -t crates < <(sed -n 's/^\([a-z_]*\).*:.*/\1/p' "$top/crates.txt")
+elif [ $# = 0 ]; then
+    mapfile -t crates < <(cd "$top/edits" && ls -d */ | tr -d /)
+else
+    crates=("$@")
+fi
+for crate in "${crates[@]}"; do
+    if [ -n "$plant" ]; then
+        echo "plant_in $crate"
+    else
+        ls "$top/edits/$crate"/*.edit | sed 's/^/try_edit /'
+    fi
+done >"$room/tasks"
+
+echo "proving $(echo "${crates[@]}") once, in a copy"
+mkdir "$room/0"
+(cd "$top" && git ls-files -z --cached --others --exclude-standard | xargs -0 cp -a --parents -t "$room/0")
+for crate in "$top"/crates/*/out; do
+    name=$(basename "$(dirname "$crate")")
+    [ -d "$room/0/crates/$name" ] && cp -a "$crate" "$room/0/crates/$name/"
+done
+for crate in "${crates[@]}"; do
+    (cd "$room/0/crates/$crate" && rt check --jobs 1) >"$room/said" 2>&1 || { tail -n 5 "$room/said"; echo "0 passed, 1 failed"; exit 1; }
+done
+for ((copy = 1; copy < jobs; copy++)); do cp -a "$room/0" "$room/$copy"; done
+
+# Each copy takes every Nth line.
+for ((copy = 0; copy < jobs; copy++)); do
+    while read -r what which; do
+        "$what" "$room/$copy" "$which"
+    done < <(awk -v n="$jobs" -v at="$copy" 'NR % n == at' "$room/tasks") >"$room/results.$copy" &
+done
+wait
+cat "$room"/results.*
+failed=$(cat "$room"/results.* | grep -c '^FAILED' || true)
+passed=$(($(wc -l <"$room/tasks") - failed))
+echo "$passed passed, $failed failed"
+[ "$failed" = 0 ]

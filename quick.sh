@@ -1,0 +1,50 @@
+#!/usr/bin/env bash
+# Runs the tests of all crates and compares what each program writes with its stored run, without any
+# proof, two crates at a time. The last line is 'N passed, M failed'.
+set -uo pipefail
+cd "$(dirname "$0")"
+room=$(mktemp -d)
+trap 'rm -rf "$room"' EXIT
+
+# tests CRATE: runs a crate's tests.
+tests() {
+    (cd "crates/$1" && rt try --test) >"$room/$1.tests" 2>&1 || { tail -n 20 "$room/$1.tests"; return 1; }
+    grep -o '[0-9]* passed; [0-9]* failed' "$room/$1.tests"
+}
+
+# program CRATE: runs a crate's program on its stored input, and compares what it writes.
+program() {
+    local folder=crates/$1 input=/dev/null words=()
+    [ -f "$folder/stdin" ] && input=$folder/stdin
+    [ -f "$folder/args" ] && mapfile -t words <"$folder/args"
+    (cd "$folder" && rt try -- "${words[@]}") <"$input" >"$room/$1.wrote" 2>"$room/$1.said" ||
+        { tail -n 20 "$room/$1.said"; return 1; }
+    cmp "$room/$1.wrote" "$folder/stdout" && echo "as stored"
+}
+
+# run WHAT CRATE: does one of these, and writes one line of it.
+run() {
+    local start=$SECONDS said
+    if said=$("$1" "$2" 2>&1); then
+        echo "$1 $2" >>"$room/passed"
+        echo "passed: $2, $1: $said, $((SECONDS - start)) s"
+    else
+        echo "$1 $2" >>"$room/failed"
+        echo "FAILED: $2, $1: $said"
+    fi
+}
+
+touch "$room/passed" "$room/failed"
+for crate in crates/*/; do
+    crate=$(basename "$crate")
+    grep -rqs '#\[test\]' "crates/$crate/src" && echo "tests $crate"
+    [ -f "crates/$crate/stdout" ] && echo "program $crate"
+done >"$room/tasks"
+while read -r what crate; do
+    while [ "$(jobs -rp | wc -l)" -ge 2 ]; do wait -n; done
+    run "$what" "$crate" &
+done <"$room/tasks"
+wait
+failed=$(wc -l <"$room/failed")
+echo "$(wc -l <"$room/passed") passed, $failed failed"
+[ "$failed" = 0 ]
