@@ -2,6 +2,8 @@
 
 ghost use Rattle.getopts.specs.Canon.{IsSound, ReadsBackEverywhere, SaysNothingElse, IsItsOwn, IsOnlyContent};
 ghost use Rattle.getopts.specs.CanonAnswers.{EachContent, EachPlainContent, AnsweredLinesTell};
+ghost use Rattle.getopts.specs.Options.{grammar_of};
+ghost use Rattle.getopts.specs.Parse.{KeepsReadingLaws};
 ghost use Rattle.getopts.specs.Theorem.{OneReading, AcceptedExactlyWhen, RefusedExactlyWhen, OneOfThree, OneReadingGivesAll, OneContentHoldsSame, CanonicalLinesTell};
 
 use crate::options::Options;
@@ -37,6 +39,9 @@ pub fn one_reading_one_canonical_line(options: &Options)
     ensures says_nothing_else { EachPlainContent options.now (SaysNothingElse options.now) }
     ensures its_own { EachPlainContent options.now (IsItsOwn options.now) }
     ensures only_content { EachPlainContent options.now (IsOnlyContent options.now.groups) }
+
+    // Other spellings of a line, lines one after the other, and where free words and occurrences stand.
+    ensures reading_laws { KeepsReadingLaws (grammar_of options.now) }
 
     // Each option that a line mentions is what its own main name stands for.
     ensures sound { EachContent options.now (IsSound options.now.groups) }

@@ -1,6 +1,7 @@
 -- What the options keep makes their names lawful, and so the laws hold.
 use Rattle.getopts.proofs.CallerLemmas.{OneContentHoldsSame_lem}
 use Rattle.getopts.proofs.CanonLemmas.{IsSound-says}
+use Rattle.getopts.proofs.ParseLemmas.{keeps_laws}
 use Rattle.getopts.proofs.TheoremLemmas.{OneReading-options, AcceptedExactlyWhen-options, RefusedExactlyWhen-options, OneOfThree-options, OneReadingGivesAll-options, CanonicalLinesTell-options, AnsweredLinesTell-options, HasCanonicalLine-options}
 use Rattle.getopts.proofs.theorem.one_reading_one_canonical_line.Goals as goal
 
@@ -23,5 +24,6 @@ returns c =
       says_nothing_else = λ words content says plain. (laws words content says plain).says_nothing_else;
       its_own = λ words content says plain. (laws words content says plain).its_own;
       only_content = λ words content says plain. (laws words content says plain).only;
+      reading_laws = keeps_laws options lawful shorts;
       sound = IsSound-says options;
     }
