@@ -69,14 +69,14 @@ impl PartialEq for Kinds {
 }
 
 /// What reading asks of a group, borrowed.
-#[derive(Clone, Copy, Debug)]
+#[derive(Clone, Copy)]
 pub(crate) struct Known<'g> {
     pub names: Names<'g>,
     pub kinds: Kinds,
 }
 
 /// A group with its texts for usage, borrowed.
-#[derive(Clone, Copy, Debug)]
+#[derive(Clone, Copy)]
 pub(crate) struct Group<'g> {
     pub names: Names<'g>,
     pub hint: &'g str,

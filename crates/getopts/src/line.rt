@@ -10,7 +10,7 @@ use std::marker::Model;
 
 /// One option that the words give: the place of its group, the index of its item's first word, and its
 /// value.
-#[derive(Clone, Copy, Debug)]
+#[derive(Clone, Copy)]
 pub(crate) struct Occurrence<'w> {
     pub group: usize,
     pub position: usize,
@@ -57,7 +57,7 @@ pub(crate) struct Given {
 }
 
 /// The options that a line gives, in order, and their values, borrowed from its words.
-#[derive(Debug, Drop)]
+#[derive(Drop)]
 pub(crate) struct Found<'w> {
     pub given: Vec<Given>,
     pub values: Vec<&'w str>,
@@ -132,7 +132,7 @@ impl<'w> Found<'w> {
 }
 
 /// What a line gives, borrowed from its words.
-#[derive(Debug, Drop)]
+#[derive(Drop)]
 pub(crate) struct Line<'w> {
     pub found: Found<'w>,
     pub free: Vec<&'w str>,
@@ -140,7 +140,7 @@ pub(crate) struct Line<'w> {
 }
 
 /// An accepted line, with the table of the names that it was read by, and where its options stand.
-#[derive(Debug, Drop)]
+#[derive(Drop)]
 pub(crate) struct AcceptedLine<'w> {
     pub table: Table,
     pub line: Line<'w>,

@@ -33,7 +33,7 @@ pub fn names_resolve(options: &Options)
 }
 
 /// The two names of a group, borrowed. Either may be empty.
-#[derive(Clone, Copy, Debug)]
+#[derive(Clone, Copy)]
 pub(crate) struct Names<'g> {
     pub short: &'g str,
     pub long: &'g str,

@@ -19,7 +19,7 @@ use crate::words::FIRST_ROOM;
 use std::alloc::Global;
 
 /// The options by which words are read, and the table of their names.
-#[derive(Clone, Copy, Debug)]
+#[derive(Clone, Copy)]
 pub(crate) struct Scanner<'o> {
     pub options: &'o Options,
     pub table: &'o Table,
