@@ -19,8 +19,8 @@ impl Options {
     /// panics in this call where one is too long or too short, and takes two empty names, on which
     /// `parse` then panics. The answer is a `Result`, so calls are chained with `?`: in it is a reference
     /// to the same options. An error comes only where memory was refused, and leaves the options as they
-    /// were. A clause can say so of this call, but this toolchain doesn't prove it, since the answer borrows
-    /// from the options: it is proved of `push_group`, by its clause `err`.
+    /// were: that is proved of `add_group`, on which this call stands, and can't be said of this call, whose
+    /// answer borrows from the options.
     pub fn opt(
         &mut self,
         short_name: &str,
@@ -36,7 +36,7 @@ impl Options {
         ensures same_options { IfOk result (λ options.
             options.ghost_name ≡ self.entry.ghost_name) }
     {
-        self.push_group(short_name, long_name, desc, hint, hasarg, occur)?;
+        self.add_group(short_name, long_name, desc, hint, hasarg, occur)?;
         Ok(self)
     }
 

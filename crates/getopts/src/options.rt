@@ -66,8 +66,15 @@ impl Options {
         }
     }
 
-    /// Adds a group as the last one. An error leaves the options as they were.
-    pub(crate) fn push_group(
+    /// Adds an option with any kind of argument and any kind of occurrence, as the last group.
+    ///
+    /// `options.add_group("o", "output", "write to FILE", "FILE", HasArg::Yes, Occur::Multi)?` does what
+    /// `opt` does. It is for whoever goes on after an error: its contract says that the options are then
+    /// as they were, and options may be added to in a loop. The calls named as in the Rust stand on it;
+    /// they answer the options for a chain, and so can't say what an error leaves. The names have to be
+    /// lawful, which `names_lawful` tests. An error comes only where memory was refused. The Rust has no
+    /// such call.
+    pub fn add_group(
         &mut self,
         short_name: &str,
         long_name: &str,
@@ -77,9 +84,9 @@ impl Options {
         occur: Occur,
     ) -> Result<(), AllocError>
         requires { AreLawful short_name.now long_name.now }
-        ensures ok { OnOk result (self.new ≡ with_group self.old
+        ensures added { OnOk result (self.new ≡ with_group self.old
             (group_of short_name.now long_name.now desc.now hint.now hasarg occur)) }
-        ensures err { OnErr result (self.new ≡ self.old) }
+        ensures unchanged { OnErr result (self.new ≡ self.old) }
     {
         let kinds = Kinds { hasarg, occur };
         let texts = self.help.len();

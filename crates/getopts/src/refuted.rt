@@ -36,6 +36,7 @@ fn wrong_options()
     ensures optmulti_comes_once { declaring.optmulti_comes_once }
     ensures optopt_may_go_without { declaring.optopt_may_go_without }
     ensures reqopt_may_be_left_out { declaring.reqopt_may_be_left_out }
+    ensures refused_group_is_added { declaring.refused_group_is_added }
     ensures parsing_style_leaves_long_only { declaring.parsing_style_leaves_long_only }
     ensures long_only_sets_the_style { declaring.long_only_sets_the_style }
 {}

@@ -63,3 +63,8 @@ parsing_style_leaves_long_only =
 abbrev pub long_only_sets_the_style : Type 0
 long_only_sets_the_style = Refutes (λ options. options ≡ record (stopping []) { long_only = true })
     (record { groups = []; style = StopAtFirstFree; long_only = true }) (only_long [])
+
+-- options to which no group could be added are as they were
+abbrev pub refused_group_is_added : Type 0
+refused_group_is_added = Refutes (λ options. options ≡ usual [])
+    (usual []) (usual (output "FILE" Yes Optional ∷ []))

@@ -33,3 +33,6 @@ returns-clause-parsing_style_leaves_long_only c = record { lets_through = refl; 
 
 pub returns-clause-long_only_sets_the_style : goal.returns-clause-long_only_sets_the_style
 returns-clause-long_only_sets_the_style c = record { lets_through = refl; refuses = differ same_options _ _ refl refl }
+
+pub returns-clause-refused_group_is_added : goal.returns-clause-refused_group_is_added
+returns-clause-refused_group_is_added c = record { lets_through = refl; refuses = differ same_options _ _ refl refl }
