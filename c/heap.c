@@ -4,8 +4,8 @@
 #include <stdlib.h>
 
 static struct getopts_block tried(void *block) {
-    static char nothing;
-    struct getopts_block answer = { block != NULL, block != NULL ? block : &nothing };
+    static const char nothing;
+    struct getopts_block answer = { block != NULL, block != NULL ? block : (void *)&nothing };
     return answer;
 }
 
