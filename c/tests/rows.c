@@ -155,7 +155,8 @@ static void declare(int kind, const char *hint) {
 
 static int kind_of(const char *kind, const char *occurrence) {
     int of_kind = kind[0] == 'y' ? GETOPTS_YES : kind[0] == 'n' ? GETOPTS_NO : GETOPTS_MAYBE;
-    return of_kind + (occurrence[0] == 'r' ? GETOPTS_REQ : occurrence[0] == 'o' ? GETOPTS_OPTIONAL : GETOPTS_MULTI);
+    return of_kind
+        + (occurrence[0] == 'r' ? GETOPTS_REQ : occurrence[0] == 'o' ? GETOPTS_OPTIONAL : GETOPTS_MULTI);
 }
 
 /* Does what a line says that has no answer, and tells whether it is such a line. */
