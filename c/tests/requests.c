@@ -115,26 +115,42 @@ static bool lawful_names(const char *short_name, const char *long_name) {
     return strlen(long_name) != 1 && (short_name[0] != '\0' || long_name[0] != '\0');
 }
 
+/* Adds a word, mostly one that gives an option, by one of its two names. */
+static void tell_word(struct told *to, const char *const names[2]) {
+    char word[LONGEST];
+    bool is_long = names[1][0] != '\0' && (names[0][0] == '\0' || below(2) == 0);
+    static const char *const after[] = { "", "", "", "1", "\u00e9", "=x" };
+    if (below(5) == 0) {
+        tell(to, below(2) == 0 ? "free" : PICK(line_words));
+        return;
+    }
+    const char *value = PICK(after);
+    const char *between = is_long && value[0] != '\0' && value[0] != '=' ? "=" : "";
+    snprintf(word, sizeof word, "%s%s%s%s", is_long ? "--" : "-", names[is_long], between, value);
+    tell(to, word);
+}
+
 static void make(struct request *request) {
+    const char *names[GROUPS][2] = { { "nope", "nope" } };
     memset(request, 0, sizeof *request);
     request->export = below(3) > 0 ? PARSE : (int)below(EXPORTS);
     request->stop = below(2) == 0;
     request->long_only = below(4) == 0;
     for (size_t left = below(GROUPS + 1); left > 0; left--) {
-        const char *short_name, *long_name;
+        const char **two = names[request->kinds_len];
         do {
-            short_name = PICK(shorts);
-            long_name = PICK(longs);
-        } while (!lawful_names(short_name, long_name));
-        tell(&request->texts, short_name);
-        tell(&request->texts, long_name);
+            two[0] = PICK(shorts);
+            two[1] = PICK(longs);
+        } while (!lawful_names(two[0], two[1]));
+        tell(&request->texts, two[0]);
+        tell(&request->texts, two[1]);
         tell(&request->texts, PICK(others));
         tell(&request->texts, PICK(others));
         /* A required one is rare, since most lines lack it. */
         request->kinds[request->kinds_len++] = (uint8_t)(3 * below(3) + (below(8) == 0 ? 0 : 1 + below(2)));
     }
     for (size_t left = below(WORDS + 1); left > 0; left--)
-        tell(&request->words, PICK(line_words));
+        tell_word(&request->words, names[below(request->kinds_len > 0 ? request->kinds_len : 1)]);
     tell(&request->start, PICK(others));
 }
 
@@ -553,7 +569,7 @@ static bool answered(const struct request *request, FILE *rows, FILE *zeros) {
     demand(status < GETOPTS_NO_MEMORY, "the room told doesn't suffice");
     out = has_zero(request) ? zeros : rows;
     next_number = room.numbers;
-    next_byte = room.bytes;
+    next_byte = room.bytes != NULL ? room.bytes : (const uint8_t *)"";
     numbers_left = told.numbers;
     bytes_left = told.bytes;
     written(request, status);
