@@ -45,6 +45,12 @@
 #![deny(unsafe_code)]
 #![warn(missing_docs)]
 
+#[cfg(all(getopts_no_archive, not(doc)))]
+compile_error!("native/libgetopts_c.a is missing: take it from the repository, or make it by rust/archive.sh");
+
+#[cfg(all(getopts_elsewhere, not(doc)))]
+compile_error!("the archive is for x86-64 Linux: for another target leave out the patch of getopts");
+
 mod answer;
 mod archive;
 mod fail;
