@@ -23,7 +23,9 @@ macro_rules! jobs {
                 + matches.opt_str("o").map_or(0, |text| text.len())
                 + usize::from(matches.opt_present("help"))
                 + matches.opt_strs("L").len()
-                + matches.opt_default("color", "auto").map_or(0, |text| text.len())
+                + matches
+                    .opt_default("color", "auto")
+                    .map_or(0, |text| text.len())
         }
         let words = words($count);
         match $job {
@@ -58,7 +60,11 @@ macro_rules! jobs {
 fn words(count: usize) -> Vec<&'static str> {
     let more = ["-vv", "-Ldir", "file.txt", "--verbose", "-L", "other"];
     let first = ["--output=x.txt", "-v", "in.txt"];
-    first.into_iter().chain(more.into_iter().cycle()).take(count).collect()
+    first
+        .into_iter()
+        .chain(more.into_iter().cycle())
+        .take(count)
+        .collect()
 }
 
 fn main() {
