@@ -331,7 +331,7 @@ int main(int argc, char **argv) {
         if (!can) {
             passed++;
         } else if (wanted.len == answer.len && memcmp(wanted.bytes, answer.bytes, answer.len) == 0) {
-            same++;
+            same += !is_case;
         } else if (++differ <= 10) {
             printf("%s of case %zu\n  wanted %.*s  not    %.*s", fields[0], cases, (int)wanted.len,
                 wanted.bytes, (int)answer.len, answer.bytes);

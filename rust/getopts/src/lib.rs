@@ -46,10 +46,14 @@
 #![warn(missing_docs)]
 
 #[cfg(all(getopts_no_archive, not(doc)))]
-compile_error!("native/libgetopts_c.a is missing: take it from the repository, or make it by rust/archive.sh");
+compile_error!(
+    "native/libgetopts_c.a is missing: take it from the repository, or make it by rust/archive.sh"
+);
 
 #[cfg(all(getopts_elsewhere, not(doc)))]
-compile_error!("the archive is for x86-64 Linux: for another target leave out the patch of getopts");
+compile_error!(
+    "the archive is for x86-64 Linux: for another target leave out the patch of getopts"
+);
 
 mod answer;
 mod archive;
@@ -61,3 +65,8 @@ mod texts;
 pub use fail::{Fail, Result};
 pub use matches::Matches;
 pub use options::{HasArg, Occur, Options, ParsingStyle};
+
+/// The example of the README is tested.
+#[cfg(doctest)]
+#[doc = include_str!("../README.md")]
+struct Readme;

@@ -308,7 +308,7 @@ fn main() -> ExitCode {
         match found {
             _ if is_case && wanted.is_empty() => {}
             None => passed += 1,
-            Some(found) if found == wanted => same += 1,
+            Some(found) if found == wanted => same += usize::from(!is_case),
             Some(found) => {
                 differ += 1;
                 println!("{line:?} of case {cases}\n  wanted {wanted:?}\n  not    {found:?}");
