@@ -7,7 +7,7 @@
  *
  * What a caller owes, as of any C function:
  *
- * - A pointer and its length are those of an array. With length 0 the pointer may be NULL, or anything.
+ * - A pointer and its length are those of an array. With length 0 the pointer may be NULL.
  * - The rooms and the sizes overlap neither each other nor anything that is read. Where they do, nothing is
  *   promised. What is only read may overlap.
  * - A bool is 0 or 1, as C makes it. Of other bytes that come by a wrong declaration nothing is promised.
@@ -163,7 +163,9 @@ uint32_t getopts_c_usage_rows(
     struct getopts_sizes *sizes /* how much the answer has */
 );
 
-/* What the archive asks of its host, which c/heap.c answers by malloc. */
+/* What the archive asks of its host, which heap.c answers by malloc. Every such archive asks by these names, so
+ * those of one program share a heap. The names of heap.c are weak: another heap that the program has, such as
+ * that of the Rust crate, takes their place. Two that aren't weak are refused by the linker. */
 
 /* A block, or that there is none: the pointer then points somewhere, and isn't null. */
 struct getopts_block {

@@ -1,7 +1,10 @@
-/* The heap of the archive, over the host's. */
+/* The heap of the archive, over the host's. The names are fixed, so all such archives of a program share one
+ * heap: this one is weak, and makes room for another that the program has. */
 #include "getopts_c.h"
 
 #include <stdlib.h>
+
+#define WEAK __attribute__((weak))
 
 static struct getopts_block tried(void *block) {
     static const char nothing;
@@ -9,15 +12,15 @@ static struct getopts_block tried(void *block) {
     return answer;
 }
 
-struct getopts_block rattle_alloc(size_t size, size_t align) {
+WEAK struct getopts_block rattle_alloc(size_t size, size_t align) {
     return tried(malloc(size != 0 ? size : align));
 }
 
-struct getopts_block rattle_realloc(void *block, size_t kept, size_t size, size_t align) {
+WEAK struct getopts_block rattle_realloc(void *block, size_t kept, size_t size, size_t align) {
     (void)kept;
     return tried(realloc(block, size != 0 ? size : align));
 }
 
-void rattle_dealloc(void *block) {
+WEAK void rattle_dealloc(void *block) {
     free(block);
 }

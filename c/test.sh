@@ -142,7 +142,11 @@ elif check "c/install.sh" env CC="${compilers[0]}" "$here/install.sh" "$prefix";
     done
 fi
 
-# The sizes that the documents tell.
+# What the documents quote and tell.
+quoted() {
+    sed -n '/^```c$/,/^```$/{/^```/!p}' "$here/README.md" | cmp - "$here/head.c"
+}
+check "README.md quotes the example" quoted
 check "the layer has fewer than 300 lines" [ "$(wc -l <"$here/getopts.c")" -lt 300 ]
 check "the program has fewer than 80 lines" [ "$(wc -l <"$here/show.c")" -lt 80 ]
 check "the example has 45 lines or fewer" [ "$(wc -l <"$here/head.c")" -le 45 ]

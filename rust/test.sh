@@ -200,6 +200,57 @@ END
 }
 check "a program with the patch" patched
 
+# The C layer and the Rust crate in one program, whichever the linker meets first.
+both_languages() {
+    local order
+    mkdir -p "$room/both/src"
+    cat >"$room/both/Cargo.toml" <<END
+[package]
+name = "both"
+version = "0.1.0"
+edition = "2021"
+[lib]
+crate-type = ["staticlib"]
+[dependencies]
+getopts = { path = "$here" }
+END
+    cat >"$room/both/src/lib.rs" <<'END'
+#[no_mangle]
+pub extern "C" fn rust_count() -> usize {
+    let mut options = getopts::Options::new();
+    options.optflagmulti("v", "verbose", "say more");
+    options.parse(["-vv"]).unwrap().opt_count("v")
+}
+END
+    cat >"$room/both/main.c" <<END
+#include "$top/c/getopts.h"
+size_t rust_count(void);
+int main(void) {
+    static const struct getopts_option table[] = {
+        { "v", NULL, NULL, NULL, GETOPTS_NO + GETOPTS_MULTI }, { NULL, NULL, NULL, NULL, 0 },
+    };
+    char *words[] = { "-vvv", NULL };
+    struct getopts *options = getopts_new(table, 0);
+    if (options == NULL || getopts_read(options, 1, words) != GETOPTS_OK)
+        return 1;
+    size_t count = getopts_count(options, "v");
+    getopts_delete(options);
+    return count != 3 || rust_count() != 2;
+}
+END
+    (cd "$room/both" && cargo build --offline --release) && CC=$compiler "$top/c/install.sh" "$room/prefix" || return 1
+    local c=$room/prefix/lib/libgetopts.a rust=$room/target/release/libboth.a
+    for order in "$c $rust" "$rust $c"; do
+        # shellcheck disable=SC2086
+        "${strict[@]}" "$room/both/main.c" $order -lpthread -ldl -lm -o "$room/both/main" && "$room/both/main" || return 1
+    done
+}
+if [ -n "$compiler" ] && has ar; then
+    check "C and Rust in one program" both_languages
+else
+    skip "C and Rust in one program: there is no C compiler or no ar"
+fi
+
 # Without the archive, and elsewhere, the build says what to do; the documents are made.
 cp -r "$here" "$room/bare"
 rm -rf "$room"/bare/{native,target,Cargo.lock}
