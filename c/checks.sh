@@ -36,6 +36,16 @@ has() {
     done
 }
 
+# The files of crates that hold rows with their answers beside them, after "> ".
+row_files() {
+    local file
+    for file in "$top"/crates/*/{stdin,*.rows,*.txt,data/*}; do
+        if [ -f "$file" ] && grep -q $'^case\t' "$file" && grep -q '^> ' "$file"; then
+            echo "$file"
+        fi
+    done
+}
+
 finish() {
     echo "$passed passed, $failed failed, $skipped skipped"
     [ "$failed" = 0 ]

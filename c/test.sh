@@ -27,18 +27,14 @@ if [ ! -f "$archive" ]; then
     exit 1
 fi
 
-# Rows: recorded ones with their answers beside them, and files that have both.
-shopt -s nullglob
-row_files=("$top"/crates/*/*.rows "$top"/crates/*/data/*.rows)
-
 # all_of COMPILER FLAG..: every test as this compiler builds it with these flags.
 all_of() {
     local with="${*:1:2}" build=("$@" "${warnings[@]}") file
     if check "rows ($with)" "${build[@]}" "$here/tests/rows.c" "${layer[@]}" -o "$room/rows"; then
         says "recorded rows ($with)" "$room/rows" "$replay/stdin" "$replay/stdout"
-        for file in "${row_files[@]}"; do
-            says "${file#"$top/"} ($with)" "$room/rows" "$file"
-        done
+        while read -r file; do
+            says "${file#"$top/crates/"} ($with)" "$room/rows" "$file"
+        done < <(row_files)
     fi
     check "exports_refused ($with)" "${build[@]}" "$here/tests/exports_refused.c" "$archive" -o "$room/refused" &&
         says "exports under refused memory ($with)" "$room/refused"

@@ -169,11 +169,15 @@ readable() { (cd "$top/rust/rows" && cargo build "${flags[@]}" --release); }
 if check "the reader of rows" readable; then
     rows=$room/target/release/rows
     says "recorded rows (the drop-in)" "$rows" "$top"/crates/getopts_replay/{stdin,stdout}
-    shopt -s nullglob
-    for file in "$top"/crates/*/*.rows "$top"/crates/*/data/*.rows "$room"/requests/*.rows; do
-        says "${file##*/} (the drop-in)" "$rows" "$file"
-    done
-    [ -d "$room/requests" ] || skip "the rows of random requests: there is no C compiler"
+    while read -r file; do
+        says "${file#"$top/crates/"} (the drop-in)" "$rows" "$file"
+    done < <(row_files)
+    if [ -f "$room/requests/lawful.rows" ]; then
+        says "the random requests (the drop-in)" "$rows" "$room/requests/lawful.rows"
+        says "those with a zero byte (the drop-in)" "$rows" "$room/requests/zeros.rows"
+    else
+        skip "the random requests: there is no C compiler"
+    fi
 fi
 
 # A program that patches the crate builds with cargo alone: no network, no registry, no toolchain.

@@ -129,7 +129,7 @@ static const struct call calls[] = {
     { "read, more than guessed", reads, table, GETOPTS_OK, { "-vvvvvvvvvvvvvvvvvvvvvvvvvvvvvvvv", NULL } },
     { "read, nothing", reads, table, GETOPTS_OK, { NULL } },
     { "read, a fault", reads, table, GETOPTS_UNRECOGNIZED_OPTION, { "-v", "--nope", NULL } },
-    { "read, not UTF-8", reads, table, GETOPTS_UNRECOGNIZED_OPTION, { "-v", "x\xff", NULL } },
+    { "read, not UTF-8", reads, table, GETOPTS_UNRECOGNIZED_OPTION, { "-v", THOUSAND "\xff", NULL } },
     { "read, unlawful", reads, unlawful, GETOPTS_BAD, { "-v", NULL } },
     { "canonical", canonical, table, GETOPTS_OK, { "-oa", "-v", "x", NULL } },
     { "canonical, a fault", canonical, table, GETOPTS_ARGUMENT_MISSING, { "-v", "-o", NULL } },
