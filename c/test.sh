@@ -99,7 +99,22 @@ END
 if [ ${#compilers[@]} -gt 0 ] && has objcopy; then
     check "two archives in one program" two_archives
 else
-    skip "two archives in one program: there is no objcopy"
+    skip "two archives in one program: there is no C compiler or no objcopy"
+fi
+
+# The global names of the archive, and those that it asks for, as getopts_c.h and README.md tell them.
+names() {
+    local given asked
+    given=$(nm --defined-only -g "$archive" | sed -n 's/^[0-9a-f]* [A-Z] //p' | sort | tr '\n' ' ')
+    asked=$(nm -u "$archive" | sed -n 's/^ *U //p' | sort | tr '\n' ' ')
+    echo "$given and $asked"
+    [ "$given" = "getopts_c_canonical getopts_c_parse getopts_c_short_usage getopts_c_usage getopts_c_usage_rows " ] &&
+        [ "$asked" = "memcpy memmove memset rattle_alloc rattle_dealloc rattle_realloc " ]
+}
+if has nm; then
+    check "the names of the archive" names
+else
+    skip "the names of the archive: there is no nm"
 fi
 
 # What c/install.sh put somewhere, and programs that know it by pkg-config alone.

@@ -119,8 +119,8 @@ else
     fi
 fi
 
-if ! has cargo; then
-    skip "the Rust crate: there is no cargo"
+if ! has cargo cc; then
+    skip "the Rust crate: there is no cargo, or no cc that it links by"
     finish
     exit
 fi

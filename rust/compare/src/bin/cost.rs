@@ -1,4 +1,4 @@
-//! Does one job many times, to be counted: `cost ours|theirs JOB COUNT TIMES`.
+//! Does one job many times, to be counted by `bench/instructions.sh`: `cost ours|theirs JOB COUNT TIMES`.
 //!
 //! The jobs are `parse`, which reads a line of COUNT words by five options; `whole`, which declares the five
 //! options, reads that line, and asks for each; and `names`, which asks COUNT options that were declared
