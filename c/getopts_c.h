@@ -1,8 +1,16 @@
-/* Command-line options for C: the exports of the archive libgetopts_c.a, which is proved.
+/* The exports of the archive libgetopts_c.a, which is proved. A C program would rather take getopts.h, which
+ * stands on these.
  *
  * Every call takes any bytes and numbers, keeps no pointer, and writes only to the room that it is
- * given. It answers one of these statuses. A pointer may be to nothing only where its length is 0, and is
- * then still not null. The archive asks for its heap by the three functions at the end.
+ * given. It answers one of the statuses below. The archive asks for its heap by the three functions at the
+ * end, and calls nothing else but memcpy, memmove and memset.
+ *
+ * What a caller owes, as of any C function:
+ *
+ * - A pointer and its length are those of an array. With length 0 the pointer may be NULL.
+ * - The rooms and the sizes overlap neither each other nor anything that is read. Where they do, nothing is
+ *   promised. What is only read may overlap.
+ * - A bool is 0 or 1, as C makes it. Of other bytes that come by a wrong declaration nothing is promised.
  *
  * A request says one set of options and one line at most, and an answer is read back one way: its numbers
  * tell where each part of it ends. */
@@ -12,6 +20,13 @@
 #include <stdbool.h>
 #include <stddef.h>
 #include <stdint.h>
+
+/* The version of these declarations: one more with each change that a caller has to follow. */
+#define GETOPTS_C_VERSION 1
+
+#ifdef __cplusplus
+extern "C" {
+#endif
 
 /* A status. With the last three no numbers and no bytes are written. */
 enum {
@@ -23,8 +38,11 @@ enum {
     GETOPTS_UNEXPECTED_ARGUMENT, /* a fault */
     GETOPTS_NO_MEMORY,           /* memory was refused; the sizes are as they were */
     GETOPTS_BAD,                 /* nothing lawful fits: see below; the sizes are as they were */
-    GETOPTS_TOO_SMALL            /* some room was too small; the sizes tell what is needed, and suffice */
+    GETOPTS_TOO_SMALL            /* some room was too small; the sizes tell what is needed */
 };
+
+/* GETOPTS_TOO_SMALL means asking again: the same request with rooms of the sizes told isn't answered so. So
+ * a caller asks with a guessed room, or with none, and once more. */
 
 /* GETOPTS_BAD is answered where no lawfully named options of UTF-8 texts are what the texts, lengths and
  * kinds say, or where the words, the brief or the program's name aren't UTF-8 texts of these lengths, and
@@ -145,7 +163,9 @@ uint32_t getopts_c_usage_rows(
     struct getopts_sizes *sizes /* how much the answer has */
 );
 
-/* What the archive asks of its host, which c/heap.c answers by malloc. */
+/* What the archive asks of its host, which heap.c answers by malloc. Every such archive asks by these names, so
+ * those of one program share a heap. The names of heap.c are weak: another heap that the program has, such as
+ * that of the Rust crate, takes their place. Two that aren't weak are refused by the linker. */
 
 /* A block, or that there is none: the pointer then points somewhere, and isn't null. */
 struct getopts_block {
@@ -161,5 +181,9 @@ struct getopts_block rattle_realloc(void *block, size_t kept, size_t size, size_
 
 /* Lets a block go. */
 void rattle_dealloc(void *block);
+
+#ifdef __cplusplus
+}
+#endif
 
 #endif

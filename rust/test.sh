@@ -1,5 +1,5 @@
 #!/usr/bin/env bash
-# Tests the archive, the C example and the Rust crate.
+# Tests the archive, the C layer and the Rust crate.
 #
 #     rust/test.sh [CRATE]
 #
@@ -10,30 +10,11 @@ set -uo pipefail
 top=$(cd "$(dirname "$0")/.." && pwd)
 crate=${1:+$(cd "$1" && pwd)}
 read -r -a flags <<<"${CARGO_FLAGS:-}"
-room=$(mktemp -d)
-trap 'rm -rf "$room"' EXIT
+# shellcheck source=c/checks.sh
+. "$top/c/checks.sh"
 export CARGO_TARGET_DIR=$room/target
-passed=0 failed=0 skipped=0
-archive=$top/rust/getopts/native/libgetopts_c.a
-
-# check WHAT COMMAND..: counts a command, whose output is shown where it failed.
-check() {
-    local what=$1
-    shift
-    if "$@" >"$room/said" 2>&1; then
-        passed=$((passed + 1))
-    else
-        failed=$((failed + 1))
-        echo "FAILED: $what"
-        tail -n 40 "$room/said"
-        return 1
-    fi
-}
-
-skip() {
-    skipped=$((skipped + 1))
-    echo "skipped: $1"
-}
+here=$top/rust/getopts
+archive=$here/native/libgetopts_c.a
 
 # The lines that the examples are run on.
 lines=("--output=x.txt --verbose in.txt" "-vvLd -La -Lb -c auto -o x.txt f -- g -v" "-v --help" "--nope"
@@ -78,51 +59,222 @@ refused() {
     [ "$runs" -gt 0 ]
 }
 
-check "the archive" "$top/rust/archive.sh" || exit 1
+# The archive, and whether it is the one that the proved source gives.
+if [ ! -f "$archive" ]; then
+    check "the archive" "$top/rust/archive.sh" || exit 1
+fi
+check "the archive's SHA-256" bash -c "cd '$here/native' && sha256sum -c libgetopts_c.a.sha256"
+if has rt; then
+    check "the archive is what the proved source gives" "$top/rust/archive.sh" check
+else
+    skip "whether the archive is what the proved source gives: there is no rt"
+fi
 size=$(stat -c %s "$archive")
 echo "the archive has $size bytes"
 check "the archive's size" [ "$size" -lt 200000 ]
 
+# The licences are the same wherever they stand.
+same_licences() {
+    local folder file
+    for folder in crates/getopts rust/getopts; do
+        for file in LICENSE-MIT LICENSE-APACHE NOTICE; do
+            cmp "$top/$file" "$top/$folder/$file" || return 1
+        done
+    done
+}
+check "the licences" same_licences
+
 # The program that the examples have to answer as. `rt ci` leaves it there.
 show=$top/crates/getopts_show/out/getopts_show
-if [ ! -x "$show" ]; then
+if [ ! -x "$show" ] && has rt; then
     check "getopts_show" bash -c "cd '$top/crates/getopts_show' && rt run -- x"
 fi
+answers_as_show() {
+    if [ -x "$show" ]; then
+        check "$1" same_as_show "$2"
+    else
+        skip "$1: getopts_show isn't built, and there is no rt"
+    fi
+}
 
-compiler=$(command -v cc || command -v clang || true)
+# The exports, the layer and the installation are tested by a script of their own.
+"$top/c/test.sh" "$room/requests" >"$room/of_c"
+sed '$d' "$room/of_c"
+read -r more_passed _ more_failed _ more_skipped _ <<<"$(tail -n 1 "$room/of_c")"
+passed=$((passed + more_passed)) failed=$((failed + more_failed)) skipped=$((skipped + ${more_skipped:-0}))
+
+compiler=$(command -v cc || command -v gcc || command -v clang || true)
 preload=
 if [ -z "$compiler" ]; then
-    skip "the C example: there is no C compiler"
+    skip "the C program: there is no C compiler"
 else
     strict=("$compiler" -std=c11 -O2 -Wall -Wextra -Wpedantic -Wshadow -Wconversion -Wno-sign-conversion -Werror)
-    check "the C example compiles" "${strict[@]}" "$top/c/show.c" "$top/c/heap.c" "$archive" -o "$room/show"
-    check "the C example answers as getopts_show" same_as_show "$room/show"
-    check "the exports' caller compiles" "${strict[@]}" "$top/c/refused.c" "$archive" -o "$room/exports"
-    check "each export under refused memory" "$room/exports" && cat "$room/said"
+    check "the C program" "${strict[@]}" "$top"/c/{show,getopts,heap}.c "$archive" -o "$room/show"
+    answers_as_show "the C program answers as getopts_show" "$room/show"
     if "$compiler" -O2 -ffreestanding -fPIC -shared -nostdlib "$top/refused/refuse.c" -o "$room/refuse.so"; then
         preload=yes
-        check "the C example under refused memory" refused "$room/show" 3 0
+        says "the C program under refused memory" refused "$room/show" 3 0
     else
         skip "refused memory"
     fi
 fi
 
-if ! command -v cargo >/dev/null; then
-    skip "the Rust crate: there is no cargo"
-    echo "$passed passed, $failed failed, $skipped skipped"
-    [ "$failed" = 0 ]
+if ! has cargo cc; then
+    skip "the Rust crate: there is no cargo, or no cc that it links by"
+    finish
     exit
 fi
 
-in_crate() { (cd "$top/rust/getopts" && cargo "$@"); }
+in_crate() { (cd "$here" && cargo "$@"); }
 check "the crate's tests" in_crate test "${flags[@]}"
 check "the crate's tests with canonical" in_crate test "${flags[@]}" --features canonical
 check "the Rust examples" in_crate build "${flags[@]}" --release --features canonical --examples
-check "the Rust example answers as getopts_show" same_as_show "$room/target/release/examples/show"
+answers_as_show "the Rust example answers as getopts_show" "$room/target/release/examples/show"
 if [ -n "$preload" ]; then
     # As any Rust program it ends by a signal then.
-    check "the Rust crate under refused memory" refused "$room/target/release/examples/refused" 134 1
+    says "the Rust crate under refused memory" refused "$room/target/release/examples/refused" 134 1
 fi
+
+# Its form.
+formatted() {
+    local folder
+    for folder in getopts rows compare; do
+        (cd "$top/rust/$folder" && cargo fmt --check) || return 1
+    done
+}
+if cargo fmt --version >/dev/null 2>&1; then
+    check "cargo fmt" formatted
+else
+    skip "cargo fmt: it isn't there"
+fi
+if cargo clippy --version >/dev/null 2>&1; then
+    check "cargo clippy" in_crate clippy "${flags[@]}" --all-targets --all-features -- -D warnings
+else
+    skip "cargo clippy: it isn't there"
+fi
+documented() { (cd "$1" && RUSTDOCFLAGS="-D warnings" cargo doc "${flags[@]}" --no-deps --all-features); }
+check "cargo doc" documented "$here"
+packaged() {
+    local file
+    in_crate package "${flags[@]}" --allow-dirty --list >"$room/list" || return 1
+    for file in native/libgetopts_c.a native/libgetopts_c.a.sha256 README.md LICENSE-{MIT,APACHE} NOTICE build.rs; do
+        grep -qx "$file" "$room/list" || { echo "$file isn't in the package"; return 1; }
+    done
+    in_crate package "${flags[@]}" --allow-dirty
+}
+check "cargo package" packaged
+
+# Rows: recorded ones with their answers beside them, files that have both, and what the C side read.
+readable() { (cd "$top/rust/rows" && cargo build "${flags[@]}" --release); }
+if check "the reader of rows" readable; then
+    rows=$room/target/release/rows
+    says "recorded rows (the drop-in)" "$rows" "$top"/crates/getopts_replay/{stdin,stdout}
+    while read -r file; do
+        says "${file#"$top/crates/"} (the drop-in)" "$rows" "$file"
+    done < <(row_files)
+    if [ -f "$room/requests/lawful.rows" ]; then
+        says "the random requests (the drop-in)" "$rows" "$room/requests/lawful.rows"
+        says "those with a zero byte (the drop-in)" "$rows" "$room/requests/zeros.rows"
+    else
+        skip "the random requests: there is no C compiler"
+    fi
+fi
+
+# A program that patches the crate builds with cargo alone: no network, no registry, no toolchain.
+patched() {
+    mkdir -p "$room/patched/src" "$room/empty"
+    cat >"$room/patched/Cargo.toml" <<END
+[package]
+name = "patched"
+version = "0.1.0"
+edition = "2021"
+[dependencies]
+getopts = "0.2"
+[patch.crates-io]
+getopts = { path = "$here" }
+END
+    cat >"$room/patched/src/main.rs" <<'END'
+fn main() {
+    let mut options = getopts::Options::new();
+    options.optopt("o", "output", "set the output file", "NAME");
+    println!("{:?}", options.parse(std::env::args().skip(1)).unwrap().opt_str("output"));
+}
+END
+    (cd "$room/patched" && CARGO_HOME=$room/empty cargo run --offline -- -o x) | grep -x 'Some("x")'
+}
+check "a program with the patch" patched
+
+# The C layer and the Rust crate in one program, whichever the linker meets first.
+both_languages() {
+    local order
+    mkdir -p "$room/both/src"
+    cat >"$room/both/Cargo.toml" <<END
+[package]
+name = "both"
+version = "0.1.0"
+edition = "2021"
+[lib]
+crate-type = ["staticlib"]
+[dependencies]
+getopts = { path = "$here" }
+END
+    cat >"$room/both/src/lib.rs" <<'END'
+#[no_mangle]
+pub extern "C" fn rust_count() -> usize {
+    let mut options = getopts::Options::new();
+    options.optflagmulti("v", "verbose", "say more");
+    options.parse(["-vv"]).unwrap().opt_count("v")
+}
+END
+    cat >"$room/both/main.c" <<END
+#include "$top/c/getopts.h"
+size_t rust_count(void);
+int main(void) {
+    static const struct getopts_option table[] = {
+        { "v", NULL, NULL, NULL, GETOPTS_NO + GETOPTS_MULTI }, { NULL, NULL, NULL, NULL, 0 },
+    };
+    char *words[] = { "-vvv", NULL };
+    struct getopts *options = getopts_new(table, 0);
+    if (options == NULL || getopts_read(options, 1, words) != GETOPTS_OK)
+        return 1;
+    size_t count = getopts_count(options, "v");
+    getopts_delete(options);
+    return count != 3 || rust_count() != 2;
+}
+END
+    (cd "$room/both" && cargo build --offline --release) && CC=$compiler "$top/c/install.sh" "$room/prefix" || return 1
+    local c=$room/prefix/lib/libgetopts.a rust=$room/target/release/libboth.a
+    for order in "$c $rust" "$rust $c"; do
+        # shellcheck disable=SC2086
+        "${strict[@]}" "$room/both/main.c" $order -lpthread -ldl -lm -o "$room/both/main" && "$room/both/main" || return 1
+    done
+}
+if [ -n "$compiler" ] && has ar; then
+    check "C and Rust in one program" both_languages
+else
+    skip "C and Rust in one program: there is no C compiler or no ar"
+fi
+
+# Without the archive, and elsewhere, the build says what to do; the documents are made.
+cp -r "$here" "$room/bare"
+rm -rf "$room"/bare/{native,target,Cargo.lock}
+ends_with() {
+    local text=$1
+    shift
+    (cd "$room/bare" && env "$@" cargo build "${flags[@]}") >"$room/told" 2>&1 && return 1
+    grep -x "error: $text.*" "$room/told"
+}
+check "no archive" ends_with 'native/libgetopts_c.a is missing: ' A=
+check "the documents without an archive" documented "$room/bare"
+check "another target" ends_with 'the archive is for x86-64 Linux: ' 'RUSTFLAGS=--cfg getopts_elsewhere'
+# elsewhere OS: how often the build script of the crate tells that on this system the crate can't be built.
+elsewhere() {
+    local scripts=("$room"/target/debug/build/getopts-*/build-script-build)
+    CARGO_MANIFEST_DIR=$here CARGO_CFG_TARGET_ARCH=x86_64 CARGO_CFG_TARGET_OS=$1 \
+        CARGO_CFG_TARGET_POINTER_WIDTH=64 "${scripts[0]}" | grep -c '=getopts_elsewhere$'
+}
+check "the build script on Linux" [ "$(elsewhere linux)" = 0 ]
+check "the build script elsewhere" [ "$(elsewhere windows)" = 1 ]
 
 # The crate here and that crate, side by side.
 cp -r "$top/rust/getopts" "$top/rust/compare" "$room"
@@ -171,5 +323,4 @@ else
     skip "that crate's public tests: no folder was given that has them"
 fi
 
-echo "$passed passed, $failed failed, $skipped skipped"
-[ "$failed" = 0 ]
+finish

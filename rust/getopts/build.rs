@@ -1,16 +1,23 @@
-//! Links the proved archive, which `rust/archive.sh` makes.
+//! Links the proved archive. Where there is none, the crate says so when it is built.
 
 use std::env::var;
 use std::path::Path;
 
 fn main() {
+    println!("cargo:rustc-check-cfg=cfg(getopts_no_archive, getopts_elsewhere)");
+    println!("cargo:rerun-if-changed=build.rs");
+    let told = |what| var(format!("CARGO_CFG_TARGET_{what}")).unwrap_or_default();
+    if ["ARCH", "OS", "POINTER_WIDTH"].map(told) != ["x86_64", "linux", "64"] {
+        println!("cargo:rustc-cfg=getopts_elsewhere");
+        return;
+    }
     let folder = var("CARGO_MANIFEST_DIR").expect("cargo sets it") + "/native";
     let archive = folder.clone() + "/libgetopts_c.a";
-    assert!(
-        Path::new(&archive).exists(),
-        "there is no {archive}: rust/archive.sh makes it"
-    );
-    println!("cargo:rustc-link-search=native={folder}");
-    println!("cargo:rustc-link-lib=static=getopts_c");
     println!("cargo:rerun-if-changed={archive}");
+    if Path::new(&archive).exists() {
+        println!("cargo:rustc-link-search=native={folder}");
+        println!("cargo:rustc-link-lib=static=getopts_c");
+    } else {
+        println!("cargo:rustc-cfg=getopts_no_archive");
+    }
 }

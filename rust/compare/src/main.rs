@@ -30,10 +30,51 @@ const LONGS: &[&str] = &[
 ];
 
 const WORDS: &[&str] = &[
-    "", "-", "--", "-a", "-b", "-c", "-v", "-ab", "-abc", "-bc", "-vv", "-avx", "--apple", "--apple=",
-    "--apple=1", "--banana", "--banana=x=y", "-apple", "-é", "--é", "-aé", "--ab", "-a=b", "--a=b", "x",
-    "free", "日本", "--日本=é", "---", "----", "-=", "-=x", "--a", "--b=2", "--nope", "-n", "-a-b",
-    "-verbose", "--verbose", "-c日本", "-b-", "nul\0", "--né x=1", "7", "-a7",
+    "",
+    "-",
+    "--",
+    "-a",
+    "-b",
+    "-c",
+    "-v",
+    "-ab",
+    "-abc",
+    "-bc",
+    "-vv",
+    "-avx",
+    "--apple",
+    "--apple=",
+    "--apple=1",
+    "--banana",
+    "--banana=x=y",
+    "-apple",
+    "-é",
+    "--é",
+    "-aé",
+    "--ab",
+    "-a=b",
+    "--a=b",
+    "x",
+    "free",
+    "日本",
+    "--日本=é",
+    "---",
+    "----",
+    "-=",
+    "-=x",
+    "--a",
+    "--b=2",
+    "--nope",
+    "-n",
+    "-a-b",
+    "-verbose",
+    "--verbose",
+    "-c日本",
+    "-b-",
+    "nul\0",
+    "--né x=1",
+    "7",
+    "-a7",
 ];
 
 const DESCRIPTIONS: &[&str] = &[
@@ -48,7 +89,14 @@ const DESCRIPTIONS: &[&str] = &[
 const HINTS: &[&str] = &["", "HINT", "é"];
 
 /// Two names, a description, a hint, a kind of argument and one of occurrence.
-type Group = (&'static str, &'static str, &'static str, &'static str, usize, usize);
+type Group = (
+    &'static str,
+    &'static str,
+    &'static str,
+    &'static str,
+    usize,
+    usize,
+);
 
 struct Case {
     groups: Vec<Group>,
@@ -89,7 +137,11 @@ macro_rules! answers {
         options.long_only(case.long_only);
         let mut texts = Vec::new();
         // With two empty names the crate here has no usage text.
-        if case.groups.iter().all(|g| !(g.0.is_empty() && g.1.is_empty())) {
+        if case
+            .groups
+            .iter()
+            .all(|g| !(g.0.is_empty() && g.1.is_empty()))
+        {
             let rows = |rows: &mut dyn Iterator<Item = String>| rows.collect::<Vec<_>>().join("|");
             texts.push(format!("{:?}", caught(|| options.usage("brief é"))));
             texts.push(format!("{:?}", caught(|| options.short_usage("program"))));
@@ -101,7 +153,11 @@ macro_rules! answers {
             Err(panic) => texts.push(format!("panic {panic}")),
             Ok(Err(fail)) => texts.push(format!("{fail:?} {fail}")),
             Ok(Ok(matches)) => {
-                texts.push(format!("{:?} {:?}", matches.free, matches.free_trailing_start()));
+                texts.push(format!(
+                    "{:?} {:?}",
+                    matches.free,
+                    matches.free_trailing_start()
+                ));
                 texts.push(format!("{}", *matches == matches.clone()));
                 for name in case.names.iter().copied() {
                     texts.push(format!("{name} {}", matches.opt_defined(name)));
@@ -121,7 +177,10 @@ macro_rules! answers {
                     texts.push(format!("{:?}", caught(|| matches.opt_str(name))));
                     texts.push(format!("{:?}", caught(|| matches.opt_default(name, "def"))));
                     texts.push(format!("{:?}", caught(|| matches.opt_get::<i32>(name))));
-                    texts.push(format!("{:?}", caught(|| matches.opt_get_default::<i32>(name, 7))));
+                    texts.push(format!(
+                        "{:?}",
+                        caught(|| matches.opt_get_default::<i32>(name, 7))
+                    ));
                 }
                 let some: Vec<String> = case.names.iter().take(3).map(|n| n.to_string()).collect();
                 texts.push(format!("{:?}", matches.opts_present(&some)));
@@ -130,7 +189,11 @@ macro_rules! answers {
                 texts.push(format!("{:?}", caught(|| matches.opts_str_first(&some))));
             }
         }
-        Answers { texts, positions, matches: parsed.ok().and_then(Result::ok) }
+        Answers {
+            texts,
+            positions,
+            matches: parsed.ok().and_then(Result::ok),
+        }
     }};
 }
 
@@ -153,7 +216,14 @@ fn case(random: &mut Random) -> Case {
     let group = |random: &mut Random| {
         let (short, long) = (random.pick(SHORTS), random.pick(LONGS));
         let (desc, hint) = (random.pick(DESCRIPTIONS), random.pick(HINTS));
-        (short, long, desc, hint, random.below(3), random.pick(&[0, 1, 1, 2, 2, 2, 2]))
+        (
+            short,
+            long,
+            desc,
+            hint,
+            random.below(3),
+            random.pick(&[0, 1, 1, 2, 2, 2, 2]),
+        )
     };
     let groups: Vec<Group> = (0..random.below(6)).map(|_| group(random)).collect();
     let mut names = vec!["", "a", "apple", "é", "nope", "b", "ab"];
@@ -171,7 +241,9 @@ fn case(random: &mut Random) -> Case {
 
 fn main() -> ExitCode {
     set_hook(Box::new(|_| {}));
-    let count = std::env::args().nth(1).map_or(20_000, |text| text.parse().expect("a number"));
+    let count = std::env::args()
+        .nth(1)
+        .map_or(20_000, |text| text.parse().expect("a number"));
     let mut random = Random(0x9E37_79B9_7F4A_7C15);
     let (mut accepted, mut equal, mut differ) = (0, 0, 0);
     for _ in 0..count / 2 {
@@ -186,7 +258,10 @@ fn main() -> ExitCode {
         }
         let our_other = answers!(ours, &case);
         let their_other = answers!(theirs, &case);
-        let lines = [(&ours, &theirs, &first), (&our_other, &their_other, &case.words)];
+        let lines = [
+            (&ours, &theirs, &first),
+            (&our_other, &their_other, &case.words),
+        ];
         for (ours, theirs, words) in lines {
             accepted += usize::from(ours.matches.is_some());
             let (told, wanted) = (&ours.texts, &theirs.texts);
@@ -194,14 +269,24 @@ fn main() -> ExitCode {
                 differ += 1;
                 let at = told.iter().zip(wanted).position(|(a, b)| a != b);
                 let at = at.unwrap_or(told.len());
-                println!("{:?} stop {} long_only {}", case.groups, case.stop, case.long_only);
-                println!("  {words:?}\n  here  {:?} {:?}", told.get(at), ours.positions);
+                println!(
+                    "{:?} stop {} long_only {}",
+                    case.groups, case.stop, case.long_only
+                );
+                println!(
+                    "  {words:?}\n  here  {:?} {:?}",
+                    told.get(at),
+                    ours.positions
+                );
                 println!("  there {:?} {:?}", wanted.get(at), theirs.positions);
             }
         }
-        if let (Some(a), Some(b), Some(c), Some(d)) =
-            (&ours.matches, &our_other.matches, &theirs.matches, &their_other.matches)
-        {
+        if let (Some(a), Some(b), Some(c), Some(d)) = (
+            &ours.matches,
+            &our_other.matches,
+            &theirs.matches,
+            &their_other.matches,
+        ) {
             // Here equal matches have equal positions of words too.
             let wanted = c == d && ours.positions == our_other.positions;
             equal += usize::from(a == b);

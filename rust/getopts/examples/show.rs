@@ -45,7 +45,10 @@ fn main() -> ExitCode {
         }
         Ok(matches) => {
             let line = options.canonical(&words).expect("the words are accepted");
-            print!("{}", shown(&matches, &line.expect("no main name holds `=`")));
+            print!(
+                "{}",
+                shown(&matches, &line.expect("no main name holds `=`"))
+            );
             ExitCode::SUCCESS
         }
         Err(fail) => {

@@ -107,7 +107,9 @@ impl<'a> Reader<'a> {
 
     /// Texts, by how many they are and the length of each.
     pub fn texts(&mut self) -> Vec<String> {
-        (0..self.number()).map(|_| self.text().to_string()).collect()
+        (0..self.number())
+            .map(|_| self.text().to_string())
+            .collect()
     }
 
     /// How many numbers, and how many bytes, are left.

@@ -39,6 +39,7 @@ pub struct Room<'r> {
     pub sizes: &'r mut Sizes,
 }
 
+#[rustfmt::skip]
 type Line = unsafe extern "C" fn(
     *const u8, usize, *const usize, usize, *const u8, usize, bool, bool,
     *const u8, usize, *const usize, usize, *mut usize, usize, *mut u8, usize, *mut Sizes,
@@ -159,7 +160,10 @@ fn tried(block: *mut c_void) -> Tried {
     // Where there is no block, the pointer still has to point somewhere.
     static NOTHING: u8 = 0;
     if block.is_null() {
-        Tried { ok: false, block: std::ptr::addr_of!(NOTHING) as *mut c_void }
+        Tried {
+            ok: false,
+            block: std::ptr::addr_of!(NOTHING) as *mut c_void,
+        }
     } else {
         Tried { ok: true, block }
     }
@@ -176,7 +180,12 @@ unsafe extern "C" fn rattle_alloc(size: usize, align: usize) -> Tried {
 
 /// SAFETY: the archive calls it, with a block that it has.
 #[no_mangle]
-unsafe extern "C" fn rattle_realloc(block: *mut c_void, _: usize, size: usize, align: usize) -> Tried {
+unsafe extern "C" fn rattle_realloc(
+    block: *mut c_void,
+    _: usize,
+    size: usize,
+    align: usize,
+) -> Tried {
     tried(realloc(block, if size == 0 { align } else { size }))
 }
 

@@ -45,6 +45,16 @@
 #![deny(unsafe_code)]
 #![warn(missing_docs)]
 
+#[cfg(all(getopts_no_archive, not(doc)))]
+compile_error!(
+    "native/libgetopts_c.a is missing: take it from the repository, or make it by rust/archive.sh"
+);
+
+#[cfg(all(getopts_elsewhere, not(doc)))]
+compile_error!(
+    "the archive is for x86-64 Linux: for another target leave out the patch of getopts"
+);
+
 mod answer;
 mod archive;
 mod fail;
@@ -55,3 +65,8 @@ mod texts;
 pub use fail::{Fail, Result};
 pub use matches::Matches;
 pub use options::{HasArg, Occur, Options, ParsingStyle};
+
+/// The example of the README is tested.
+#[cfg(doctest)]
+#[doc = include_str!("../README.md")]
+struct Readme;

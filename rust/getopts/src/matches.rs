@@ -35,7 +35,10 @@ impl<'m> Given<'m> {
     fn read(reader: &mut Reader<'m>) -> Given<'m> {
         let count = reader.number();
         let numbers = reader.numbers(2 * count);
-        let len = numbers.chunks_exact(2).map(|pair| pair[1].saturating_sub(1)).sum();
+        let len = numbers
+            .chunks_exact(2)
+            .map(|pair| pair[1].saturating_sub(1))
+            .sum();
         let text = reader.bytes(len);
         Given { numbers, text }
     }
@@ -63,7 +66,8 @@ impl<'m> Given<'m> {
 
     /// The positions and values of the occurrences that have one.
     fn values(self) -> impl Iterator<Item = (usize, &'m str)> {
-        self.iter().filter_map(|(position, value)| Some((position, value?)))
+        self.iter()
+            .filter_map(|(position, value)| Some((position, value?)))
     }
 
     fn first_value(self) -> Option<&'m str> {
@@ -102,9 +106,8 @@ impl Matches {
     }
 
     fn find(&self, name: &str) -> Option<Given<'_>> {
-        let at = self.names.texts.iter().position(|n| !n.is_empty() && n == name)?;
-        // Of the four texts of a group the first two are its names.
-        let group = self.numbers[at / 4 * 2 + at % 4].checked_sub(1)?;
+        let place = self.names.place(name)?;
+        let group = self.numbers[place].checked_sub(1)?;
         let (number, byte) = self.starts[group];
         let mut reader = Reader::new(&self.numbers[number..], &self.text[byte..]);
         Some(Given::read(&mut reader))
@@ -165,7 +168,9 @@ impl Matches {
     where
         C::Item: AsRef<str>,
     {
-        names.into_iter().any(|name| self.opt_present(name.as_ref()))
+        names
+            .into_iter()
+            .any(|name| self.opt_present(name.as_ref()))
     }
 
     /// The value for the first name in the list whose option's first occurrence has one.
@@ -186,12 +191,17 @@ impl Matches {
     where
         C::Item: AsRef<str>,
     {
-        names.into_iter().find_map(|name| self.opt_str(name.as_ref()))
+        names
+            .into_iter()
+            .find_map(|name| self.opt_str(name.as_ref()))
     }
 
     /// The values of an option's occurrences, in the order of the line.
     pub fn opt_strs(&self, name: &str) -> Vec<String> {
-        self.given(name).values().map(|(_, value)| value.to_string()).collect()
+        self.given(name)
+            .values()
+            .map(|(_, value)| value.to_string())
+            .collect()
     }
 
     /// The positions and values of those of an option's occurrences that have a value.

@@ -5,8 +5,9 @@ use crate::answer::{Answer, Reader};
 use crate::archive::{self, Request};
 use crate::texts::Texts;
 use crate::{Fail, Matches, Result};
+use std::cmp::Ordering;
 use std::ffi::OsStr;
-use std::sync::Arc;
+use std::sync::{Arc, OnceLock};
 
 /// What the first free word does to the words after it.
 #[derive(Debug, Clone, Copy, PartialEq, Eq)]
@@ -41,13 +42,92 @@ pub enum Occur {
 
 /// The names and kinds of options, which matches share. The texts of each are its short name, its long
 /// name, and two empty ones: a line is read without hints and descriptions.
-#[derive(Clone, Debug, Default, PartialEq, Eq)]
+#[derive(Clone, Debug, Default)]
 pub struct Names {
     pub texts: Texts,
     pub kinds: Vec<u8>,
     /// Whether some option has two empty names.
     pub nameless: bool,
+    /// The names in order, made when one of many is first looked for.
+    sorted: OnceLock<Vec<Name>>,
 }
+
+/// So many options are few.
+const FEW: usize = 8;
+
+/// A name: its bytes among the texts, and its place among the names of all options.
+#[derive(Clone, Copy, Debug)]
+struct Name {
+    start: usize,
+    len: usize,
+    place: usize,
+}
+
+impl Names {
+    fn push(&mut self, short_name: &str, long_name: &str, kind: u8) {
+        for text in [short_name, long_name, "", ""] {
+            self.texts.push(text);
+        }
+        self.kinds.push(kind);
+        self.nameless |= short_name.is_empty() && long_name.is_empty();
+        self.sorted.take();
+    }
+
+    fn bytes(&self, name: Name) -> &[u8] {
+        &self.texts.text.as_bytes()[name.start..name.start + name.len]
+    }
+
+    /// The order of names: by length first, which tells most of them apart.
+    fn order(&self, name: Name, other: &[u8]) -> Ordering {
+        let by_len = name.len.cmp(&other.len());
+        by_len.then_with(|| self.bytes(name).cmp(other))
+    }
+
+    /// The names in order of definition.
+    fn all(&self) -> impl Iterator<Item = Name> + '_ {
+        let mut start = 0;
+        self.texts
+            .lens
+            .iter()
+            .enumerate()
+            .filter_map(move |(at, &len)| {
+                // Of the four texts of an option the first two are its names.
+                let place = at / 4 * 2 + at % 4;
+                let name = Name { start, len, place };
+                start += len;
+                (len > 0).then_some(name)
+            })
+    }
+
+    fn sorted(&self) -> Vec<Name> {
+        let mut names: Vec<Name> = self.all().collect();
+        // Of equal names the first stays, since this sort keeps their order.
+        names.sort_by(|&name, &other| self.order(name, self.bytes(other)));
+        names.dedup_by(|name, before| self.bytes(*name) == self.bytes(*before));
+        names
+    }
+
+    /// The first place of a name among the names of all options, two for each: of few names by a walk, and
+    /// of many by halves.
+    pub fn place(&self, name: &str) -> Option<usize> {
+        let name = name.as_bytes();
+        if self.kinds.len() <= FEW {
+            let mut all = self.all();
+            return Some(all.find(|&other| self.bytes(other) == name)?.place);
+        }
+        let sorted = self.sorted.get_or_init(|| self.sorted());
+        let found = sorted.binary_search_by(|&other| self.order(other, name));
+        Some(sorted[found.ok()?].place)
+    }
+}
+
+impl PartialEq for Names {
+    fn eq(&self, other: &Names) -> bool {
+        self.texts == other.texts && self.kinds == other.kinds
+    }
+}
+
+impl Eq for Names {}
 
 /// Options that a program declares, a parsing style and a mode.
 #[derive(Debug, Clone, PartialEq, Eq)]
@@ -117,12 +197,8 @@ impl Options {
             "the long_name (second argument) should be longer than a single \
              character, or an empty string for none"
         );
-        let names = Arc::make_mut(&mut self.names);
-        for text in [short_name, long_name, "", ""] {
-            names.texts.push(text);
-        }
-        names.kinds.push(3 * hasarg as u8 + occur as u8);
-        names.nameless |= short_name.is_empty() && long_name.is_empty();
+        let kind = 3 * hasarg as u8 + occur as u8;
+        Arc::make_mut(&mut self.names).push(short_name, long_name, kind);
         for text in [short_name, long_name, hint, desc] {
             self.texts.push(text);
         }
@@ -165,7 +241,14 @@ impl Options {
         desc: &str,
         hint: &str,
     ) -> &mut Options {
-        self.opt(short_name, long_name, desc, hint, HasArg::Maybe, Occur::Optional)
+        self.opt(
+            short_name,
+            long_name,
+            desc,
+            hint,
+            HasArg::Maybe,
+            Occur::Optional,
+        )
     }
 
     /// Adds an option that needs an argument and may come any number of times.
@@ -199,7 +282,14 @@ impl Options {
         desc: &str,
         hint: &str,
     ) -> &mut Options {
-        self.opt(short_name, long_name, desc, hint, HasArg::Yes, Occur::Optional)
+        self.opt(
+            short_name,
+            long_name,
+            desc,
+            hint,
+            HasArg::Yes,
+            Occur::Optional,
+        )
     }
 
     /// Adds an option that needs an argument and comes exactly once.

@@ -25,16 +25,6 @@ impl Texts {
         self.lens.push(text.len());
     }
 
-    /// The texts in order.
-    pub fn iter(&self) -> impl Iterator<Item = &str> {
-        let mut rest = self.text.as_str();
-        self.lens.iter().map(move |len| {
-            let (text, after) = rest.split_at(*len);
-            rest = after;
-            text
-        })
-    }
-
     pub fn words(&self) -> Words<'_> {
         Words {
             text: &self.text,

@@ -1,7 +1,7 @@
 /* Calls each export while the heap refuses: the first request for memory, then the second, and so on until
  * a call is answered with none refused; once that request alone, and once that one and all after it. A
  * call with a refusal has to answer GETOPTS_NO_MEMORY, to write nothing, and to leave no block. */
-#include "getopts_c.h"
+#include "../getopts_c.h"
 
 #include <stdio.h>
 #include <stdlib.h>

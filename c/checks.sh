@@ -1,0 +1,52 @@
+# shellcheck shell=bash
+# Counts checks, for the test scripts that source it. They end with `finish`.
+room=$(mktemp -d)
+trap 'rm -rf "$room"' EXIT
+passed=0 failed=0 skipped=0
+
+# check WHAT COMMAND..: counts a command, whose output is shown where it failed.
+check() {
+    local what=$1
+    shift
+    if "$@" >"$room/said" 2>&1; then
+        passed=$((passed + 1))
+    else
+        failed=$((failed + 1))
+        echo "FAILED: $what"
+        tail -n 40 "$room/said"
+        return 1
+    fi
+}
+
+# says WHAT COMMAND..: the same, and shows the last line of what the command said.
+says() {
+    check "$@" && echo "$1: $(tail -n 1 "$room/said")"
+}
+
+skip() {
+    skipped=$((skipped + 1))
+    echo "skipped: $1"
+}
+
+# has TOOL..: whether each tool is on the path.
+has() {
+    local tool
+    for tool in "$@"; do
+        command -v "$tool" >/dev/null || return 1
+    done
+}
+
+# The files of crates that hold rows with their answers beside them, after "> ".
+row_files() {
+    local file
+    for file in "$top"/crates/*/{stdin,*.rows,*.txt,data/*}; do
+        if [ -f "$file" ] && grep -q $'^case\t' "$file" && grep -q '^> ' "$file"; then
+            echo "$file"
+        fi
+    done
+}
+
+finish() {
+    echo "$passed passed, $failed failed, $skipped skipped"
+    [ "$failed" = 0 ]
+}

@@ -1,0 +1,299 @@
+#include "getopts.h"
+
+#include <stdlib.h>
+#include <string.h>
+
+/* Numbers and bytes in one block: texts and their lengths, or what the archive wrote. */
+struct block {
+    size_t *numbers;
+    uint8_t *bytes;
+    struct getopts_sizes sizes;
+};
+
+/* The occurrences of an option: of each the index of its word, and its value or NULL. */
+struct given {
+    struct found { size_t position; const char *value; } *found;
+    size_t count;
+};
+
+/* What words gave, in one block. */
+struct reading {
+    void *block;
+    const char *message;
+    const size_t *places; /* of each name, one more than the place of its group, or 0; NULL for a fault */
+    struct given *groups;
+    char *const *free_words;
+    size_t free_count, trailing; /* trailing is one more than the trailing start, or 0 */
+};
+
+struct getopts {
+    struct block texts; /* the four texts of each group */
+    size_t groups;
+    unsigned modes;
+    struct reading reading;
+    uint8_t kinds[];
+};
+
+static char *const no_words[] = { NULL };
+
+/* Those arguments of an export that tell the options. */
+#define OPTIONS(options) (options)->texts.bytes, (options)->texts.sizes.bytes, (options)->texts.numbers, \
+    (options)->texts.sizes.numbers, (options)->kinds, (options)->groups
+
+/* An export that reads words. */
+typedef uint32_t line_call(const uint8_t *, size_t, const size_t *, size_t, const uint8_t *, size_t, bool,
+    bool, const uint8_t *, size_t, const size_t *, size_t, size_t *, size_t, uint8_t *, size_t,
+    struct getopts_sizes *);
+
+/* A block of the sizes that it tells. */
+static bool take(struct block *block) {
+    block->numbers = malloc(block->sizes.numbers * sizeof *block->numbers + block->sizes.bytes + 1);
+    if (block->numbers != NULL)
+        block->bytes = (uint8_t *)(block->numbers + block->sizes.numbers);
+    return block->numbers != NULL;
+}
+
+static bool join(struct block *to, char *const *texts, size_t count) {
+    to->sizes.numbers = count;
+    for (size_t nth = 0; nth < count; nth++)
+        to->sizes.bytes += strlen(texts[nth]);
+    if (!take(to))
+        return false;
+    uint8_t *end = to->bytes;
+    for (size_t nth = 0; nth < count; end += to->numbers[nth++]) {
+        to->numbers[nth] = strlen(texts[nth]);
+        memcpy(end, texts[nth], to->numbers[nth]);
+    }
+    return true;
+}
+
+struct getopts *getopts_new(const struct getopts_option *table, unsigned modes) {
+    size_t groups = 0;
+    while (table[groups].short_name != NULL || table[groups].long_name != NULL)
+        groups++;
+    struct getopts *options = calloc(1, sizeof *options + groups);
+    char **texts = malloc((4 * groups + 1) * sizeof *texts);
+    bool whole = options != NULL && texts != NULL;
+    for (size_t nth = 0; whole && nth < groups; nth++, table++) {
+        const char *of[] = { table->short_name, table->long_name, table->hint, table->description };
+        for (size_t text = 0; text < 4; text++)
+            texts[4 * nth + text] = (char *)(of[text] != NULL ? of[text] : "");
+        options->kinds[nth] = table->kind;
+    }
+    if (whole && join(&options->texts, texts, 4 * groups)) {
+        options->groups = groups;
+        options->modes = modes;
+        options->reading = (struct reading){ .message = "", .free_words = no_words };
+    } else {
+        free(options);
+        options = NULL;
+    }
+    free(texts);
+    return options;
+}
+
+/* GETOPTS_BAD where the options aren't lawful or the text isn't UTF-8: there is no room for an answer. */
+static uint32_t tried(const struct getopts *options, const char *text) {
+    struct getopts_sizes sizes;
+    return getopts_c_short_usage(OPTIONS(options), (const uint8_t *)text, strlen(text), NULL, 0, &sizes);
+}
+
+/* The status of bad options or words: the first word that isn't UTF-8 becomes the name of a fault. */
+static uint32_t blamed(const struct getopts *options, size_t count, char *const *words, struct block *to) {
+    static const struct getopts none;
+    uint32_t status = tried(options, "");
+    for (size_t nth = 0; status == GETOPTS_TOO_SMALL && nth < count; nth++)
+        if ((status = tried(&none, words[nth])) == GETOPTS_BAD) {
+            to->sizes.bytes = strlen(words[nth]);
+            memcpy(to->bytes, words[nth], to->sizes.bytes);
+            return GETOPTS_UNRECOGNIZED_OPTION;
+        }
+    return status;
+}
+
+/* Asks with a guessed room, in which all words fit, and once more where that was too small. */
+static uint32_t ask(const struct getopts *options, line_call *call, int given, char *const *words,
+    struct block *answer) {
+    size_t count = given > 0 ? (size_t)given : 0;
+    struct block line = { 0 };
+    uint32_t status = join(&line, words, count) ? GETOPTS_TOO_SMALL : GETOPTS_NO_MEMORY;
+    struct getopts_sizes *sizes = &answer->sizes;
+    *answer = (struct block){ .sizes = { 3 * options->groups + 4 * count + 8, 2 * line.sizes.bytes + 64 } };
+    while (status == GETOPTS_TOO_SMALL) {
+        free(answer->numbers);
+        status = !take(answer) ? GETOPTS_NO_MEMORY
+            : call(OPTIONS(options), options->modes & GETOPTS_STOP, options->modes & GETOPTS_LONG_ONLY,
+                line.bytes, line.sizes.bytes, line.numbers, count, answer->numbers, sizes->numbers,
+                answer->bytes, sizes->bytes, sizes);
+    }
+    free(line.numbers);
+    return status == GETOPTS_BAD ? blamed(options, count, words, answer) : status;
+}
+
+/* Copies a text, puts a zero after it, and goes on to what comes next. */
+static char *ended(char **to, const uint8_t **from, size_t len) {
+    char *text = memcpy(*to, *from, len);
+    text[len] = '\0';
+    *to += len + 1;
+    *from += len;
+    return text;
+}
+
+/* Copies texts by their lengths, and puts NULL after the last. */
+static char *const *cut(char **texts, char *to, const size_t *lens, size_t count, const uint8_t *bytes) {
+    for (size_t nth = 0; nth < count; nth++)
+        texts[nth] = ended(&to, &bytes, lens[nth]);
+    texts[count] = NULL;
+    return texts;
+}
+
+/* Takes an answer apart, of which every number and byte is there. */
+static bool read_back(struct reading *reading, uint32_t status, const struct block *answer, size_t groups) {
+    static const char *const around[][2] = {
+        { "", "" }, { "Argument to option '", "' missing" }, { "Unrecognized option: '", "'" },
+        { "Required option '", "' missing" }, { "Option '", "' given more than once" },
+        { "Option '", "' does not take an argument" },
+    };
+    const size_t *number = answer->numbers, room = answer->sizes.numbers + 1;
+    const uint8_t *bytes = answer->bytes;
+    struct found *found = malloc(room * (sizeof *found + sizeof *reading->groups + sizeof *number
+        + sizeof *reading->free_words + 1) + answer->sizes.bytes + 64);
+    if (found == NULL)
+        return false;
+    *reading = (struct reading){ .block = found, .message = "", .free_words = no_words };
+    struct given *given = reading->groups = (struct given *)(found + room);
+    size_t *places = (size_t *)(given + room);
+    char **words = (char **)(places + room), *to = (char *)(words + room);
+    if (status != GETOPTS_OK) {
+        size_t before = strlen(around[status][0]), len = answer->sizes.bytes;
+        reading->message = strcpy(to, around[status][0]);
+        memcpy(to + before, bytes, len);
+        strcpy(to + before + len, around[status][1]);
+        return true;
+    }
+    reading->places = memcpy(places, number, 2 * groups * sizeof *number);
+    number += 2 * groups + 1;
+    for (; groups > 0; groups--, given++) {
+        *given = (struct given){ found, *number++ };
+        for (; found < given->found + given->count; found++, number += 2)
+            *found = (struct found){ number[0], number[1] > 0 ? ended(&to, &bytes, number[1] - 1) : NULL };
+    }
+    reading->free_count = *number++;
+    reading->free_words = cut(words, to, number, reading->free_count, bytes);
+    reading->trailing = number[reading->free_count];
+    return true;
+}
+
+int getopts_read(struct getopts *options, int count, char *const *words) {
+    struct block answer;
+    struct reading reading;
+    uint32_t status = ask(options, getopts_c_parse, count, words, &answer);
+    if (status < GETOPTS_NO_MEMORY && !read_back(&reading, status, &answer, options->groups))
+        status = GETOPTS_NO_MEMORY;
+    free(answer.numbers);
+    options->reading.message = status == GETOPTS_BAD ? "The table of options isn't lawful" : "Out of memory";
+    if (status < GETOPTS_NO_MEMORY) {
+        free(options->reading.block);
+        options->reading = reading;
+    }
+    return (int)status;
+}
+
+const char *getopts_message(const struct getopts *options) {
+    return options->reading.message;
+}
+
+/* What was given of the option that a name stands for; found is NULL where it stands for none. */
+static struct given find(const struct getopts *options, const char *name) {
+    const size_t *places = options->reading.places, *lens = options->texts.numbers, len = strlen(name);
+    const uint8_t *text = options->texts.bytes;
+    for (size_t group = 0; places != NULL && len > 0 && group < options->groups; group++, lens += 4)
+        for (size_t nth = 0; nth < 4; text += lens[nth++]) {
+            size_t place = nth < 2 ? places[2 * group + nth] : 0; /* the first two are names */
+            if (place > 0 && lens[nth] == len && memcmp(text, name, len) == 0)
+                return options->reading.groups[place - 1];
+        }
+    return (struct given){ NULL, 0 };
+}
+
+bool getopts_defined(const struct getopts *options, const char *name) {
+    return find(options, name).found != NULL;
+}
+
+size_t getopts_count(const struct getopts *options, const char *name) {
+    return find(options, name).count;
+}
+
+int getopts_position(const struct getopts *options, const char *name, size_t nth) {
+    struct given given = find(options, name);
+    return nth < given.count ? (int)given.found[nth].position : -1;
+}
+
+const char *getopts_value(const struct getopts *options, const char *name, size_t nth) {
+    struct given given = find(options, name);
+    return nth < given.count ? given.found[nth].value : NULL;
+}
+
+int getopts_free_count(const struct getopts *options) {
+    return (int)options->reading.free_count;
+}
+
+char *const *getopts_free_words(const struct getopts *options) {
+    return options->reading.free_words;
+}
+
+int getopts_trailing_start(const struct getopts *options) {
+    return (int)options->reading.trailing - 1;
+}
+
+static char *usage(const struct getopts *options, bool whole, const char *start) {
+    struct getopts_sizes sizes = { 0, 1024 };
+    const uint8_t *from = (const uint8_t *)start;
+    uint8_t *text = NULL;
+    uint32_t status = GETOPTS_TOO_SMALL;
+    while (status == GETOPTS_TOO_SMALL) {
+        free(text);
+        text = malloc(sizes.bytes + 1);
+        status = text == NULL ? GETOPTS_NO_MEMORY
+            : whole ? getopts_c_usage(OPTIONS(options), options->modes & GETOPTS_LONG_ONLY, from,
+                strlen(start), text, sizes.bytes, &sizes)
+            : getopts_c_short_usage(OPTIONS(options), from, strlen(start), text, sizes.bytes, &sizes);
+    }
+    if (status == GETOPTS_OK)
+        text[sizes.bytes] = '\0';
+    else
+        free(text);
+    return status == GETOPTS_OK ? (char *)text : NULL;
+}
+
+char *getopts_usage(const struct getopts *options, const char *brief) {
+    return usage(options, true, brief);
+}
+
+char *getopts_short_usage(const struct getopts *options, const char *program) {
+    return usage(options, false, program);
+}
+
+int getopts_canonical(const struct getopts *options, int count, char *const *words, char ***line) {
+    struct block answer;
+    uint32_t status = ask(options, getopts_c_canonical, count, words, &answer);
+    *line = NULL;
+    if (status == GETOPTS_OK && answer.sizes.numbers > 0) {
+        size_t has = answer.numbers[0];
+        *line = malloc((has + 1) * sizeof **line + answer.sizes.bytes + has);
+        if (*line == NULL)
+            status = GETOPTS_NO_MEMORY;
+        else
+            cut(*line, (char *)(*line + has + 1), answer.numbers + 1, has, answer.bytes);
+    }
+    free(answer.numbers);
+    return (int)status;
+}
+
+void getopts_delete(struct getopts *options) {
+    if (options != NULL) {
+        free(options->reading.block);
+        free(options->texts.numbers);
+    }
+    free(options);
+}

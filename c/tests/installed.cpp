@@ -1,0 +1,27 @@
+// A C++ program on what c/install.sh put there: it tells its options and its free words.
+#include <getopts.h>
+
+#include <iostream>
+#include <memory>
+#include <vector>
+
+int main(int argc, char **argv) {
+    const std::vector<getopts_option> table = {
+        { "o", "output", "FILE", "write to FILE", GETOPTS_YES + GETOPTS_OPTIONAL },
+        { nullptr, "verbose", nullptr, "say more", GETOPTS_NO + GETOPTS_MULTI },
+        {},
+    };
+    const std::unique_ptr<getopts, decltype(&getopts_delete)> options(
+        getopts_new(table.data(), GETOPTS_STOP), getopts_delete);
+    if (!options)
+        return 3;
+    if (getopts_read(options.get(), argc - 1, argv + 1) != GETOPTS_OK) {
+        std::cerr << getopts_message(options.get()) << '\n';
+        return 2;
+    }
+    const char *output = getopts_value(options.get(), "output", 0);
+    std::cout << getopts_count(options.get(), "verbose") << ' ' << (output ? output : "none");
+    for (auto word = getopts_free_words(options.get()); *word; ++word)
+        std::cout << ' ' << *word;
+    std::cout << '\n';
+}

@@ -1,0 +1,347 @@
+/* Asks getopts.h what rows ask, and compares its answers with theirs: rows ROWS [ANSWERS].
+ *
+ * The form of ROWS is told at the top of crates/getopts_replay/src/main.rt. The lines of an answer come
+ * after its question, each after "> ", or they are those of ANSWERS in order. What the layer doesn't have is
+ * passed over and counted. */
+#include "../getopts.h"
+
+#include <stdio.h>
+#include <stdlib.h>
+#include <string.h>
+
+enum { FIELDS = 4096, GROUPS = 1024 };
+
+/* A text that grows. */
+struct text {
+    char *bytes;
+    size_t len, room;
+};
+
+static void add(struct text *text, char byte) {
+    if (text->len == text->room) {
+        text->room = 2 * text->room + 256;
+        text->bytes = realloc(text->bytes, text->room);
+        if (text->bytes == NULL)
+            abort();
+    }
+    text->bytes[text->len++] = byte;
+}
+
+static void add_all(struct text *text, const char *bytes) {
+    for (; *bytes != '\0'; bytes++)
+        add(text, *bytes);
+}
+
+/* Adds a field: a tab, and the text with its tabs and ends written out. */
+static void field(struct text *text, const char *bytes) {
+    add(text, '\t');
+    for (; *bytes != '\0'; bytes++) {
+        const char *written = strchr("\tt\nn\rr\\\\", *bytes);
+        if (written != NULL && (written - strchr("\tt\nn\rr\\\\", '\t')) % 2 == 0) {
+            add(text, '\\');
+            add(text, written[1]);
+        } else {
+            add(text, *bytes);
+        }
+    }
+}
+
+static void number(struct text *text, long number) {
+    char digits[32];
+    snprintf(digits, sizeof digits, "%ld", number);
+    field(text, digits);
+}
+
+/* A field that is '-' where there is no value, and else '=' and the value. */
+static void optional(struct text *text, const char *value) {
+    struct text field_text = { 0 };
+    add_all(&field_text, value != NULL ? "=" : "-");
+    add_all(&field_text, value != NULL ? value : "");
+    add(&field_text, '\0');
+    field(text, field_text.bytes);
+    free(field_text.bytes);
+}
+
+/* A file's lines, and the next of them. */
+struct lines {
+    char *text, *next;
+};
+
+static struct lines lines_of(const char *name) {
+    struct text text = { 0 };
+    FILE *file = fopen(name, "rb");
+    if (file == NULL) {
+        perror(name);
+        exit(2);
+    }
+    for (int byte; (byte = getc(file)) != EOF;)
+        add(&text, (char)byte);
+    fclose(file);
+    add(&text, '\0');
+    return (struct lines){ text.bytes, text.bytes };
+}
+
+/* The next line where it begins with this, and else NULL. */
+static char *line_with(struct lines *lines, const char *start) {
+    char *line = lines->next, *end = strchr(line, '\n');
+    if (end == NULL || strncmp(line, start, strlen(start)) != 0)
+        return NULL;
+    *end = '\0';
+    lines->next = end + 1;
+    return line + (start[0] == '>' ? 2 : 0);
+}
+
+/* What a case has declared, and what its words gave. */
+static struct getopts_option table[GROUPS + 1];
+static size_t groups;
+static unsigned modes;
+static struct getopts *read;
+static int status;
+
+/* The fields of a line, and what is answered. */
+static char *fields[FIELDS + 1];
+static int count;
+static struct text answer;
+
+static void split(char *line) {
+    char *to = line;
+    count = 0;
+    fields[count++] = line;
+    for (; *line != '\0'; line++)
+        if (*line == '\t') {
+            *to++ = '\0';
+            if (count == FIELDS)
+                abort();
+            fields[count++] = to;
+        } else if (*line == '\\') {
+            line++;
+            *to++ = *line == 't' ? '\t' : *line == 'n' ? '\n' : *line == 'r' ? '\r' : *line;
+        } else {
+            *to++ = *line;
+        }
+    *to = '\0';
+    fields[count] = NULL;
+}
+
+static void let_read_go(void) {
+    getopts_delete(read);
+    read = NULL;
+}
+
+static void anew(void) {
+    let_read_go();
+    for (; groups > 0; groups--) {
+        free((char *)table[groups - 1].short_name);
+        free((char *)table[groups - 1].long_name);
+        free((char *)table[groups - 1].description);
+        free((char *)table[groups - 1].hint);
+    }
+    memset(table, 0, sizeof table);
+    modes = 0;
+}
+
+static char *copy(const char *text) {
+    char *to = malloc(strlen(text) + 1);
+    return to != NULL ? strcpy(to, text) : NULL;
+}
+
+static void declare(int kind, const char *hint) {
+    if (groups == GROUPS)
+        abort();
+    table[groups++] = (struct getopts_option){
+        copy(fields[1]), copy(fields[2]), copy(hint), copy(fields[3]), (uint8_t)kind
+    };
+}
+
+static int kind_of(const char *kind, const char *occurrence) {
+    int of_kind = kind[0] == 'y' ? GETOPTS_YES : kind[0] == 'n' ? GETOPTS_NO : GETOPTS_MAYBE;
+    return of_kind
+        + (occurrence[0] == 'r' ? GETOPTS_REQ : occurrence[0] == 'o' ? GETOPTS_OPTIONAL : GETOPTS_MULTI);
+}
+
+/* Does what a line says that has no answer, and tells whether it is such a line. */
+static bool declares(void) {
+    static const struct { const char *word; int kind; } adding[] = {
+        { "optflag", GETOPTS_NO + GETOPTS_OPTIONAL }, { "optflagmulti", GETOPTS_NO + GETOPTS_MULTI },
+        { "optflagopt", GETOPTS_MAYBE + GETOPTS_OPTIONAL }, { "optmulti", GETOPTS_YES + GETOPTS_MULTI },
+        { "optopt", GETOPTS_YES + GETOPTS_OPTIONAL }, { "reqopt", GETOPTS_YES + GETOPTS_REQ },
+    };
+    for (size_t nth = 0; nth < sizeof adding / sizeof *adding; nth++)
+        if (strcmp(fields[0], adding[nth].word) == 0) {
+            declare(adding[nth].kind, count > 4 ? fields[4] : "");
+            return true;
+        }
+    if (strcmp(fields[0], "opt") == 0)
+        declare(kind_of(fields[5], fields[6]), fields[4]);
+    else if (strcmp(fields[0], "style") == 0)
+        modes = (modes & GETOPTS_LONG_ONLY) | (strcmp(fields[1], "stop") == 0 ? GETOPTS_STOP : 0);
+    else if (strcmp(fields[0], "mode") == 0)
+        modes = (modes & GETOPTS_STOP) | (strcmp(fields[1], "long-only") == 0 ? GETOPTS_LONG_ONLY : 0);
+    else if (strcmp(fields[0], "anew") == 0)
+        anew();
+    else
+        return strcmp(fields[0], "keep") == 0;
+    return true;
+}
+
+/* Answers words: the free words, or the fault, its name and its text. */
+static void words(void) {
+    static const struct { const char *word; size_t before, after; } faults[] = {
+        { "", 0, 0 }, { "ArgumentMissing", 20, 9 }, { "UnrecognizedOption", 22, 1 },
+        { "OptionMissing", 17, 9 }, { "OptionDuplicated", 8, 22 }, { "UnexpectedArgument", 8, 27 },
+    };
+    let_read_go();
+    read = getopts_new(table, modes);
+    status = read != NULL ? getopts_read(read, count - 1, fields + 1) : GETOPTS_NO_MEMORY;
+    add_all(&answer, status == GETOPTS_OK ? "accepted" : "refused");
+    if (status == GETOPTS_OK && getopts_trailing_start(read) < 0)
+        field(&answer, "-");
+    else if (status == GETOPTS_OK)
+        number(&answer, getopts_trailing_start(read));
+    for (char *const *word = getopts_free_words(read); *word != NULL; word++)
+        field(&answer, *word);
+    if (status != GETOPTS_OK) {
+        char *name = copy(getopts_message(read) + faults[status].before);
+        name[strlen(name) - faults[status].after] = '\0';
+        field(&answer, faults[status].word);
+        field(&answer, name);
+        field(&answer, getopts_message(read));
+        free(name);
+    }
+    add(&answer, '\n');
+}
+
+/* Adds the values of an option, with their positions or without. */
+static void values(const char *title, const char *name, bool positions) {
+    add_all(&answer, title);
+    for (size_t nth = 0; nth < getopts_count(read, name); nth++) {
+        if (getopts_value(read, name, nth) == NULL)
+            continue;
+        if (positions)
+            number(&answer, getopts_position(read, name, nth));
+        field(&answer, getopts_value(read, name, nth));
+    }
+    add(&answer, '\n');
+}
+
+/* Answers what was given of an option, or where. */
+static void of_option(bool positions) {
+    const char *name = fields[1];
+    bool given = read != NULL && status == GETOPTS_OK;
+    add_all(&answer, fields[0]);
+    if (!given) {
+        add_all(&answer, "\tnothing\n");
+        return;
+    }
+    field(&answer, name);
+    if (!getopts_defined(read, name)) {
+        add_all(&answer, "\tundefined\n");
+        return;
+    }
+    size_t times = getopts_count(read, name);
+    for (size_t nth = 0; positions && nth < times; nth++)
+        number(&answer, getopts_position(read, name, nth));
+    if (!positions) {
+        const char *value = getopts_value(read, name, 0);
+        field(&answer, times > 0 ? "present" : "absent");
+        number(&answer, (long)times);
+        optional(&answer, value);
+        optional(&answer, value == NULL && times > 0 ? fields[2] : value);
+        add(&answer, '\n');
+        values("strs", name, false);
+    } else {
+        add(&answer, '\n');
+    }
+    values("pairs", name, positions);
+}
+
+/* Answers what asks of the options alone. */
+static void of_options(const char *what) {
+    struct getopts *options = getopts_new(table, modes);
+    char **line = NULL, *text = NULL;
+    add_all(&answer, what);
+    if (strcmp(what, "canonical") == 0) {
+        int found = getopts_canonical(options, count - 1, fields + 1, &line);
+        field(&answer, found != GETOPTS_OK ? "refused" : line == NULL ? "none" : "line");
+        for (char **word = line; word != NULL && *word != NULL; word++)
+            field(&answer, *word);
+    } else {
+        text = strcmp(what, "usage") == 0 ? getopts_usage(options, fields[1])
+                                          : getopts_short_usage(options, fields[1]);
+        field(&answer, text != NULL ? text : "none");
+    }
+    add(&answer, '\n');
+    free(line);
+    free(text);
+    getopts_delete(options);
+}
+
+/* Answers a line, and tells whether the layer can. */
+static bool answers(void) {
+    answer.len = 0;
+    if (strcmp(fields[0], "case") == 0) {
+        anew();
+        add_all(&answer, "case");
+        field(&answer, fields[1]);
+        add(&answer, '\n');
+    } else if (strcmp(fields[0], "words") == 0) {
+        words();
+    } else if (strcmp(fields[0], "option") == 0 || strcmp(fields[0], "positions") == 0) {
+        of_option(fields[0][0] == 'p');
+    } else if (strcmp(fields[0], "short") == 0 || strcmp(fields[0], "usage") == 0
+        || strcmp(fields[0], "canonical") == 0) {
+        of_options(fields[0]);
+    } else {
+        return false;
+    }
+    return true;
+}
+
+int main(int argc, char **argv) {
+    struct lines rows = lines_of(argc > 1 ? argv[1] : "/dev/stdin");
+    struct lines other = argc > 2 ? lines_of(argv[2]) : (struct lines){ 0 };
+    struct text wanted = { 0 };
+    size_t cases = 0, same = 0, passed = 0, differ = 0;
+    for (char *line; (line = line_with(&rows, "")) != NULL;) {
+        if (line[0] == '\0' || line[0] == '#')
+            continue;
+        split(line);
+        if (declares())
+            continue;
+        bool is_case = strcmp(fields[0], "case") == 0, can = answers();
+        wanted.len = 0;
+        if (argc > 2) {
+            /* An answer has one line, and then those that begin with these words. */
+            for (char *next = line_with(&other, ""); next != NULL;) {
+                add_all(&wanted, next);
+                add(&wanted, '\n');
+                next = line_with(&other, "strs");
+                if (next == NULL)
+                    next = line_with(&other, "pairs");
+            }
+        } else {
+            for (char *next; (next = line_with(&rows, "> ")) != NULL;) {
+                add_all(&wanted, next);
+                add(&wanted, '\n');
+            }
+        }
+        cases += is_case;
+        if (is_case && wanted.len == 0)
+            continue;
+        if (!can) {
+            passed++;
+        } else if (wanted.len == answer.len && memcmp(wanted.bytes, answer.bytes, answer.len) == 0) {
+            same += !is_case;
+        } else if (++differ <= 10) {
+            printf("%s of case %zu\n  wanted %.*s  not    %.*s", fields[0], cases, (int)wanted.len,
+                wanted.bytes, (int)answer.len, answer.bytes);
+        }
+    }
+    printf("%zu cases, %zu answers alike, %zu differ, %zu passed over\n", cases, same, differ, passed);
+    anew();
+    free(answer.bytes);
+    free(wanted.bytes);
+    free(rows.text);
+    free(other.text);
+    return differ > 0 || same == 0;
+}
