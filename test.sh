@@ -2,8 +2,8 @@
 # Tests this repository.
 # usage: test.sh [--quick] [CRATE]
 #
-# It proves every crate and its tests and runs them, then runs the programs with memory refused, and then
-# tests the C example and the Rust crate. CRATE is a folder with the Rust crate getopts 0.2.24, to compare
+# It proves every crate and its tests and runs them, then runs the programs with memory refused, then tests the
+# C layer and the Rust crate, and compares the archive that these stand on with what the proved source gives. CRATE is a folder with the Rust crate getopts 0.2.24, to compare
 # with. With --quick nothing is proved: tests and programs run unproved, and what needs built programs
 # runs where they are.
 set -uo pipefail
@@ -38,6 +38,12 @@ part() {
     fi
 }
 
+# In a copy, beside the rest, the archive is made again from the proved source.
+archive() {
+    (git ls-files -z --cached --others --exclude-standard 2>/dev/null | xargs -0 cp --parents -t "$room") &&
+        nice -n 5 bash "$room/rust/archive.sh" check
+}
+
 if [ -n "$quick" ]; then
     part "tests and programs of all crates, unproved" bash quick.sh
     if [ -x crates/getopts_refused/out/getopts_refused ] && [ -x crates/getopts_show/out/getopts_show ]; then
@@ -45,13 +51,21 @@ if [ -n "$quick" ]; then
     else
         echo "skipped: refused memory, whose programs the whole test builds"
     fi
-    part "C and Rust" bash rust/test.sh --quick "$@"
-    echo "Nothing was proved. 'bash test.sh' proves everything."
+    part "C and Rust" bash rust/test.sh --unproved "$@"
+    part "code on the pages for callers" bash docs/quotes.sh
+    echo "Nothing was proved: 'bash test.sh' proves everything."
 else
+    room=$(mktemp -d)
+    trap 'kill $(jobs -p) 2>/dev/null; rm -rf "$room"' EXIT
+    archive >"$room.said" 2>&1 &
+    making=$!
+    made() { wait $making; local status=$?; tail -n 3 "$room.said"; rm -f "$room.said"; return $status; }
     # Each part stands on what the one before built.
     part "proofs, edits, tests and programs of all crates" rt ci &&
         part "refused memory" bash refused/run.sh &&
-        part "C and Rust" bash rust/test.sh "$@"
+        part "C and Rust" bash rust/test.sh --unproved "$@" &&
+        part "code on the pages for callers" bash docs/quotes.sh &&
+        part "the archive, from the proved source" made
 fi
 if [ -n "$failed" ]; then
     echo "failed: ${failed#; }"
