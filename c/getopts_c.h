@@ -163,9 +163,9 @@ uint32_t getopts_c_usage_rows(
     struct getopts_sizes *sizes /* how much the answer has */
 );
 
-/* What the archive asks of its host, which heap.c answers by malloc. Every such archive asks by these names, so
- * those of one program share a heap. The names of heap.c are weak: another heap that the program has, such as
- * that of the Rust crate, takes their place. Two that aren't weak are refused by the linker. */
+/* What the archive asks of its host, which heap.c answers by malloc. Every such archive asks by these names,
+ * so those of one program share a heap. The names of heap.c are weak: another heap that the program has, such
+ * as that of the Rust crate, takes their place. Two that aren't weak are refused by the linker. */
 
 /* A block, or that there is none: the pointer then points somewhere, and isn't null. */
 struct getopts_block {

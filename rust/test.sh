@@ -156,7 +156,11 @@ else
     skip "cargo fmt: it isn't there"
 fi
 if cargo clippy --version >/dev/null 2>&1; then
-    check "cargo clippy" in_crate clippy "${flags[@]}" --all-targets --all-features -- -D warnings
+    linted() {
+        in_crate clippy "${flags[@]}" --all-targets --all-features -- -D warnings &&
+            (cd "$top/rust/rows" && cargo clippy "${flags[@]}" -- -D warnings)
+    }
+    check "cargo clippy" linted
 else
     skip "cargo clippy: it isn't there"
 fi

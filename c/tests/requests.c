@@ -466,6 +466,7 @@ static void matches(const struct request *request) {
     }
 }
 
+/* Writes the fields of a fault. */
 static void fault(uint32_t status) {
     static const char *const faults[][3] = {
         { "ArgumentMissing", "Argument to option '", "' missing" },
@@ -476,7 +477,7 @@ static void fault(uint32_t status) {
     };
     size_t len = number();
     const uint8_t *name = taken(len);
-    fprintf(out, "> refused\t%s", faults[status - 1][0]);
+    fprintf(out, "refused\t%s", faults[status - 1][0]);
     field(name, len);
     fprintf(out, "\t%s", faults[status - 1][1]);
     put(name, len);
@@ -506,8 +507,8 @@ static void written(const struct request *request, uint32_t status) {
         fputs(request->export == PARSE ? "words" : "canonical", out);
         fields(&request->words);
         if (request->export == CANONICAL && status != GETOPTS_OK) {
-            fputs("> canonical\trefused\n", out);
-            taken(number());
+            fputs("> canonical\t", out);
+            fault(status);
         } else if (request->export == CANONICAL && numbers_left == 0) {
             fputs("> canonical\tnone\n", out);
         } else if (request->export == CANONICAL) {
@@ -517,6 +518,7 @@ static void written(const struct request *request, uint32_t status) {
         } else if (status == GETOPTS_OK) {
             matches(request);
         } else {
+            fputs("> ", out);
             fault(status);
         }
     } else if (request->export == ROWS) {

@@ -1,8 +1,8 @@
 /* Asks getopts.h what rows ask, and compares its answers with theirs: rows ROWS [ANSWERS].
  *
- * The form of ROWS is told at the top of crates/getopts_replay/src/main.rt. The lines of an answer come
- * after its question, each after "> ", or they are those of ANSWERS in order. What the layer doesn't have is
- * passed over and counted. */
+ * The form of ROWS is that of crates/getopts_replay. The lines of an answer are those of ANSWERS in order, or
+ * they come after its question, each after "> "; a line "| TEXT" goes on with the one above it, by TEXT and a
+ * line end. What the layer doesn't have is passed over and counted. */
 #include "../getopts.h"
 
 #include <stdio.h>
@@ -88,7 +88,7 @@ static char *line_with(struct lines *lines, const char *start) {
         return NULL;
     *end = '\0';
     lines->next = end + 1;
-    return line + (start[0] == '>' ? 2 : 0);
+    return line;
 }
 
 /* What a case has declared, and what its words gave. */
@@ -184,12 +184,22 @@ static bool declares(void) {
     return true;
 }
 
-/* Answers words: the free words, or the fault, its name and its text. */
-static void words(void) {
+/* Adds a fault, its name and its text. */
+static void fault(int of_status, const char *message) {
     static const struct { const char *word; size_t before, after; } faults[] = {
         { "", 0, 0 }, { "ArgumentMissing", 20, 9 }, { "UnrecognizedOption", 22, 1 },
         { "OptionMissing", 17, 9 }, { "OptionDuplicated", 8, 22 }, { "UnexpectedArgument", 8, 27 },
     };
+    char *name = copy(message + faults[of_status].before);
+    name[strlen(name) - faults[of_status].after] = '\0';
+    field(&answer, faults[of_status].word);
+    field(&answer, name);
+    field(&answer, message);
+    free(name);
+}
+
+/* Answers words: the free words, or the fault. */
+static void words(void) {
     let_read_go();
     read = getopts_new(table, modes);
     status = read != NULL ? getopts_read(read, count - 1, fields + 1) : GETOPTS_NO_MEMORY;
@@ -200,20 +210,13 @@ static void words(void) {
         number(&answer, getopts_trailing_start(read));
     for (char *const *word = getopts_free_words(read); *word != NULL; word++)
         field(&answer, *word);
-    if (status != GETOPTS_OK) {
-        char *name = copy(getopts_message(read) + faults[status].before);
-        name[strlen(name) - faults[status].after] = '\0';
-        field(&answer, faults[status].word);
-        field(&answer, name);
-        field(&answer, getopts_message(read));
-        free(name);
-    }
+    if (status != GETOPTS_OK)
+        fault(status, getopts_message(read));
     add(&answer, '\n');
 }
 
 /* Adds the values of an option, with their positions or without. */
-static void values(const char *title, const char *name, bool positions) {
-    add_all(&answer, title);
+static void values(const char *name, bool positions) {
     for (size_t nth = 0; nth < getopts_count(read, name); nth++) {
         if (getopts_value(read, name, nth) == NULL)
             continue;
@@ -221,38 +224,62 @@ static void values(const char *title, const char *name, bool positions) {
             number(&answer, getopts_position(read, name, nth));
         field(&answer, getopts_value(read, name, nth));
     }
-    add(&answer, '\n');
 }
 
-/* Answers what was given of an option, or where. */
-static void of_option(bool positions) {
-    const char *name = fields[1];
-    bool given = read != NULL && status == GETOPTS_OK;
-    add_all(&answer, fields[0]);
-    if (!given) {
-        add_all(&answer, "\tnothing\n");
-        return;
-    }
-    field(&answer, name);
-    if (!getopts_defined(read, name)) {
-        add_all(&answer, "\tundefined\n");
-        return;
-    }
-    size_t times = getopts_count(read, name);
-    for (size_t nth = 0; positions && nth < times; nth++)
+static void positions(const char *name) {
+    for (size_t nth = 0; nth < getopts_count(read, name); nth++)
         number(&answer, getopts_position(read, name, nth));
-    if (!positions) {
-        const char *value = getopts_value(read, name, 0);
+}
+
+/* Adds what a question asks of an option, in the words of the Rust crate. */
+static void of_option(const char *question, const char *name) {
+    size_t times = getopts_count(read, name);
+    const char *value = getopts_value(read, name, 0);
+    const char *defaulted = times > 0 && value == NULL ? fields[2] : value;
+    if (strcmp(question, "opt_present") == 0) {
+        field(&answer, times > 0 ? "true" : "false");
+    } else if (strcmp(question, "opt_count") == 0) {
+        number(&answer, (long)times);
+    } else if (strcmp(question, "opt_str") == 0) {
+        optional(&answer, value);
+    } else if (strcmp(question, "opt_default") == 0) {
+        field(&answer, fields[2]);
+        optional(&answer, defaulted);
+    } else if (strcmp(question, "opt_strs") == 0 || strcmp(question, "opt_strs_pos") == 0) {
+        values(name, question[8] == '_');
+    } else if (strcmp(question, "opt_positions") == 0) {
+        positions(name);
+    } else if (strcmp(question, "positions") == 0) {
+        positions(name);
+        add_all(&answer, "\npairs");
+        values(name, true);
+    } else {
         field(&answer, times > 0 ? "present" : "absent");
         number(&answer, (long)times);
         optional(&answer, value);
-        optional(&answer, value == NULL && times > 0 ? fields[2] : value);
-        add(&answer, '\n');
-        values("strs", name, false);
-    } else {
-        add(&answer, '\n');
+        optional(&answer, defaulted);
+        add_all(&answer, "\nstrs");
+        values(name, false);
+        add_all(&answer, "\npairs");
+        values(name, false);
     }
-    values("pairs", name, positions);
+}
+
+/* Answers what was given of an option. */
+static void of_words(void) {
+    add_all(&answer, fields[0]);
+    if (read == NULL || status != GETOPTS_OK) {
+        field(&answer, "nothing");
+    } else {
+        field(&answer, fields[1]);
+        if (strcmp(fields[0], "opt_defined") == 0)
+            field(&answer, getopts_defined(read, fields[1]) ? "true" : "false");
+        else if (!getopts_defined(read, fields[1]))
+            field(&answer, "undefined");
+        else
+            of_option(fields[0], fields[1]);
+    }
+    add(&answer, '\n');
 }
 
 /* Answers what asks of the options alone. */
@@ -263,6 +290,8 @@ static void of_options(const char *what) {
     if (strcmp(what, "canonical") == 0) {
         int found = getopts_canonical(options, count - 1, fields + 1, &line);
         field(&answer, found != GETOPTS_OK ? "refused" : line == NULL ? "none" : "line");
+        if (found != GETOPTS_OK && getopts_read(options, count - 1, fields + 1) == found)
+            fault(found, getopts_message(options));
         for (char **word = line; word != NULL && *word != NULL; word++)
             field(&answer, *word);
     } else {
@@ -278,6 +307,13 @@ static void of_options(const char *what) {
 
 /* Answers a line, and tells whether the layer can. */
 static bool answers(void) {
+    static const char *const of_names[] = {
+        "option", "positions", "opt_present", "opt_count", "opt_str", "opt_default", "opt_strs",
+        "opt_strs_pos", "opt_positions", "opt_defined",
+    };
+    bool of_name = false;
+    for (size_t nth = 0; nth < sizeof of_names / sizeof *of_names; nth++)
+        of_name = of_name || strcmp(fields[0], of_names[nth]) == 0;
     answer.len = 0;
     if (strcmp(fields[0], "case") == 0) {
         anew();
@@ -286,8 +322,8 @@ static bool answers(void) {
         add(&answer, '\n');
     } else if (strcmp(fields[0], "words") == 0) {
         words();
-    } else if (strcmp(fields[0], "option") == 0 || strcmp(fields[0], "positions") == 0) {
-        of_option(fields[0][0] == 'p');
+    } else if (of_name) {
+        of_words();
     } else if (strcmp(fields[0], "short") == 0 || strcmp(fields[0], "usage") == 0
         || strcmp(fields[0], "canonical") == 0) {
         of_options(fields[0]);
@@ -321,7 +357,11 @@ int main(int argc, char **argv) {
             }
         } else {
             for (char *next; (next = line_with(&rows, "> ")) != NULL;) {
-                add_all(&wanted, next);
+                add_all(&wanted, next + 2);
+                while ((next = line_with(&rows, "|")) != NULL) {
+                    add_all(&wanted, next + (next[1] == ' ' ? 2 : 1));
+                    add_all(&wanted, "\\n");
+                }
                 add(&wanted, '\n');
             }
         }

@@ -1,8 +1,8 @@
 //! Asks the crate here what rows ask, and compares its answers with theirs: `rows ROWS [ANSWERS]`.
 //!
-//! The form of ROWS is told at the top of `crates/getopts_replay/src/main.rt`. The lines of an answer come
-//! after its question, each after `> `, or they are those of ANSWERS in order. What the crate doesn't have is
-//! passed over and counted.
+//! The form of ROWS is that of `crates/getopts_replay`. The lines of an answer are those of ANSWERS in order, or
+//! they come after its question, each after `> `; a line `| TEXT` goes on with the one above it, by TEXT and a
+//! line end. What the crate doesn't have is passed over and counted.
 
 use getopts::{Fail, HasArg, Matches, Occur, Options, ParsingStyle};
 use std::fmt::Display;
@@ -127,16 +127,16 @@ impl Session {
             }
             ["words", ref words @ ..] => {
                 let given = self.options.parse(words);
-                let text = match &given {
-                    Ok(matches) => {
-                        let start = matches.free_trailing_start();
-                        let start = start.map_or("-".into(), |start| start.to_string());
-                        answer("accepted", std::iter::once(&start).chain(&matches.free))
-                    }
-                    Err(fail) => refused(fail),
-                };
+                let text = answer_of(&given);
                 self.given = Some(given);
                 one(text)
+            }
+            ["clear"] => {
+                let given = self.given.as_mut()?;
+                if let Ok(matches) = given {
+                    matches.free.clear();
+                }
+                one(answer_of(given))
             }
             ["lawful", short, long] => {
                 let lawful = catch_unwind(|| {
@@ -166,18 +166,31 @@ impl Session {
             ["canonical", ref words @ ..] => one(match self.options.canonical(words) {
                 Ok(Some(line)) => answer("canonical", std::iter::once(&"line".into()).chain(&line)),
                 Ok(None) => answer("canonical", ["none"]),
-                Err(_) => answer("canonical", ["refused"]),
+                Err(fail) => answer("canonical", [vec!["refused".into()], fault(&fail)].concat()),
             }),
-            ["option" | "positions" | "number" | "truth" | "any", ..] => match &self.given {
+            ["opt_place" | "occurrences_at" | "wrap", ..] => None,
+            [word, ..] => match &self.given {
                 Some(Ok(matches)) => of_matches(matches, fields),
-                _ => one(answer(fields[0], ["nothing"])),
+                _ => one(answer(word, ["nothing"])),
             },
-            _ => None,
+            [] => None,
         }
     }
 }
 
-fn refused(fail: &Fail) -> String {
+fn answer_of(given: &getopts::Result) -> String {
+    match given {
+        Ok(matches) => {
+            let start = matches.free_trailing_start();
+            let start = start.map_or("-".into(), |start| start.to_string());
+            answer("accepted", std::iter::once(&start).chain(&matches.free))
+        }
+        Err(fail) => answer("refused", fault(fail)),
+    }
+}
+
+/// A fault, its name and its text.
+fn fault(fail: &Fail) -> Vec<String> {
     let (fault, name) = match fail {
         Fail::ArgumentMissing(name) => ("ArgumentMissing", name),
         Fail::UnrecognizedOption(name) => ("UnrecognizedOption", name),
@@ -185,7 +198,7 @@ fn refused(fail: &Fail) -> String {
         Fail::OptionDuplicated(name) => ("OptionDuplicated", name),
         Fail::UnexpectedArgument(name) => ("UnexpectedArgument", name),
     };
-    answer("refused", [fault, name, &fail.to_string()])
+    vec![fault.to_string(), name.clone(), fail.to_string()]
 }
 
 /// An option's value read as a `T`, and that or a default.
@@ -200,22 +213,24 @@ fn read<T: FromStr + Display>(matches: &Matches, word: &str, name: &str, default
     answer(word, [name, &value, &defaulted])
 }
 
+/// The positions and texts of pairs, or the texts alone.
+fn pairs(matches: &Matches, name: &str, positions: bool) -> Vec<String> {
+    let mut fields = Vec::new();
+    for (position, text) in matches.opt_strs_pos(name) {
+        fields.extend(positions.then(|| position.to_string()));
+        fields.push(text);
+    }
+    fields
+}
+
 fn of_matches(matches: &Matches, fields: &[&str]) -> Option<Vec<String>> {
-    let pairs = |name, positions: bool| {
-        let given = matches.opt_strs_pos(name);
-        let texts = given.into_iter().flat_map(|(position, text)| {
-            positions
-                .then(|| position.to_string())
-                .into_iter()
-                .chain([text])
-        });
-        answer("pairs", texts)
-    };
-    Some(match *fields {
-        ["any", ref names @ ..] => {
-            let owned: Vec<String> = names.iter().map(|name| name.to_string()).collect();
-            let present = matches.opts_present(&owned).to_string();
-            vec![if names.iter().all(|name| matches.opt_defined(name)) {
+    let word = *fields.first()?;
+    if word == "any" {
+        let names = &fields[1..];
+        let owned: Vec<String> = names.iter().map(|name| name.to_string()).collect();
+        let present = matches.opts_present(&owned).to_string();
+        return Some(vec![
+            if names.iter().all(|name| matches.opt_defined(name)) {
                 let any = matches.opts_present_any(names).to_string();
                 let first = optional(matches.opts_str_first(names));
                 answer(
@@ -224,37 +239,58 @@ fn of_matches(matches: &Matches, fields: &[&str]) -> Option<Vec<String>> {
                 )
             } else {
                 answer("any", [&present, "undefined"])
-            }]
+            },
+        ]);
+    }
+    let name = *fields.get(1)?;
+    let defined = matches.opt_defined(name);
+    if word == "opt_defined" {
+        return Some(vec![answer(word, [name, &defined.to_string()])]);
+    } else if !defined {
+        return Some(vec![answer(word, [name, "undefined"])]);
+    }
+    let positions = || -> Vec<String> {
+        matches
+            .opt_positions(name)
+            .iter()
+            .map(usize::to_string)
+            .collect()
+    };
+    let one = |given: Vec<String>| vec![answer(word, [vec![name.to_string()], given].concat())];
+    Some(match *fields {
+        [_, _, default] if word == "opt_default" => one(vec![
+            default.into(),
+            optional(matches.opt_default(name, default)),
+        ]),
+        ["opt_present", _] => one(vec![matches.opt_present(name).to_string()]),
+        ["opt_count", _] => one(vec![matches.opt_count(name).to_string()]),
+        ["opt_str", _] => one(vec![optional(matches.opt_str(name))]),
+        ["opt_strs", _] => one(matches.opt_strs(name)),
+        ["opt_strs_pos", _] => one(pairs(matches, name, true)),
+        ["opt_positions", _] => one(positions()),
+        ["positions", _] => {
+            let mut lines = one(positions());
+            lines.push(answer("pairs", pairs(matches, name, true)));
+            lines
         }
-        [word, name, ..] if !matches.opt_defined(name) => vec![answer(word, [name, "undefined"])],
-        ["option", name, default] => {
+        ["option", _, default] => {
             let present = if matches.opt_present(name) {
                 "present"
             } else {
                 "absent"
             };
-            let count = matches.opt_count(name).to_string();
-            let text = optional(matches.opt_str(name));
-            let defaulted = optional(matches.opt_default(name, default));
-            vec![
-                answer("option", [name, present, &count, &text, &defaulted]),
-                answer("strs", matches.opt_strs(name)),
-                pairs(name, false),
-            ]
+            let mut lines = one(vec![
+                present.into(),
+                matches.opt_count(name).to_string(),
+                optional(matches.opt_str(name)),
+                optional(matches.opt_default(name, default)),
+            ]);
+            lines.push(answer("strs", matches.opt_strs(name)));
+            lines.push(answer("pairs", pairs(matches, name, false)));
+            lines
         }
-        ["positions", name] => {
-            let positions = matches.opt_positions(name);
-            let positions = positions.iter().map(usize::to_string);
-            vec![
-                answer(
-                    "positions",
-                    std::iter::once(name.to_string()).chain(positions),
-                ),
-                pairs(name, true),
-            ]
-        }
-        ["number", name, default] => vec![read::<i64>(matches, "number", name, default)],
-        ["truth", name, default] => vec![read::<bool>(matches, "truth", name, default)],
+        ["number", _, default] => vec![read::<i64>(matches, word, name, default)],
+        ["truth", _, default] => vec![read::<bool>(matches, word, name, default)],
         _ => return None,
     })
 }
@@ -263,20 +299,25 @@ fn of_matches(matches: &Matches, fields: &[&str]) -> Option<Vec<String>> {
 fn wanted<'t>(
     rows: &mut Peekable<Lines<'t>>,
     other: &mut Option<Peekable<Lines<'t>>>,
-) -> Vec<&'t str> {
+) -> Vec<String> {
     let mut lines = Vec::new();
     match other {
         // An answer has one line, and then those that begin with these words.
         Some(other) => {
-            lines.extend(other.next());
+            lines.extend(other.next().map(str::to_string));
             let more = |line: &&str| line.starts_with("strs") || line.starts_with("pairs");
             while let Some(line) = other.next_if(more) {
-                lines.push(line);
+                lines.push(line.to_string());
             }
         }
         None => {
             while let Some(line) = rows.next_if(|line| line.starts_with("> ")) {
-                lines.push(&line[2..]);
+                let mut line = line[2..].to_string();
+                while let Some(more) = rows.next_if(|line| line.starts_with('|')) {
+                    line += more.strip_prefix("| ").unwrap_or(&more[1..]);
+                    line += "\\n";
+                }
+                lines.push(line);
             }
         }
     }
