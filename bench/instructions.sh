@@ -3,6 +3,11 @@
 # by B - A. They are counted by valgrind's callgrind.
 # usage: instructions.sh A B PROGRAM ARGS.., where the number of turns is put last
 set -euo pipefail
+if [ $# -lt 3 ]; then
+    echo 'usage: bench/instructions.sh A B PROGRAM ARGS.., where the number of turns is put last' >&2
+    exit 2
+fi
+command -v valgrind > /dev/null || { echo 'bench/instructions.sh: there is no valgrind on the path' >&2; exit 2; }
 a=$1 b=$2
 shift 2
 

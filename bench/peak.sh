@@ -3,6 +3,11 @@
 # the bytes that the program asks for, counted at each request by valgrind's dhat.
 # usage: peak.sh A B PROGRAM ARGS.., where the number of turns is put last
 set -euo pipefail
+if [ $# -lt 3 ]; then
+    echo 'usage: bench/peak.sh A B PROGRAM ARGS.., where the number of turns is put last' >&2
+    exit 2
+fi
+command -v valgrind > /dev/null || { echo 'bench/peak.sh: there is no valgrind on the path' >&2; exit 2; }
 a=$1 b=$2
 shift 2
 

@@ -3,6 +3,11 @@
 # divided by B - A. A growth of memory that is held counts as a request. They are counted by valgrind.
 # usage: requests.sh A B PROGRAM ARGS.., where the number of turns is put last
 set -euo pipefail
+if [ $# -lt 3 ]; then
+    echo 'usage: bench/requests.sh A B PROGRAM ARGS.., where the number of turns is put last' >&2
+    exit 2
+fi
+command -v valgrind > /dev/null || { echo 'bench/requests.sh: there is no valgrind on the path' >&2; exit 2; }
 a=$1 b=$2
 shift 2
 

@@ -9,6 +9,36 @@
 # The variable OURS names a built getopts_bench to measure. Without it `rt run` proves and builds one.
 set -euo pipefail
 here=$(cd "$(dirname "$0")" && pwd)
+
+# stop WHY: ends with a line that says what is lacking.
+stop() {
+    echo "bench/run.sh: $1" >&2
+    exit 2
+}
+
+# part WHAT: says on standard error what is done next, and how long the part before took.
+doing= since=0
+part() {
+    [ -z "$doing" ] || echo "bench/run.sh: $doing: $((SECONDS - since)) s" >&2
+    doing=$1 since=$SECONDS
+    [ -z "$doing" ] || echo "bench/run.sh: $doing .." >&2
+}
+
+if [ $# -lt 1 ] || [ $# -gt 2 ]; then
+    stop 'usage: bench/run.sh OUT [GETOPTS]'
+fi
+if [ $# -gt 1 ] && [ ! -f "$2/Cargo.toml" ]; then
+    stop "$2 is no folder of a Rust crate"
+fi
+for tool in cargo valgrind; do
+    command -v "$tool" > /dev/null || stop "there is no $tool on the path"
+done
+if [ -z "${OURS:-}" ]; then
+    command -v rt > /dev/null || stop 'there is no rt on the path, and OURS names no built getopts_bench'
+elif [ ! -x "$OURS" ]; then
+    stop "$OURS, which OURS names, is no program"
+fi
+
 mkdir -p "$1"
 out=$(cd "$1" && pwd)
 
@@ -35,10 +65,12 @@ defined-4000 0 1'
 
 peers='getopts lexopt pico-args clap'
 
+part "building the peers' program"
 "$here/peers/build.sh" "$out/peers" "${@:2}"
 theirs=$out/peers/target/release/peers
 
 if [ -z "${OURS:-}" ]; then
+    part 'proving and building getopts_bench, some minutes where nothing is kept'
     (cd "$here/../crates/getopts_bench" && rt run -- small 1) > "$out/build.log" 2>&1 ||
         { tail -n 20 "$out/build.log" >&2; exit 1; }
     OURS=$here/../crates/getopts_bench/out/getopts_bench
@@ -84,12 +116,14 @@ head() {
     printf '%-16s %14s %14s %14s %14s %14s\n' job 'this library' 'Rust crate' lexopt pico-args clap
 }
 
+part 'counting instructions'
 echo 'Instructions of one turn'
 head
 while read -r job a b; do
     row instructions "$job" "$a" "$b"
 done <<< "$jobs"
 
+part 'counting requests for memory'
 echo
 echo 'Requests for memory of one turn'
 head
@@ -97,10 +131,12 @@ while read -r job a b; do
     row requests "$job" "$a" "$b"
 done <<< "$jobs"
 
+part 'counting the most bytes held'
 echo
 echo 'The most bytes held at once for reading 100,000 words, above the words and the options'
 head
 row peak memory 0 1
 
+part ''
 echo
 echo "* its sum isn't this library's"

@@ -5,9 +5,25 @@
 # then the second, and so on until a run ends with none refused: once that one request alone, and once
 # that one and all after it. A run with a refusal has to say so, and the last run gives the row's answer.
 #
-# It takes the programs that `rt ci` leaves in crates/NAME/out. The last line is 'N passed, N failed'.
+# It takes the programs that `rt ci` leaves in crates/NAME/out, or `rt run` in these two crates. What is
+# being done is told on standard error. The last line is 'N passed, N failed'.
 set -uo pipefail
 cd "$(dirname "$0")/.."
+
+# lacks WHAT: ends with a line that says what is lacking.
+lacks() {
+    echo "refused/run.sh: $1"
+    echo "0 passed, 1 failed"
+    exit 1
+}
+
+# part WHAT: says on standard error what is done next, and how long the part before took.
+doing= since=0
+part() {
+    [ -z "$doing" ] || echo "refused/run.sh: $doing: $((SECONDS - since)) s" >&2
+    doing=$1 since=$SECONDS
+    [ -z "$doing" ] || echo "refused/run.sh: $doing .." >&2
+}
 
 room=$(mktemp -d)
 trap 'rm -rf "$room"' EXIT
@@ -15,20 +31,16 @@ rows=$PWD/crates/getopts_refused/out/getopts_refused
 show=$PWD/crates/getopts_show/out/getopts_show
 most=10000 passed=0 failed=0 calls=0 runs=0 swallowed=0
 
+command -v rt >/dev/null || lacks "there is no rt on the path"
 for program in "$rows" "$show"; do
-    if [ ! -x "$program" ]; then
-        echo "$program is not there: run 'rt ci' first"
-        echo "0 passed, 1 failed"
-        exit 1
-    fi
+    [ -x "$program" ] || lacks "$program is not there: run 'rt ci' first"
 done
 
 # The toolchain's C compiler and linker.
 tools=$(dirname "$(rt doc)")/toolchain/bin
 if ! "$tools/clang" -O2 -Wall -Wextra -Werror -ffreestanding -nostdinc -fPIC -c refused/refuse.c -o "$room/refuse.o" ||
     ! "$tools/ld.lld" -shared -o "$room/refuse.so" "$room/refuse.o"; then
-    echo "0 passed, 1 failed"
-    exit 1
+    lacks "refused/refuse.c can't be built"
 fi
 
 # pass_or_fail WHAT WHY: counts a check, which failed where WHY says something.
@@ -84,6 +96,7 @@ both_ways() {
     done
 }
 
+part "refusing each request of each call"
 # The rows: the program's marks tell which requests are the call's own.
 mapfile -t all < <("$rows")
 for row in "${all[@]}"; do
@@ -91,6 +104,7 @@ for row in "${all[@]}"; do
     both_ways "$row" 1 "answer status 0" "refused status 0" "$rows" "$call" "$on"
 done
 
+part "refusing each request of the program's own lines"
 # The program's own words: accepted ones, its help, and a fault.
 for words in "--output=x.txt --verbose in.txt" "-vvLd -La -Lb -c auto -o x.txt f g" "-v --help" "--nope"; do
     read -r -a line <<<"$words"
@@ -106,6 +120,7 @@ ends() {
     pass_or_fail "$1" "$why"
 }
 
+part "words that are no text, and outputs that take nothing"
 # Words that are no UTF-8, and a name of the program that is none.
 for word in $'\xff' $'-o\xc3' $'--\xed\xa0\x80'; do
     said=$("$show" -v "$word" x 2>&1); status=$?
@@ -123,6 +138,7 @@ for words in "-v x" --help --nope; do
     ends "$words with a full output" 4 ""
 done
 
+part ""
 echo "$calls calls, $runs runs with memory refused, $swallowed swallowed"
 echo "$passed passed, $failed failed"
 [ "$failed" = 0 ]

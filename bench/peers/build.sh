@@ -6,6 +6,11 @@
 # crate getopts; without it the crate is taken from the public registry.
 # The other peers come from Debian's packages, or from the public registry where these aren't installed.
 set -euo pipefail
+if [ $# -lt 1 ]; then
+    echo 'usage: bench/peers/build.sh OUT [GETOPTS]' >&2
+    exit 2
+fi
+command -v cargo > /dev/null || { echo 'bench/peers/build.sh: there is no cargo on the path' >&2; exit 2; }
 here=$(cd "$(dirname "$0")" && pwd)
 mkdir -p "$1/src" "$1/.cargo"
 out=$(cd "$1" && pwd)

@@ -4,8 +4,12 @@ ghost use Rattle.std.specs.Prelude.{◌<◌, IfOk};
 ghost use Rattle.std.specs.String.{string_bytes, string_len};
 ghost use Rattle.getopts.specs.Names.{AreLawful};
 
+use crate::job::Job;
+use getopts::Options;
 use std::alloc::{AllocError, Global};
 
+/// The options of the small and of the long line.
+const FIVE: usize = 5;
 /// The rounds of four words in the long line.
 const LONG_ROUNDS: usize = 250;
 /// The rounds of four words in the line that memory is measured by.
@@ -16,7 +20,7 @@ const MANY: usize = 200;
 const THOUSAND: usize = 1000;
 
 /// A line of words, with the options that read it.
-#[derive(Debug, Clone, Copy, PartialEq, Eq)]
+#[derive(Clone, Copy)]
 pub enum Line {
     /// 5 options, 3 words.
     Small,
@@ -27,18 +31,18 @@ pub enum Line {
 }
 
 /// Whether an option takes an argument.
-#[derive(Debug, Clone, Copy, PartialEq, Eq)]
-pub enum Kind {
+#[derive(Clone, Copy)]
+enum Kind {
     Flag,
     Argument,
 }
 
 /// An option to declare, by lawful names.
-#[derive(Debug, Drop)]
+#[derive(Drop)]
 pub struct Named {
-    pub short: String,
-    pub long: String,
-    pub kind: Kind,
+    short: String,
+    long: String,
+    kind: Kind,
     ghost lawful: { AreLawful (string_bytes short) (string_bytes long) },
 }
 
@@ -53,6 +57,17 @@ impl Named {
         })
     }
 
+    /// Declares the option, which may come any number of times.
+    pub fn declare(&self, options: &mut Options) -> Result<(), AllocError> {
+        let short = self.short.as_str();
+        let long = self.long.as_str();
+        match self.kind {
+            Kind::Flag => options.optflagmulti(short, long, "d")?,
+            Kind::Argument => options.optmulti(short, long, "d", "H")?,
+        };
+        Ok(())
+    }
+
     /// The long name where there is one, else the short name.
     pub fn main(&self) -> &str {
         if self.long.is_empty() {
@@ -64,78 +79,79 @@ impl Named {
 }
 
 /// Options to declare, and the words to read by them.
-#[derive(Debug, Drop)]
+#[derive(Drop)]
 pub struct Input {
     pub options: Vec<Named>,
     pub words: Vec<String>,
 }
 
+/// What a job declares and reads.
+pub fn input_of(alloc: Global, job: Job) -> Result<Input, AllocError> {
+    match job {
+        Job::Whole(line)
+        | Job::Declare(line)
+        | Job::Read(line)
+        | Job::Accessors(line)
+        | Job::Canonical(line) => line_input(alloc, line),
+        Job::Equal => thousand_input(alloc),
+        Job::Usage => Input::with_room(alloc, 0, 0),
+        Job::Defined(count) => numbered_input(alloc, count),
+        Job::Memory => long_input(alloc, MEMORY_ROUNDS),
+    }
+}
+
 /// The options and the words of a line.
-pub fn input_of(alloc: Global, line: Line) -> Result<Input, AllocError> {
+fn line_input(alloc: Global, line: Line) -> Result<Input, AllocError> {
     match line {
-        Line::Small => Ok(Input {
-            options: five_options(alloc)?,
-            words: copies(alloc, &["--output=x.txt", "--verbose", "in.txt"])?,
-        }),
+        Line::Small => small_input(alloc),
         Line::Long => long_input(alloc, LONG_ROUNDS),
         Line::Many => many_input(alloc),
     }
 }
 
-/// The options of the long line, and 100,000 words of its form.
-pub fn memory_input(alloc: Global) -> Result<Input, AllocError> {
-    long_input(alloc, MEMORY_ROUNDS)
+fn small_input(alloc: Global) -> Result<Input, AllocError> {
+    let mut input = Input::with_room(alloc, FIVE, 3)?;
+    input.declare_five(alloc)?;
+    input.say(alloc, "--output=x.txt")?;
+    input.say(alloc, "--verbose")?;
+    input.say(alloc, "in.txt")?;
+    Ok(input)
 }
 
 fn long_input(alloc: Global, rounds: usize) -> Result<Input, AllocError>
     requires { rounds < 100000 }
 {
-    let mut words = Vec::with_capacity(alloc, 4 * rounds)?;
+    let mut input = Input::with_room(alloc, FIVE, 4 * rounds)?;
+    input.declare_five(alloc)?;
     for round in 0..rounds {
-        words.push(String::from_str(alloc, "-v")?)?;
-        words.push(format!(in alloc; "-Ldir{round}")?)?;
-        words.push(String::from_str(alloc, "--verbose")?)?;
-        words.push(format!(in alloc; "file{round}")?)?;
+        input.say_round(alloc, round)?;
     }
-    Ok(Input {
-        options: five_options(alloc)?,
-        words,
-    })
+    Ok(input)
 }
 
 fn many_input(alloc: Global) -> Result<Input, AllocError> {
-    let mut options = Vec::with_capacity(alloc, MANY)?;
-    let mut words = Vec::with_capacity(alloc, 2 * MANY)?;
+    let mut input = Input::with_room(alloc, MANY, 2 * MANY)?;
     for number in 0..MANY {
-        let name = name_of(alloc, number)?;
-        if number % 2 == 0 {
-            options.push(Named::new(alloc, "", name.as_str(), Kind::Flag)?)?;
-            words.push(format!(in alloc; "--{name}")?)?;
-        } else {
-            options.push(Named::new(alloc, "", name.as_str(), Kind::Argument)?)?;
-            words.push(format!(in alloc; "--{name}=value{number}")?)?;
-        }
-        words.push(format!(in alloc; "file{number}")?)?;
+        input.add_given(alloc, number)?;
     }
-    Ok(Input { options, words })
+    Ok(input)
 }
 
 /// As many options as asked for, `n0000` and on, and no words.
-pub fn numbered_options(alloc: Global, count: usize) -> Result<Vec<Named>, AllocError> {
-    let mut options = Vec::new(alloc);
+fn numbered_input(alloc: Global, count: usize) -> Result<Input, AllocError> {
+    let mut input = Input::with_room(alloc, 0, 0)?;
     for number in 0..count {
-        let name = long_name(alloc, number)?;
-        options.push(Named::new(alloc, "", name.as_str(), Kind::Flag)?)?;
+        input.options.push(numbered_option(alloc, number)?)?;
     }
-    Ok(options)
+    Ok(input)
 }
 
-/// 998 flags, then the flags `a` and `b`.
-pub fn thousand_options(alloc: Global) -> Result<Vec<Named>, AllocError> {
-    let mut options = numbered_options(alloc, THOUSAND - 2)?;
-    options.push(Named::new(alloc, "a", "", Kind::Flag)?)?;
-    options.push(Named::new(alloc, "b", "", Kind::Flag)?)?;
-    Ok(options)
+/// 998 flags, then the flags `a` and `b`, and no words.
+fn thousand_input(alloc: Global) -> Result<Input, AllocError> {
+    let mut input = numbered_input(alloc, THOUSAND - 2)?;
+    input.declare(alloc, "a", "", Kind::Flag)?;
+    input.declare(alloc, "b", "", Kind::Flag)?;
+    Ok(input)
 }
 
 /// A word, a thousand times.
@@ -147,15 +163,88 @@ pub fn thousand_of(alloc: Global, word: &str) -> Result<Vec<String>, AllocError>
     Ok(words)
 }
 
-/// The five options of the small and of the long line.
-fn five_options(alloc: Global) -> Result<Vec<Named>, AllocError> {
-    let mut options = Vec::with_capacity(alloc, 5)?;
-    options.push(Named::new(alloc, "o", "output", Kind::Argument)?)?;
-    options.push(Named::new(alloc, "h", "help", Kind::Flag)?)?;
-    options.push(Named::new(alloc, "v", "verbose", Kind::Flag)?)?;
-    options.push(Named::new(alloc, "L", "", Kind::Argument)?)?;
-    options.push(Named::new(alloc, "c", "color", Kind::Argument)?)?;
-    Ok(options)
+impl Input {
+    /// No options and no words, with room for so many.
+    fn with_room(alloc: Global, options: usize, words: usize) -> Result<Input, AllocError> {
+        Ok(Input {
+            options: Vec::with_capacity(alloc, options)?,
+            words: Vec::with_capacity(alloc, words)?,
+        })
+    }
+
+    /// Adds an option as the last.
+    fn declare(
+        &mut self,
+        alloc: Global,
+        short: &str,
+        long: &str,
+        kind: Kind,
+    ) -> Result<(), AllocError>
+        requires { AreLawful short.now long.now }
+    {
+        self.options.push(Named::new(alloc, short, long, kind)?)?;
+        Ok(())
+    }
+
+    /// Adds a word as the last.
+    fn say(&mut self, alloc: Global, word: &str) -> Result<(), AllocError> {
+        self.words.push(String::from_str(alloc, word)?)?;
+        Ok(())
+    }
+
+    /// Adds the five options of the small and of the long line.
+    fn declare_five(&mut self, alloc: Global) -> Result<(), AllocError> {
+        self.declare(alloc, "o", "output", Kind::Argument)?;
+        self.declare(alloc, "h", "help", Kind::Flag)?;
+        self.declare(alloc, "v", "verbose", Kind::Flag)?;
+        self.declare(alloc, "L", "", Kind::Argument)?;
+        self.declare(alloc, "c", "color", Kind::Argument)?;
+        Ok(())
+    }
+
+    /// Adds four words of the long line.
+    fn say_round(&mut self, alloc: Global, round: usize) -> Result<(), AllocError> {
+        self.say(alloc, "-v")?;
+        self.words.push(format!(in alloc; "-Ldir{round}")?)?;
+        self.say(alloc, "--verbose")?;
+        self.words.push(format!(in alloc; "file{round}")?)?;
+        Ok(())
+    }
+
+    /// Adds an option of the line with many options, the word that gives it, and a free word.
+    fn add_given(&mut self, alloc: Global, number: usize) -> Result<(), AllocError> {
+        self.options.push(given_option(alloc, number)?)?;
+        self.words.push(given_word(alloc, number)?)?;
+        self.words.push(format!(in alloc; "file{number}")?)?;
+        Ok(())
+    }
+}
+
+/// The option of this number among many flags.
+fn numbered_option(alloc: Global, number: usize) -> Result<Named, AllocError> {
+    let name = long_name(alloc, number)?;
+    Named::new(alloc, "", name.as_str(), Kind::Flag)
+}
+
+/// The option of this number of the line with many options: flags, and between them options that take
+/// an argument.
+fn given_option(alloc: Global, number: usize) -> Result<Named, AllocError> {
+    let name = name_of(alloc, number)?;
+    let kind = if number % 2 == 0 {
+        Kind::Flag
+    } else {
+        Kind::Argument
+    };
+    Named::new(alloc, "", name.as_str(), kind)
+}
+
+/// The word that gives that option.
+fn given_word(alloc: Global, number: usize) -> Result<String, AllocError> {
+    if number % 2 == 0 {
+        format!(in alloc; "--name{number:03}")
+    } else {
+        format!(in alloc; "--name{number:03}=value{number}")
+    }
 }
 
 /// The long name of an option by its number.
@@ -170,12 +259,4 @@ fn name_of(alloc: Global, number: usize) -> Result<String, AllocError>
     ensures { IfOk result (λ name. 1 < string_len name) }
 {
     format!(in alloc; "name{number:03}")
-}
-
-/// Copies of texts.
-fn copies(alloc: Global, texts: &[&str]) -> Result<Vec<String>, AllocError> {
-    texts
-        .iter()
-        .map(|text| String::from_str(alloc, text))
-        .try_collect(alloc)
 }

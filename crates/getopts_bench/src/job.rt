@@ -7,7 +7,7 @@ use std::str::FromStr;
 const DEFINED: usize = 4000;
 
 /// What a turn does.
-#[derive(Debug, Clone, Copy, PartialEq, Eq)]
+#[derive(Clone, Copy)]
 pub enum Job {
     /// Declares, reads, and takes each count and value.
     Whole(Line),
@@ -30,7 +30,7 @@ pub enum Job {
 }
 
 /// The text names no job.
-#[derive(Debug, Clone, Copy, PartialEq, Eq)]
+#[derive(Clone, Copy)]
 pub struct UnknownJob;
 
 impl FromStr for Job {

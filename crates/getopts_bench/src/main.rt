@@ -34,7 +34,7 @@ use std::process::ExitCode;
 use std::{env, fmt, io};
 
 /// Why a sum wasn't printed.
-#[derive(Debug, Drop)]
+#[derive(Drop)]
 enum Trouble {
     /// The arguments aren't jobs, each with a number of turns.
     NoJob,

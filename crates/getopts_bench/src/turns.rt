@@ -1,8 +1,7 @@
-//! The turns of a job, and what they add up to.
+//! The turns of a job, and what they add up to. The turns of each job stay a function of their own, so that
+//! no job is built otherwise for the sake of another.
 
-use crate::input::{
-    Input, Kind, Named, input_of, memory_input, numbered_options, thousand_of, thousand_options,
-};
+use crate::input::{Input, Named, input_of, thousand_of};
 use crate::job::Job;
 use getopts::{Fail, Matches, Occurrences, Options};
 use std::alloc::{AllocError, Global};
@@ -12,31 +11,32 @@ const BRIEF: &str = "Usage: getopts_show [options] FILE";
 
 /// Does a job a number of turns, and answers the sum of what they took. The sum wraps.
 pub fn run(alloc: Global, job: Job, times: usize) -> Result<usize, Fail> {
+    let input = input_of(alloc, job)?;
     match job {
-        Job::Whole(line) => whole(alloc, &input_of(alloc, line)?, times),
-        Job::Declare(line) => declare(alloc, &input_of(alloc, line)?.options, times),
-        Job::Read(line) => read(alloc, &input_of(alloc, line)?, times),
-        Job::Accessors(line) => accessors(alloc, &input_of(alloc, line)?, times),
-        Job::Canonical(line) => canonical(alloc, &input_of(alloc, line)?, times),
-        Job::Equal => equal(alloc, times),
+        Job::Whole(_) => whole(alloc, &input, times),
+        Job::Declare(_) => declare(alloc, &input.options, times),
+        Job::Read(_) | Job::Memory => read(alloc, &input, times),
+        Job::Accessors(_) => accessors(alloc, &input, times),
+        Job::Canonical(_) => canonical(alloc, &input, times),
+        Job::Equal => equal(alloc, &input.options, times),
         Job::Usage => usage(alloc, times),
-        Job::Defined(count) => defined(alloc, &numbered_options(alloc, count)?, times),
-        Job::Memory => read(alloc, &memory_input(alloc)?, times),
+        Job::Defined(_) => defined(alloc, &input, times),
     }
 }
 
 /// Turns that declare the options, read the words, and take what the matches give.
+#[inline(never)]
 fn whole(alloc: Global, input: &Input, times: usize) -> Result<usize, Fail> {
     let mut sum = 0usize;
     for _ in 0..times {
-        let options = declared(alloc, &input.options)?;
-        let matches = matches_of(alloc, &options, &input.words)?;
+        let matches = read_anew(alloc, input)?;
         sum = sum.wrapping_add(taken(&matches, &input.options));
     }
     Ok(sum)
 }
 
 /// Turns that declare the options. Each adds how many they are.
+#[inline(never)]
 fn declare(alloc: Global, named: &[Named], times: usize) -> Result<usize, Fail> {
     let mut sum = 0usize;
     for _ in 0..times {
@@ -47,20 +47,20 @@ fn declare(alloc: Global, named: &[Named], times: usize) -> Result<usize, Fail> 
 }
 
 /// Turns that read the words. Each adds how many of them are free.
+#[inline(never)]
 fn read(alloc: Global, input: &Input, times: usize) -> Result<usize, Fail> {
     let options = declared(alloc, &input.options)?;
     let mut sum = 0usize;
     for _ in 0..times {
-        let matches = matches_of(alloc, &options, &input.words)?;
-        sum = sum.wrapping_add(matches.free.len());
+        sum = sum.wrapping_add(free_words(alloc, &options, &input.words)?);
     }
     Ok(sum)
 }
 
 /// Turns that take what matches give, with the values copied.
+#[inline(never)]
 fn accessors(alloc: Global, input: &Input, times: usize) -> Result<usize, Fail> {
-    let options = declared(alloc, &input.options)?;
-    let matches = matches_of(alloc, &options, &input.words)?;
+    let matches = read_anew(alloc, input)?;
     let mut sum = 0usize;
     for _ in 0..times {
         sum = sum.wrapping_add(copied(alloc, &matches, &input.options)?);
@@ -69,34 +69,39 @@ fn accessors(alloc: Global, input: &Input, times: usize) -> Result<usize, Fail> 
 }
 
 /// Turns that write the canonical line. Each adds the lengths of its words.
+#[inline(never)]
 fn canonical(alloc: Global, input: &Input, times: usize) -> Result<usize, Fail> {
     let options = declared(alloc, &input.options)?;
     let mut sum = 0usize;
     for _ in 0..times {
-        let words = input.words.iter().map(|word| word.as_str());
-        if let Some(line) = options.canonical(alloc, words)? {
-            sum = sum.wrapping_add(total_length(&line));
-        }
+        sum = sum.wrapping_add(canonical_length(alloc, &options, &input.words)?);
     }
     Ok(sum)
 }
 
 /// Turns that compare the matches of clusters that say the same in another order. Each adds 1 where
 /// they are equal.
-fn equal(alloc: Global, times: usize) -> Result<usize, Fail> {
-    let options = declared(alloc, &thousand_options(alloc)?)?;
-    let matches = matches_of(alloc, &options, &thousand_of(alloc, "-ab")?)?;
-    let others = matches_of(alloc, &options, &thousand_of(alloc, "-ba")?)?;
+fn equal(alloc: Global, named: &[Named], times: usize) -> Result<usize, Fail> {
+    let options = declared(alloc, named)?;
+    let matches = clusters(alloc, &options, "-ab")?;
+    let others = clusters(alloc, &options, "-ba")?;
+    Ok(equal_turns(&matches, &others, times))
+}
+
+/// How many of so many turns found the matches equal.
+#[inline(never)]
+fn equal_turns(matches: &Matches, others: &Matches, times: usize) -> usize {
     let mut sum = 0usize;
     for _ in 0..times {
         if matches == others {
             sum = sum.wrapping_add(1);
         }
     }
-    Ok(sum)
+    sum
 }
 
 /// Turns that write the usage text. Each adds its length.
+#[inline(never)]
 fn usage(alloc: Global, times: usize) -> Result<usize, Fail> {
     let options = described_options(alloc)?;
     let mut sum = 0usize;
@@ -107,16 +112,12 @@ fn usage(alloc: Global, times: usize) -> Result<usize, Fail> {
 }
 
 /// Turns that ask for each name whether it is defined. Each adds how many are.
-fn defined(alloc: Global, named: &[Named], times: usize) -> Result<usize, Fail> {
-    let options = declared(alloc, named)?;
-    let matches = matches_of(alloc, &options, &[])?;
+#[inline(never)]
+fn defined(alloc: Global, input: &Input, times: usize) -> Result<usize, Fail> {
+    let matches = read_anew(alloc, input)?;
     let mut sum = 0usize;
     for _ in 0..times {
-        let count = named
-            .iter()
-            .filter(|option| matches.opt_defined(option.main()))
-            .count();
-        sum = sum.wrapping_add(count);
+        sum = sum.wrapping_add(defined_count(&matches, &input.options));
     }
     Ok(sum)
 }
@@ -125,12 +126,7 @@ fn defined(alloc: Global, named: &[Named], times: usize) -> Result<usize, Fail> 
 fn declared(alloc: Global, named: &[Named]) -> Result<Options, AllocError> {
     let mut options = Options::new(alloc);
     for option in named {
-        let short = option.short.as_str();
-        let long = option.long.as_str();
-        match option.kind {
-            Kind::Flag => options.optflagmulti(short, long, "d")?,
-            Kind::Argument => options.optmulti(short, long, "d", "H")?,
-        };
+        option.declare(&mut options)?;
     }
     Ok(options)
 }
@@ -150,6 +146,40 @@ fn described_options(alloc: Global) -> Result<Options, AllocError> {
 /// The matches of the words.
 fn matches_of(alloc: Global, options: &Options, words: &[String]) -> Result<Matches, Fail> {
     options.parse(alloc, words.iter().map(|word| word.as_str()))
+}
+
+/// The matches of the input's words by its options, which are let go.
+fn read_anew(alloc: Global, input: &Input) -> Result<Matches, Fail> {
+    let options = declared(alloc, &input.options)?;
+    matches_of(alloc, &options, &input.words)
+}
+
+/// The matches of a thousand such words.
+fn clusters(alloc: Global, options: &Options, word: &str) -> Result<Matches, Fail> {
+    let words = thousand_of(alloc, word)?;
+    matches_of(alloc, options, &words)
+}
+
+/// How many of the words are free.
+fn free_words(alloc: Global, options: &Options, words: &[String]) -> Result<usize, Fail> {
+    let matches = matches_of(alloc, options, words)?;
+    Ok(matches.free.len())
+}
+
+/// The lengths of the words of the canonical line, added up.
+fn canonical_length(alloc: Global, options: &Options, words: &[String]) -> Result<usize, Fail> {
+    match options.canonical(alloc, words.iter().map(|word| word.as_str()))? {
+        Some(line) => Ok(total_length(&line)),
+        None => Ok(0),
+    }
+}
+
+/// How many of the options are defined.
+fn defined_count(matches: &Matches, named: &[Named]) -> usize {
+    named
+        .iter()
+        .filter(|option| matches.opt_defined(option.main()))
+        .count()
 }
 
 /// What matches give, added up: for each option its count and the lengths of its values, and the
@@ -182,15 +212,18 @@ fn values_length(occurrences: &Occurrences<'_>) -> usize {
 fn copied(alloc: Global, matches: &Matches, named: &[Named]) -> Result<usize, AllocError> {
     let mut sum = total_length(&matches.free);
     for option in named {
-        let name = option.main();
-        if matches.opt_defined(name) {
-            let values = matches.opt_strs(alloc, name)?;
-            sum = sum
-                .wrapping_add(matches.opt_count(name))
-                .wrapping_add(total_length(&values));
-        }
+        sum = sum.wrapping_add(copied_of(alloc, matches, option.main())?);
     }
     Ok(sum)
+}
+
+/// The count of an option and the lengths of its values, which are copied.
+fn copied_of(alloc: Global, matches: &Matches, name: &str) -> Result<usize, AllocError> {
+    if !matches.opt_defined(name) {
+        return Ok(0);
+    }
+    let values = matches.opt_strs(alloc, name)?;
+    Ok(matches.opt_count(name).wrapping_add(total_length(&values)))
 }
 
 /// The lengths of texts, added up.

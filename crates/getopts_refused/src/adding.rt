@@ -1,7 +1,7 @@
 //! The calls that add a group.
 
 use crate::marks::{begin, end};
-use crate::rows::became;
+use crate::rows::{Answer, became};
 use getopts::{HasArg, Occur, Options, ParsingStyle, names_lawful};
 use std::alloc::{AllocError, Global};
 
@@ -23,17 +23,25 @@ pub const NAMES: [&str; 8] = [
 
 /// What became of the call of this name, after so many groups.
 pub fn outcome(alloc: Global, call: &str, groups: &str) -> Result<&'static str, AllocError> {
-    let mut options = with_groups(alloc, groups.parse::<usize>().unwrap_or(0))?;
+    let groups = groups.parse::<usize>().unwrap_or(0);
+    let mut options = with_groups(alloc, groups)?;
     let before = options.clone()?;
-    let added = add(alloc, &mut options, call);
+    begin(alloc)?;
+    let added = add(&mut options, call);
+    end(alloc)?;
     let unchanged = options == before;
-    Ok(became(
-        match added {
-            Ok(()) => Ok(has_new(alloc, &options, call)?),
-            Err(error) => Err(error),
-        },
-        unchanged,
-    ))
+    let answer = match added {
+        Ok(()) => is_as_with_memory(alloc, &options, groups, call),
+        Err(error) => Err(error),
+    };
+    Ok(became(answer, unchanged))
+}
+
+/// Whether the options are those that the call gives where no memory is refused.
+fn is_as_with_memory(alloc: Global, options: &Options, groups: usize, call: &str) -> Answer {
+    let mut expected = with_groups(alloc, groups)?;
+    add(&mut expected, call)?;
+    Ok(*options == expected)
 }
 
 /// Options with so many groups, in a style and a mode that new options don't have.
@@ -51,9 +59,8 @@ fn with_groups(alloc: Global, groups: usize) -> Result<Options, AllocError> {
 }
 
 /// Adds the group `n`/`new` by the call of this name.
-fn add(alloc: Global, options: &mut Options, call: &str) -> Result<(), AllocError> {
+fn add(options: &mut Options, call: &str) -> Result<(), AllocError> {
     let desc = "is the new one";
-    begin(alloc)?;
     let is_added = match call {
         "opt" => options
             .opt("n", "new", desc, "NAME", HasArg::Maybe, Occur::Multi)
@@ -65,30 +72,5 @@ fn add(alloc: Global, options: &mut Options, call: &str) -> Result<(), AllocErro
         "optopt" => options.optopt("n", "new", desc, "NAME").is_ok(),
         _ => options.reqopt("n", "new", desc, "NAME").is_ok(),
     };
-    end(alloc)?;
     if is_added { Ok(()) } else { Err(AllocError) }
-}
-
-/// Whether the last group is the one that the call of this name adds.
-fn has_new(alloc: Global, options: &Options, call: &str) -> Result<bool, AllocError> {
-    let (option, row) = texts_of(call);
-    let line = options.short_usage(alloc, "show")?;
-    let text = options.usage(alloc, "Shows.")?;
-    Ok(line.as_str().ends_with(option) && text.as_str().ends_with(row))
-}
-
-/// How short usage shows the new option, and how usage does.
-fn texts_of(call: &str) -> (&'static str, &'static str) {
-    const FLAG: &str = "\n    -n, -new            is the new one\n";
-    const NAME: &str = "\n    -n, -new NAME       is the new one\n";
-    const MAYBE: &str = "\n    -n, -new [NAME]     is the new one\n";
-    match call {
-        "opt" => (" [-n [NAME]]..", MAYBE),
-        "optflag" => (" [-n]", FLAG),
-        "optflagmulti" => (" [-n]..", FLAG),
-        "optflagopt" => (" [-n [NAME]]", MAYBE),
-        "optmulti" => (" [-n NAME]..", NAME),
-        "optopt" => (" [-n NAME]", NAME),
-        _ => (" -n NAME", NAME),
-    }
 }

@@ -1,23 +1,36 @@
 //! The clones.
 
 use crate::marks::{begin, end};
-use crate::reading::{options_of, words_of};
+use crate::reading::{accepted, options_of, words_of};
 use crate::rows::{Answer, became};
 use std::alloc::{AllocError, Global};
 
 /// What became of the clone of options, of matches, or of the fault of a line.
 pub fn outcome(alloc: Global, source: &str) -> Result<&'static str, AllocError> {
-    let options = options_of(alloc)?;
     match source {
-        "options" => of(alloc, &options),
-        "matches" => match options.parse(alloc, words_of("accepted").iter().copied()) {
-            Ok(matches) => of(alloc, &matches),
-            Err(_) => Ok("a fault"),
-        },
-        _ => match options.parse(alloc, words_of(source).iter().copied()) {
-            Ok(_) => Ok("no fault"),
-            Err(fail) => of(alloc, &fail),
-        },
+        "options" => of_options(alloc),
+        "matches" => of_matches(alloc),
+        _ => of_fault(alloc, source),
+    }
+}
+
+fn of_options(alloc: Global) -> Result<&'static str, AllocError> {
+    let options = options_of(alloc)?;
+    of(alloc, &options)
+}
+
+fn of_matches(alloc: Global) -> Result<&'static str, AllocError> {
+    match accepted(alloc) {
+        Ok(matches) => of(alloc, &matches),
+        Err(_) => Ok("a fault"),
+    }
+}
+
+fn of_fault(alloc: Global, line: &str) -> Result<&'static str, AllocError> {
+    let options = options_of(alloc)?;
+    match options.parse(alloc, words_of(line).iter().copied()) {
+        Ok(_) => Ok("no fault"),
+        Err(fail) => of(alloc, &fail),
     }
 }
 

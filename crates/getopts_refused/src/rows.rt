@@ -3,11 +3,12 @@
 use crate::{accessors, adding, clones, reading, texts};
 use std::alloc::{AllocError, Global};
 
-/// What a call answered: whether that was the row's answer, or want of memory.
+/// What a call answered: whether that was what it answers where no memory is refused, or want of
+/// memory.
 pub type Answer = Result<bool, AllocError>;
 
 /// The rows but for those of the calls that add a group: what is called, and on what.
-pub const ROWS: [(&str, &str); 34] = [
+pub const ROWS: [(&str, &str); 35] = [
     ("clone", "options"),
     ("clone", "matches"),
     ("clone", "argument_missing"),
@@ -41,11 +42,13 @@ pub const ROWS: [(&str, &str); 34] = [
     ("each_split_within", "lamb"),
     ("short_usage", "copy"),
     ("usage", "copy"),
+    ("usage_rows", "copy"),
     ("usage_with_format", "copy"),
 ];
 
-/// What became of the call of a row: `answer` where it gave the row's answer, and `refused` where
-/// it said that memory was refused, and all that it borrowed is as it was.
+/// What became of the call of a row. It is made with memory, and then between the marks: `answer`
+/// where it gave the same, and `refused` where it said that memory was refused and all that it borrowed
+/// is as it was.
 pub fn outcome(alloc: Global, call: &str, on: &str) -> Result<&'static str, AllocError> {
     match call {
         "clone" => clones::outcome(alloc, on),
@@ -53,9 +56,8 @@ pub fn outcome(alloc: Global, call: &str, on: &str) -> Result<&'static str, Allo
         "parse_by_filter" => reading::parse(alloc, on, false),
         "canonical" => reading::canonical(alloc, on, true),
         "canonical_by_filter" => reading::canonical(alloc, on, false),
-        "each_split_within" | "short_usage" | "usage" | "usage_with_format" => texts::outcome(
-            alloc, call,
-        ),
+        "each_split_within" | "short_usage" | "usage" | "usage_rows" | "usage_with_format" =>
+            texts::outcome(alloc, call),
         _ if call.starts_with("opts_") || call.starts_with("opt_") => accessors::outcome(
             alloc, call, on,
         ),

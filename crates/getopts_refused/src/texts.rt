@@ -1,28 +1,10 @@
 //! Descriptions in rows, and usage texts.
 
 use crate::marks::{begin, end};
-use crate::reading::same_texts;
 use crate::rows::{Answer, became};
 use getopts::Options;
 use getopts::wrap::each_split_within;
 use std::alloc::{AllocError, Global};
-
-/// The rows of the usage text.
-const ROWS: [&str; 3] = [
-    "    -o, --output NAME   set output file name",
-    "    -v, --verbose       say more, and say it in more words than stand in one\n                        row",
-    "        --folder [DIR]  add a folder",
-];
-
-const USAGE: &str = "\
-Copies.
-
-Options:
-    -o, --output NAME   set output file name
-    -v, --verbose       say more, and say it in more words than stand in one
-                        row
-        --folder [DIR]  add a folder
-";
 
 fn options_of(alloc: Global) -> Result<Options, AllocError> {
     let mut options = Options::new(alloc);
@@ -44,6 +26,7 @@ pub fn outcome(alloc: Global, call: &str) -> Result<&'static str, AllocError> {
     let answer = match call {
         "short_usage" => short_usage(alloc, &options),
         "usage" => usage(alloc, &options),
+        "usage_rows" => usage_rows(alloc, &options),
         "usage_with_format" => usage_with_format(alloc, &options),
         _ => split(alloc),
     };
@@ -51,36 +34,50 @@ pub fn outcome(alloc: Global, call: &str) -> Result<&'static str, AllocError> {
 }
 
 fn split(alloc: Global) -> Answer {
+    let text = "\nMary had a little lamb\nLittle lamb\n";
+    let expected = each_split_within(alloc, text, 5)?;
     begin(alloc)?;
-    let rows = each_split_within(alloc, "\nMary had a little lamb\nLittle lamb\n", 5);
+    let rows = each_split_within(alloc, text, 5);
     end(alloc)?;
-    let expected = ["Mary", "had a", "little", "lamb", "Little", "lamb"];
-    Ok(same_texts(&rows?, &expected))
+    Ok(rows? == expected)
 }
 
 fn short_usage(alloc: Global, options: &Options) -> Answer {
+    let expected = options.short_usage(alloc, "copy")?;
     begin(alloc)?;
     let text = options.short_usage(alloc, "copy");
     end(alloc)?;
-    Ok(text?.as_str() == "Usage: copy [-o NAME] [-v].. [--folder [DIR]]")
+    Ok(text? == expected)
 }
 
 fn usage(alloc: Global, options: &Options) -> Answer {
+    let expected = options.usage(alloc, "Copies.")?;
     begin(alloc)?;
     let text = options.usage(alloc, "Copies.");
     end(alloc)?;
-    Ok(text?.as_str() == USAGE)
+    Ok(text? == expected)
+}
+
+fn usage_rows(alloc: Global, options: &Options) -> Answer {
+    let expected = options.usage_rows(alloc)?;
+    begin(alloc)?;
+    let rows = options.usage_rows(alloc);
+    end(alloc)?;
+    Ok(rows? == expected)
 }
 
 /// The closure takes no memory, so that want of memory is want of the rows alone. It is called once
 /// where they are there, and not at all where they aren't.
 fn usage_with_format(alloc: Global, options: &Options) -> Answer {
+    let expected = options.usage_rows(alloc)?;
     let mut calls = 0u32;
     let mut same = false;
     begin(alloc)?;
     let text = options.usage_with_format(alloc, |rows| {
         calls = calls.saturating_add(1);
-        same = rows.zip(ROWS).all(|(row, text)| row.as_str() == text);
+        same = rows
+            .zip(expected.iter())
+            .all(|(row, text)| row.as_str() == text.as_str());
         Ok(String::new(alloc))
     });
     end(alloc)?;
