@@ -1,14 +1,14 @@
 //! What a caller gets: numbers and bytes.
 
-ghost use Rattle.std.specs.Prelude.{◌≡◌, ◌≢◌, ◌⊎◌, false, ◌<◌, ◌≤◌, ◌++◌, ◌∷◌, [], map, length};
+ghost use Rattle.std.specs.Prelude.{◌≡◌, ◌≢◌, ◌⊎◌, false, ◌<◌, ◌≤◌, ◌++◌, ◌∷◌, List, [], map, length};
 ghost use Rattle.std.specs.Prelude.{IfErr, IfOk, OnOk, IsErrOf, IsOk, IsOkAnd, IsSomeAnd};
 ghost use Rattle.std.specs.List.{flat_map};
 ghost use Rattle.std.specs.Str.{IsUtf8};
 ghost use Rattle.std.specs.String.{string_bytes};
-ghost use Rattle.getopts.specs.Names.{texts};
+ghost use Rattle.getopts.specs.Names.{AreTexts, Text, texts};
 ghost use Rattle.getopts.specs.Fail.{fault_of};
 ghost use Rattle.getopts.specs.Held.Occurrences.{held_found};
-ghost use Rattle.getopts_c.specs.Request.{SayOptions, SayTexts, concatenated};
+ghost use Rattle.getopts_c.specs.Request.{IsCut, SayOptions, SayTexts, concatenated};
 ghost use Rattle.getopts_c.specs.Answer.{IsAnswer, IsAnswered, IsCanonicalOf, IsLineOf, FillsFront};
 ghost use Rattle.getopts_c.specs.Answer.{IsRowsOf, IsShortUsageOf, IsUsageOf};
 ghost use Rattle.getopts.specs.Same.{fault_name};
@@ -193,6 +193,34 @@ impl Body {
 }
 
 impl Answer {
+    /// Hands an answer to a caller: its size, and what it holds where there is room.
+    fn handed_out(&self, numbers: &mut [usize], bytes: &mut [u8], sizes: &mut Sizes) -> u32
+        requires { self.now.status < 6 }
+        ensures known { 5 < result → result ≡ 8 }
+        ensures untouched { 5 < result →
+            (numbers.new ≡ numbers.old) × (bytes.new ≡ bytes.old) }
+        ensures sizes_told { (sizes.new.numbers ≡ length self.now.body.numbers.items)
+            × (sizes.new.bytes ≡ length (string_bytes self.now.body.bytes)) }
+        ensures small { result ≡ 8 →
+            (length numbers.old < sizes.new.numbers) ⊎ (length bytes.old < sizes.new.bytes) }
+        ensures written { result < 6 → (result ≡ self.now.status)
+            × FillsFront self.now.body.numbers.items numbers.new sizes.new.numbers
+            × FillsFront (string_bytes self.now.body.bytes) bytes.new sizes.new.bytes }
+    {
+        let all_numbers = &self.body.numbers;
+        let all_bytes = self.body.bytes.as_bytes();
+        *sizes = Sizes {
+            numbers: all_numbers.len(),
+            bytes: all_bytes.len(),
+        };
+        if numbers.len() < all_numbers.len() || bytes.len() < all_bytes.len() {
+            return TOO_SMALL;
+        }
+        numbers[..all_numbers.len()].copy_from_slice(all_numbers);
+        bytes[..all_bytes.len()].copy_from_slice(all_bytes);
+        self.status
+    }
+
     /// Hands an answer to a caller: its size always, and what it holds where there is room.
     pub(crate) fn written(
         answer: Result<Answer, Refusal>,
@@ -217,24 +245,22 @@ impl Answer {
             × FillsFront (string_bytes answer.body.bytes) bytes.new sizes.new.bytes) }
     {
         match answer {
-            Ok(answer) => {
-                let all_numbers = &answer.body.numbers;
-                let all_bytes = answer.body.bytes.as_bytes();
-                *sizes = Sizes {
-                    numbers: all_numbers.len(),
-                    bytes: all_bytes.len(),
-                };
-                if numbers.len() < all_numbers.len() || bytes.len() < all_bytes.len() {
-                    return TOO_SMALL;
-                }
-                numbers[..all_numbers.len()].copy_from_slice(all_numbers);
-                bytes[..all_bytes.len()].copy_from_slice(all_bytes);
-                answer.status
-            }
+            Ok(answer) => answer.handed_out(numbers, bytes, sizes),
             Err(Refusal::Bad) => BAD,
             Err(Refusal::NoMemory) => NO_MEMORY,
         }
     }
+}
+
+/// The answer of this status, with the name that a fault tells.
+fn of_name(alloc: Global, status: u32, name: &str) -> Result<Answer, AllocError>
+    ensures { IfOk result (λ answer. (answer.status ≡ status)
+        × (answer.body.numbers.items ≡ length name.now ∷ [])
+        × (string_bytes answer.body.bytes ≡ name.now)) }
+{
+    let mut body = Body::with_capacity(alloc, 1, name.len())?;
+    body.push_text(name)?;
+    Ok(Answer { status, body })
 }
 
 /// The answer that tells a fault.
@@ -244,17 +270,14 @@ fn refused(alloc: Global, fail: &Fail) -> Result<Answer, AllocError>
         × (answer.body.numbers.items ≡ length (fault_name fault) ∷ [])
         × (string_bytes answer.body.bytes ≡ fault_name fault))) }
 {
-    let (status, name) = match fail {
-        Fail::ArgumentMissing(name) => (1, name),
-        Fail::UnrecognizedOption(name) => (2, name),
-        Fail::OptionMissing(name) => (3, name),
-        Fail::OptionDuplicated(name) => (4, name),
-        Fail::UnexpectedArgument(name) => (5, name),
-        Fail::OutOfMemory => return Err(AllocError),
-    };
-    let mut body = Body::with_capacity(alloc, 1, name.len())?;
-    body.push_text(name.as_str())?;
-    Ok(Answer { status, body })
+    match fail {
+        Fail::ArgumentMissing(name) => of_name(alloc, 1, name),
+        Fail::UnrecognizedOption(name) => of_name(alloc, 2, name),
+        Fail::OptionMissing(name) => of_name(alloc, 3, name),
+        Fail::OptionDuplicated(name) => of_name(alloc, 4, name),
+        Fail::UnexpectedArgument(name) => of_name(alloc, 5, name),
+        Fail::OutOfMemory => Err(AllocError),
+    }
 }
 
 /// The answer that tells matches, by the names of these groups, which are theirs, with room for so many
@@ -299,6 +322,56 @@ fn answer_by(
     }
 }
 
+/// The answer to the words that bytes and lengths say, by options, which are those of these groups.
+fn words_by(
+    alloc: Global,
+    options: &Options,
+    groups: &[[&str; 4]],
+    words: Words<'_>,
+) -> Result<Answer, Refusal>
+    requires names { all_names options.now.groups ≡ flat_map four_names (map texts groups.now) }
+    requires count { length groups.now ≡ length options.now.groups }
+    ensures answered { IfOk result (λ answer. (line : List Text)
+        × IsCut words.entry.bytes.now words.entry.lens.now line × IsAnswer options.now line
+        answer.status answer.body.numbers.items (string_bytes answer.body.bytes)) }
+    ensures status { IfOk result (λ answer. answer.status < 6) }
+    ensures lawful { OnOk result (SayTexts words.entry.bytes.now words.entry.lens.now) }
+    ensures bad { IfErr result (λ refusal. refusal ≡ Refusal.Bad
+        → ¬ (SayTexts words.entry.bytes.now words.entry.lens.now)) }
+{
+    let bytes = words.bytes.len();
+    let words = cut(alloc, words.bytes, words.lens)?;
+    Ok(answer_by(alloc, options, groups, &words, bytes)?)
+}
+
+/// The answer that tells what words give, by the texts of the request.
+fn answer_from(
+    alloc: Global,
+    request: Request<'_>,
+    pieces: &[&str],
+    words: Words<'_>,
+) -> Result<Answer, Refusal>
+    requires cut { IsCut request.texts.now request.lens.now (texts pieces.now) }
+    requires utf8 { AreTexts (texts pieces.now) }
+    ensures answered { IfOk result (λ answer. IsAnswered
+        request.entry.texts.now request.entry.lens.now request.entry.kinds.now
+        request.entry.stop request.entry.long_only words.entry.bytes.now words.entry.lens.now
+        answer.status answer.body.numbers.items (string_bytes answer.body.bytes)) }
+    ensures status { IfOk result (λ answer. answer.status < 6) }
+    ensures lawful { OnOk result (SayOptions
+        request.entry.texts.now request.entry.lens.now request.entry.kinds.now
+        request.entry.stop request.entry.long_only
+        × SayTexts words.entry.bytes.now words.entry.lens.now) }
+    ensures bad { IfErr result (λ refusal. refusal ≡ Refusal.Bad → (¬ (SayOptions
+        request.entry.texts.now request.entry.lens.now request.entry.kinds.now
+        request.entry.stop request.entry.long_only))
+        ⊎ (¬ (SayTexts words.entry.bytes.now words.entry.lens.now))) }
+{
+    let groups = in_fours(pieces)?;
+    let options = request.options_by(alloc, groups)?;
+    words_by(alloc, &options, groups, words)
+}
+
 /// The answer that tells what words give.
 pub(crate) fn answer_to(
     alloc: Global,
@@ -320,11 +393,7 @@ pub(crate) fn answer_to(
         ⊎ (¬ (SayTexts words.entry.bytes.now words.entry.lens.now))) }
 {
     let pieces = request.texts(alloc)?;
-    let groups = in_fours(&pieces)?;
-    let options = request.options_by(alloc, groups)?;
-    let bytes = words.bytes.len();
-    let words = cut(alloc, words.bytes, words.lens)?;
-    Ok(answer_by(alloc, &options, groups, &words, bytes)?)
+    answer_from(alloc, request, &pieces, words)
 }
 
 /// The answer that is a text.
@@ -357,8 +426,9 @@ pub(crate) fn usage_of(alloc: Global, request: Request<'_>, brief: &[u8]) -> Res
         request.entry.texts.now request.entry.lens.now request.entry.kinds.now
         false request.entry.long_only)) ⊎ (¬ (IsUtf8 brief.now))) }
 {
+    let brief = text_of(brief)?;
     let options = request.options(alloc)?;
-    let text = options.usage(alloc, text_of(brief)?)?;
+    let text = options.usage(alloc, brief)?;
     Ok(of_text(alloc, text))
 }
 
@@ -382,8 +452,10 @@ pub(crate) fn short_usage_of(
         request.entry.texts.now request.entry.lens.now request.entry.kinds.now
         false false)) ⊎ (¬ (IsUtf8 program.now))) }
 {
+    let program = text_of(program)?;
     let options = request.options(alloc)?;
-    Ok(of_text(alloc, options.short_usage(alloc, text_of(program)?)?))
+    let text = options.short_usage(alloc, program)?;
+    Ok(of_text(alloc, text))
 }
 
 /// The answer that is texts: how many they are, the length of each, and the texts.
@@ -433,6 +505,20 @@ fn line_by(alloc: Global, options: &Options, words: &[&str]) -> Result<Answer, A
     }
 }
 
+/// The answer that tells the canonical line of the words that bytes and lengths say, by options.
+fn line_to(alloc: Global, options: &Options, words: Words<'_>) -> Result<Answer, Refusal>
+    ensures answered { IfOk result (λ answer. (line : List Text)
+        × IsCut words.entry.bytes.now words.entry.lens.now line × IsLineOf options.now line
+        answer.status answer.body.numbers.items (string_bytes answer.body.bytes)) }
+    ensures status { IfOk result (λ answer. answer.status < 6) }
+    ensures lawful { OnOk result (SayTexts words.entry.bytes.now words.entry.lens.now) }
+    ensures bad { IfErr result (λ refusal. refusal ≡ Refusal.Bad
+        → ¬ (SayTexts words.entry.bytes.now words.entry.lens.now)) }
+{
+    let words = cut(alloc, words.bytes, words.lens)?;
+    Ok(line_by(alloc, options, &words)?)
+}
+
 /// The answer that tells the canonical line of words.
 pub(crate) fn line_of(
     alloc: Global,
@@ -454,6 +540,5 @@ pub(crate) fn line_of(
         ⊎ (¬ (SayTexts words.entry.bytes.now words.entry.lens.now))) }
 {
     let options = request.options(alloc)?;
-    let words = cut(alloc, words.bytes, words.lens)?;
-    Ok(line_by(alloc, &options, &words)?)
+    line_to(alloc, &options, words)
 }

@@ -212,6 +212,21 @@ impl<'r> Request<'r> {
         options_of(alloc, groups, self.kinds, self.stop, self.long_only)
     }
 
+    /// The options of a request, by its texts.
+    fn options_from(&self, alloc: Global, pieces: &[&str]) -> Result<Options, Refusal>
+        requires cut { IsCut self.now.texts.now self.now.lens.now (texts pieces.now) }
+        requires utf8 { AreTexts (texts pieces.now) }
+        ensures request { IfOk result (λ options. IsRequest self.now.texts.now self.now.lens.now
+            self.now.kinds.now self.now.stop self.now.long_only options) }
+        ensures lawful { OnOk result (SayOptions self.now.texts.now self.now.lens.now
+            self.now.kinds.now self.now.stop self.now.long_only) }
+        ensures bad { IfErr result (λ refusal. refusal ≡ Refusal.Bad
+            → ¬ (SayOptions self.now.texts.now self.now.lens.now
+            self.now.kinds.now self.now.stop self.now.long_only)) }
+    {
+        self.options_by(alloc, in_fours(pieces)?)
+    }
+
     /// The options of a request.
     pub(crate) fn options(&self, alloc: Global) -> Result<Options, Refusal>
         ensures request { IfOk result (λ options. IsRequest self.now.texts.now self.now.lens.now
@@ -223,6 +238,6 @@ impl<'r> Request<'r> {
             self.now.kinds.now self.now.stop self.now.long_only)) }
     {
         let texts = self.texts(alloc)?;
-        self.options_by(alloc, in_fours(&texts)?)
+        self.options_from(alloc, &texts)
     }
 }

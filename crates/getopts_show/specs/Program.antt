@@ -9,7 +9,7 @@ use Rattle.getopts.specs.CanonAnswers.{IsAcceptedWith}
 use Rattle.getopts.specs.Fail.{Fault, fault_text}
 use Rattle.getopts.specs.Matches.{Found, Matched, MatchedGroup, matched}
 use Rattle.getopts.specs.Names.{Text, main_name}
-use Rattle.getopts.specs.Options.{Group, Declared, group_of, knowns_of}
+use Rattle.getopts.specs.Options.{Group, Declared, group_of, knowns_of, with_group}
 use Rattle.getopts.specs.Scan.{Occurrence}
 use Rattle.getopts.specs.Parse.{IsAccepted, IsRefused}
 use Rattle.getopts.specs.Only.{IsTheOnly}
@@ -31,6 +31,11 @@ program_groups =
 -- the program's options: its groups, in the default style and mode
 abbrev pub program_options : Declared
 program_options = record { groups = program_groups; style = FloatingFrees; long_only = false }
+
+-- the options with these groups too, the last ones
+abbrev pub with_groups : Declared → List Group → Declared
+with_groups options [] = options
+with_groups options (group ∷ groups) = with_groups (with_group options group) groups
 
 -- the end of a line
 abbrev pub newline : Text

@@ -4,15 +4,15 @@ ghost use Rattle.std.specs.Prelude.{◌≡◌, ◌++◌, ℕ, List, true, false,
 ghost use Rattle.std.specs.List.{flat_map};
 ghost use Rattle.std.specs.String.{string_bytes};
 ghost use Rattle.std.specs.Io.KnownBytes.{Appends};
-ghost use Rattle.getopts.specs.Accessors.{AreDefined, IsDefined, found_of};
+ghost use Rattle.getopts.specs.Accessors.{AreDefined, IsDefined, pairs_of};
 ghost use Rattle.getopts.specs.Fail.{fault_of};
 ghost use Rattle.getopts.specs.Names.{Text, texts};
 ghost use Rattle.getopts.specs.Parse.{IsAccepted};
 ghost use Rattle.getopts.specs.CanonAnswers.{IsWritten};
 ghost use Rattle.getopts_show.specs.Program.{AreAccepted, IsProgramText, IsOnlyText, HasProgramGroups, IsStatus, IsDone, ShowsText};
-ghost use Rattle.getopts_show.specs.Program.{asks_help, count_line, fault_line, free_line, matches_text, named_lines, program_options, word_line};
+ghost use Rattle.getopts_show.specs.Program.{asks_help, count_line, fault_line, free_line, matches_text, named_lines, program_groups, program_options, value_line, with_groups, word_line};
 
-use getopts::{Fail, Matches, Options, equal_input_equal_answers};
+use getopts::{Fail, Matches, Occurrences, Options, equal_input_equal_answers};
 use std::alloc::{AllocError, Global};
 use std::io;
 use std::io::Write;
@@ -178,13 +178,21 @@ fn program_options(alloc: Global) -> Result<Options, AllocError>
     ensures { IfOk result (λ options. options ≡ program_options) }
 {
     let mut options = Options::new(alloc);
+    add_groups(&mut options)?;
+    Ok(options)
+}
+
+/// Adds the program's groups.
+fn add_groups(options: &mut Options) -> Result<(), AllocError>
+    ensures { OnOk result (options.new ≡ with_groups options.old program_groups) }
+{
     options
         .optopt("o", "output", "set output file name", "NAME")?
         .optflag("h", "help", "print this help menu")?
         .optflagmulti("v", "verbose", "say more")?
         .optmulti("L", "", "add a folder", "DIR")?
         .optflagopt("c", "color", "colour the output", "WHEN")?;
-    Ok(options)
+    Ok(())
 }
 
 /// The text of matches of the program's options.
@@ -205,44 +213,55 @@ fn options_text(alloc: Global, matches: &Matches, names: &[&str]) -> Result<Stri
 {
     let mut text = String::new(alloc);
     for name in names {
-        push_option(alloc, &mut text, matches, name)?;
+        push_option(&mut text, matches, name)?;
     }
     Ok(text)
 }
 
-/// Adds the line that tells how often the option with this name was given, and where.
-fn push_count(
-    alloc: Global,
-    text: &mut String,
-    matches: &Matches,
-    name: &str,
-) -> Result<(), AllocError>
-    requires { IsDefined matches.now.groups name.now }
-    ensures { OnOk result (string_bytes text.new
-        ≡ string_bytes text.old ++ count_line name.now (found_of matches.now.groups name.now)) }
-{
-    let count = matches.opt_count(name);
-    write!(text, "{name}: {count}")?;
-    for position in &matches.opt_positions(alloc, name)? {
-        write!(text, " @{position}")?;
-    }
-    text.push('\n')
-}
-
 /// Adds the lines of the option with this name.
-fn push_option(
-    alloc: Global,
-    text: &mut String,
-    matches: &Matches,
-    name: &str,
-) -> Result<(), AllocError>
+fn push_option(text: &mut String, matches: &Matches, name: &str) -> Result<(), AllocError>
     requires { IsDefined matches.now.groups name.now }
     ensures { OnOk result (string_bytes text.new
         ≡ string_bytes text.old ++ named_lines matches.now.groups name.now) }
 {
-    push_count(alloc, text, matches, name)?;
-    for (position, value) in &matches.opt_strs_pos(alloc, name)? {
-        writeln!(text, "{name} @{position} = {value}")?;
+    let place = matches.opt_place(name).unwrap();
+    let occurrences = matches.occurrences_at(place);
+    push_count(text, name, &occurrences)?;
+    push_values(text, name, &occurrences)
+}
+
+/// Adds the line that tells how often an option was given, and where.
+fn push_count(
+    text: &mut String,
+    name: &str,
+    occurrences: &Occurrences<'_>,
+) -> Result<(), AllocError>
+    ensures { OnOk result (string_bytes text.new
+        ≡ string_bytes text.old ++ count_line name.now occurrences.now) }
+{
+    let count = occurrences.count();
+    write!(text, "{name}: {count}")?;
+    for nth in 0..count {
+        if let Some((position, _)) = occurrences.get(nth) {
+            write!(text, " @{position}")?;
+        }
+    }
+    text.push('\n')
+}
+
+/// Adds the line of each value of an option.
+fn push_values(
+    text: &mut String,
+    name: &str,
+    occurrences: &Occurrences<'_>,
+) -> Result<(), AllocError>
+    ensures { OnOk result (string_bytes text.new
+        ≡ string_bytes text.old ++ flat_map (value_line name.now) (pairs_of occurrences.now)) }
+{
+    for nth in 0..occurrences.count() {
+        if let Some((position, Some(value))) = occurrences.get(nth) {
+            writeln!(text, "{name} @{position} = {value}")?;
+        }
     }
     Ok(())
 }

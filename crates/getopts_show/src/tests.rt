@@ -208,9 +208,9 @@ const ROWS: [Row<'static>; 18] = [
 /// 200 free words.
 const WORDS: [&str; 200] = ["free"; 200];
 
-/// The text of 200 free words.
-fn text_of_words(alloc: Global) -> Result<String, AllocError> {
-    let mut text = String::from_str(alloc, "output: 0\nhelp: 0\nverbose: 0\nL: 0\ncolor: 0\n")?;
+/// Adds the text of 200 free words.
+fn push_text_of_words(text: &mut String) -> Result<(), AllocError> {
+    text.push_str("output: 0\nhelp: 0\nverbose: 0\nL: 0\ncolor: 0\n")?;
     for _ in WORDS {
         text.push_str("free: free\n")?;
     }
@@ -218,43 +218,72 @@ fn text_of_words(alloc: Global) -> Result<String, AllocError> {
     for _ in WORDS {
         text.push_str("line: free\n")?;
     }
-    Ok(text)
+    Ok(())
 }
+
+/// A writer's faults: how many bytes it takes at most at a time, which write fails, which flush fails,
+/// and how many bytes it takes then; `None` is all of them.
+type Faults = (usize, Option<usize>, Option<usize>, Option<usize>);
+
+/// The first write fails, the third of one byte each does, no byte is taken, and the flush fails, after
+/// one write and after writes of one byte.
+const FAULTS: [Faults; 5] = [
+    (usize::MAX, Some(1), None, Some(0)),
+    (1, Some(3), None, Some(2)),
+    (0, None, None, Some(0)),
+    (usize::MAX, None, Some(1), None),
+    (1, None, Some(1), None),
+];
 
 /// Over a writer that takes so many bytes at a time, the row's text is written in so many writes, and
 /// flushed once.
-fn is_written(
-    rt: &(impl Abort + AllocGlobal),
-    step: usize,
-    row: Row<'_>,
-) -> Result<(), AllocError> {
+fn is_written(rt: &(impl Abort + AllocGlobal), out: &mut Memory, step: usize, row: Row<'_>) {
     let (words, text, status) = row;
-    let mut out = Memory::new(rt.alloc())?;
     out.step = step;
-    assert_eq!(rt; show(rt.alloc(), words, &mut out), status, "at {text:?}");
+    assert_eq!(rt; show(rt.alloc(), words, out), status, "at {text:?}");
     assert_eq!(rt; out.held.as_slice(), text.as_bytes());
     let writes = if step == 1 { text.len() } else { 1 };
     assert_eq!(rt; (out.writes, out.flushes), (writes, 1));
+}
+
+/// The row answers 4 over a writer with these faults.
+fn fails(rt: &(impl Abort + AllocGlobal), out: &mut Memory, faults: Faults, row: Row<'_>) {
+    let (step, failing_write, failing_flush, taken) = faults;
+    let (words, text, _) = row;
+    out.step = step;
+    out.failing_write = failing_write;
+    out.failing_flush = failing_flush;
+    assert_eq!(rt; show(rt.alloc(), words, out), 4, "at {text:?}");
+    assert_eq!(rt; out.held.len(), taken.unwrap_or(text.len()));
+}
+
+/// The row is written whole and byte by byte, and fails over a writer with each of the faults.
+fn row_is_written_or_fails(
+    rt: &(impl Abort + AllocGlobal),
+    row: Row<'_>,
+) -> Result<(), AllocError> {
+    for step in [usize::MAX, 1] {
+        is_written(rt, &mut Memory::new(rt.alloc())?, step, row);
+    }
+    for faults in FAULTS {
+        fails(rt, &mut Memory::new(rt.alloc())?, faults, row);
+    }
     Ok(())
 }
 
 #[test]
-fn rows_are_written_once(rt: HostRuntime) -> Result<(), Fail> {
+fn rows_are_written_or_fail(rt: HostRuntime) -> Result<(), Fail> {
     for row in ROWS {
-        is_written(&rt, usize::MAX, row)?;
+        row_is_written_or_fails(&rt, row)?;
     }
-    let text = text_of_words(rt.alloc())?;
-    is_written(&rt, usize::MAX, (&WORDS, text.as_str(), 0))?;
     Ok(())
 }
 
 #[test]
-fn rows_are_written_a_byte_at_a_time(rt: HostRuntime) -> Result<(), Fail> {
-    for row in ROWS {
-        is_written(&rt, 1, row)?;
-    }
-    let text = text_of_words(rt.alloc())?;
-    is_written(&rt, 1, (&WORDS, text.as_str(), 0))?;
+fn many_words_are_written_or_fail(rt: HostRuntime) -> Result<(), Fail> {
+    let mut text = String::new(rt.alloc());
+    push_text_of_words(&mut text)?;
+    row_is_written_or_fails(&rt, (&WORDS, text.as_str(), 0))?;
     Ok(())
 }
 
@@ -269,80 +298,24 @@ fn text_is_added_to_what_is_there(rt: HostRuntime) -> Result<(), Fail> {
     Ok(())
 }
 
-/// A writer's faults: how many bytes it takes at most at a time, which write fails, which flush fails,
-/// and how many bytes it takes then; `None` is all of them.
-type Faults = (usize, Option<usize>, Option<usize>, Option<usize>);
-
-/// The row answers 4 over a writer with these faults.
-fn row_fails(
-    rt: &(impl Abort + AllocGlobal),
-    faults: Faults,
-    row: Row<'_>,
-) -> Result<(), AllocError> {
-    let (step, failing_write, failing_flush, taken) = faults;
-    let (words, text, _) = row;
-    let mut out = Memory::new(rt.alloc())?;
-    out.step = step;
-    out.failing_write = failing_write;
-    out.failing_flush = failing_flush;
-    assert_eq!(rt; show(rt.alloc(), words, &mut out), 4, "at {text:?}");
-    assert_eq!(rt; out.held.len(), taken.unwrap_or(text.len()));
-    Ok(())
-}
-
-/// Each row, and 200 words, answer 4 over a writer with these faults.
-fn rows_fail(rt: &(impl Abort + AllocGlobal), faults: Faults) -> Result<(), AllocError> {
-    for row in ROWS {
-        row_fails(rt, faults, row)?;
+/// Whichever growth is refused, want of memory is answered with nothing written, and else the text of
+/// the row is.
+fn is_written_or_nothing(rt: &(impl Abort + AllocGlobal), out: &mut Memory, row: Row<'_>) {
+    let (words, text, status) = row;
+    let answer = show(rt.alloc(), words, out);
+    if answer == 3 {
+        assert_eq!(rt; (out.held.len(), out.writes, out.flushes), (0, 0, 0));
+    } else {
+        assert_eq!(rt; answer, status, "at {text:?}");
+        assert_eq!(rt; out.held.as_slice(), text.as_bytes());
     }
-    let text = text_of_words(rt.alloc())?;
-    row_fails(rt, faults, (&WORDS, text.as_str(), 0))
 }
 
-#[test]
-fn first_write_fails(rt: HostRuntime) -> Result<(), Fail> {
-    rows_fail(&rt, (usize::MAX, Some(1), None, Some(0)))?;
-    Ok(())
-}
-
-#[test]
-fn third_write_of_one_byte_fails(rt: HostRuntime) -> Result<(), Fail> {
-    rows_fail(&rt, (1, Some(3), None, Some(2)))?;
-    Ok(())
-}
-
-#[test]
-fn no_byte_is_taken(rt: HostRuntime) -> Result<(), Fail> {
-    rows_fail(&rt, (0, None, None, Some(0)))?;
-    Ok(())
-}
-
-#[test]
-fn flush_fails(rt: HostRuntime) -> Result<(), Fail> {
-    rows_fail(&rt, (usize::MAX, None, Some(1), None))?;
-    Ok(())
-}
-
-#[test]
-fn flush_fails_after_writes_of_one_byte(rt: HostRuntime) -> Result<(), Fail> {
-    rows_fail(&rt, (1, None, Some(1), None))?;
-    Ok(())
-}
-
-/// Passes whichever growth is refused: want of memory is answered with nothing written, and else the
-/// text of the row is.
 #[test]
 fn refused_memory_writes_nothing(rt: HostRuntime) {
-    for (words, text, status) in ROWS {
-        let Ok(mut out) = Memory::new(rt.alloc()) else {
-            continue;
-        };
-        let answer = show(rt.alloc(), words, &mut out);
-        if answer == 3 {
-            assert_eq!(rt; (out.held.len(), out.writes, out.flushes), (0, 0, 0));
-        } else {
-            assert_eq!(rt; answer, status, "at {text:?}");
-            assert_eq!(rt; out.held.as_slice(), text.as_bytes());
+    for row in ROWS {
+        if let Ok(mut out) = Memory::new(rt.alloc()) {
+            is_written_or_nothing(&rt, &mut out, row);
         }
     }
 }

@@ -1,10 +1,27 @@
-use Rattle.std.proofs.Common.{string_bytes}
-use Rattle.getopts.specs.Names.{texts}
-use Rattle.getopts_c.proofs.AnswerLemmas.{line_status}
+use Rattle.std.proofs.Common.{inr, string_bytes}
+use Rattle.std.proofs.lemmas.Result.{IfErr-weaker, IfOk-weaker}
+use Rattle.getopts_c.specs.Answer.{IsCanonicalOf}
+use Rattle.getopts_c.proofs.AnswerLemmas.{on_ok_so}
 use Rattle.getopts_c.proofs.answer.line_of.Goals as goal
 
-pub returns-clause-status : goal.returns-clause-status
-returns-clause-status c =
-    let answer = c.in_ok-line_by.field-0 in
-    line_status c.in_ok-options.options (texts c.deref.result.now) answer.status
-    answer.body.numbers.items (string_bytes answer.body.bytes) c.in_ok-line_by.ensures
+pub returns-clause-answered : goal.returns-clause-answered
+returns-clause-answered c =
+    let request = c.args.request in
+    let words = c.args.words in
+    IfOk-weaker c.line_to.result _
+    (λ answer. IsCanonicalOf request.texts.now request.lens.now request.kinds.now request.stop request.long_only
+    words.bytes.now words.lens.now answer.status answer.body.numbers.items (string_bytes answer.body.bytes))
+    (λ answer said. record {
+      options = c.in_ok-options.options;
+      line = said.0;
+      options_are = c.in_ok-options.ensures.request;
+      line_is = said.1;
+      answer_is = said.2;
+    })
+    c.line_to.ensures.answered
+
+pub returns-clause-lawful : goal.returns-clause-lawful
+returns-clause-lawful c = on_ok_so c.line_to.result c.line_to.ensures.lawful (λ said. (c.in_ok-options.ensures.lawful, said))
+
+pub returns-clause-bad : goal.returns-clause-bad
+returns-clause-bad c = IfErr-weaker c.line_to.result _ _ (λ refusal follows bad. inr (follows bad)) c.line_to.ensures.bad
