@@ -13,7 +13,8 @@ use std::alloc::Global;
 /// The fields of a line don't fit its word.
 const WRONG_FIELDS: Trouble = Trouble::Flawed(Flaw::WrongFields);
 
-/// Answers that words were accepted, as a line: where the words after `--` begin, and the free words.
+/// Answers that words were accepted, as a line: where the words after `--` begin, and the free
+/// words.
 pub fn accepted(alloc: Global, matches: &Matches, answer: &mut Answer) -> Result<(), Trouble> {
     answer.word("accepted")?;
     answer.place(alloc, matches.free_trailing_start())?;
@@ -285,12 +286,23 @@ fn any(
     names: &[String],
     answer: &mut Answer,
 ) -> Result<(), Trouble> {
-    answer.truth(matches.opts_present(names))?;
     let borrowed: Vec<&str> = names.iter().map(|name| name.as_str()).collect(alloc)?;
-    if are_defined(matches, names) && all_defined(matches, &borrowed) {
-        answer.truth(matches.opts_present_any(&borrowed))?;
+    any_of(alloc, matches, names, &borrowed, answer)
+}
+
+/// Answers the same of a list in both its forms.
+fn any_of(
+    alloc: Global,
+    matches: &Matches,
+    names: &[String],
+    borrowed: &[&str],
+    answer: &mut Answer,
+) -> Result<(), Trouble> {
+    answer.truth(matches.opts_present(names))?;
+    if are_defined(matches, names) && all_defined(matches, borrowed) {
+        answer.truth(matches.opts_present_any(borrowed))?;
         answer.optional(matches.opts_str(alloc, names)?.as_deref())?;
-        answer.optional(matches.opts_str_first(alloc, &borrowed)?.as_deref())
+        answer.optional(matches.opts_str_first(alloc, borrowed)?.as_deref())
     } else {
         answer.text("undefined")
     }

@@ -7,8 +7,8 @@ use crate::stop::{Flaw, Stop, Trouble, told_at};
 use std::alloc::{AllocError, Global};
 use std::io::{BufRead, Write};
 
-/// Reads cases with the answers that are expected, writes where others are given, and at the end how
-/// many there were. The answer is whether none differs.
+/// Reads cases with the answers that are expected, writes where others are given, and at the end
+/// how many there were. The answer is whether none differs.
 pub fn compare<R: BufRead, W: Write>(
     alloc: Global,
     input: &mut R,

@@ -202,8 +202,8 @@ impl Answer {
         self.end()
     }
 
-    /// Goes on with the last line: adds a text that is in the form of a field already, and a line end as
-    /// a field has it.
+    /// Goes on with the last line: adds a text that is in the form of a field already, and a line
+    /// end as a field has it.
     pub fn go_on(&mut self, text: &str) -> Result<(), Trouble> {
         self.bytes.pop();
         self.bytes.extend_from_slice(text.as_bytes())?;

@@ -43,11 +43,11 @@
 //!
 //! One call each is asked by these, and answered by the line itself with what the call gives:
 //!
-//! - `opt_present NAME`, `opt_count NAME`, `opt_strs NAME`: `true` or `false`, the count, the values
+//! - `opt_present NAME`, `opt_count NAME`, `opt_strs NAME`: `true` or `false`, the count, and the
+//!   values
 //! - `opt_positions NAME` and `opt_strs_pos NAME`: the positions, and the position and the text of
 //!   each pair
-//! - `opt_str NAME`: the OPTIONAL
-//! - `opt_default NAME DEFAULT`: the OPTIONAL, after NAME
+//! - `opt_str NAME` and `opt_default NAME DEFAULT`: the OPTIONAL
 //! - `opt_defined NAME`: `true` or `false`
 //! - `opt_place NAME`: the place, or `-`
 //! - `occurrences_at PLACE NTH`: how many there are at this place, then the position and the
@@ -56,13 +56,13 @@
 //! `clear` empties the free words that the last `words` gave, and is answered as `words` is.
 //!
 //! In the place of the answer after NAME stands `undefined` where the name is undefined, but for
-//! `opt_defined` and `opt_place`. Where no words were read, or the last were refused, the answer to a
-//! line that asks of them is its word and `nothing`.
+//! `opt_defined` and `opt_place`. Where no words were read, or the last were refused, the answer to
+//! a line that asks of them is its word and `nothing`.
 //!
 //! `replay` answers cases. `compare` reads cases with the answers that are expected:
 //!
-//! - Right below a line stand the lines that have to answer it, each after `> `. The answer of `case`
-//!   isn't written.
+//! - Right below a line stand the lines that have to answer it, each after `> `. The answer of
+//!   `case` isn't written.
 //! - A line `| TEXT` goes on with the last field above it, by TEXT and a line end.
 //!
 //! So a line whose answer isn't there, and an answer that no line has, are differences too.

@@ -1,9 +1,9 @@
 //! Reads cases on the standard input, and answers them on the standard output. The library
 //! `getopts_cases` tells the form of both.
 //!
-//! A line that can't be read ends the run, and the standard error names it. The statuses are 0, 2 for
-//! such a line and for input that can't be read, 3 where memory was refused, and 4 where a write
-//! failed.
+//! A line that can't be read ends the run, and the standard error names it. The statuses are 0, 2
+//! for such a line and for input that can't be read, 3 where memory was refused, and 4 where a
+//! write failed.
 #![tactic(auto)]
 
 use getopts_cases::{Stop, replay};

@@ -2,11 +2,11 @@
 //! standard output where the library answers differently, and how many there were. The library
 //! `getopts_cases` tells their form.
 //!
-//! The expected answers are known from outside: from the rules of the Rust crate and from its tests.
-//! What no line can say is said by the tests here.
+//! The expected answers are known from outside: from the rules of the Rust crate and from its
+//! tests. What no line can say is said by the tests here.
 //!
-//! The statuses are 0 where no answer differs, 1 where one does, 2 for a line that can't be read, which
-//! the standard error names, 3 where memory was refused, and 4 where a write failed.
+//! The statuses are 0 where no answer differs, 1 where one does, 2 for a line that can't be read,
+//! which the standard error names, 3 where memory was refused, and 4 where a write failed.
 #![tactic(auto)]
 
 #[cfg(test)]
@@ -31,7 +31,8 @@ use std::io;
 use std::io::{BufReader, BufWriter};
 use std::process::ExitCode;
 
-/// Compares the answers to the standard input, and says on the standard error what ended the run early.
+/// Compares the answers to the standard input, and says on the standard error what ended the run
+/// early.
 fn main(rt: HostRuntime) -> ExitCode {
     match run(&rt) {
         Ok(true) => ExitCode::SUCCESS,
