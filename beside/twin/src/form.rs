@@ -1,5 +1,5 @@
 //! The form of cases and answers: lines of a word and fields, parted by tabs.
-//! `crates/getopts_replay/src/main.rt` tells which lines there are.
+//! `crates/getopts_cases/src/lib.rt` tells which lines there are.
 
 /// A text as a field has it.
 pub fn escaped(text: &str) -> String {

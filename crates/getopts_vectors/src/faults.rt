@@ -1,108 +1,93 @@
-use crate::fixtures::Fault;
-use crate::fixtures::Fault::{
-    ArgumentMissing, OptionDuplicated, OptionMissing, UnexpectedArgument, UnrecognizedOption,
-};
-use getopts::Fail as Refusal;
+//! What faults print under any format, want of memory, which no words have, and a fault of an empty
+//! name.
+
+use getopts::Fail;
 use std::alloc::{AllocError, Global};
 use std::process::Abort;
-use std::test::Fail;
+use std::test::Fail as Failed;
 
-const FAULTS: [(Fault, &str); 5] = [
-    (ArgumentMissing("N"), "Argument to option 'N' missing"),
-    (UnrecognizedOption("N"), "Unrecognized option: 'N'"),
-    (OptionMissing("N"), "Required option 'N' missing"),
-    (OptionDuplicated("N"), "Option 'N' given more than once"),
-    (
-        UnexpectedArgument("N"),
-        "Option 'N' does not take an argument",
-    ),
-];
-
-/// Stops unless this is the text of the fault.
-fn expect_text(
-    rt: &impl Abort,
-    alloc: Global,
-    fail: &Refusal,
-    text: &str,
-) -> Result<(), AllocError> {
-    let printed = fail.to_string(alloc)?;
-    assert_eq!(rt; printed.as_str(), text, "of {fail:?}");
-    Ok(())
+/// The fault of this variant, with the name `N`.
+fn fault(alloc: Global, variant: &str) -> Result<Fail, AllocError> {
+    let name = String::from_str(alloc, "N")?;
+    Ok(match variant {
+        "ArgumentMissing" => Fail::ArgumentMissing(name),
+        "UnrecognizedOption" => Fail::UnrecognizedOption(name),
+        "OptionMissing" => Fail::OptionMissing(name),
+        "OptionDuplicated" => Fail::OptionDuplicated(name),
+        "UnexpectedArgument" => Fail::UnexpectedArgument(name),
+        _ => Fail::OutOfMemory,
+    })
 }
 
-#[test]
-fn texts_of_faults(rt: HostRuntime) -> Result<(), Fail> {
-    let alloc = rt.alloc();
-    for (fault, text) in FAULTS {
-        expect_text(&rt, alloc, &fault.fail(alloc)?, text)?;
-    }
-    expect_text(&rt, alloc, &Refusal::OutOfMemory, "Out of memory")?;
-    Ok(())
-}
-
-/// Stops unless there are six parts between bars, each this text.
-fn expect_six(rt: &impl Abort, printed: &str, text: &str) {
-    assert_eq!(rt; printed.split('|').count(), 6);
-    for part in printed.split('|') {
-        assert_eq!(rt; part, text);
-    }
-}
-
-/// Stops unless this text is written whole, whatever width and precision are asked for.
-fn expect_whole(
-    rt: &impl Abort,
-    alloc: Global,
-    fail: &Refusal,
-    text: &str,
-) -> Result<(), AllocError> {
-    let mut printed = String::new(alloc);
-    write!(
-        printed,
-        "{fail:#}|{fail:60}|{fail:>60}|{fail:^60}|{fail:.3}|{fail:<60.3}"
+/// Stops unless the fault prints this, whatever width and precision are asked for.
+fn expect_text(rt: &impl Abort, alloc: Global, fail: &Fail, text: &str) -> Result<(), AllocError> {
+    let printed = format!(in alloc;
+        "{fail}|{fail:#}|{fail:60}|{fail:>60}|{fail:^60}|{fail:.3}|{fail:<60.3}"
     )?;
-    expect_six(rt, printed.as_str(), text);
+    assert!(rt; printed.as_str().split('|').count() == 7);
+    for part in printed.as_str().split('|') {
+        assert!(rt; part == text);
+    }
+    Ok(())
+}
+
+/// Stops unless the fault of this variant prints this.
+fn expect_fault(
+    rt: &impl Abort,
+    alloc: Global,
+    variant: &str,
+    text: &str,
+) -> Result<(), AllocError> {
+    expect_text(rt, alloc, &fault(alloc, variant)?, text)
+}
+
+#[test]
+fn texts_of_faults_are_whole_under_any_format(rt: HostRuntime) -> Result<(), Failed> {
+    const TEXTS: [(&str, &str); 6] = [
+        ("ArgumentMissing", "Argument to option 'N' missing"),
+        ("UnrecognizedOption", "Unrecognized option: 'N'"),
+        ("OptionMissing", "Required option 'N' missing"),
+        ("OptionDuplicated", "Option 'N' given more than once"),
+        ("UnexpectedArgument", "Option 'N' does not take an argument"),
+        ("OutOfMemory", "Out of memory"),
+    ];
+    for (variant, text) in TEXTS {
+        expect_fault(&rt, rt.alloc(), variant, text)?;
+    }
+    Ok(())
+}
+
+/// Stops unless a clone of the fault equals it.
+fn expect_clone(rt: &impl Abort, fail: &Fail) -> Result<(), AllocError> {
+    assert!(rt; fail.clone()? == *fail);
+    Ok(())
+}
+
+/// Stops unless the fault of this variant differs from want of memory.
+fn expect_other(rt: &impl Abort, alloc: Global, variant: &str) -> Result<(), AllocError> {
+    assert!(rt; fault(alloc, variant)? != Fail::OutOfMemory);
     Ok(())
 }
 
 #[test]
-fn texts_of_faults_are_whole_under_any_format(rt: HostRuntime) -> Result<(), Fail> {
-    let alloc = rt.alloc();
-    for (fault, text) in FAULTS {
-        expect_whole(&rt, alloc, &fault.fail(alloc)?, text)?;
+fn want_of_memory_is_equal_to_itself_alone(rt: HostRuntime) -> Result<(), Failed> {
+    const OTHERS: [&str; 5] = [
+        "ArgumentMissing",
+        "UnrecognizedOption",
+        "OptionMissing",
+        "OptionDuplicated",
+        "UnexpectedArgument",
+    ];
+    for variant in OTHERS {
+        expect_other(&rt, rt.alloc(), variant)?;
     }
-    expect_whole(&rt, alloc, &Refusal::OutOfMemory, "Out of memory")?;
+    assert!(rt; Fail::OutOfMemory == Fail::OutOfMemory);
     Ok(())
 }
 
-/// Whether the two faults are equal.
-fn same_faults(alloc: Global, left: Fault, right: Fault) -> Result<bool, AllocError> {
-    let left = left.fail(alloc)?;
-    let right = right.fail(alloc)?;
-    Ok(left == right)
-}
-
-/// Whether the fault differs from want of memory.
-fn is_no_want_of_memory(alloc: Global, fault: Fault) -> Result<bool, AllocError> {
-    let fail = fault.fail(alloc)?;
-    Ok(fail != Refusal::OutOfMemory)
-}
-
 #[test]
-fn faults_are_equal_in_kind_and_name(rt: HostRuntime) -> Result<(), Fail> {
-    let alloc = rt.alloc();
-    for (place, (fault, _)) in FAULTS.iter().enumerate() {
-        for (other_place, (other, _)) in FAULTS.iter().enumerate() {
-            let same = same_faults(alloc, *fault, *other)?;
-            assert_eq!(rt; same, place == other_place, "{fault:?} and {other:?}");
-        }
-        let another = is_no_want_of_memory(alloc, *fault)?;
-        assert!(rt; another, "{fault:?} and want of memory");
-    }
-    assert!(rt;
-        Refusal::OutOfMemory == Refusal::OutOfMemory,
-        "want of memory"
-    );
-    let same = same_faults(alloc, UnrecognizedOption("a"), UnrecognizedOption("b"))?;
-    assert!(rt; !same, "two names");
+fn clone_of_a_fault_equals_its_source(rt: HostRuntime) -> Result<(), Failed> {
+    expect_clone(&rt, &Fail::OutOfMemory)?;
+    expect_clone(&rt, &Fail::OptionDuplicated(String::new(rt.alloc())))?;
     Ok(())
 }

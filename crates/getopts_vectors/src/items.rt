@@ -3,13 +3,10 @@
 ghost use Rattle.std.specs.Prelude.{◌-◌, ◌^◌, length};
 ghost use Rattle.std.specs.Iterator.{at_most};
 
-use crate::fixtures::Fault::UnrecognizedOption;
-use crate::fixtures::{declared, expect_fault, same_texts};
-use getopts::Options;
+use getopts::{Fail, Options};
 use std::alloc::Global;
 use std::cell::Cell;
 use std::process::Abort;
-use std::test::Fail;
 
 const WORDS: &[&str] = &["--nope", "x", "y"];
 
@@ -34,40 +31,38 @@ impl<'a> Iterator for Counted<'a, '_> {
     }
 }
 
-#[test]
-fn all_words_are_taken_before_a_fault_is_answered(rt: HostRuntime) -> Result<(), Fail> {
-    let alloc = rt.alloc();
-    let options = declared(&rt, alloc, &[])?;
-    let told = Cell::new(0);
-    let words = Counted {
+/// Words, with a cell that tells how many of them are taken.
+fn counting(told: &Cell<usize>) -> Counted<'static, '_> {
+    Counted {
         words: WORDS,
         taken: 0,
-        told: &told,
-    };
-    let Err(fail) = options.parse(alloc, words) else {
+        told,
+    }
+}
+
+/// Stops unless the fault names the first of the words, and all of them were taken.
+fn expect_all_taken(rt: &impl Abort, fail: Option<&Fail>, told: &Cell<usize>) {
+    let Some(Fail::UnrecognizedOption(name)) = fail else {
         panic!(rt; "an option that isn't there is accepted");
     };
-    expect_fault(&rt, alloc, &fail, UnrecognizedOption("nope"), WORDS)?;
-    assert_eq!(rt; told.get(), 3, "words taken");
-    Ok(())
+    assert!(rt; name.as_str() == "nope");
+    assert!(rt; told.get() == 3, "words taken");
 }
 
 #[test]
-fn all_words_are_taken_before_canonical_answers_a_fault(rt: HostRuntime) -> Result<(), Fail> {
+fn all_words_are_taken_before_a_fault_is_answered(rt: HostRuntime) {
     let alloc = rt.alloc();
-    let options = declared(&rt, alloc, &[])?;
     let told = Cell::new(0);
-    let words = Counted {
-        words: WORDS,
-        taken: 0,
-        told: &told,
-    };
-    let Err(fail) = options.canonical(alloc, words) else {
-        panic!(rt; "an option that isn't there is accepted");
-    };
-    expect_fault(&rt, alloc, &fail, UnrecognizedOption("nope"), WORDS)?;
-    assert_eq!(rt; told.get(), 3, "words taken");
-    Ok(())
+    let read = Options::new(alloc).parse(alloc, counting(&told));
+    expect_all_taken(&rt, read.as_ref().err(), &told);
+}
+
+#[test]
+fn all_words_are_taken_before_canonical_answers_a_fault(rt: HostRuntime) {
+    let alloc = rt.alloc();
+    let told = Cell::new(0);
+    let written = Options::new(alloc).canonical(alloc, counting(&told));
+    expect_all_taken(&rt, written.as_ref().err(), &told);
 }
 
 /// Words, with the promise of as many as can be counted.
@@ -93,34 +88,43 @@ impl<'a> Iterator for Promising<'a> {
     }
 }
 
-/// Stops unless `parse` finds these words alone, and all free.
-fn expect_free(rt: &impl Abort, alloc: Global, options: &Options, words: &[&str]) {
-    match options.parse(alloc, Promising { words, taken: 0 }) {
-        Ok(matches) => assert!(rt; same_texts(&matches.free, words)),
-        Err(fail) => panic!(rt; "two words are refused: {fail}"),
+/// Two words, with the promise of more.
+fn two_words() -> Promising<'static> {
+    Promising {
+        words: &["x", "y"],
+        taken: 0,
     }
 }
 
-/// Stops unless the words have this canonical line.
-fn expect_line(
-    rt: &impl Abort,
-    alloc: Global,
-    options: &Options,
-    words: &[&str],
-    expected: &[&str],
-) {
-    match options.canonical(alloc, Promising { words, taken: 0 }) {
-        Ok(Some(line)) => assert!(rt; same_texts(&line, expected)),
-        _ => panic!(rt; "two words have no line"),
-    }
+/// Stops unless the two words are found, and all free.
+fn expect_free(rt: &impl Abort, read: &getopts::Result) {
+    let Ok(matches) = read else {
+        panic!(rt; "two words are refused");
+    };
+    let [x, y] = matches.free.as_slice() else {
+        panic!(rt; "there are two words");
+    };
+    assert!(rt; x.as_str() == "x" && y.as_str() == "y");
+}
+
+/// Stops unless the two words have their canonical line.
+fn expect_line(rt: &impl Abort, written: &Result<Option<Vec<String>>, Fail>) {
+    let Ok(Some(line)) = written else {
+        panic!(rt; "two words have no line");
+    };
+    let [stop, x, y] = line.as_slice() else {
+        panic!(rt; "there are two words");
+    };
+    assert!(rt; stop.as_str() == "--" && x.as_str() == "x" && y.as_str() == "y");
+}
+
+/// Stops unless two words are read and written, whatever is promised.
+fn expect_two_words(rt: &impl Abort, alloc: Global, options: &Options) {
+    expect_free(rt, &options.parse(alloc, two_words()));
+    expect_line(rt, &options.canonical(alloc, two_words()));
 }
 
 #[test]
-fn fewer_words_come_than_are_promised(rt: HostRuntime) -> Result<(), Fail> {
-    let alloc = rt.alloc();
-    let options = declared(&rt, alloc, &[])?;
-    let words: &[&str] = &["x", "y"];
-    expect_free(&rt, alloc, &options, words);
-    expect_line(&rt, alloc, &options, words, &["--", "x", "y"]);
-    Ok(())
+fn fewer_words_come_than_are_promised(rt: HostRuntime) {
+    expect_two_words(&rt, rt.alloc(), &Options::new(rt.alloc()));
 }

@@ -1,12 +1,6 @@
-//! Lines of many words and options of many groups.
+//! Lines of many words.
 
-use crate::fixtures::Adding::{Optflag, Optflagmulti};
-use crate::fixtures::Answer::{Count, Defined, Positions};
-use crate::fixtures::Meaning::Accepted;
-use crate::fixtures::{
-    Answer, Row, accepted, cluster, declare, declared, expect_answers, expect_rows, need_defined,
-};
-use getopts::{Matches, Options};
+use getopts::{Fail as Refusal, Matches, Options};
 use std::alloc::{AllocError, Global};
 use std::iter;
 use std::process::Abort;
@@ -14,131 +8,137 @@ use std::test::Fail;
 
 const MANY: usize = 100_000;
 
-const ANSWERS: &[Answer] = &[Count("v", MANY)];
-
-/// The positions of an option.
-fn positions(
-    rt: &impl Abort,
-    alloc: Global,
-    matches: &Matches,
-    name: &str,
-) -> Result<Vec<usize>, AllocError> {
-    need_defined(rt, matches, name);
-    matches.opt_positions(alloc, name)
+/// A word of many letters `v` after a dash.
+fn cluster(alloc: Global) -> Result<String, AllocError> {
+    let mut word = String::from_str(alloc, "-")?;
+    for _ in 0..MANY {
+        word.push('v')?;
+    }
+    Ok(word)
 }
 
-/// Stops unless there are many flags in the matches, one in each word.
-fn expect_flag_in_each_word(
+/// Options with a flag `v` that may come often.
+fn flags(alloc: Global) -> Result<Options, AllocError> {
+    let mut options = Options::new(alloc);
+    options.optflagmulti("v", "", "what it does")?;
+    Ok(options)
+}
+
+/// The matches, where the words are accepted.
+fn accepted<'r>(rt: &impl Abort, read: &'r getopts::Result) -> &'r Matches {
+    match read {
+        Ok(matches) => matches,
+        Err(_) => panic!(rt; "refused"),
+    }
+}
+
+/// Stops unless there are many positions, each the word's own or each that of the first word.
+fn expect_many_positions(rt: &impl Abort, positions: &[usize], in_own_words: bool) {
+    assert!(rt; positions.len() == MANY);
+    for (nth, position) in positions.iter().enumerate() {
+        assert!(rt; *position == if in_own_words { nth } else { 0 });
+    }
+}
+
+/// Stops unless the matches have many flags, in words of their own or in the first word.
+fn expect_many_flags(
     rt: &impl Abort,
     alloc: Global,
     matches: &Matches,
+    in_own_words: bool,
 ) -> Result<(), AllocError> {
-    expect_answers(rt, alloc, matches, ANSWERS, &["-v", ".."])?;
-    let positions = positions(rt, alloc, matches, "v")?;
-    assert_eq!(rt; positions.len(), MANY, "positions");
-    assert_eq!(rt;
-        positions.last().copied(),
-        Some(99_999),
-        "the last position"
-    );
+    assert!(rt; matches.opt_defined("v"));
+    assert!(rt; matches.opt_count("v") == MANY);
+    expect_many_positions(rt, &matches.opt_positions(alloc, "v")?, in_own_words);
     Ok(())
+}
+
+/// Stops unless many flags, one in each word, are read.
+fn expect_words(rt: &impl Abort, alloc: Global, options: &Options) -> Result<(), AllocError> {
+    let read = options.parse(alloc, iter::repeat_n("-v", MANY));
+    expect_many_flags(rt, alloc, accepted(rt, &read), true)
+}
+
+/// Stops unless many flags in one word are read.
+fn expect_word(
+    rt: &impl Abort,
+    alloc: Global,
+    options: &Options,
+    word: &str,
+) -> Result<(), AllocError> {
+    let read = options.parse(alloc, iter::once(word));
+    expect_many_flags(rt, alloc, accepted(rt, &read), false)
+}
+
+/// Stops unless there are many texts, each this one.
+fn expect_many(rt: &impl Abort, texts: &[String], expected: &str) {
+    assert!(rt; texts.len() == MANY);
+    for text in texts {
+        assert!(rt; text.as_str() == expected);
+    }
 }
 
 #[test]
 fn one_flag_in_each_of_many_words(rt: HostRuntime) -> Result<(), Fail> {
-    let alloc = rt.alloc();
-    let options = declared(&rt, alloc, &[(Optflagmulti, "v", "")])?;
-    let matches = options.parse(alloc, iter::repeat_n("-v", MANY))?;
-    expect_flag_in_each_word(&rt, alloc, &matches)?;
+    expect_words(&rt, rt.alloc(), &flags(rt.alloc())?)?;
     Ok(())
-}
-
-/// Stops unless there are many flags in the matches, all in the first word.
-fn expect_flags_in_first_word(
-    rt: &impl Abort,
-    alloc: Global,
-    matches: &Matches,
-) -> Result<(), AllocError> {
-    expect_answers(rt, alloc, matches, ANSWERS, &["-vv.."])?;
-    let positions = positions(rt, alloc, matches, "v")?;
-    assert_eq!(rt; positions.len(), MANY, "positions");
-    assert!(rt;
-        positions.iter().all(|position| *position == 0),
-        "a position above 0"
-    );
-    Ok(())
-}
-
-/// Stops unless a word of many flags is read as these.
-fn expect_cluster(rt: &impl Abort, alloc: Global, options: &Options) -> Result<(), AllocError> {
-    let word = cluster(alloc, MANY)?;
-    let matches = accepted(rt, alloc, options, &[word.as_str()]);
-    expect_flags_in_first_word(rt, alloc, &matches)
 }
 
 #[test]
 fn many_flags_in_one_word(rt: HostRuntime) -> Result<(), Fail> {
-    let options = declared(&rt, rt.alloc(), &[(Optflagmulti, "v", "")])?;
-    expect_cluster(&rt, rt.alloc(), &options)?;
+    let word = cluster(rt.alloc())?;
+    expect_word(&rt, rt.alloc(), &flags(rt.alloc())?, word.as_str())?;
     Ok(())
 }
 
-/// Stops unless there are many free words, each `x`.
-fn expect_free_words(rt: &impl Abort, matches: &Matches) {
-    assert_eq!(rt; matches.free.len(), MANY, "free words");
-    assert!(rt;
-        matches.free.iter().all(|word| word.as_str() == "x"),
-        "another word"
-    );
-    assert_eq!(rt; matches.free_trailing_start(), None, "trailing start");
+#[test]
+fn many_free_words(rt: HostRuntime) {
+    let read = Options::new(rt.alloc()).parse(rt.alloc(), iter::repeat_n("x", MANY));
+    let matches = accepted(&rt, &read);
+    expect_many(&rt, &matches.free, "x");
+    assert!(rt; matches.free_trailing_start().is_none());
+}
+
+/// What `canonical` answers.
+type Written = Result<Option<Vec<String>>, Refusal>;
+
+/// Stops unless the line is many flags, and a stop after them.
+fn expect_line_of_flags(rt: &impl Abort, written: &Written) {
+    let Ok(Some(line)) = written else {
+        panic!(rt; "no line");
+    };
+    let [flags @ .., stop] = line.as_slice() else {
+        panic!(rt; "an empty line");
+    };
+    expect_many(rt, flags, "--v");
+    assert!(rt; stop.as_str() == "--");
+}
+
+/// Stops unless the line is a stop, and many free words after it.
+fn expect_line_of_free_words(rt: &impl Abort, written: &Written) {
+    let Ok(Some(line)) = written else {
+        panic!(rt; "no line");
+    };
+    let [stop, words @ ..] = line.as_slice() else {
+        panic!(rt; "an empty line");
+    };
+    assert!(rt; stop.as_str() == "--");
+    expect_many(rt, words, "x");
+}
+
+/// Stops unless many flags, each in a word of its own and all in one word, and many free words have
+/// their lines.
+fn expect_lines(rt: &impl Abort, alloc: Global, options: &Options, word: &str) {
+    let apart = iter::repeat_n("-v", MANY);
+    expect_line_of_flags(rt, &options.canonical(alloc, apart));
+    expect_line_of_flags(rt, &options.canonical(alloc, iter::once(word)));
+    let free = iter::repeat_n("x", MANY);
+    expect_line_of_free_words(rt, &options.canonical(alloc, free));
 }
 
 #[test]
-fn many_free_words(rt: HostRuntime) -> Result<(), Fail> {
-    let alloc = rt.alloc();
-    let options = declared(&rt, alloc, &[])?;
-    let matches = options.parse(alloc, iter::repeat_n("x", MANY))?;
-    expect_free_words(&rt, &matches);
-    Ok(())
-}
-
-/// Adds the flag of this number, as `n007`.
-fn add_numbered(
-    rt: &impl Abort,
-    alloc: Global,
-    options: &mut Options,
-    number: u32,
-) -> Result<(), AllocError> {
-    let name = format!(in alloc; "n{number:03}")?;
-    declare(rt, options, Optflag, "", name.as_str())
-}
-
-/// Flags from `n199` down to `n000`, and then `n100` once more, with the short name `x`.
-fn two_hundred_flags(rt: &impl Abort, alloc: Global) -> Result<Options, AllocError> {
-    let mut options = Options::new(alloc);
-    for number in (0..200).rev() {
-        add_numbered(rt, alloc, &mut options, number)?;
-    }
-    options.optflag("x", "n100", "the same name again")?;
-    Ok(options)
-}
-
-#[test]
-fn many_groups(rt: HostRuntime) -> Result<(), Fail> {
-    const ROWS: &[Row] = &[(
-        &["--n000", "--n199", "-x"],
-        Accepted(&[
-            Count("n000", 1),
-            Count("n199", 1),
-            Count("n100", 1),
-            Count("x", 1),
-            Count("n101", 0),
-            Positions("x", &[2]),
-            Defined("n200", false),
-        ]),
-    )];
-    let alloc = rt.alloc();
-    let options = two_hundred_flags(&rt, alloc)?;
-    expect_rows(&rt, alloc, &options, ROWS)?;
+fn canonical_line_of_many_words(rt: HostRuntime) -> Result<(), Fail> {
+    let word = cluster(rt.alloc())?;
+    expect_lines(&rt, rt.alloc(), &flags(rt.alloc())?, word.as_str());
     Ok(())
 }
