@@ -29,7 +29,8 @@ pub fn run(alloc: Global, job: Job, times: usize) -> Result<usize, Fail> {
 fn whole(alloc: Global, input: &Input, times: usize) -> Result<usize, Fail> {
     let mut sum = 0usize;
     for _ in 0..times {
-        let matches = read_anew(alloc, input)?;
+        let options = declared(alloc, &input.options)?;
+        let matches = matches_of(alloc, &options, &input.words)?;
         sum = sum.wrapping_add(taken(&matches, &input.options));
     }
     Ok(sum)
