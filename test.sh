@@ -51,7 +51,7 @@ if [ -n "$quick" ]; then
     else
         echo "skipped: refused memory, whose programs the whole test builds"
     fi
-    part "C and Rust" bash rust/test.sh --unproved "$@"
+    part "C and Rust" bash rust/test.sh --quick "$@"
     part "code on the pages for callers" bash docs/quotes.sh
     echo "Nothing was proved: 'bash test.sh' proves everything."
 else
@@ -63,7 +63,7 @@ else
     # Each part stands on what the one before built.
     part "proofs, edits, tests and programs of all crates" rt ci &&
         part "refused memory" bash refused/run.sh &&
-        part "C and Rust" bash rust/test.sh --unproved "$@" &&
+        part "C and Rust" bash rust/test.sh --quick "$@" &&
         part "code on the pages for callers" bash docs/quotes.sh &&
         part "the archive, from the proved source" made
 fi

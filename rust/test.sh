@@ -1,18 +1,21 @@
 #!/usr/bin/env bash
 # Tests the archive, the C layer and the Rust crate.
 #
-#     rust/test.sh [--unproved] [CRATE]
+#     rust/test.sh [--quick] [CRATE]
 #
 # CRATE is a folder that holds the crate getopts 0.2.24; without it cargo fetches that crate. CARGO_FLAGS
-# are handed to each cargo. With --unproved nothing is proved: whether the archive is what the proved source
-# gives, `rust/archive.sh check` says. What this machine lacks is skipped with a line that says so. The last
-# line is 'N passed, M failed, K skipped'.
+# are handed to each cargo. With --quick nothing is proved. What that or this machine leaves out is skipped with
+# a line that says so. The last line is 'N passed, M failed, K skipped'.
 set -uo pipefail
 top=$(cd "$(dirname "$0")/.." && pwd)
-unproved=
-if [ "${1:-}" = --unproved ]; then
-    unproved=1
+quick=
+if [ "${1:-}" = --quick ]; then
+    quick=yes
     shift
+fi
+if [ $# -gt 1 ] || { [ $# = 1 ] && [ ! -f "$1/Cargo.toml" ]; }; then
+    echo "usage: rust/test.sh [--quick] [CRATE], where CRATE is a folder with the crate getopts" >&2
+    exit 2
 fi
 crate=${1:+$(cd "$1" && pwd)}
 read -r -a flags <<<"${CARGO_FLAGS:-}"
@@ -67,15 +70,18 @@ refused() {
 
 # The archive, and whether it is the one that the proved source gives.
 if [ ! -f "$archive" ]; then
-    check "the archive" "$top/rust/archive.sh" || exit 1
+    echo "there is no rust/getopts/native/libgetopts_c.a: rust/archive.sh makes it"
+    echo "0 passed, 1 failed"
+    exit 1
 fi
 check "the archive's SHA-256" bash -c "cd '$here/native' && sha256sum -c libgetopts_c.a.sha256"
-if [ -n "$unproved" ]; then
-    skip "whether the archive is what the proved source gives"
-elif has rt; then
+no_proof=
+[ -n "$quick" ] && no_proof="nothing is proved"
+has rt || no_proof="there is no rt"
+if [ -z "$no_proof" ]; then
     check "the archive is what the proved source gives" "$top/rust/archive.sh" check
 else
-    skip "whether the archive is what the proved source gives: there is no rt"
+    skip "whether the archive is what the proved source gives: $no_proof"
 fi
 size=$(stat -c %s "$archive")
 echo "the archive has $size bytes"
@@ -94,14 +100,14 @@ check "the licences" same_licences
 
 # The program that the examples have to answer as. `rt ci` leaves it there.
 show=$top/crates/getopts_show/out/getopts_show
-if [ ! -x "$show" ] && [ -z "$unproved" ] && has rt; then
+if [ ! -x "$show" ] && [ -z "$no_proof" ]; then
     check "getopts_show" bash -c "cd '$top/crates/getopts_show' && rt run -- x"
 fi
 answers_as_show() {
     if [ -x "$show" ]; then
         check "$1" same_as_show "$2"
     else
-        skip "$1: getopts_show isn't built"
+        skip "$1: getopts_show isn't built, and $no_proof"
     fi
 }
 

@@ -258,7 +258,7 @@ fn of_matches(matches: &Matches, fields: &[&str]) -> Option<Vec<String>> {
     };
     let one = |given: Vec<String>| vec![answer(word, [vec![name.to_string()], given].concat())];
     Some(match *fields {
-        [_, _, default] if word == "opt_default" => one(vec![
+        ["opt_default", _, default] => one(vec![
             default.into(),
             optional(matches.opt_default(name, default)),
         ]),
