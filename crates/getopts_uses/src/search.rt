@@ -7,7 +7,7 @@ ghost use Rattle.getopts_uses.specs.Search.{search_options, AreSettingsOf, IsRef
 
 use crate::line::read;
 use getopts::{Fail, Options};
-use std::alloc::{AllocError, Global};
+use std::alloc::{AllocError, AllocFailed, Global};
 use std::num::ParseIntError;
 
 /// What the tool does.
@@ -51,6 +51,14 @@ impl From<AllocError> for Refusal {
     ghost from_gives = { λ _ refusal. refusal ≡ OutOfMemory };
 
     fn from(_error: AllocError) -> Refusal {
+        Refusal::OutOfMemory
+    }
+}
+
+impl<T: Drop> From<AllocFailed<T>> for Refusal {
+    ghost from_gives = { λ _ refusal. refusal ≡ OutOfMemory };
+
+    fn from(_error: AllocFailed<T>) -> Refusal {
         Refusal::OutOfMemory
     }
 }

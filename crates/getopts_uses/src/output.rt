@@ -1,0 +1,29 @@
+//! An optional argument: copied, and lent.
+
+use getopts::{Fail, Matches, Options};
+use std::alloc::Global;
+
+/// The output file of a line, if it names one.
+pub fn output_of(alloc: Global, words: &[&str]) -> Result<Option<String>, Fail> {
+    let mut options = Options::new(alloc);
+    options
+        .optopt("o", "output", "set output file name", "NAME")?
+        .optflag("h", "help", "print this help menu")?
+        .optflagmulti("v", "verbose", "say more")?;
+    let matches = options.parse(alloc, words.iter().copied())?;
+    Ok(matches.opt_str(alloc, "output")?)
+}
+
+/// Whether one of the outputs is the standard output.
+pub fn writes_out(matches: &Matches) -> bool {
+    let Some(place) = matches.opt_place("output") else {
+        return false;
+    };
+    let outputs = matches.occurrences_at(place);
+    for nth in 0..outputs.count() {
+        if let Some((_, Some("-"))) = outputs.get(nth) {
+            return true;
+        }
+    }
+    false
+}
