@@ -90,8 +90,8 @@ char *getopts_usage(const struct getopts *options, const char *brief);
 char *getopts_short_usage(const struct getopts *options, const char *program);
 
 /* Writes words again with main names alone: `--main` or `--main=value` for each option, then `--`, then the
- * free words. It answers as getopts_read does, which keeps its last reading. The line is like argv, and
- * is let go by one free(); it is NULL where the words are refused, and where they are accepted and have none,
+ * free words. It answers as getopts_read does, and what that read last stays. The line is like argv, and is
+ * let go by one free(). It is NULL where the answer isn't GETOPTS_OK, and where the words have no such line,
  * because a main name holds `=`. */
 int getopts_canonical(const struct getopts *options, int count, char *const *words, char ***line);
 

@@ -120,8 +120,10 @@ fi
 # What c/install.sh put somewhere, and programs that know it by pkg-config alone.
 head_answers() {
     printf '1\n2\n3\n' >"$room/file"
-    [ "$("$room/head" -n2 "$room/file")" = $'1\n2' ] && [ "$("$room/head" --help | head -n 1)" = "Usage: head [options] FILE.." ] &&
-        ! "$room/head" --nope 2>"$room/told" && grep -q "^head: Unrecognized option: 'nope'" "$room/told"
+    [ "$("$room/head" -n2 "$room/file")" = $'1\n2' ] &&
+        [ "$("$room/head" --help | head -n 1)" = "Usage: head [options] FILE.." ] &&
+        [ "$("$room/head" --nope 2>&1 | head -n 1)" = "head: Unrecognized option: 'nope'" ] &&
+        [ "$("$room/head" --nope -- $'--x\xff' 2>&1 | head -n 1)" = "head: Unrecognized option: '"$'--x\xff'"'" ]
 }
 plus_answers() {
     [ "$("$room/plus" --verbose -ox --verbose a --verbose)" = "2 x a --verbose" ]
