@@ -36,11 +36,14 @@ all_of() {
             says "${file#"$top/crates/"} ($with)" "$room/rows" "$file"
         done < <(row_files)
     fi
-    check "exports_refused ($with)" "${build[@]}" "$here/tests/exports_refused.c" "$archive" -o "$room/refused" &&
+    file=$here/tests/exports_refused.c
+    check "exports_refused ($with)" "${build[@]}" "$file" "$archive" -o "$room/refused" &&
         says "exports under refused memory ($with)" "$room/refused"
-    check "layer_refused ($with)" "${build[@]}" "$wraps" "$here/tests/layer_refused.c" "${layer[@]}" -o "$room/refused" &&
+    file=$here/tests/layer_refused.c
+    check "layer_refused ($with)" "${build[@]}" "$wraps" "$file" "${layer[@]}" -o "$room/refused" &&
         says "layer under refused memory ($with)" "$room/refused"
-    if check "requests ($with)" "${build[@]}" "$here/tests/requests.c" "$here/heap.c" "$archive" -o "$room/requests" &&
+    file=$here/tests/requests.c
+    if check "requests ($with)" "${build[@]}" "$file" "$here/heap.c" "$archive" -o "$room/requests" &&
         says "random requests ($with)" "$room/requests" 20000 "$room/lawful.rows" "$room/zeros.rows"; then
         says "layer on those requests ($with)" "$room/rows" "$room/lawful.rows"
     fi
@@ -141,7 +144,8 @@ elif check "c/install.sh" env CC="${compilers[0]}" "$here/install.sh" "$prefix";
         flags=("-I$prefix/include" "-L$prefix/lib" -lgetopts)
     fi
     for compiler in "${compilers[@]}"; do
-        check "the example, installed ($compiler)" "$compiler" "${warnings[@]}" "$here/head.c" "${flags[@]}" -o "$room/head" &&
+        build=("$compiler" "${warnings[@]}" "$here/head.c" "${flags[@]}" -o "$room/head")
+        check "the example, installed ($compiler)" "${build[@]}" &&
             check "the example answers ($compiler)" head_answers
     done
     plus_compilers=()
@@ -150,7 +154,8 @@ elif check "c/install.sh" env CC="${compilers[0]}" "$here/install.sh" "$prefix";
     done
     [ ${#plus_compilers[@]} -gt 0 ] || skip "C++: there is no compiler of it"
     for compiler in "${plus_compilers[@]}"; do
-        check "a C++ program ($compiler)" "$compiler" "${plus_warnings[@]}" "$here/tests/installed.cpp" "${flags[@]}" -o "$room/plus" &&
+        build=("$compiler" "${plus_warnings[@]}" "$here/tests/installed.cpp" "${flags[@]}" -o "$room/plus")
+        check "a C++ program ($compiler)" "${build[@]}" &&
             check "the C++ program answers ($compiler)" plus_answers
     done
 fi

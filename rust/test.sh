@@ -264,7 +264,8 @@ END
     local c=$room/prefix/lib/libgetopts.a rust=$room/target/release/libboth.a
     for order in "$c $rust" "$rust $c"; do
         # shellcheck disable=SC2086
-        "${strict[@]}" "$room/both/main.c" $order -lpthread -ldl -lm -o "$room/both/main" && "$room/both/main" || return 1
+        "${strict[@]}" "$room/both/main.c" $order -lpthread -ldl -lm -o "$room/both/main" || return 1
+        "$room/both/main" || return 1
     done
 }
 if [ -n "$compiler" ] && has ar; then
