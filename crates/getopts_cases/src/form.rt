@@ -1,9 +1,10 @@
 //! Fields of lines: texts with nothing in them that would end a field or a line.
 
-ghost use Rattle.std.specs.Prelude.{◌≡◌, ◌++◌, ◌∷◌, [], IfOk, IfSome, OnOk, Some};
+ghost use Rattle.std.specs.Prelude.{◌≡◌, ◌++◌, ◌∷◌, [], IfErr, IfOk, IfSome, OnOk, Some};
 ghost use Rattle.std.specs.List.{AllByRecursion};
 ghost use Rattle.std.specs.Option.{option_copied};
 ghost use Rattle.std.specs.String.{string_bytes};
+ghost use Rattle.getopts_cases.specs.declared.stop.Trouble.TheVariants.{NoMemory};
 ghost use Rattle.getopts_cases.specs.Form.{escaped, letter_of, optional_field, EndsNothing};
 
 use crate::stop::{Flaw, Trouble};
@@ -116,8 +117,9 @@ impl Answer {
 
     /// Adds a field.
     pub fn text(&mut self, text: &str) -> Result<(), Trouble>
-        ensures { OnOk result (self.new.bytes.items
+        ensures added { OnOk result (self.new.bytes.items
             ≡ self.old.bytes.items ++ 9 ∷ escaped text.now) }
+        ensures memory { IfErr result (λ trouble. trouble ≡ NoMemory) }
     {
         self.bytes.push(b'\t')?;
         push_escaped(&mut self.bytes, text)?;
@@ -177,8 +179,9 @@ impl Answer {
 
     /// Adds a field that may have a value: `-` where it has none, else `=` and the value.
     pub fn optional(&mut self, value: Option<&str>) -> Result<(), Trouble>
-        ensures { OnOk result (self.new.bytes.items
+        ensures added { OnOk result (self.new.bytes.items
             ≡ self.old.bytes.items ++ 9 ∷ optional_field (option_copied value.entry)) }
+        ensures memory { IfErr result (λ trouble. trouble ≡ NoMemory) }
     {
         match value {
             None => self.text("-"),

@@ -2,6 +2,7 @@
 
 ghost use Rattle.std.specs.Prelude.{◌≡◌};
 ghost use Rattle.getopts_cases.specs.Stop.{status_of};
+ghost use Rattle.getopts_cases.specs.declared.stop.Trouble.TheVariants.{NoMemory};
 
 use std::alloc::{AllocError, AllocFailed};
 use std::fmt;
@@ -45,12 +46,16 @@ pub enum Trouble {
 }
 
 impl From<AllocError> for Trouble {
+    ghost from_gives = { λ _ trouble. trouble ≡ NoMemory };
+
     fn from(_error: AllocError) -> Trouble {
         Trouble::NoMemory
     }
 }
 
 impl<T: Drop> From<AllocFailed<T>> for Trouble {
+    ghost from_gives = { λ _ trouble. trouble ≡ NoMemory };
+
     fn from(_error: AllocFailed<T>) -> Trouble {
         Trouble::NoMemory
     }
