@@ -38,10 +38,12 @@ part() {
     fi
 }
 
-# In a copy, beside the rest, the archive is made again from the proved source.
-archive() {
+# Beside the rest, in a copy: the archive is made again from the proved source, and over that proof each edit is
+# tried, which the prover has to refuse.
+beside() {
     (git ls-files -z --cached --others --exclude-standard 2>/dev/null | xargs -0 cp --parents -t "$room") &&
-        nice -n 5 bash "$room/rust/archive.sh" check
+        nice -n 5 bash "$room/rust/archive.sh" check &&
+        nice -n 5 bash "$room/edits/try.sh"
 }
 
 if [ -n "$quick" ]; then
@@ -57,15 +59,15 @@ if [ -n "$quick" ]; then
 else
     room=$(mktemp -d)
     trap 'kill $(jobs -p) 2>/dev/null; rm -rf "$room"' EXIT
-    archive >"$room.said" 2>&1 &
-    making=$!
-    made() { wait $making; local status=$?; tail -n 3 "$room.said"; rm -f "$room.said"; return $status; }
+    beside >"$room.said" 2>&1 &
+    copy=$!
+    besides() { wait $copy; local status=$?; tail -n 20 "$room.said"; rm -f "$room.said"; return $status; }
     # Each part stands on what the one before built.
-    part "proofs, edits, tests and programs of all crates" rt ci &&
+    part "proofs, tests and programs of all crates" rt ci &&
         part "refused memory" bash refused/run.sh &&
         part "C and Rust" bash rust/test.sh --quick "$@" &&
         part "code on the pages for callers" bash docs/quotes.sh &&
-        part "the archive, from the proved source" made
+        part "the archive from the proved source, and edits over it" besides
 fi
 if [ -n "$failed" ]; then
     echo "failed: ${failed#; }"

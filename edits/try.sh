@@ -1,19 +1,20 @@
 #!/usr/bin/env bash
-# Tries the edits of this folder, which the gate doesn't: each turns a body that no public sentence
-# speaks of, and the prover has to refuse it. With --plant it plants wrong bodies in each crate instead.
-# usage: edits/try.sh [--jobs N] [--plant] [CRATE..]
+# Tries the edits of this folder: each turns a body of its crate, and the prover has to refuse it.
+# usage: edits/try.sh [--jobs N] [--all | --plant] [CRATE..]
 #
-# Everything is done on copies of the repository, N at once (2 if left out). An edit costs about a minute
-# of a processor after its crate was proved once; what a plant lists is printed with its crate. The last
-# line is 'N passed, M failed'.
+# With --all those in private/ too, which turn bodies that no public sentence speaks of. With --plant it
+# plants wrong bodies in each crate instead, and prints what the contracts let through. Everything is done on
+# copies of the repository, N at once (2 if left out), over what earlier checks kept: an edit takes half a
+# minute of a processor once its crate is proved. The last line is 'N passed, M failed'.
 set -euo pipefail
 top=$(cd "$(dirname "$0")/.." && pwd)
-jobs=2 plant=
+jobs=2 all= plant=
 while [ $# -gt 0 ]; do
     case $1 in
         --jobs) jobs=${2:?--jobs takes a number}; shift 2 ;;
+        --all) all=1; shift ;;
         --plant) plant=1; shift ;;
-        -*) sed -n '4s/^# //p' "$0" >&2; exit 2 ;;
+        -*) sed -n '3s/^# //p' "$0" >&2; exit 2 ;;
         *) break ;;
     esac
 done
@@ -41,7 +42,8 @@ PY
 # try_edit COPY EDIT: says whether the check refuses the edit.
 try_edit() {
     local copy=$1 edit=$2 crate name status=0
-    crate=$(basename "$(dirname "$edit")") name=$(basename "$edit" .edit)
+    crate=${edit#"$top"/edits/} name=$(basename "$edit" .edit)
+    crate=${crate%%/*}
     local folder=$copy/crates/$crate
     cp -a "$folder/src" "$copy/kept"
     if ! apply "$edit" "$folder" 2>"$copy/said"; then
@@ -81,7 +83,7 @@ for crate in "${crates[@]}"; do
     if [ -n "$plant" ]; then
         echo "plant_in $crate"
     else
-        ls "$top/edits/$crate"/*.edit | sed 's/^/try_edit /'
+        find "$top/edits/$crate" $([ -n "$all" ] || echo -maxdepth 1) -name '*.edit' | sort | sed 's/^/try_edit /'
     fi
 done >"$room/tasks"
 
