@@ -89,7 +89,7 @@ done >"$room/tasks"
 
 echo "proving $(echo "${crates[@]}") once, in a copy"
 mkdir "$room/0"
-(cd "$top" && git ls-files -z --cached --others --exclude-standard | xargs -0 cp -a --parents -t "$room/0")
+tar -C "$top" --exclude=./.git --exclude=out --exclude=target -c . | tar -C "$room/0" -x
 for crate in "$top"/crates/*/out; do
     name=$(basename "$(dirname "$crate")")
     [ -d "$room/0/crates/$name" ] && cp -a "$crate" "$room/0/crates/$name/"

@@ -203,6 +203,8 @@ impl Answer {
             × (sizes.new.bytes ≡ length (string_bytes self.now.body.bytes)) }
         ensures small { result ≡ 8 →
             (length numbers.old < sizes.new.numbers) ⊎ (length bytes.old < sizes.new.bytes) }
+        ensures within { result < 6 → (sizes.new.numbers ≤ length numbers.old)
+            × (sizes.new.bytes ≤ length bytes.old) }
         ensures written { result < 6 → (result ≡ self.now.status)
             × FillsFront self.now.body.numbers.items numbers.new sizes.new.numbers
             × FillsFront (string_bytes self.now.body.bytes) bytes.new sizes.new.bytes }
@@ -240,6 +242,8 @@ impl Answer {
             × (sizes.new.bytes ≡ length (string_bytes answer.body.bytes))) }
         ensures lawful { result ≢ 6 → result ≢ 7 → IsOk answer }
         ensures bad { result ≡ 7 → IsErrOf answer Refusal.Bad }
+        ensures within { result < 6 → (sizes.new.numbers ≤ length numbers.old)
+            × (sizes.new.bytes ≤ length bytes.old) }
         ensures written { result < 6 → IsOkAnd answer (λ answer. (result ≡ answer.status)
             × FillsFront answer.body.numbers.items numbers.new sizes.new.numbers
             × FillsFront (string_bytes answer.body.bytes) bytes.new sizes.new.bytes) }
@@ -418,6 +422,7 @@ pub(crate) fn usage_of(alloc: Global, request: Request<'_>, brief: &[u8]) -> Res
         request.entry.texts.now request.entry.lens.now request.entry.kinds.now
         request.entry.long_only brief.now (string_bytes answer.body.bytes)) }
     ensures numbers { IfOk result (λ answer. answer.body.numbers.items ≡ []) }
+    ensures fine { IfOk result (λ answer. answer.status ≡ 0) }
     ensures status { IfOk result (λ answer. answer.status < 6) }
     ensures lawful { OnOk result (SayOptions
         request.entry.texts.now request.entry.lens.now request.entry.kinds.now
@@ -444,6 +449,7 @@ pub(crate) fn short_usage_of(
         request.entry.texts.now request.entry.lens.now request.entry.kinds.now
         program.now (string_bytes answer.body.bytes)) }
     ensures numbers { IfOk result (λ answer. answer.body.numbers.items ≡ []) }
+    ensures fine { IfOk result (λ answer. answer.status ≡ 0) }
     ensures status { IfOk result (λ answer. answer.status < 6) }
     ensures lawful { OnOk result (SayOptions
         request.entry.texts.now request.entry.lens.now request.entry.kinds.now
@@ -477,6 +483,7 @@ pub(crate) fn rows_of(alloc: Global, request: Request<'_>) -> Result<Answer, Ref
     ensures rows { IfOk result (λ answer. IsRowsOf
         request.entry.texts.now request.entry.lens.now request.entry.kinds.now
         request.entry.long_only answer.body.numbers.items (string_bytes answer.body.bytes)) }
+    ensures fine { IfOk result (λ answer. answer.status ≡ 0) }
     ensures status { IfOk result (λ answer. answer.status < 6) }
     ensures lawful { OnOk result (SayOptions
         request.entry.texts.now request.entry.lens.now request.entry.kinds.now

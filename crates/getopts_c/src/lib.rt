@@ -50,6 +50,8 @@ pub extern "C" fn getopts_c_parse(
     ensures untouched { 5 < result →
         (numbers.new ≡ numbers.old) × (bytes.new ≡ bytes.old) }
     ensures untold { 5 < result → result < 8 → sizes.new ≡ sizes.old }
+    ensures within { result < 6 → (sizes.new.numbers ≤ length numbers.old)
+        × (sizes.new.bytes ≤ length bytes.old) }
     ensures small { result ≡ 8 →
         (length numbers.old < sizes.new.numbers) ⊎ (length bytes.old < sizes.new.bytes) }
     ensures sizes_told { result ≡ 8 → HasSizes (IsAnswered texts.now lens.now kinds.now
@@ -91,6 +93,10 @@ pub extern "C" fn getopts_c_usage(
     ensures known { result ≤ 8 }
     ensures untouched { 5 < result → bytes.new ≡ bytes.old }
     ensures untold { 5 < result → result < 8 → sizes.new ≡ sizes.old }
+    ensures within { result < 6 → sizes.new.bytes ≤ length bytes.old }
+    ensures fine { result < 6 → result ≡ 0 }
+    ensures no_numbers { result < 6 → sizes.new.numbers ≡ 0 }
+    ensures no_numbers_told { result ≡ 8 → sizes.new.numbers ≡ 0 }
     ensures small { result ≡ 8 → length bytes.old < sizes.new.bytes }
     ensures sizes_told { result ≡ 8 → HasSize (IsUsageOf texts.now lens.now kinds.now
         long_only brief.now) sizes.new.bytes }
@@ -125,6 +131,10 @@ pub extern "C" fn getopts_c_short_usage(
     ensures known { result ≤ 8 }
     ensures untouched { 5 < result → bytes.new ≡ bytes.old }
     ensures untold { 5 < result → result < 8 → sizes.new ≡ sizes.old }
+    ensures within { result < 6 → sizes.new.bytes ≤ length bytes.old }
+    ensures fine { result < 6 → result ≡ 0 }
+    ensures no_numbers { result < 6 → sizes.new.numbers ≡ 0 }
+    ensures no_numbers_told { result ≡ 8 → sizes.new.numbers ≡ 0 }
     ensures small { result ≡ 8 → length bytes.old < sizes.new.bytes }
     ensures sizes_told { result ≡ 8 → HasSize (IsShortUsageOf texts.now lens.now kinds.now
         program.now) sizes.new.bytes }
@@ -166,6 +176,9 @@ pub extern "C" fn getopts_c_usage_rows(
     ensures untouched { 5 < result →
         (numbers.new ≡ numbers.old) × (bytes.new ≡ bytes.old) }
     ensures untold { 5 < result → result < 8 → sizes.new ≡ sizes.old }
+    ensures within { result < 6 → (sizes.new.numbers ≤ length numbers.old)
+        × (sizes.new.bytes ≤ length bytes.old) }
+    ensures fine { result < 6 → result ≡ 0 }
     ensures small { result ≡ 8 →
         (length numbers.old < sizes.new.numbers) ⊎ (length bytes.old < sizes.new.bytes) }
     ensures sizes_told { result ≡ 8 → HasSizes (λ _. IsRowsOf texts.now lens.now kinds.now
@@ -206,6 +219,8 @@ pub extern "C" fn getopts_c_canonical(
     ensures untouched { 5 < result →
         (numbers.new ≡ numbers.old) × (bytes.new ≡ bytes.old) }
     ensures untold { 5 < result → result < 8 → sizes.new ≡ sizes.old }
+    ensures within { result < 6 → (sizes.new.numbers ≤ length numbers.old)
+        × (sizes.new.bytes ≤ length bytes.old) }
     ensures small { result ≡ 8 →
         (length numbers.old < sizes.new.numbers) ⊎ (length bytes.old < sizes.new.bytes) }
     ensures sizes_told { result ≡ 8 → HasSizes (IsCanonicalOf texts.now lens.now kinds.now
