@@ -42,8 +42,8 @@ part() {
 # tried, which the prover has to refuse.
 beside() {
     (git ls-files -z --cached --others --exclude-standard 2>/dev/null | xargs -0 cp --parents -t "$room") &&
-        nice -n 5 bash "$room/rust/archive.sh" check &&
-        nice -n 5 bash "$room/edits/try.sh"
+        nice -n 19 bash "$room/rust/archive.sh" check &&
+        nice -n 19 bash "$room/edits/try.sh"
 }
 
 if [ -n "$quick" ]; then

@@ -37,6 +37,8 @@ all_of() {
         done < <(row_files)
     fi
     file=$here/tests/exports_refused.c
+    check "exports ($with)" "${build[@]}" "$here/tests/exports.c" "$here/heap.c" "$archive" -o "$room/exports" &&
+        says "the exports on rows ($with)" "$room/exports"
     check "exports_refused ($with)" "${build[@]}" "$file" "$archive" -o "$room/refused" &&
         says "exports under refused memory ($with)" "$room/refused"
     file=$here/tests/layer_refused.c

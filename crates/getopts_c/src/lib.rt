@@ -20,8 +20,6 @@ ghost use Rattle.getopts_c.specs.Answer.{text_numbers};
 
 mod answer;
 mod request;
-#[cfg(test)]
-mod tests;
 
 use crate::answer::{Answer, Sizes, answer_to, line_of, rows_of, short_usage_of, usage_of};
 use crate::request::{Request, Words};

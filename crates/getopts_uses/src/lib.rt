@@ -9,8 +9,6 @@ mod output;
 mod required;
 mod search;
 mod subcommand;
-#[cfg(test)]
-mod tests;
 
 pub use cache::key_of;
 pub use compile::{Job, read_job};

@@ -10,6 +10,8 @@
 #![tactic(auto)]
 
 #[cfg(test)]
+mod callers;
+#[cfg(test)]
 mod calls;
 #[cfg(test)]
 mod differences;

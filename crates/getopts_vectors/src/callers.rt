@@ -1,7 +1,7 @@
 //! Real lines, and what they give.
 
-use crate::{help_rows, help_text, key_of, read_command, read_job, read_settings};
 use getopts::{Fail as LineFail, Options};
+use getopts_uses::{help_rows, help_text, key_of, read_command, read_job, read_settings};
 use std::alloc::{AllocError, Global};
 use std::test::Fail;
 

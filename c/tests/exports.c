@@ -1,0 +1,175 @@
+/* Calls the exports on rows that are written out: each status, and what each answer holds, with its sizes. */
+#include "../getopts_c.h"
+
+#include <stdio.h>
+#include <string.h>
+
+/* The option `o`/`output`. */
+static const char texts[] = "ooutputNAMEset the output";
+
+static const size_t lens[4] = { 1, 6, 4, 14 };
+
+/* It comes exactly once, or at most once; or it takes no argument; or it is of a kind that there is not. */
+enum {
+    REQUIRED = GETOPTS_YES + GETOPTS_REQ,
+    ONCE = GETOPTS_YES + GETOPTS_OPTIONAL,
+    FLAG = GETOPTS_NO + GETOPTS_OPTIONAL,
+    NO_KIND = 9
+};
+
+static const uint8_t once = ONCE;
+
+static int failed;
+
+static void expect(bool holds, const char *what) {
+    if (!holds) {
+        printf("FAILED: %s\n", what);
+        failed = 1;
+    }
+}
+
+/* The rooms, and how much an answer has. */
+struct room {
+    size_t numbers[64];
+    uint8_t bytes[256];
+    struct getopts_sizes sizes;
+};
+
+/* Rooms that no answer has been written to, which would tell wrong sizes. */
+static void empty(struct room *room) {
+    for (size_t i = 0; i < 64; i++)
+        room->numbers[i] = 9;
+    memset(room->bytes, '.', sizeof room->bytes);
+    room->sizes.numbers = 77;
+    room->sizes.bytes = 77;
+}
+
+static const uint8_t *bytes_of(const char *text) {
+    return (const uint8_t *)text;
+}
+
+/* What words of these lengths are answered, by that option of this kind, in rooms of these sizes. */
+static uint32_t parsed(uint8_t kind, const char *words, size_t words_len, const size_t *word_lens, size_t count,
+    size_t numbers, size_t bytes, struct room *room) {
+    empty(room);
+    return getopts_c_parse(bytes_of(texts), sizeof texts - 1, lens, 4, &kind, 1, false, false, bytes_of(words),
+        words_len, word_lens, count, room->numbers, numbers, room->bytes, bytes, &room->sizes);
+}
+
+/* Whether a room holds these numbers and bytes, all that it has of them and then what stood there. */
+static bool holds(const struct room *room, const size_t *numbers, size_t count, const char *bytes) {
+    size_t len = strlen(bytes);
+    return (count == 0 || memcmp(room->numbers, numbers, count * sizeof *numbers) == 0) && room->numbers[count] == 9
+        && memcmp(room->bytes, bytes, len) == 0 && room->bytes[len] == '.';
+}
+
+static bool tells(const struct room *room, size_t numbers, size_t bytes) {
+    return room->sizes.numbers == numbers && room->sizes.bytes == bytes;
+}
+
+/* Each fault has its status, and so has what is no request: bytes that are no text, bytes left over, bytes
+ * that are lacking, a word that ends within a character, and a kind that there is not. */
+static void each_line_has_its_status(void) {
+    static const struct row {
+        uint8_t kind;
+        const char *words;
+        size_t lens[2], count;
+        uint32_t status;
+    } rows[] = {
+        { ONCE, "-o", { 2 }, 1, GETOPTS_ARGUMENT_MISSING },
+        { ONCE, "-x", { 2 }, 1, GETOPTS_UNRECOGNIZED_OPTION },
+        { REQUIRED, "x", { 1 }, 1, GETOPTS_OPTION_MISSING },
+        { ONCE, "-oa-ob", { 3, 3 }, 2, GETOPTS_OPTION_DUPLICATED },
+        { FLAG, "--output=a", { 10 }, 1, GETOPTS_UNEXPECTED_ARGUMENT },
+        { ONCE, "-\xff", { 2 }, 1, GETOPTS_BAD },
+        { ONCE, "ab", { 1 }, 1, GETOPTS_BAD },
+        { ONCE, "a", { 2 }, 1, GETOPTS_BAD },
+        { ONCE, "\xc3\xa9", { 1, 1 }, 2, GETOPTS_BAD },
+        { NO_KIND, "x", { 1 }, 1, GETOPTS_BAD },
+    };
+    struct room room;
+    for (size_t i = 0; i < sizeof rows / sizeof *rows; i++) {
+        uint32_t status = parsed(rows[i].kind, rows[i].words, strlen(rows[i].words), rows[i].lens, rows[i].count,
+            64, 64, &room);
+        expect(status == rows[i].status, rows[i].words);
+        expect(status != GETOPTS_BAD || tells(&room, 77, 77), "no sizes of a bad request");
+    }
+}
+
+static void accepted_words_are_told(void) {
+    struct room room;
+    expect(parsed(once, "-oabx", 5, (size_t[]){ 4, 1 }, 2, 9, 3, &room) == GETOPTS_OK, "accepted");
+    expect(holds(&room, (size_t[]){ 1, 1, 1, 1, 0, 3, 1, 1, 0 }, 9, "abx"), "what was accepted");
+    expect(tells(&room, 9, 3), "the sizes of what was accepted, which fill the rooms");
+}
+
+static void small_room_tells_the_size(void) {
+    struct room room;
+    expect(parsed(once, "x", 1, (size_t[]){ 1 }, 1, 0, 0, &room) == GETOPTS_TOO_SMALL, "no room");
+    expect(tells(&room, 7, 1) && room.numbers[0] == 9 && room.bytes[0] == '.', "sizes where there is no room");
+}
+
+static void a_fault_is_told(void) {
+    struct room room;
+    expect(parsed(once, "-xyz", 4, (size_t[]){ 4 }, 1, 1, 4, &room) == GETOPTS_UNRECOGNIZED_OPTION, "a fault");
+    expect(holds(&room, (size_t[]){ 1 }, 1, "x") && tells(&room, 1, 1), "the name of the fault");
+}
+
+static void the_canonical_line_is_told(void) {
+    struct room room;
+    empty(&room);
+    expect(getopts_c_canonical(bytes_of(texts), sizeof texts - 1, lens, 4, &once, 1, false, false, bytes_of("x-oab"),
+               5, (size_t[]){ 1, 4 }, 2, room.numbers, 5, room.bytes, 16, &room.sizes)
+            == GETOPTS_OK,
+        "a canonical line");
+    expect(holds(&room, (size_t[]){ 3, 11, 2, 1 }, 4, "--output=ab--x") && tells(&room, 4, 14), "its words");
+}
+
+static void the_short_usage_is_told(void) {
+    struct room room;
+    empty(&room);
+    expect(getopts_c_short_usage(bytes_of(texts), sizeof texts - 1, lens, 4, &once, 1, bytes_of("copy"), 4, room.bytes,
+               21, &room.sizes)
+            == GETOPTS_OK,
+        "a short usage");
+    expect(holds(&room, NULL, 0, "Usage: copy [-o NAME]") && tells(&room, 0, 21), "its text, which fills the room");
+}
+
+static void the_usage_is_told(void) {
+    static const char text[] = "B\n\nOptions:\n    -o, --output NAME   set the output\n";
+    struct room room;
+    empty(&room);
+    uint32_t status = getopts_c_usage(bytes_of(texts), sizeof texts - 1, lens, 4, &once, 1, false, bytes_of("B"), 1,
+        room.bytes, sizeof text - 1, &room.sizes);
+    expect(status == GETOPTS_OK, "a usage text");
+    expect(holds(&room, NULL, 0, text) && tells(&room, 0, sizeof text - 1), "its text, which fills the room");
+    empty(&room);
+    status = getopts_c_usage(bytes_of(texts), sizeof texts - 1, lens, 4, &once, 1, false, bytes_of("B"), 1, room.bytes,
+        sizeof text - 2, &room.sizes);
+    expect(status == GETOPTS_TOO_SMALL, "a byte too little");
+    expect(tells(&room, 0, sizeof text - 1) && room.bytes[0] == '.', "what a byte too little tells");
+}
+
+static void the_usage_rows_are_told(void) {
+    struct room room;
+    empty(&room);
+    expect(getopts_c_usage_rows(bytes_of(texts), sizeof texts - 1, lens, 4, &once, 1, false, room.numbers, 3, room.bytes,
+               40, &room.sizes)
+            == GETOPTS_OK,
+        "usage rows");
+    expect(holds(&room, (size_t[]){ 1, 38 }, 2, "    -o, --output NAME   set the output") && tells(&room, 2, 38),
+        "the rows");
+}
+
+int main(void) {
+    each_line_has_its_status();
+    accepted_words_are_told();
+    small_room_tells_the_size();
+    a_fault_is_told();
+    the_canonical_line_is_told();
+    the_short_usage_is_told();
+    the_usage_is_told();
+    the_usage_rows_are_told();
+    puts(failed ? "the exports failed" : "the exports answer as they should");
+    return failed;
+}
