@@ -17,14 +17,14 @@ if ! command -v rt >/dev/null; then
 fi
 case ${1:-} in
 '')
-    (cd crates/getopts_c && rt lib)
+    (cd crates/getopts_c && rt lib --jobs "${JOBS:-2}")
     mkdir -p "$(dirname "$here")"
     cp "$made" "$here"
     (cd "$(dirname "$here")" && sha256sum libgetopts_c.a >libgetopts_c.a.sha256)
     cat "$here.sha256"
     ;;
 check)
-    (cd crates/getopts_c && rt lib)
+    (cd crates/getopts_c && rt lib --jobs "${JOBS:-2}")
     if ! cmp "$made" "$here"; then
         echo "$here isn't what the proved source gives: rust/archive.sh makes it anew"
         exit 1
