@@ -39,6 +39,9 @@ open(name, "w", encoding="utf-8").write(text)
 PY
 }
 
+# What a check says of a function whose contract or safety it can't prove.
+unproved='^(fn|impl) .*: (not proved|no proof)'
+
 # try_edit COPY EDIT: says whether the check refuses the edit.
 try_edit() {
     local copy=$1 edit=$2 crate name status=0
@@ -50,8 +53,8 @@ try_edit() {
         echo "FAILED: $crate: $name: $(cat "$copy/said")"
     else
         (cd "$folder" && rt check --jobs 1) >"$copy/said" 2>&1 || status=$?
-        if [ $status = 1 ] && grep -q ': not proved' "$copy/said"; then
-            echo "refused: $crate: $name: $(grep -m1 ': not proved' "$copy/said")"
+        if [ $status = 1 ] && grep -qE "$unproved" "$copy/said"; then
+            echo "refused: $crate: $name: $(grep -m1 -E "$unproved" "$copy/said" | cut -c1-80)"
         else
             echo "FAILED: $crate: $name: the check ended with status $status"
         fi
