@@ -40,34 +40,38 @@ part() {
 
 # Beside the rest, in a copy: the archive is made again from the proved source, and over that proof each edit is
 # tried, which the prover has to refuse.
-beside() {
-    (git ls-files -z --cached --others --exclude-standard 2>/dev/null | xargs -0 cp --parents -t "$room") &&
+again() {
+    tar --exclude=./.git --exclude=out --exclude=target -c . | tar -C "$room" -x &&
         nice -n 19 bash "$room/rust/archive.sh" check &&
         nice -n 19 bash "$room/edits/try.sh"
 }
 
+room=$(mktemp -d)
+trap 'kill $(jobs -p) 2>/dev/null || true; rm -rf "$room" "$room.said"' EXIT
+
+# begin COMMAND..: begins a part beside the others. ended LINES: waits for it, and shows its last lines.
+begin() { "$@" >"$room.said" 2>&1 & beside=$!; }
+ended() { local status=0; wait "$beside" || status=$?; tail -n "$1" "$room.said"; return $status; }
+
 if [ -n "$quick" ]; then
+    begin bash rust/test.sh --quick "$@"
     part "tests and programs of all crates, unproved" bash quick.sh
+    part "C and Rust" ended 40
     if [ -x crates/getopts_refused/out/getopts_refused ] && [ -x crates/getopts_show/out/getopts_show ]; then
         part "refused memory" bash refused/run.sh
     else
         echo "skipped: refused memory, whose programs the whole test builds"
     fi
-    part "C and Rust" bash rust/test.sh --quick "$@"
     part "code on the pages for callers" bash docs/quotes.sh
     echo "Nothing was proved: 'bash test.sh' proves everything."
 else
-    room=$(mktemp -d)
-    trap 'kill $(jobs -p) 2>/dev/null; rm -rf "$room"' EXIT
-    beside >"$room.said" 2>&1 &
-    copy=$!
-    besides() { wait $copy; local status=$?; tail -n 20 "$room.said"; rm -f "$room.said"; return $status; }
+    begin again
     # Each part stands on what the one before built.
     part "proofs, tests and programs of all crates" rt ci &&
         part "refused memory" bash refused/run.sh &&
         part "C and Rust" bash rust/test.sh --quick "$@" &&
         part "code on the pages for callers" bash docs/quotes.sh &&
-        part "the archive from the proved source, and edits over it" besides
+        part "the archive from the proved source, and edits over it" ended 20
 fi
 if [ -n "$failed" ]; then
     echo "failed: ${failed#; }"

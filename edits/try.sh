@@ -21,7 +21,7 @@ done
 command -v rt >/dev/null || { echo "no rt on the path: the toolchain's bin folder has to be there" >&2; exit 2; }
 
 room=$(mktemp -d)
-trap 'kill $(jobs -p) 2>/dev/null; rm -rf "$room"' EXIT
+trap 'kill $(jobs -p) 2>/dev/null || true; rm -rf "$room"' EXIT
 
 # apply EDIT FOLDER: makes an edit in a crate's folder; each of its texts stands there once.
 apply() {
