@@ -1,5 +1,5 @@
 -- Wrong answers of `parse`, by what its matches hold or by its fault.
-use Rattle.std.specs.Prelude.{◌≡◌, ℕ, List, [], ◌∷◌, map, length, codes, Some, None}
+use Rattle.std.specs.Prelude.{◌≡◌, ⊤, ℕ, List, [], ◌∷◌, map, length, codes, Some, None}
 use Rattle.std.specs.Prelude.{Ok, Err}
 use Rattle.getopts.specs.Names.{Text}
 use Rattle.getopts.specs.Options.{Declared, group_of}
@@ -21,6 +21,10 @@ AreFree matches words = words ≡ matches.free
 -- each group has so many occurrences
 abbrev pub AreCounts : Matched → List ℕ → Type 0
 AreCounts matches counts = counts ≡ map (λ group. length group.found) matches.groups
+
+-- whatever the matches hold
+abbrev pub AreAny : Matched → List ℕ → Type 0
+AreAny matches answer = ⊤
 
 -- the option `v` of words with free words anywhere
 abbrev pub verbose : Declared
@@ -76,8 +80,8 @@ alias_answers_its_declarer =
 abbrev pub wide_character_resolves : Type 0
 wide_character_resolves =
     Refutes (Answers (usual (group_of [] e_acute [] [] No Optional ∷ [])) ((dash ∷ e_acute) ∷ [])
-    AreCounts)
-    (Err (unrecognized_option e_acute)) (Ok (1 ∷ []))
+    AreAny)
+    (Err (unrecognized_option e_acute)) (Ok [])
 
 -- `-o=5` gives `o` the value `=5`
 abbrev pub cluster_drops_equals_sign : Type 0
