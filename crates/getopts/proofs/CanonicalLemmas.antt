@@ -3,7 +3,7 @@ use Rattle.std.proofs.Common.{◌≡◌, ◌==◌, ◌<◌, ℕ, Bool, true, fal
 use Rattle.std.proofs.lemmas.Bool.{and_parts, and_from, not-true, not_from_false, true≢false}
 use Rattle.std.proofs.lemmas.List.Folds.{list_any_at}
 use Rattle.std.specs.List.{AllByRecursion, list_all}
-use Rattle.getopts.specs.Names.{Text, texts}
+use Rattle.getopts.specs.Names.{Text}
 use Rattle.getopts.specs.Options.{Group, Declared, AreLawfullyNamed, grammar_of, knowns_of}
 use Rattle.getopts.specs.Fail.{Fault}
 use Rattle.getopts.specs.Scan.{equals_sign, holds_equals, Reading, IsScanFault, Occurrence}
@@ -14,7 +14,8 @@ use Rattle.getopts.specs.Parse.{Reads, IsAccepted, BreaksCounts, IsRefused}
 use Rattle.getopts.specs.Canon.{Content, IsCountKeeping, content_of, main_at, HasPlainMain, IsPlain, canonical_line, with_setting, Says}
 use Rattle.getopts.specs.AcceptedLine.{IsAcceptedLine}
 use Rattle.getopts.specs.CanonAnswers.{IsAcceptedWith, IsWritten, IsUnwritable, IsParseAnswer, IsCanonicalAnswer, AnsweredLinesTell}
-use Rattle.getopts.specs.declared.line.AcceptedLine.{AcceptedLine}
+use Rattle.std.specs.String.{string_bytes}
+use Rattle.getopts.specs.declared.accepted.AcceptedLine.{AcceptedLine}
 use Rattle.getopts.proofs.CanonLemmas.{HasCanonicalLine-says, HasUnwritable-content, CanonicalLinesTell-lawful}
 use Rattle.getopts.proofs.OnlyLemmas.{meets}
 use Rattle.getopts.proofs.ParseLemmas.{only_reads, named_here, groups_are, IsAccepted-reading}
@@ -61,11 +62,11 @@ module _ (options : Declared) (words : List Text) (accepted : AcceptedLine) (is 
   -- the matches of the line are accepted
   pub IsAccepted-line : IsAccepted options words (record {
     groups = matched 0 (knowns_of options.groups) accepted.line.found;
-    free = texts accepted.line.free.items;
+    free = map string_bytes accepted.line.free.items;
     trailing_start = accepted.line.trailing_start;
   })
   IsAccepted-line = IsAccepted-reading options is.lawful is.shorts words is.reads.reading is.reads.reads
-      accepted.line.found is.reads.occurrences (texts accepted.line.free.items) accepted.line.trailing_start is.keeps is.reads.free is.reads.trailing
+      accepted.line.found is.reads.occurrences (map string_bytes accepted.line.free.items) accepted.line.trailing_start is.keeps is.reads.free is.reads.trailing
 
   -- the words are accepted with what the line says
   pub IsAcceptedWith-line : IsAcceptedWith options words (line_content accepted.line)

@@ -1,5 +1,5 @@
 -- What matches hold, by the groups and the one list that the code has.
-use Rattle.std.proofs.Common.{◌≡◌, ◌==◌, ℕ, suc, zero, ◌+◌, ◌<◌, ◌≤◌, Bool, true, false, cond, List, [], ◌∷◌, map, length, filter, Option, Some, None, unwrap_or, slice_get, refl, ap, sym, ◌∙◌, subst, inl, inr, arith, zero-add}
+use Rattle.std.proofs.Common.{◌≡◌, ℕ, suc, zero, ◌+◌, ◌<◌, ◌≤◌, true, false, List, [], ◌∷◌, map, length, Option, Some, None, unwrap_or, slice_get, refl, ap, sym, ◌∙◌, subst, inl, inr, arith, zero-add}
 use Rattle.std.specs.Cmp.Lexicographic.{pointwise}
 use Rattle.std.specs.List.{AllByRecursion, filter_map, cons_option}
 use Rattle.std.specs.Option.{option_map, option_map_or}
@@ -20,11 +20,9 @@ use Rattle.getopts.specs.Matches.{Found, MatchedGroup, found_at, matched}
 use Rattle.getopts.specs.Accessors.{AreHeldLawfully, found_in, place_of, values_of, pairs_of}
 use Rattle.getopts.specs.Same.{same_known, same_found, same_matched_group}
 use Rattle.getopts.specs.Held.Groups.{HaveLawfulNames}
-use Rattle.getopts.specs.Held.Found.{given_view}
 use Rattle.getopts.specs.Held.Occurrences.{found_part, pair_view}
 use Rattle.getopts.specs.Held.Accepted.{index_of}
-use Rattle.getopts.specs.declared.line.Given.{Given}
-use Rattle.getopts.proofs.CountLemmas.{groups-given, length-matched}
+use Rattle.getopts.proofs.CountLemmas.{length-matched}
 use Rattle.getopts.proofs.IndexLemmas.{filter_map-places_of, places_of-within, slice_get-places_by_group, length-places_by_group}
 use Rattle.getopts.proofs.PairsLemmas.{names_in-name_texts}
 
@@ -54,55 +52,45 @@ AreHeldLawfully-matched first (known ∷ knowns) occurrences lawful = (lawful.0,
 pub place_of-matched : (knowns : List Known) (occurrences : List Occurrence) (name : Text) → resolution (names_in (name_texts knowns)) name ≡ place_of (matched 0 knowns occurrences) name
 place_of-matched knowns occurrences name = ap (λ (groups : List Names). resolution groups name) (names_in-name_texts knowns ∙ sym (names-matched 0 knowns occurrences))
 
--- the occurrences of a group, from the list of all
-found_at-given : (values : List Text) (place : ℕ) (given : List Given) → map (λ (g : Given). found_part (given_view values g)) (filter (λ (g : Given). g.group == place) given) ≡ found_at place (map (given_view values) given)
-found_at-given values place [] = refl
-found_at-given values place (g ∷ given) =
-    let occurrences = filter (λ (o : Occurrence). o.mention.group == place) (map (given_view values) given) in
-    elim (g.group == place) as (λ (b : Bool). map (λ (h : Given). found_part (given_view values h)) (cond b (g ∷ filter (λ (h : Given). h.group == place) given) (filter (λ (h : Given). h.group == place) given)) ≡ map found_part (cond b (given_view values g ∷ occurrences) occurrences)) [
-      | true ↦ ap (λ (more : List Found). found_part (given_view values g) ∷ more) (found_at-given values place given)
-      | false ↦ found_at-given values place given
-    ]
-
-module _ (knowns : List Known) (values : List Text) (given : List Given) (place : ℕ) where
+module _ (knowns : List Known) (occurrences : List Occurrence) (place : ℕ) where
   -- where the occurrences of the group at this place stand
-  abbrev pub given_places : List ℕ
-  given_places = unwrap_or (slice_get (index_of knowns (map (given_view values) given)) place) []
+  abbrev pub held_places : List ℕ
+  held_places = unwrap_or (slice_get (index_of knowns occurrences) place) []
 
   -- of a group that is there, those of its number
-  places-there : place < length knowns → given_places ≡ places_of place (map (λ (g : Given). g.group) given)
+  places-there : place < length knowns → held_places ≡ places_of place (map (λ (o : Occurrence). o.mention.group) occurrences)
   places-there there =
-      let groups = map (λ (o : Occurrence). o.mention.group) (map (given_view values) given) in
-      ap (λ (o : Option (List ℕ)). unwrap_or o []) (slice_get-places_by_group (length knowns) place groups there) ∙ ap (places_of place) (sym (groups-given values given))
+      ap (λ (o : Option (List ℕ)). unwrap_or o []) (slice_get-places_by_group (length knowns) place (map (λ (o : Occurrence). o.mention.group) occurrences) there)
 
   -- of any other, none
-  places-past : length knowns ≤ place → given_places ≡ []
+  places-past : length knowns ≤ place → held_places ≡ []
   places-past past =
-      let groups = map (λ (o : Occurrence). o.mention.group) (map (given_view values) given) in
-      ap (λ (o : Option (List ℕ)). unwrap_or o []) (slice_get_past (index_of knowns (map (given_view values) given)) place (omega (arith, length-places_by_group (length knowns) groups)))
+      let groups = map (λ (o : Occurrence). o.mention.group) occurrences in
+      ap (λ (o : Option (List ℕ)). unwrap_or o []) (slice_get_past (index_of knowns occurrences) place (omega (arith, length-places_by_group (length knowns) groups)))
 
   -- they stand among the occurrences
-  pub given_places-within : AllByRecursion (λ p. p < length given) given_places
-  given_places-within = elim (cases_lt place (length knowns)) [
+  pub held_places-within : AllByRecursion (λ p. p < length occurrences) held_places
+  held_places-within = elim (cases_lt place (length knowns)) [
     | inl there ↦
-        let groups = map (λ (g : Given). g.group) given in
+        let groups = map (λ (o : Occurrence). o.mention.group) occurrences in
         let within = recursion_from_All (λ p. p < length groups) (places_of place groups) (places_of-within place groups) in
-        subst (AllByRecursion (λ p. p < length given)) (sym (places-there there)) (subst (λ n. AllByRecursion (λ p. p < n) (places_of place groups)) (length-map given (λ (g : Given). g.group)) within)
-    | inr past ↦ subst (AllByRecursion (λ p. p < length given)) (sym (places-past past)) tt
+        subst (AllByRecursion (λ p. p < length occurrences)) (sym (places-there there))
+        (subst (λ n. AllByRecursion (λ p. p < n) (places_of place groups)) (length-map occurrences (λ (o : Occurrence). o.mention.group)) within)
+    | inr past ↦ subst (AllByRecursion (λ p. p < length occurrences)) (sym (places-past past)) tt
   ]
 
   -- they are the occurrences of that group
-  pub given_places-found : map (λ (g : Given). found_part (given_view values g)) (filter_map (λ p. slice_get given p) given_places) ≡ found_in (matched 0 knowns (map (given_view values) given)) (Some place)
-  given_places-found = elim (cases_lt place (length knowns)) [
+  pub held_places-found : map found_part (filter_map (λ p. slice_get occurrences p) held_places) ≡ found_in (matched 0 knowns occurrences) (Some place)
+  held_places-found = elim (cases_lt place (length knowns)) [
     | inl there ↦
-        ap (λ (ps : List ℕ). map (λ (g : Given). found_part (given_view values g)) (filter_map (λ p. slice_get given p) ps)) (places-there there)
-        ∙ ap (map (λ (g : Given). found_part (given_view values g))) (filter_map-places_of (λ (g : Given). g.group) place given)
-        ∙ found_at-given values place given
-        ∙ ap (λ n. found_at n (map (given_view values) given)) (sym (zero-add place))
-        ∙ sym (found-matched 0 knowns (map (given_view values) given) place there)
+        ap (λ (ps : List ℕ). map found_part (filter_map (λ p. slice_get occurrences p) ps)) (places-there there)
+        ∙ ap (map found_part) (filter_map-places_of (λ (o : Occurrence). o.mention.group) place occurrences)
+        ∙ ap (λ n. found_at n occurrences) (sym (zero-add place))
+        ∙ sym (found-matched 0 knowns occurrences place there)
     | inr past ↦
-        ap (λ (ps : List ℕ). map (λ (g : Given). found_part (given_view values g)) (filter_map (λ p. slice_get given p) ps)) (places-past past)
-        ∙ sym (ap (λ (o : Option MatchedGroup). option_map_or (λ (group : MatchedGroup). group.found) o []) (slice_get_past (matched 0 knowns (map (given_view values) given)) place (omega (arith, length-matched 0 knowns (map (given_view values) given)))))
+        ap (λ (ps : List ℕ). map found_part (filter_map (λ p. slice_get occurrences p) ps)) (places-past past)
+        ∙ sym (ap (λ (o : Option MatchedGroup). option_map_or (λ (group : MatchedGroup). group.found) o [])
+        (slice_get_past (matched 0 knowns occurrences) place (omega (arith, length-matched 0 knowns occurrences))))
   ]
 
 -- values are the texts of the pairs

@@ -10,10 +10,9 @@ use Rattle.std.proofs.lemmas.Option.{slice_get-map, slice_get_past}
 use Rattle.getopts.specs.Names.{Text}
 use Rattle.getopts.specs.Matches.{Found}
 use Rattle.getopts.specs.Accessors.{positions_of, values_of, pair_of, pairs_of}
-use Rattle.getopts.specs.Held.Found.{given_view}
+use Rattle.getopts.specs.Scan.{Occurrence}
 use Rattle.getopts.specs.Held.Occurrences.{found_part, held_found}
 use Rattle.getopts.specs.Same.{same_found}
-use Rattle.getopts.specs.declared.line.Given.{Given}
 
 -- a list has an element at each place within it
 element : {X : Type 0} (xs : List X) (i : ℕ) → i < length xs → (x : X) × (slice_get xs i ≡ Some x)
@@ -40,24 +39,24 @@ slice_get-at_places {X} xs (p ∷ places) (suc i) place all at =
     ap (λ (o : Option X). slice_get (cons_option o (filter_map (λ place. slice_get xs place) places)) (suc i)) ((element xs p all.0).1)
     ∙ slice_get-at_places xs places i place all.1 at
 
-module _ (values : List Text) (given : List Given) (places : List ℕ) (all : AllByRecursion (λ place. place < length given) places) where
+module _ (occurrences : List Occurrence) (places : List ℕ) (all : AllByRecursion (λ place. place < length occurrences) places) where
   -- the occurrences at these places
   abbrev founds : List Found
-  founds = map (λ g. found_part (given_view values g)) (filter_map (λ place. slice_get given place) places)
+  founds = map found_part (filter_map (λ place. slice_get occurrences place) places)
 
   -- as many occurrences as places
   pub length-founds : length founds ≡ length places
-  length-founds = length-map (filter_map (λ place. slice_get given place) places) (λ g. found_part (given_view values g)) ∙ length-at_places given places all
+  length-founds = length-map (filter_map (λ place. slice_get occurrences place) places) found_part ∙ length-at_places occurrences places all
 
   -- past the last place there is nothing
   pub founds-past : (i : ℕ) → length places ≤ i → slice_get founds i ≡ None
   founds-past i past = slice_get_past founds i (omega (arith, length-founds))
 
   -- the occurrence at one of the places
-  pub founds-at : (i place : ℕ) (g : Given) → slice_get places i ≡ Some place → slice_get given place ≡ Some g → slice_get founds i ≡ Some (found_part (given_view values g))
-  founds-at i place g at there =
-      slice_get-map (λ g. found_part (given_view values g)) (filter_map (λ place. slice_get given place) places) i
-      ∙ ap (λ (o : Option Given). option_map (λ g. found_part (given_view values g)) o) (slice_get-at_places given places i place all at ∙ there)
+  pub founds-at : (i place : ℕ) → slice_get places i ≡ Some place → slice_get founds i ≡ option_map found_part (slice_get occurrences place)
+  founds-at i place at =
+      slice_get-map found_part (filter_map (λ place. slice_get occurrences place) places) i
+      ∙ ap (λ (o : Option Occurrence). option_map found_part o) (slice_get-at_places occurrences places i place all at)
 
 -- one more element of a front, if there is one
 take-more : {X : Type 0} (xs : List X) (i : ℕ) → take (i + 1) xs ≡ take i xs ++ cons_option (slice_get xs i) []

@@ -68,9 +68,9 @@ ReadSoFar-none grammar words = record {
 }
 
 -- what is left past a word and some of the words after it
-drop_past : {X : Type 0} (words after : List X) (word : X) (at used : ℕ) → drop at words ≡ word ∷ after → drop (at + (1 + used)) words ≡ drop used after
+drop_past : {X : Type 0} (words after : List X) (word : X) (at used : ℕ) → drop at words ≡ word ∷ after → drop (at + 1 + used) words ≡ drop used after
 drop_past words after word at used left =
-    let place : at + (1 + used) ≡ at + suc used = omega arith in
+    let place : at + 1 + used ≡ at + suc used = omega arith in
     ap (λ n. drop n words) place ∙ sym (drop-drop (suc used) at words) ∙ ap (drop (suc used)) left
 
 module _ (grammar : Grammar) (words : List Text) (at : ℕ) (occurrences : List Occurrence) (frees : List Text) (before : ReadSoFar grammar words at occurrences frees) where
@@ -78,17 +78,17 @@ module _ (grammar : Grammar) (words : List Text) (at : ℕ) (occurrences : List 
   pub ReadSoFar-item : (word : Text) (after : List Text) (item : Item) (used : ℕ) (newer : List Occurrence) (new_frees : List Text) → drop at words ≡ word ∷ after → used ≤ length after
       → BeginsWith grammar (word ∷ after) item (drop used after)
       → newer ≡ occurrences ++ map (occurrence_at at) (mentions grammar item) → new_frees ≡ frees ++ free_items (item ∷ [])
-      → ReadSoFar grammar words (at + (1 + used)) newer new_frees
+      → ReadSoFar grammar words (at + 1 + used) newer new_frees
   ReadSoFar-item word after item used newer new_frees left short begins added freed =
-      let next : drop (at + (1 + used)) words ≡ drop used after = drop_past words after word at used left in
+      let next : drop (at + 1 + used) words ≡ drop used after = drop_past words after word at used left in
       let size : length (drop at words) ≡ suc (length after) = ap length left in
       let place : at ≡ word_count before.items = omega (arith, ap length before.spells, length-spelled_all before.items (drop at words), length-drop at words, before.within) in
-      let spells_next : drop at words ≡ spelled item (drop (at + (1 + used)) words) = left ∙ begins.spells ∙ ap (spelled item) (sym next) in
+      let spells_next : drop at words ≡ spelled item (drop (at + 1 + used) words) = left ∙ begins.spells ∙ ap (spelled item) (sym next) in
       record {
         items = before.items ++ item ∷ [];
-        spells = spelled_all-append before.items (item ∷ []) (drop (at + (1 + used)) words) ∙ ap (spelled_all before.items) (sym spells_next) ∙ before.spells;
+        spells = spelled_all-append before.items (item ∷ []) (drop (at + 1 + used) words) ∙ ap (spelled_all before.items) (sym spells_next) ∙ before.spells;
         lawful = AllByRecursion-append (IsLawfulItem grammar) before.items (item ∷ []) before.lawful (begins.lawful, tt);
-        followed = followed-push before.items item (drop (at + (1 + used)) words) (subst (AreWellFollowed before.items) spells_next before.followed)
+        followed = followed-push before.items item (drop (at + 1 + used) words) (subst (AreWellFollowed before.items) spells_next before.followed)
             (λ bare. subst EndsOrIsDashed (sym next) (begins.followed bare));
         occurrences_are = added ∙ ap (λ (os : List Occurrence). os ++ map (occurrence_at at) (mentions grammar item)) before.occurrences_are
             ∙ ap (λ n. occurrences_after 0 grammar before.items ++ map (occurrence_at n) (mentions grammar item)) (place ∙ sym (zero-add (word_count before.items)))
@@ -129,6 +129,16 @@ texts_from [] word at within = absurd (omega arith)
 texts_from (first ∷ words) word zero within = refl
 texts_from (first ∷ words) word (suc at) within = rw add-one (simp add-one at (texts_from words word at (omega arith)))
 
+-- the word at a place alone, as a text
+pub texts-one : (words : List (Bor Text)) (word : Bor Text) (at : ℕ) → at < length words → texts (take (at + 1 - at) (drop at words)) ≡ (get_or words at word).now ∷ []
+texts-one words word at within =
+    let size : at + 1 - at ≡ 1 = omega arith in
+    ap (λ n. texts (take n (drop at words))) size ∙ one words at within where
+      one : (words : List (Bor Text)) (at : ℕ) → at < length words → texts (take 1 (drop at words)) ≡ (get_or words at word).now ∷ []
+      one [] at within = absurd (omega arith)
+      one (first ∷ words) zero within = refl
+      one (first ∷ words) (suc at) within = one words at (omega arith)
+
 -- the words after a place, as texts
 pub texts-drop : (words : List (Bor Text)) (at : ℕ) → texts (drop at words) ≡ drop at (texts words)
 texts-drop words zero = refl
@@ -166,15 +176,16 @@ module _ (grammar : Grammar) (words : List (Bor Text)) (at : ℕ) (occurrences :
   pub ReadSoFar-free : (new_frees : List Text) → is_dashed (get_or words at d).now ≡ false → grammar.style ≡ FloatingFrees → new_frees ≡ frees ++ (get_or words at d).now ∷ []
       → ReadSoFar grammar (texts words) (at + 1) occurrences new_frees
   ReadSoFar-free new_frees plain floating pushed =
-      ReadSoFar-item grammar (texts words) at occurrences frees before (get_or words at d).now (texts (drop (at + 1) words)) (free (get_or words at d).now) 0 occurrences new_frees
+      subst (λ (next : ℕ). ReadSoFar grammar (texts words) next occurrences new_frees) (add-zero (at + 1))
+      (ReadSoFar-item grammar (texts words) at occurrences frees before (get_or words at d).now (texts (drop (at + 1) words)) (free (get_or words at d).now) 0 occurrences new_frees
       (texts_from words d at within) zero-le
       (record { spells = refl; lawful = (plain, floating); followed = λ bare. cc })
-      (sym (append-nil occurrences)) pushed
+      (sym (append-nil occurrences)) pushed)
 
   -- an item that a dashed word begins
   pub ReadSoFar-added : (word : Text) (used : ℕ) (newer : List Occurrence) → (get_or words at d).now ≡ word → is_dashed word ≡ true
       → AddsItem grammar word (texts (drop (at + 1) words)) at used occurrences newer
-      → ReadSoFar grammar (texts words) (at + (1 + used)) newer frees
+      → ReadSoFar grammar (texts words) (at + 1 + used) newer frees
   ReadSoFar-added word used newer word_is dashed adds =
       let none_free : free_items (adds.reads.item ∷ []) ≡ [] = no_free grammar word (texts (drop (at + 1) words)) (drop used (texts (drop (at + 1) words))) adds.reads.item adds.reads.begins dashed in
       ReadSoFar-item grammar (texts words) at occurrences frees before word (texts (drop (at + 1) words)) adds.reads.item used newer frees

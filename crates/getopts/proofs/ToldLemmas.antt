@@ -1,5 +1,5 @@
 -- What accepted matches tell of the names that the options declare.
-use Rattle.std.proofs.Common.{◌≡◌, ◌==◌, ◌<◌, ◌+◌, ℕ, zero, suc, Bool, true, false, cond, List, [], ◌∷◌, ◌++◌, length, append_assoc, map, slice_get, Option, Some, None, IsSome, refl, ap, sym, subst, ◌∙◌, arith, add-zero, zero-add, Result, Ok, Err, IfOk}
+use Rattle.std.proofs.Common.{◌≡◌, ◌==◌, ◌<◌, ◌+◌, ℕ, zero, suc, Bool, true, false, cond, List, [], ◌∷◌, ◌++◌, length, append_assoc, map, slice_get, Option, Some, None, IsSome, refl, ap, sym, subst, ◌∙◌, arith, add-zero, zero-add}
 use Rattle.std.specs.List.{AllByRecursion, filter}
 use Rattle.std.specs.Option.{option_map}
 use Rattle.std.proofs.lemmas.Bool.{eqb-true}
@@ -187,8 +187,3 @@ EndIn-reading grammar reading words reads style =
 pub HaveLastWordsFree-accepted : (options : Declared) (words : List Text) (matches : Matched) → IsAccepted options words matches → HaveLastWordsFree options words matches.free
 HaveLastWordsFree-accepted options words matches accepted style =
     subst (EndIn words) (ap (λ (m : Matched). m.free) (sym accepted.matches_are)) (EndIn-reading (grammar_of options) accepted.reading words ((accepted.only accepted.reading).1 refl) style)
-
--- two facts of an answer give a third
-pub IfOk-both : {X E : Type 0} (answer : Result X E) (P Q R : X → Type 0) → ((x : X) → P x → Q x → R x) → IfOk answer P → IfOk answer Q → IfOk answer R
-IfOk-both (Ok x) P Q R follows p q = follows x p q
-IfOk-both (Err e) P Q R follows p q = tt

@@ -6,7 +6,7 @@ use Rattle.getopts.specs.Held.Groups.{HaveTextsForShorts}
 use Rattle.getopts.specs.Line.{ReadsLine}
 use Rattle.getopts.specs.Held.Accepted.{IsHeldLine}
 use Rattle.getopts.specs.Matches.{matched, KeepsCounts}
-use Rattle.getopts.specs.declared.line.AcceptedLine.{AcceptedLine}
+use Rattle.getopts.specs.declared.accepted.AcceptedLine.{AcceptedLine}
 
 -- Words were read to this line by lawfully named options, and it keeps the counts.
 pub record IsAcceptedLine (options : Declared) (words : List Text) (accepted : AcceptedLine)

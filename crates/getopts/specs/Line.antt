@@ -1,8 +1,9 @@
 -- What the functions of `scan` find in the words that they are given.
-use Rattle.std.specs.Prelude.{◌≡◌, ◌≢◌, ℕ, ◌≤◌, true, List, [], ◌∷◌, ◌++◌, length, map, drop}
+use Rattle.std.specs.Prelude.{◌≡◌, ◌≢◌, ℕ, ◌≤◌, true, false, None, List, [], ◌∷◌, ◌++◌, length, map, drop}
 use Rattle.std.specs.Prelude.{Option}
 use Rattle.std.specs.Option.{option_copied, unwrap_or}
-use Rattle.getopts.specs.Names.{Text, texts}
+use Rattle.std.specs.String.{string_bytes}
+use Rattle.getopts.specs.Names.{Text}
 use Rattle.getopts.specs.Options.{Grammar, AreLawfullyNamed, knowns_of, grammar_of}
 use Rattle.getopts.specs.Held.Groups.{HaveTextsForShorts}
 use Rattle.getopts.specs.Pairs.{name_texts}
@@ -12,10 +13,13 @@ use Rattle.getopts.specs.Scan.{dash_text, Dashes, MayStandBefore, Argument, none
 use Rattle.getopts.specs.Scan.{attached_argument, argument_words, EndsOrIsDashed, is_dashed}
 use Rattle.getopts.specs.Scan.{stop_word, Item, BeginsWith, Occurrence, occurrence_at, mentions}
 use Rattle.getopts.specs.Scan.{Reading, IsReading, occurrences_of, free_words, trailing_start}
+use Rattle.getopts.specs.Scan.{IsShortForm}
 use Rattle.getopts.specs.declared.groups.HasArg.{HasArg}
 use Rattle.getopts.specs.declared.line.Occurrence.{Occurrence as Held}
 use Rattle.getopts.specs.declared.line.Line.{Line}
 use Rattle.getopts.specs.declared.scan.Scanner.{Scanner}
+use Rattle.getopts.specs.declared.scan.Shape.{Shape}
+use Rattle.getopts.specs.declared.scan.Shape.TheVariants as shape
 
 -- an occurrence as the code holds it
 abbrev pub occurrence_view : Held → Occurrence
@@ -41,6 +45,13 @@ pub record IsInLongForm (grammar : Grammar) (word text : Text) : Type 0 where
   pub word_is : word ≡ dash_text dashes ++ text
   pub dashed : is_dashed word ≡ true
   pub no_stop : word ≢ stop_word
+
+-- what a word is to a line
+abbrev pub HasShape : Grammar → Text → Shape → Type 0
+HasShape grammar word shape.Free = is_dashed word ≡ false
+HasShape grammar word shape.Stop = word ≡ stop_word
+HasShape grammar word (shape.Long text) = IsInLongForm grammar word text.now
+HasShape grammar word (shape.Cluster text) = IsShortForm grammar word text.now
 
 -- The line begins with an item that uses so many words after its first, and has these occurrences.
 pub record ReadsItem (grammar : Grammar) (word : Text) (after : List Text) (position used : ℕ)
@@ -75,12 +86,18 @@ pub record ReadsLine (grammar : Grammar) (words : List Text) (line : Line) : Typ
   pub reading : Reading
   pub reads : IsReading grammar reading words
   pub occurrences : line.found ≡ occurrences_of grammar reading
-  pub free : texts line.free.items ≡ free_words reading
+  pub free : map string_bytes line.free.items ≡ free_words reading
   pub trailing : line.trailing_start ≡ trailing_start reading
+
+-- a line that gives nothing
+pub record IsEmptyLine (line : Line) : Type 0 where
+  pub found : line.found ≡ []
+  pub free : line.free.items ≡ []
+  pub trailing : line.trailing_start ≡ None
 
 -- what a line says
 abbrev pub line_content : Line → Content
 line_content line = record {
   mentions = map (λ o. o.mention) line.found;
-  free = texts line.free.items;
+  free = map string_bytes line.free.items;
 }

@@ -46,8 +46,7 @@ impl Matches {
         ensures { result ≡ found_in self.now.groups (Some place) }
     {
         Occurrences {
-            given: &self.given,
-            values: &self.values,
+            found: &self.found,
             places: self.index.places(place),
         }
     }
@@ -59,8 +58,7 @@ impl Matches {
         match self.opt_place(name) {
             Some(place) => self.occurrences_at(place),
             None => Occurrences {
-                given: &[],
-                values: &self.values,
+                found: &self.found,
                 places: &[],
             },
         }

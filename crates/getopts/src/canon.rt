@@ -14,8 +14,9 @@ ghost use Rattle.getopts.specs.Scan.{holds_equals, long_word, two};
 ghost use Rattle.getopts.specs.Canon.{main_at, canonical_line};
 ghost use Rattle.getopts.specs.CanonAnswers.{IsParseAnswer, IsCanonicalAnswer, HasOneAnswer};
 
+use crate::accepted::AcceptedLine;
 use crate::fail::Fail;
-use crate::line::{AcceptedLine, Line};
+use crate::line::Line;
 use crate::options::Options;
 use crate::words::words_from;
 use std::alloc::{AllocError, Global};
@@ -28,7 +29,7 @@ fn holds_equals(text: &str) -> bool
 }
 
 /// Whether no group with an occurrence has a main name that holds `=`.
-fn are_plain(options: &Options, accepted: &AcceptedLine<'_>) -> bool
+fn are_plain(options: &Options, accepted: &AcceptedLine) -> bool
     requires { IsHeldLine (knowns_of options.now.groups) accepted.now }
     ensures { result
         ≡ list_all (λ o. not (holds_equals (main_at options.now.groups o.mention.group)))
@@ -68,19 +69,12 @@ fn canonical_word(alloc: Global, main: &str, value: Option<&str>) -> Result<Stri
 }
 
 /// The words of the occurrences, then `--`, then the free words.
-fn canonical_line(
-    alloc: Global,
-    options: &Options,
-    line: &Line<'_>,
-) -> Result<Vec<String>, AllocError>
+fn canonical_line(alloc: Global, options: &Options, line: Line) -> Result<Vec<String>, AllocError>
     ensures { IfOk result (λ words. map string_bytes words.items
-        ≡ canonical_line options.now.groups (line_content line.now)) }
+        ≡ canonical_line options.now.groups (line_content line)) }
 {
-    let found = &line.found;
-    let room = found
-        .len()
-        .saturating_add(line.free.len())
-        .saturating_add(1);
+    let Line { found, free, .. } = line;
+    let room = found.len().saturating_add(free.len()).saturating_add(1);
     let mut words = Vec::with_capacity(alloc, room)?;
     for place in 0..found.len() {
         if let Some(occurrence) = found.get(place) {
@@ -89,8 +83,8 @@ fn canonical_line(
         }
     }
     words.push(String::from_str(alloc, "--")?)?;
-    for word in &line.free {
-        words.push(String::from_str(alloc, word)?)?;
+    for word in free {
+        words.push(word)?;
     }
     Ok(words)
 }
@@ -102,17 +96,17 @@ impl Options {
     ghost use Rattle.getopts.specs.CanonAnswers.{IsWritten, IsUnwritable};
 
     /// The canonical line of accepted words, if they have one.
-    fn canonical_words(&self, alloc: Global, words: Vec<&str>) -> Result<Option<Vec<String>>, Fail>
+    fn canonical_words(&self, alloc: Global, words: &[&str]) -> Result<Option<Vec<String>>, Fail>
         ensures written { IfOk result (λ answer. IfSome answer (λ line.
-            IsWritten self.now (texts words.entry.items) (map string_bytes line.items))) }
+            IsWritten self.now (texts words.now) (map string_bytes line.items))) }
         ensures unwritable { IfOk result (λ answer. IfNone answer
-            (IsUnwritable self.now (texts words.entry.items))) }
+            (IsUnwritable self.now (texts words.now))) }
         ensures refused { IfErr result (λ fail. Tells fail
-            (IsRefused self.now (texts words.entry.items))) }
+            (IsRefused self.now (texts words.now))) }
     {
         let accepted = self.accepted_line(alloc, words)?;
         if are_plain(self, &accepted) {
-            Ok(Some(canonical_line(alloc, self, &accepted.line)?))
+            Ok(Some(canonical_line(alloc, self, accepted.line)?))
         } else {
             Ok(None)
         }
@@ -150,7 +144,7 @@ impl Options {
             (λ run. IsRefused self.now (texts run.items) fault))) }
     {
         let words = words_from(alloc, args)?;
-        self.canonical_words(alloc, words)
+        self.canonical_words(alloc, &words)
     }
 }
 

@@ -34,7 +34,7 @@ fn broken_count(alloc: Global, main: &str, count: usize) -> Fail
 }
 
 /// Where each group's occurrences stand.
-fn index_of(alloc: Global, groups: &Groups, found: &Found<'_>) -> Result<Index, AllocError>
+fn index_of(alloc: Global, groups: &Groups, found: &Found) -> Result<Index, AllocError>
     ensures { IfOk result (λ index. index ≡ index_of groups.now found.now) }
 {
     Index::of(alloc, groups.len(), &found.given)
@@ -42,7 +42,7 @@ fn index_of(alloc: Global, groups: &Groups, found: &Found<'_>) -> Result<Index, 
 
 /// Where each group's occurrences stand, once their counts are tested, group by group in order of
 /// definition.
-pub(crate) fn counted(alloc: Global, groups: &Groups, found: &Found<'_>) -> Result<Index, Fail>
+pub(crate) fn counted(alloc: Global, groups: &Groups, found: &Found) -> Result<Index, Fail>
     ensures ok { IfOk result (λ index. (index ≡ index_of groups.now found.now)
         × KeepsCounts (matched 0 groups.now found.now)) }
     ensures err { IfErr result (λ fail. Tells fail

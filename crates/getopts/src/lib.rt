@@ -1,6 +1,7 @@
 //! Command-line options: declared groups, a list of words, and the one reading of those words.
 #![tactic(auto)]
 
+mod accepted;
 mod accessors;
 mod adding;
 mod canon;

@@ -1,10 +1,9 @@
-//! What a line gives, as it is read: occurrences of options in the order of the line, and free words.
+//! What a line gives: options in the order of the line, with their values, and free words.
 
 ghost use Rattle.std.specs.Prelude.{◌≡◌, ◌∷◌, ◌++◌, [], None, Some, IfOk, OnOk, length, slice_get};
 ghost use Rattle.std.specs.Option.{option_map};
 
-use crate::index::Index;
-use crate::table::Table;
+use crate::texts::Texts;
 use std::alloc::{AllocError, Global};
 use std::marker::Model;
 
@@ -17,37 +16,6 @@ pub(crate) struct Occurrence<'w> {
     pub value: Option<&'w str>,
 }
 
-impl<'w> Occurrence<'w> {
-    ghost use Rattle.getopts.specs.Line.{occurrence_view};
-
-    /// An occurrence without a value.
-    pub(crate) fn bare(group: usize, position: usize) -> Occurrence<'w>
-        ensures { occurrence_view result
-            ≡ record { mention = record { group = group; value = None }; position = position } }
-    {
-        Occurrence {
-            group,
-            position,
-            value: None,
-        }
-    }
-
-    /// An occurrence with a value.
-    pub(crate) fn with_value(group: usize, position: usize, value: &'w str) -> Occurrence<'w>
-        ensures { occurrence_view result
-            ≡ record {
-              mention = record { group = group; value = Some value.now };
-              position = position;
-            } }
-    {
-        Occurrence {
-            group,
-            position,
-            value: Some(value),
-        }
-    }
-}
-
 /// One option that a line gives. Its value is told by its place among the values of the line.
 #[derive(Clone, Copy, Debug)]
 pub(crate) struct Given {
@@ -56,14 +24,23 @@ pub(crate) struct Given {
     pub value: Option<usize>,
 }
 
-/// The options that a line gives, in order, and their values, borrowed from its words.
-#[derive(Drop)]
-pub(crate) struct Found<'w> {
+/// The options that a line gives, in order, and their values.
+#[derive(Debug)]
+pub(crate) struct Found {
     pub given: Vec<Given>,
-    pub values: Vec<&'w str>,
+    values: Texts,
 }
 
-impl<'w> Model for Found<'w> {
+impl Drop for Found {
+    fn drop(self) {
+        let Found {
+            given: _,
+            values: _,
+        } = self;
+    }
+}
+
+impl Model for Found {
     ghost use Rattle.std.specs.Prelude.{List};
     ghost use Rattle.getopts.specs.Scan.{Occurrence};
     ghost use Rattle.getopts.specs.Held.Found.{found_view, HaveTheirValues};
@@ -75,16 +52,16 @@ impl<'w> Model for Found<'w> {
     ghost invariant = { HaveTheirValues };
 }
 
-impl<'w> Found<'w> {
+impl Found {
     ghost use Rattle.getopts.specs.Line.{occurrence_view};
 
     /// No options, with room for so many.
-    pub(crate) fn with_capacity(alloc: Global, room: usize) -> Result<Found<'w>, AllocError>
+    pub(crate) fn with_capacity(alloc: Global, room: usize) -> Result<Found, AllocError>
         ensures { IfOk result (λ found. found ≡ []) }
     {
         Ok(Found {
             given: Vec::with_capacity(alloc, room)?,
-            values: Vec::with_capacity(alloc, room)?,
+            values: Texts::new(alloc),
         })
     }
 
@@ -95,12 +72,12 @@ impl<'w> Found<'w> {
     }
 
     /// The occurrence at a place.
-    pub(crate) fn get(&self, place: usize) -> Option<Occurrence<'w>>
+    pub(crate) fn get(&self, place: usize) -> Option<Occurrence<'_>>
         ensures { option_map occurrence_view result ≡ slice_get self.now place }
     {
         let given = *self.given.get(place)?;
         let value = match given.value {
-            Some(value) => self.values.get(value).copied(),
+            Some(value) => self.values.get(value),
             None => None,
         };
         Some(Occurrence {
@@ -111,7 +88,7 @@ impl<'w> Found<'w> {
     }
 
     /// Adds an occurrence as the last.
-    pub(crate) fn push(&mut self, occurrence: Occurrence<'w>) -> Result<(), AllocError>
+    pub(crate) fn push(&mut self, occurrence: Occurrence<'_>) -> Result<(), AllocError>
         ensures { OnOk result (self.new ≡ self.old ++ occurrence_view occurrence.entry ∷ []) }
     {
         let value = match occurrence.value {
@@ -131,18 +108,36 @@ impl<'w> Found<'w> {
     }
 }
 
-/// What a line gives, borrowed from its words.
+impl Clone for Found {
+    ghost is_clone = { λ a b. b ≡ a };
+
+    fn clone(&self) -> Result<Found, AllocError> {
+        Ok(Found {
+            given: self.given.clone()?,
+            values: self.values.clone()?,
+        })
+    }
+}
+
+/// What a line gives.
 #[derive(Drop)]
-pub(crate) struct Line<'w> {
-    pub found: Found<'w>,
-    pub free: Vec<&'w str>,
+pub(crate) struct Line {
+    pub found: Found,
+    pub free: Vec<String>,
     pub trailing_start: Option<usize>,
 }
 
-/// An accepted line, with the table of the names that it was read by, and where its options stand.
-#[derive(Drop)]
-pub(crate) struct AcceptedLine<'w> {
-    pub table: Table,
-    pub line: Line<'w>,
-    pub index: Index,
+impl Line {
+    ghost use Rattle.getopts.specs.Line.{IsEmptyLine};
+
+    /// A line that gives nothing, with room for so many options and so many free words.
+    pub(crate) fn with_capacity(alloc: Global, room: usize) -> Result<Line, AllocError>
+        ensures { IfOk result IsEmptyLine }
+    {
+        Ok(Line {
+            found: Found::with_capacity(alloc, room)?,
+            free: Vec::with_capacity(alloc, room)?,
+            trailing_start: None,
+        })
+    }
 }

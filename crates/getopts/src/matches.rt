@@ -2,16 +2,15 @@
 
 ghost use Rattle.std.specs.Prelude.{◌≡◌, map, IfOk};
 ghost use Rattle.std.specs.String.{string_bytes};
-ghost use Rattle.getopts.specs.Names.{texts};
 ghost use Rattle.getopts.specs.Matches.{matched};
 ghost use Rattle.getopts.specs.Held.Accepted.{IsHeldLine};
 
+use crate::accepted::AcceptedLine;
 use crate::groups::Groups;
 use crate::index::Index;
-use crate::line::{AcceptedLine, Given};
+use crate::line::Found;
 use crate::table::Table;
-use crate::texts::Texts;
-use std::alloc::{AllocError, Global};
+use std::alloc::AllocError;
 use std::marker::Model;
 
 /// What an accepted line gave: the options by name, and the words that are no option.
@@ -22,8 +21,7 @@ pub struct Matches {
     pub free: Vec<String>,
     pub(crate) groups: Groups,
     pub(crate) table: Table,
-    pub(crate) given: Vec<Given>,
-    pub(crate) values: Texts,
+    pub(crate) found: Found,
     pub(crate) index: Index,
     pub(crate) trailing_start: Option<usize>,
 }
@@ -39,43 +37,25 @@ impl Model for Matches {
     ghost invariant = { KeepsMatches };
 }
 
-/// Copies of words.
-fn words_copied(alloc: Global, words: &[&str]) -> Result<Vec<String>, AllocError>
-    ensures { IfOk result (λ copies. map string_bytes copies.items ≡ texts words.now) }
-{
-    let mut copies = Vec::with_capacity(alloc, words.len())?;
-    for word in words {
-        copies.push(String::from_str(alloc, word)?)?;
-    }
-    Ok(copies)
-}
-
 impl Matches {
     /// What a line gives to groups.
-    pub(crate) fn of_line(
-        alloc: Global,
-        groups: Groups,
-        accepted: AcceptedLine<'_>,
-    ) -> Result<Matches, AllocError>
+    pub(crate) fn of_line(groups: Groups, accepted: AcceptedLine) -> Matches
         requires { IsHeldLine groups accepted }
-        ensures { IfOk result (λ matches. matches ≡ record {
-          groups = matched 0 groups accepted.entry.line.found;
-          free = texts accepted.entry.line.free.items;
-          trailing_start = accepted.entry.line.trailing_start;
-        }) }
+        ensures { result ≡ record {
+          groups = matched 0 groups accepted.line.found;
+          free = map string_bytes accepted.line.free.items;
+          trailing_start = accepted.line.trailing_start;
+        } }
     {
-        let line = accepted.line;
-        let found = line.found;
-        let values = Texts::copied(alloc, &found.values)?;
-        Ok(Matches {
-            free: words_copied(alloc, &line.free)?,
+        let AcceptedLine { table, line, index } = accepted;
+        Matches {
+            free: line.free,
             groups,
-            table: accepted.table,
-            given: found.given,
-            values,
-            index: accepted.index,
+            table,
+            found: line.found,
+            index,
             trailing_start: line.trailing_start,
-        })
+        }
     }
 }
 
@@ -91,8 +71,7 @@ impl Clone for Matches {
             free: self.free.clone()?,
             groups: self.groups.clone()?,
             table: self.table.clone()?,
-            given: self.given.clone()?,
-            values: self.values.clone()?,
+            found: self.found.clone()?,
             index: self.index.clone()?,
             trailing_start: self.trailing_start,
         })

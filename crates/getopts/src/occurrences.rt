@@ -8,8 +8,7 @@ ghost use Rattle.getopts.specs.Accessors.{positions_of, values_of, pairs_of, fir
 ghost use Rattle.getopts.specs.Held.Occurrences.{held_found, pair_view};
 ghost use Rattle.getopts.specs.Same.{same_found};
 
-use crate::line::Given;
-use crate::texts::Texts;
+use crate::line::Found;
 use std::alloc::{AllocError, Global};
 use std::marker::Model;
 
@@ -18,8 +17,7 @@ use std::marker::Model;
 /// `Matches::occurrences_at` answers them. No text is copied.
 #[derive(Debug, Drop)]
 pub struct Occurrences<'m> {
-    pub(crate) given: &'m [Given],
-    pub(crate) values: &'m Texts,
+    pub(crate) found: &'m Found,
     pub(crate) places: &'m [usize],
 }
 
@@ -48,12 +46,8 @@ impl<'m> Occurrences<'m> {
     pub fn get(&self, nth: usize) -> Option<(usize, Option<&'m str>)>
         ensures { option_map held_found result ≡ slice_get self.now nth }
     {
-        let given = self.given.get(*self.places.get(nth)?)?;
-        let value = match given.value {
-            Some(place) => self.values.get(place),
-            None => None,
-        };
-        Some((given.position, value))
+        let occurrence = self.found.get(*self.places.get(nth)?)?;
+        Some((occurrence.position, occurrence.value))
     }
 
     pub(crate) fn positions(&self, alloc: Global) -> Result<Vec<usize>, AllocError>

@@ -5,14 +5,10 @@ ghost use Rattle.getopts.specs.Fail.{Tells};
 ghost use Rattle.getopts.specs.Names.{texts};
 ghost use Rattle.getopts.specs.Matches.{KeepsCounts};
 
-use crate::counts::counted;
 use crate::fail::Fail;
-use crate::line::AcceptedLine;
 use crate::matches::Matches;
 use crate::options::Options;
-use crate::scan::Scanner;
-use crate::table::Table;
-use crate::words::{are_texts, words_from};
+use crate::words::words_from;
 use std::alloc::Global;
 
 impl Options {
@@ -22,46 +18,6 @@ impl Options {
     ghost use Rattle.getopts.specs.ScanLaws.{LongAttachedOrSeparate, ShortAttachedOrSeparate, ClusterSplits, OneDashOrTwo, LinesCompose, TrailingStartIsAfterStop, FreeWordsAreSubsequence, PositionsAreWords, HavePositionsInOrder, HavePositionsBelow};
     ghost use Rattle.getopts.specs.Parse.{IsAccepted, IsRefused, KeepsReadingLaws};
     ghost use Rattle.getopts.specs.Told.{AreGroupsOf, HaveValuesByKind, DefineDeclared, HoldRequiredOnce, HoldNeededValues, HaveLastWordsFree};
-    ghost use Rattle.getopts.specs.AcceptedLine.{IsAcceptedLine};
-
-    /// Reads a line, and checks its counts. The list of words is let go once it is read.
-    pub(crate) fn accepted_line<'w>(
-        &self,
-        alloc: Global,
-        words: Vec<&'w str>,
-    ) -> Result<AcceptedLine<'w>, Fail>
-        ensures accepted { IfOk result (IsAcceptedLine self.now (texts words.entry.items)) }
-        ensures refused { IfErr result (λ fail. Tells fail
-            (IsRefused self.now (texts words.entry.items))) }
-    {
-        are_texts(&words);
-        let groups = self.groups();
-        let table = Table::of(alloc, self.names())?;
-        let scanner = Scanner {
-            options: self,
-            table: &table,
-        };
-        let line = scanner.scan(alloc, &words)?;
-        drop(words);
-        let index = counted(alloc, groups, &line.found)?;
-        Ok(AcceptedLine { table, line, index })
-    }
-
-    /// What a line gives, read by these options.
-    fn parse_words(&self, alloc: Global, words: Vec<&str>) -> crate::Result
-        ensures accepted { IfOk result (IsAccepted self.now (texts words.entry.items)) }
-        ensures refused { IfErr result (λ fail. Tells fail
-            (IsRefused self.now (texts words.entry.items))) }
-        ensures counts { IfOk result (λ matches.
-            KeepsCounts matches.groups × HavePositionsInOrder matches.groups) }
-        ensures groups { IfOk result (λ matches. AreGroupsOf self.now matches.groups) }
-        ensures values_fit { IfOk result (λ matches. HaveValuesByKind matches.groups) }
-        ensures laws { OnOk result (KeepsReadingLaws (grammar_of self.now)) }
-    {
-        let accepted = self.accepted_line(alloc, words)?;
-        let groups = self.groups().clone()?;
-        Ok(Matches::of_line(alloc, groups, accepted)?)
-    }
 
     /// Reads the words of a line, without the program's own name.
     ///
@@ -121,6 +77,32 @@ impl Options {
             (λ run. HaveLastWordsFree self.now (texts run.items) matches.free)) }
     {
         let words = words_from(alloc, args)?;
-        self.parse_words(alloc, words)
+        self.parse_words(alloc, &words)
+    }
+
+    /// Reads the words of a line, as `parse` does, from a list that is lent.
+    ///
+    /// `options.parse_words(alloc, &words)` is `options.parse(alloc, words.iter().copied())` with no list
+    /// of words made for it, and its clauses are over the list itself. The Rust has no such call.
+    pub fn parse_words(&self, alloc: Global, words: &[&str]) -> crate::Result
+        ensures accepted { IfOk result (IsAccepted self.now (texts words.now)) }
+        ensures refused { IfErr result (λ fail. Tells fail
+            (IsRefused self.now (texts words.now))) }
+        ensures counts_kept { IfOk result (λ matches. KeepsCounts matches.groups) }
+        ensures positions_in_order { IfOk result (λ matches. HavePositionsInOrder matches.groups) }
+        ensures groups { IfOk result (λ matches. AreGroupsOf self.now matches.groups) }
+        ensures values_fit { IfOk result (λ matches. HaveValuesByKind matches.groups) }
+        ensures defined { IfOk result (λ matches. DefineDeclared self.now matches.groups) }
+        ensures required { IfOk result (λ matches. HoldRequiredOnce self.now matches.groups) }
+        ensures needed { IfOk result (λ matches. HoldNeededValues self.now matches.groups) }
+        ensures positions_below { IfOk result (λ matches.
+            HavePositionsBelow (length words.now) matches.groups) }
+        ensures free_last { IfOk result (λ matches.
+            HaveLastWordsFree self.now (texts words.now) matches.free) }
+        ensures laws { OnOk result (KeepsReadingLaws (grammar_of self.now)) }
+    {
+        let accepted = self.accepted_line(alloc, words)?;
+        let groups = self.groups().clone()?;
+        Ok(Matches::of_line(groups, accepted))
     }
 }

@@ -1,6 +1,7 @@
 //! Reading words as items, from the first to the last.
 
-ghost use Rattle.std.specs.Prelude.{◌≡◌, ◌≢◌, ◌↔◌, IsTrue, ◌<◌, ◌∷◌, ◌++◌, [], ℕ, length, MatchOption, OnSome, Some, None, true, false, IfOk, IfErr, slice_index, encode_utf8};
+ghost use Rattle.std.specs.Prelude.{◌≡◌, ◌≢◌, ◌↔◌, IsTrue, ◌<◌, ◌∷◌, ◌++◌, [], ℕ, length, MatchOption, OnSome, Some, None, true, false, IfOk, IfErr, slice_index, encode_utf8, OnOk, map};
+ghost use Rattle.std.specs.String.{string_bytes};
 ghost use Rattle.std.specs.Char.{IsScalar};
 ghost use Rattle.std.specs.Str.{IsCharBoundary};
 ghost use Rattle.std.specs.Option.{option_copied};
@@ -16,13 +17,37 @@ use crate::line::{Found, Line, Occurrence};
 use crate::options::Options;
 use crate::table::Table;
 use crate::words::FIRST_ROOM;
-use std::alloc::Global;
+use std::alloc::{AllocError, Global};
 
 /// The options by which words are read, and the table of their names.
 #[derive(Clone, Copy)]
 pub(crate) struct Scanner<'o> {
     pub options: &'o Options,
     pub table: &'o Table,
+}
+
+/// What a word is to a line.
+#[derive(Clone, Copy)]
+pub(crate) enum Shape<'w> {
+    /// It isn't dashed.
+    Free,
+    /// It is `--`.
+    Stop,
+    /// It begins an item in long form, with this text after the dashes.
+    Long(&'w str),
+    /// It begins a cluster, with this text after the dash.
+    Cluster(&'w str),
+}
+
+/// Adds copies of words.
+fn push_copies(alloc: Global, copies: &mut Vec<String>, words: &[&str]) -> Result<(), AllocError>
+    ensures { OnOk result (map string_bytes copies.new.items
+        ≡ map string_bytes copies.old.items ++ texts words.now) }
+{
+    for word in words {
+        copies.push(String::from_str(alloc, word)?)?;
+    }
+    Ok(())
 }
 
 /// The text after a dash at the front.
@@ -34,22 +59,6 @@ fn after_dash(text: &str) -> Option<&str>
         return None;
     }
     Some(&text[1..])
-}
-
-/// Whether a text is one dash.
-fn is_dash(text: &str) -> bool
-    ensures { IsTrue result ↔ (text.now ≡ dash ∷ []) }
-{
-    text.len() == 1 && text.as_bytes()[0] == b'-'
-}
-
-/// The text after the first dash of a dashed word.
-fn dashed_text(word: &str) -> Option<&str>
-    ensures { MatchOption result (is_dashed word.now ≡ false)
-        (λ text. (is_dashed word.now ≡ true) × (word.now ≡ dash ∷ text.now) × (text.now ≢ [])) }
-{
-    let text = after_dash(word)?;
-    if text.is_empty() { None } else { Some(text) }
 }
 
 /// The name of a text in long form, and its attached argument. Names are short, so its bytes are
@@ -71,7 +80,10 @@ fn name_and_argument(text: &str) -> (&str, Option<&str>)
 fn is_dashed(word: &str) -> bool
     ensures { result ≡ is_dashed word.now }
 {
-    dashed_text(word).is_some()
+    match word.as_bytes() {
+        [b'-', _, ..] => true,
+        _ => false,
+    }
 }
 
 /// The first character of a text, as a text.
@@ -122,7 +134,7 @@ fn ending<'w>(
 
 impl<'o> Scanner<'o> {
     ghost use Rattle.std.specs.Prelude.{drop};
-    ghost use Rattle.getopts.specs.Line.{occurrence_view, scanner_grammar, IsLawfulScanner, IsInLongForm, ReadsItem, AddsItem, ReadsLine};
+    ghost use Rattle.getopts.specs.Line.{occurrence_view, scanner_grammar, IsLawfulScanner, IsInLongForm, HasShape, AddsItem, ReadsLine};
 
     /// The place and the kind of argument of the option that a name resolves to.
     fn option(&self, name: &str) -> Option<(usize, HasArg)>
@@ -136,20 +148,21 @@ impl<'o> Scanner<'o> {
         Some((place, self.options.hasarg(place)?))
     }
 
-    /// Reads an item in long form, by its text after the dashes and the words after its first. Answers
-    /// its occurrence, and how many of those words it used.
+    /// Reads an item in long form, by its text after the dashes and the words after its first. Adds
+    /// its occurrence, and answers how many of those words it used.
     fn long<'w>(
         &self,
         alloc: Global,
         text: &'w str,
         after: &[&'w str],
         position: usize,
-    ) -> Result<(Occurrence<'w>, usize), Fail>
-        requires { IsLawfulScanner self.now }
-        ensures ok { IfOk result (λ found. (word : Text)
+        found: &mut Found,
+    ) -> Result<usize, Fail>
+        requires lawful { IsLawfulScanner self.now }
+        ensures ok { IfOk result (λ used. (word : Text)
             → IsInLongForm (scanner_grammar self.now) word text.now
-            → ReadsItem (scanner_grammar self.now) word (texts after.now) position found.1
-            (occurrence_view found.0 ∷ [])) }
+            → AddsItem (scanner_grammar self.now) word (texts after.now) position used
+            found.old found.new) }
         ensures err { IfErr result (λ fail. (word : Text)
             → IsInLongForm (scanner_grammar self.now) word text.now
             → Tells fail (IsFaultAt (scanner_grammar self.now) word (texts after.now))) }
@@ -158,17 +171,22 @@ impl<'o> Scanner<'o> {
         let Some((group, hasarg)) = self.option(name) else {
             return Err(Fail::unrecognized_option(alloc, name));
         };
-        match (hasarg, argument) {
-            (HasArg::No, None) => Ok((Occurrence::bare(group, position), 0)),
-            (HasArg::No, Some(_)) => Err(Fail::unexpected_argument(alloc, name)),
-            (HasArg::Yes, None) => match after.first().copied() {
-                Some(word) => Ok((Occurrence::with_value(group, position, word), 1)),
-                None => Err(Fail::argument_missing(alloc, name)),
+        let (value, used) = match (hasarg, argument) {
+            (HasArg::No, None) => (None, 0),
+            (HasArg::No, Some(_)) => return Err(Fail::unexpected_argument(alloc, name)),
+            (HasArg::Yes, None) => match after.first() {
+                Some(word) => (Some(*word), 1),
+                None => return Err(Fail::argument_missing(alloc, name)),
             },
-            (HasArg::Yes, Some(value)) => Ok((Occurrence::with_value(group, position, value), 0)),
-            (HasArg::Maybe, None) => Ok((Occurrence::bare(group, position), 0)),
-            (HasArg::Maybe, Some(value)) => Ok((Occurrence::with_value(group, position, value), 0)),
-        }
+            (HasArg::Yes, Some(value)) => (Some(value), 0),
+            (HasArg::Maybe, argument) => (argument, 0),
+        };
+        found.push(Occurrence {
+            group,
+            position,
+            value,
+        })?;
+        Ok(used)
     }
 
     /// The option that the byte at a place in a cluster names; only names of one byte resolve there.
@@ -192,13 +210,13 @@ impl<'o> Scanner<'o> {
 
     /// Reads a cluster, by its text after the dash and the words after its first. Adds its occurrences,
     /// and answers how many of those words it used.
-    fn cluster<'w>(
+    fn cluster(
         &self,
         alloc: Global,
-        text: &'w str,
-        after: &[&'w str],
+        text: &str,
+        after: &[&str],
         position: usize,
-        found: &mut Found<'w>,
+        found: &mut Found,
     ) -> Result<usize, Fail>
         requires lawful { IsLawfulScanner self.now }
         ensures ok { IfOk result (λ used. (word : Text)
@@ -215,7 +233,11 @@ impl<'o> Scanner<'o> {
                     let name = first_character(&text[at..]);
                     return Err(Fail::unrecognized_option(alloc, name));
                 }
-                Some((group, HasArg::No)) => found.push(Occurrence::bare(group, position))?,
+                Some((group, HasArg::No)) => found.push(Occurrence {
+                    group,
+                    position,
+                    value: None,
+                })?,
                 Some((group, hasarg)) => {
                     let name = &text[at..at + 1];
                     let (value, used) = ending(alloc, hasarg, name, &text[at + 1..], after)?;
@@ -231,91 +253,57 @@ impl<'o> Scanner<'o> {
         Ok(0)
     }
 
-    /// The text after the dashes of a word in long form, by its text after the first dash.
-    fn long_text<'w>(&self, text: &'w str) -> Option<&'w str>
-        requires filled { text.now ≢ [] }
-        requires no_stop { text.now ≢ dash ∷ [] }
-        ensures { MatchOption result
-            (IsShortForm (scanner_grammar self.now) (dash ∷ text.now) text.now)
-            (λ long. IsInLongForm (scanner_grammar self.now) (dash ∷ text.now) long.now) }
+    /// What a word is to a line: in long-only mode one dash is as good as two.
+    fn shape<'w>(&self, word: &'w str) -> Shape<'w>
+        ensures { HasShape (scanner_grammar self.now) word.now result }
     {
+        let Some(text) = after_dash(word) else {
+            return Shape::Free;
+        };
         match after_dash(text) {
-            Some(long) => Some(long),
-            None if self.options.is_long_only() => Some(text),
-            None => None,
+            Some(long) if long.is_empty() => Shape::Stop,
+            Some(long) => Shape::Long(long),
+            None if text.is_empty() => Shape::Free,
+            None if self.options.is_long_only() => Shape::Long(text),
+            None => Shape::Cluster(text),
         }
     }
 
-    /// Reads the item that a dashed word other than `--` begins, by its text after the first dash and
-    /// the words after it. Adds its occurrences, and answers how many of those words it used.
-    fn item<'w>(
-        &self,
-        alloc: Global,
-        text: &'w str,
-        after: &[&'w str],
-        position: usize,
-        found: &mut Found<'w>,
-    ) -> Result<usize, Fail>
-        requires lawful { IsLawfulScanner self.now }
-        requires filled { text.now ≢ [] }
-        requires no_stop { text.now ≢ dash ∷ [] }
-        ensures ok { IfOk result (λ used.
-            AddsItem (scanner_grammar self.now) (dash ∷ text.now) (texts after.now) position used
-            found.old found.new) }
-        ensures err { IfErr result (λ fail. Tells fail
-            (IsFaultAt (scanner_grammar self.now) (dash ∷ text.now) (texts after.now))) }
-    {
-        let Some(long) = self.long_text(text) else {
-            return self.cluster(alloc, text, after, position, found);
-        };
-        let (occurrence, used) = self.long(alloc, long, after, position)?;
-        found.push(occurrence)?;
-        Ok(used)
-    }
-
     /// Reads a line: its items, and what follows the stop or the first free word.
-    pub(crate) fn scan<'w>(&self, alloc: Global, words: &[&'w str]) -> Result<Line<'w>, Fail>
+    pub(crate) fn scan(&self, alloc: Global, words: &[&str]) -> Result<Line, Fail>
         requires lawful { IsLawfulScanner self.now }
         ensures ok { IfOk result (λ line.
             ReadsLine (scanner_grammar self.now) (texts words.now) line) }
         ensures err { IfErr result (λ fail. Tells fail
             (IsScanFault (scanner_grammar self.now) (texts words.now))) }
     {
-        let room = words.len().min(FIRST_ROOM);
-        let mut found = Found::with_capacity(alloc, room)?;
-        let mut free = Vec::with_capacity(alloc, room)?;
+        let stops = self.options.style() == ParsingStyle::StopAtFirstFree;
+        let mut line = Line::with_capacity(alloc, words.len().min(FIRST_ROOM))?;
         let mut at = 0;
         'items: while at < words.len() {
-            let word = words[at];
             let after = &words[at + 1..];
-            let Some(text) = dashed_text(word) else {
-                if self.options.style() == ParsingStyle::StopAtFirstFree {
-                    free.extend_from_slice(&words[at..])?;
-                    return Ok(Line {
-                        found,
-                        free,
-                        trailing_start: None,
-                    });
+            at = match self.shape(words[at]) {
+                Shape::Free => {
+                    if stops {
+                        push_copies(alloc, &mut line.free, &words[at..])?;
+                        return Ok(line);
+                    }
+                    push_copies(alloc, &mut line.free, &words[at..at + 1])?;
+                    at + 1
                 }
-                free.push(word)?;
-                at += 1;
-                continue;
+                Shape::Stop => {
+                    line.trailing_start = (!after.is_empty()).then_some(line.free.len());
+                    push_copies(alloc, &mut line.free, after)?;
+                    return Ok(line);
+                }
+                Shape::Long(text) => {
+                    at + 1 + self.long(alloc, text, after, at, &mut line.found)?
+                }
+                Shape::Cluster(text) => {
+                    at + 1 + self.cluster(alloc, text, after, at, &mut line.found)?
+                }
             };
-            if is_dash(text) {
-                let trailing_start = (!after.is_empty()).then_some(free.len());
-                free.extend_from_slice(after)?;
-                return Ok(Line {
-                    found,
-                    free,
-                    trailing_start,
-                });
-            }
-            at += 1 + self.item(alloc, text, after, at, &mut found)?;
         }
-        Ok(Line {
-            found,
-            free,
-            trailing_start: None,
-        })
+        Ok(line)
     }
 }

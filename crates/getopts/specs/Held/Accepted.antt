@@ -6,7 +6,7 @@ use Rattle.getopts.specs.Index.{places_by_group}
 use Rattle.getopts.specs.Pairs.{name_texts}
 use Rattle.getopts.specs.Table.{IsTableOf}
 use Rattle.getopts.specs.Held.Groups.{HaveLawfulNames}
-use Rattle.getopts.specs.declared.line.AcceptedLine.{AcceptedLine}
+use Rattle.getopts.specs.declared.accepted.AcceptedLine.{AcceptedLine}
 
 -- where the occurrences of each group stand
 abbrev pub index_of : List Known → List Occurrence → List (List ℕ)

@@ -2,7 +2,7 @@
 use Rattle.std.specs.Prelude.{◌<◌, ℕ, List, length, map, slice_get, IfSome}
 use Rattle.std.specs.List.{AllByRecursion}
 use Rattle.std.specs.Option.{option_and_then}
-use Rattle.getopts.specs.Names.{Text, texts}
+use Rattle.getopts.specs.Names.{Text}
 use Rattle.getopts.specs.Scan.{Occurrence}
 use Rattle.getopts.specs.declared.line.Given.{Given}
 use Rattle.getopts.specs.declared.line.Found.TheInside.{Inside}
@@ -19,7 +19,7 @@ given_view values given = record {
 
 -- the occurrences of a line
 abbrev pub found_view : Inside → List Occurrence
-found_view inside = map (given_view (texts inside.values.items)) inside.given.items
+found_view inside = map (given_view inside.values) inside.given.items
 
 -- the value of an occurrence, if it has one, is among so many
 abbrev pub HasItsValue : ℕ → Given → Type 0
@@ -28,4 +28,4 @@ HasItsValue size given = IfSome given.value (λ place. place < size)
 -- each occurrence of a line has its value among those of the line
 abbrev pub HaveTheirValues : Inside → Type 0
 HaveTheirValues inside =
-    AllByRecursion (HasItsValue (length inside.values.items)) inside.given.items
+    AllByRecursion (HasItsValue (length inside.values)) inside.given.items

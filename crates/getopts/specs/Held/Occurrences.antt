@@ -9,7 +9,6 @@ use Rattle.std.specs.declared.alloc.Global.{Global}
 use Rattle.getopts.specs.Names.{Text}
 use Rattle.getopts.specs.Scan.{Occurrence}
 use Rattle.getopts.specs.Matches.{Found}
-use Rattle.getopts.specs.Held.Found.{given_view}
 use Rattle.getopts.specs.declared.occurrences.Occurrences.TheInside.{Inside}
 
 -- a position and a value, borrowed
@@ -27,9 +26,8 @@ found_part occurrence = record { position = occurrence.position; value = occurre
 -- the occurrences of one group
 abbrev pub occurrences_view : Inside → List Found
 occurrences_view inside =
-    map (λ given. found_part (given_view inside.values.now given))
-    (filter_map (λ place. slice_get inside.given.now place) inside.places.now)
+    map found_part (filter_map (λ place. slice_get inside.found.now place) inside.places.now)
 
 -- places of occurrences
 abbrev pub ArePlacesOf : Inside → Type 0
-ArePlacesOf inside = AllByRecursion (λ place. place < length inside.given.now) inside.places.now
+ArePlacesOf inside = AllByRecursion (λ place. place < length inside.found.now) inside.places.now

@@ -14,7 +14,7 @@ use Rattle.getopts.proofs.canon.canonical_line.Goals.{in-Some+in_ok-canonical_wo
 pub loop-place-preserved : goal.loop-place-preserved
 loop-place-preserved c =
     let groups = c.args.options.now.groups in
-    let found = c.args.line.now.found in
+    let found = c.args.line.found in
     let words_of = λ (os : List Occurrence). map (canonical_word groups) (map (λ (o : Occurrence). o.mention) os) in
     elim c.match-get.branch [
       | in-Some+in_ok-canonical_word+in_ok-push w ↦
@@ -26,5 +26,5 @@ loop-place-preserved c =
           ∙ map-append (canonical_word groups) (map (λ (o : Occurrence). o.mention) (take c.loop-place.place found)) (occurrence.mention ∷ []) in
           ap (λ (words : Vec (String Global) Global). map string_bytes words.items) w.words-is ∙ ap (map string_bytes) w.in_ok-push.ensures.items ∙ map-append string_bytes c.loop-place.words.items _
           ∙ (λ i. c.loop-place.invariant i ++ word i ∷ []) ∙ sym more
-      | in_default w ↦ absurd (omega (arith, none_past c.args.line.now.found c.loop-place.place w.in_default.ensures))
+      | in_default w ↦ absurd (omega (arith, none_past c.args.line.found c.loop-place.place w.in_default.ensures))
     ]

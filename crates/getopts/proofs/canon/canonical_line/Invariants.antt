@@ -1,14 +1,15 @@
 use Rattle.std.proofs.Common.{◌≡◌, ◌∷◌, ◌++◌, map, take}
 use Rattle.std.specs.String.{string_bytes}
-use Rattle.getopts.specs.Names.{texts}
 use Rattle.getopts.specs.Scan.{stop_word, Occurrence}
 use Rattle.getopts.specs.Canon.{canonical_word}
 use Rattle.getopts.proofs.canon.canonical_line.Given as goal
 
 -- the words so far are those of the occurrences so far
 abbrev pub invariant-loop-place : goal.invariant-loop-place
-invariant-loop-place l = map string_bytes l.words.items ≡ map (canonical_word l.options.groups) (map (λ (o : Occurrence). o.mention) (take l.place l.line.found))
+invariant-loop-place l =
+    map string_bytes l.words.items ≡ map (canonical_word l.options.groups) (map (λ (o : Occurrence). o.mention) (take l.place l.found))
 
 -- the words so far are those of the occurrences, the stop, and the free words so far
 abbrev pub invariant-loop-word : goal.invariant-loop-word
-invariant-loop-word l = map string_bytes l.words.items ≡ map (canonical_word l.options.groups) (map (λ (o : Occurrence). o.mention) l.line.found) ++ stop_word ∷ texts (take l.word-index l.line.free.items)
+invariant-loop-word l =
+    map string_bytes l.words.items ≡ map (canonical_word l.options.groups) (map (λ (o : Occurrence). o.mention) l.found) ++ stop_word ∷ map string_bytes l.yielded

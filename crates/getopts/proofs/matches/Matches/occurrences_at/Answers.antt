@@ -1,14 +1,14 @@
 -- The places that the index has for a group are those of its occurrences.
 use Rattle.std.proofs.Common.{◌≡◌, ◌∙◌, ap, List, ℕ, [], slice_get, unwrap_or}
-use Rattle.getopts.proofs.MatchesLemmas.{given_places, given_places-within, given_places-found}
+use Rattle.getopts.proofs.MatchesLemmas.{held_places, held_places-within, held_places-found}
 use Rattle.getopts.proofs.matches.Matches.occurrences_at.Goals as goal
 use Rattle.getopts.proofs.matches.Matches.occurrences_at.Goals.{After-places}
 
-places_are : (c : After-places) → c.places.result.now ≡ given_places c.self.inside.groups c.self.inside.values c.self.inside.given.items c.args.place
+places_are : (c : After-places) → c.places.result.now ≡ held_places c.self.inside.groups c.self.inside.found c.args.place
 places_are c = c.places.ensures ∙ ap (λ (index : List (List ℕ)). unwrap_or (slice_get index c.args.place) []) c.self.invariant.index
 
 pub invariant_of-result : goal.invariant_of-result
-invariant_of-result c = rw (c.deref.ensures.value, places_are c) (given_places-within c.self.inside.groups c.self.inside.values c.self.inside.given.items c.args.place)
+invariant_of-result c = rw (places_are c) (held_places-within c.self.inside.groups c.self.inside.found c.args.place)
 
 pub returns : goal.returns
-returns c = rw (c.deref.ensures.value, places_are c, ← c.self.view_is) (given_places-found c.self.inside.groups c.self.inside.values c.self.inside.given.items c.args.place)
+returns c = rw (places_are c, ← c.self.view_is) (held_places-found c.self.inside.groups c.self.inside.found c.args.place)

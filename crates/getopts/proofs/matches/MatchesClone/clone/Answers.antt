@@ -1,9 +1,7 @@
 -- The copies are those of what is held.
-use Rattle.std.proofs.Common.{◌≡◌, ◌∙◌, map, sym}
-use Rattle.std.proofs.lemmas.List.Elements.{same_from_all_zip}
+use Rattle.std.proofs.Common.{◌≡◌, ◌∙◌, sym}
 use Rattle.std.specs.String.{string_bytes}
 use Rattle.getopts.specs.Matches.{matched}
-use Rattle.getopts.specs.Held.Found.{given_view}
 use Rattle.getopts.specs.Held.Accepted.{index_of}
 use Rattle.getopts.proofs.OptionsLemmas.{map-alike}
 use Rattle.getopts.proofs.matches.MatchesClone.clone.Goals as goal
@@ -12,19 +10,17 @@ pub invariant_of-result : goal.invariant_of-result
 invariant_of-result c =
     let groups : c.in_ok-clone-2.field-0 ≡ c.self.inside.groups = c.in_ok-clone-2.ensures.cases in
     let table : c.in_ok-clone-3.field-0 ≡ c.self.inside.table = c.in_ok-clone-3.ensures.same in
-    let given : c.in_ok-clone-4.field-0.items ≡ c.self.inside.given.items = same_from_all_zip _ _ _ c.in_ok-clone-4.ensures.cases.0 (λ x y same. same) in
-    let values : c.in_ok-clone-5.field-0 ≡ c.self.inside.values = c.in_ok-clone-5.ensures.cases in
-    let index : c.in_ok-clone-6.field-0 ≡ c.self.inside.index = c.in_ok-clone-6.ensures.cases in
+    let found : c.in_ok-clone-4.field-0 ≡ c.self.inside.found = c.in_ok-clone-4.ensures.cases in
+    let index : c.in_ok-clone-5.field-0 ≡ c.self.inside.index = c.in_ok-clone-5.ensures.cases in
     record {
       lawful = rw groups c.self.invariant.lawful;
       table = rw (groups, table) c.self.invariant.table;
-      index = index ∙ c.self.invariant.index ∙ sym (λ i. index_of (groups i) (map (given_view (values i)) (given i)));
+      index = index ∙ c.self.invariant.index ∙ sym (λ i. index_of (groups i) (found i));
     }
 
 pub returns : goal.returns
 returns c =
     let groups : c.in_ok-clone-2.field-0 ≡ c.self.inside.groups = c.in_ok-clone-2.ensures.cases in
-    let given : c.in_ok-clone-4.field-0.items ≡ c.self.inside.given.items = same_from_all_zip _ _ _ c.in_ok-clone-4.ensures.cases.0 (λ x y same. same) in
-    let values : c.in_ok-clone-5.field-0 ≡ c.self.inside.values = c.in_ok-clone-5.ensures.cases in
+    let found : c.in_ok-clone-4.field-0 ≡ c.self.inside.found = c.in_ok-clone-4.ensures.cases in
     let free = map-alike string_bytes c.self.inside.free.items c.in_ok-clone.field-0.items c.in_ok-clone.ensures.cases.0 in
-    record { same = (λ i. record { groups = matched 0 (groups i) (map (given_view (values i)) (given i)); free = free i; trailing_start = c.self.inside.trailing_start }) ∙ c.self.view_is }
+    record { same = (λ i. record { groups = matched 0 (groups i) (found i); free = free i; trailing_start = c.self.inside.trailing_start }) ∙ c.self.view_is }

@@ -1,25 +1,48 @@
 -- The line that was read gives accepted matches, and its options keep the laws of readings.
-use Rattle.std.proofs.Common.{◌≡◌, ◌∙◌}
+use Rattle.std.proofs.Common.{◌≡◌, ◌∙◌, subst}
 use Rattle.getopts.specs.Names.{texts}
 use Rattle.getopts.specs.Options.{knowns_of}
+use Rattle.getopts.specs.ScanLaws.{HavePositionsBelow}
 use Rattle.getopts.proofs.CanonicalLemmas.{IsAccepted-line}
-use Rattle.getopts.proofs.ParseLemmas.{counts-accepted, keeps_laws}
-use Rattle.getopts.proofs.ToldLemmas.{AreGroupsOf-accepted, HaveValuesByKind-accepted}
+use Rattle.getopts.proofs.ParseLemmas.{counts-accepted, positions_below-accepted, keeps_laws}
+use Rattle.getopts.proofs.ScanLoop.{length-texts}
+use Rattle.getopts.proofs.ToldLemmas.{AreGroupsOf-accepted, HaveValuesByKind-accepted, HaveLastWordsFree-accepted}
+use Rattle.getopts.proofs.ToldLemmas.{DefineDeclared-groups, HoldRequiredOnce-groups, HoldNeededValues-groups}
 use Rattle.getopts.proofs.options.Options.parse_words.Goals as goal
 
 pub returns-clause-accepted : goal.returns-clause-accepted
 returns-clause-accepted c =
     let groups : c.in_ok-groups.groups ≡ knowns_of c.args.self.now.groups = c.in_ok-groups.ensures.cases ∙ c.groups.ensures.groups in
-    rw (c.in_ok-of_line.ensures, groups) (IsAccepted-line c.args.self.now (texts c.args.words.items) c.in_ok-accepted.accepted c.in_ok-accepted.ensures.accepted)
+    rw (c.of_line.ensures, groups) (IsAccepted-line c.args.self.now (texts c.args.words.now) c.in_ok-accepted.accepted c.in_ok-accepted.ensures.accepted)
 
-pub returns-clause-counts : goal.returns-clause-counts
-returns-clause-counts c = counts-accepted c.args.self.now (texts c.args.words.items) c.in_ok-of_line.field-0 (returns-clause-accepted c)
+pub returns-clause-counts_kept : goal.returns-clause-counts_kept
+returns-clause-counts_kept c = (counts-accepted c.args.self.now (texts c.args.words.now) c.of_line.result (returns-clause-accepted c)).0
+
+pub returns-clause-positions_in_order : goal.returns-clause-positions_in_order
+returns-clause-positions_in_order c = (counts-accepted c.args.self.now (texts c.args.words.now) c.of_line.result (returns-clause-accepted c)).1
+
+pub returns-clause-groups : goal.returns-clause-groups
+returns-clause-groups c = AreGroupsOf-accepted c.args.self.now (texts c.args.words.now) c.of_line.result (returns-clause-accepted c)
+
+pub returns-clause-values_fit : goal.returns-clause-values_fit
+returns-clause-values_fit c = HaveValuesByKind-accepted c.args.self.now (texts c.args.words.now) c.of_line.result (returns-clause-accepted c)
+
+pub returns-clause-defined : goal.returns-clause-defined
+returns-clause-defined c = DefineDeclared-groups c.args.self.now c.of_line.result.groups (returns-clause-groups c)
+
+pub returns-clause-required : goal.returns-clause-required
+returns-clause-required c = HoldRequiredOnce-groups c.args.self.now c.of_line.result.groups (returns-clause-groups c) (returns-clause-counts_kept c)
+
+pub returns-clause-needed : goal.returns-clause-needed
+returns-clause-needed c = HoldNeededValues-groups c.args.self.now c.of_line.result.groups (returns-clause-groups c) (returns-clause-values_fit c)
+
+pub returns-clause-positions_below : goal.returns-clause-positions_below
+returns-clause-positions_below c =
+    subst (λ n. HavePositionsBelow n c.of_line.result.groups) (length-texts c.args.words.now)
+    (positions_below-accepted c.args.self.now (texts c.args.words.now) c.of_line.result (returns-clause-accepted c))
+
+pub returns-clause-free_last : goal.returns-clause-free_last
+returns-clause-free_last c = HaveLastWordsFree-accepted c.args.self.now (texts c.args.words.now) c.of_line.result (returns-clause-accepted c)
 
 pub returns-clause-laws : goal.returns-clause-laws
 returns-clause-laws c = keeps_laws c.args.self.now c.groups.ensures.lawful c.groups.ensures.shorts
-
-pub returns-clause-groups : goal.returns-clause-groups
-returns-clause-groups c = AreGroupsOf-accepted c.args.self.now (texts c.args.words.items) c.in_ok-of_line.field-0 (returns-clause-accepted c)
-
-pub returns-clause-values_fit : goal.returns-clause-values_fit
-returns-clause-values_fit c = HaveValuesByKind-accepted c.args.self.now (texts c.args.words.items) c.in_ok-of_line.field-0 (returns-clause-accepted c)

@@ -1,5 +1,5 @@
 -- Each name of a cluster is a flag, ends it, or is a fault.
-use Rattle.std.proofs.Common.{◌++◌, ◌∷◌, [], sym, ap, ◌∙◌, arith}
+use Rattle.std.proofs.Common.{sym, ◌∙◌, arith}
 use Rattle.std.specs.Option.{option_copied}
 use Rattle.std.proofs.lemmas.Str.{IsCharBoundary-after_ascii}
 use Rattle.getopts.specs.Fail.{unrecognized_option}
@@ -38,9 +38,8 @@ returns-in-Some-clause-ok c = λ word form.
 pub names-preserved : goal.names-preserved
 names-preserved c =
     let named = c.in-Some-default-No.ensures.option in
-    let bare = c.bare.ensures in
     FlagsRead-more (scanner_grammar c.args.self.now) c.args.position c.args.text.now c.names.at c.in-Some-default-No.group _ _ _ c.utf8.text (omega arith) c.in-Some-default-No.ensures.ascii c.names.invariant
-    named.0 (rw c.in-Some-default-No.field-0-1-is at named.1) (c.in_ok-push-in-Some-default-No.ensures ∙ ap (λ o. c.names.found ++ o ∷ []) bare)
+    named.0 (rw c.in-Some-default-No.field-0-1-is at named.1) c.in_ok-push-in-Some-default-No.ensures
 
 pub returns-clause-ok : goal.returns-clause-ok
 returns-clause-ok c = λ word form.
