@@ -129,16 +129,6 @@ texts_from [] word at within = absurd (omega arith)
 texts_from (first ∷ words) word zero within = refl
 texts_from (first ∷ words) word (suc at) within = rw add-one (simp add-one at (texts_from words word at (omega arith)))
 
--- the word at a place alone, as a text
-pub texts-one : (words : List (Bor Text)) (word : Bor Text) (at : ℕ) → at < length words → texts (take (at + 1 - at) (drop at words)) ≡ (get_or words at word).now ∷ []
-texts-one words word at within =
-    let size : at + 1 - at ≡ 1 = omega arith in
-    ap (λ n. texts (take n (drop at words))) size ∙ one words at within where
-      one : (words : List (Bor Text)) (at : ℕ) → at < length words → texts (take 1 (drop at words)) ≡ (get_or words at word).now ∷ []
-      one [] at within = absurd (omega arith)
-      one (first ∷ words) zero within = refl
-      one (first ∷ words) (suc at) within = one words at (omega arith)
-
 -- the words after a place, as texts
 pub texts-drop : (words : List (Bor Text)) (at : ℕ) → texts (drop at words) ≡ drop at (texts words)
 texts-drop words zero = refl

@@ -68,7 +68,7 @@ impl Matches {
     fn has(&self, name: &str) -> bool
         ensures { result ≡ is_present self.now.groups name.now }
     {
-        self.given_of(name).count() > 0
+        !self.given_of(name).is_empty()
     }
 
     /// Whether a name resolves to a group.
@@ -92,7 +92,7 @@ impl Matches {
         requires { IsDefined self.now.groups name.now }
         ensures { result ≡ length (found_of self.now.groups name.now) }
     {
-        self.given_of(name).count()
+        self.given_of(name).len()
     }
 
     /// Whether an option was given at least once, by any of its names.

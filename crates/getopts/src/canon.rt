@@ -95,23 +95,6 @@ impl Options {
     ghost use Rattle.getopts.specs.Parse.{IsRefused};
     ghost use Rattle.getopts.specs.CanonAnswers.{IsWritten, IsUnwritable};
 
-    /// The canonical line of accepted words, if they have one.
-    fn canonical_words(&self, alloc: Global, words: &[&str]) -> Result<Option<Vec<String>>, Fail>
-        ensures written { IfOk result (λ answer. IfSome answer (λ line.
-            IsWritten self.now (texts words.now) (map string_bytes line.items))) }
-        ensures unwritable { IfOk result (λ answer. IfNone answer
-            (IsUnwritable self.now (texts words.now))) }
-        ensures refused { IfErr result (λ fail. Tells fail
-            (IsRefused self.now (texts words.now))) }
-    {
-        let accepted = self.accepted_line(alloc, words)?;
-        if are_plain(self, &accepted) {
-            Ok(Some(canonical_line(alloc, self, accepted.line)?))
-        } else {
-            Ok(None)
-        }
-    }
-
     /// Writes an accepted line again with main names alone, for a program that logs, compares or caches
     /// by command lines.
     ///
@@ -145,6 +128,30 @@ impl Options {
     {
         let words = words_from(alloc, args)?;
         self.canonical_words(alloc, &words)
+    }
+
+    /// Writes an accepted line again, as `canonical` does, from a list of words that is lent.
+    ///
+    /// No list of words is made for it, and its clauses are over the list itself. The Rust has no such
+    /// call.
+    pub fn canonical_words(
+        &self,
+        alloc: Global,
+        words: &[&str],
+    ) -> Result<Option<Vec<String>>, Fail>
+        ensures written { IfOk result (λ answer. IfSome answer (λ line.
+            IsWritten self.now (texts words.now) (map string_bytes line.items))) }
+        ensures unwritable { IfOk result (λ answer. IfNone answer
+            (IsUnwritable self.now (texts words.now))) }
+        ensures refused { IfErr result (λ fail. Tells fail
+            (IsRefused self.now (texts words.now))) }
+    {
+        let accepted = self.accepted_line(alloc, words)?;
+        if are_plain(self, &accepted) {
+            Ok(Some(canonical_line(alloc, self, accepted.line)?))
+        } else {
+            Ok(None)
+        }
     }
 }
 

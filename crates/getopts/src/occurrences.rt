@@ -1,6 +1,6 @@
 //! The occurrences of one option group among those that matches hold.
 
-ghost use Rattle.std.specs.Prelude.{◌≡◌, map, length, slice_get, IfOk};
+ghost use Rattle.std.specs.Prelude.{◌≡◌, ◌↔◌, IsTrue, [], map, length, slice_get, IfOk};
 ghost use Rattle.std.specs.Cmp.Lexicographic.{pointwise};
 ghost use Rattle.std.specs.Option.{option_copied, option_map};
 ghost use Rattle.std.specs.String.{string_bytes};
@@ -35,10 +35,17 @@ impl<'m> Model for Occurrences<'m> {
 
 impl<'m> Occurrences<'m> {
     /// How many they are.
-    pub fn count(&self) -> usize
+    pub fn len(&self) -> usize
         ensures { result ≡ length self.now }
     {
         self.places.len()
+    }
+
+    /// Whether there are none.
+    pub fn is_empty(&self) -> bool
+        ensures { IsTrue result ↔ (self.now ≡ []) }
+    {
+        self.len() == 0
     }
 
     /// The position of one of them, counted from 0, and its value if it has one. Past the last there is
@@ -53,8 +60,8 @@ impl<'m> Occurrences<'m> {
     pub(crate) fn positions(&self, alloc: Global) -> Result<Vec<usize>, AllocError>
         ensures { IfOk result (λ positions. positions.items ≡ positions_of self.now) }
     {
-        let mut positions = Vec::with_capacity(alloc, self.count())?;
-        for nth in 0..self.count() {
+        let mut positions = Vec::with_capacity(alloc, self.len())?;
+        for nth in 0..self.len() {
             if let Some((position, _)) = self.get(nth) {
                 positions.push(position)?;
             }
@@ -66,7 +73,7 @@ impl<'m> Occurrences<'m> {
         ensures { IfOk result (λ values. map string_bytes values.items ≡ values_of self.now) }
     {
         let mut values = Vec::new(alloc);
-        for nth in 0..self.count() {
+        for nth in 0..self.len() {
             if let Some((_, Some(value))) = self.get(nth) {
                 values.push(String::from_str(alloc, value)?)?;
             }
@@ -78,7 +85,7 @@ impl<'m> Occurrences<'m> {
         ensures { IfOk result (λ pairs. map pair_view pairs.items ≡ pairs_of self.now) }
     {
         let mut pairs = Vec::new(alloc);
-        for nth in 0..self.count() {
+        for nth in 0..self.len() {
             if let Some((position, Some(value))) = self.get(nth) {
                 pairs.push((position, String::from_str(alloc, value)?))?;
             }
@@ -106,10 +113,10 @@ impl<'m> Occurrences<'m> {
     pub(crate) fn same(&self, other: &Occurrences<'_>) -> bool
         ensures { result ≡ pointwise same_found self.now other.now }
     {
-        if self.count() != other.count() {
+        if self.len() != other.len() {
             return false;
         }
-        for nth in 0..self.count() {
+        for nth in 0..self.len() {
             if self.get(nth) != other.get(nth) {
                 return false;
             }

@@ -39,13 +39,23 @@ pub(crate) enum Shape<'w> {
     Cluster(&'w str),
 }
 
+/// Adds a copy of a word.
+fn push_copy(alloc: Global, copies: &mut Vec<String>, word: &str) -> Result<(), AllocError>
+    ensures { OnOk result (map string_bytes copies.new.items
+        ≡ map string_bytes copies.old.items ++ word.now ∷ []) }
+{
+    copies.push(String::from_str(alloc, word)?)?;
+    Ok(())
+}
+
 /// Adds copies of words.
 fn push_copies(alloc: Global, copies: &mut Vec<String>, words: &[&str]) -> Result<(), AllocError>
     ensures { OnOk result (map string_bytes copies.new.items
         ≡ map string_bytes copies.old.items ++ texts words.now) }
 {
+    copies.reserve(words.len())?;
     for word in words {
-        copies.push(String::from_str(alloc, word)?)?;
+        push_copy(alloc, copies, word)?;
     }
     Ok(())
 }
@@ -288,7 +298,7 @@ impl<'o> Scanner<'o> {
                         push_copies(alloc, &mut line.free, &words[at..])?;
                         return Ok(line);
                     }
-                    push_copies(alloc, &mut line.free, &words[at..at + 1])?;
+                    push_copy(alloc, &mut line.free, words[at])?;
                     at + 1
                 }
                 Shape::Stop => {

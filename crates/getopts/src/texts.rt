@@ -58,20 +58,6 @@ impl Texts {
         }
     }
 
-    /// No texts, with room for so many of so many bytes in all.
-    pub(crate) fn with_capacity(
-        alloc: Global,
-        texts: usize,
-        bytes: usize,
-    ) -> Result<Texts, AllocError>
-        ensures { IfOk result (λ texts. texts ≡ []) }
-    {
-        Ok(Texts {
-            text: String::with_capacity(alloc, bytes)?,
-            ends: Vec::with_capacity(alloc, texts)?,
-        })
-    }
-
     /// The number of texts.
     pub(crate) fn len(&self) -> usize
         ensures { result ≡ length self.now }
@@ -105,17 +91,6 @@ impl Texts {
         ensures { AreOfBytes self.now }
     {
         is_of_bytes(&self.text);
-    }
-
-    /// Copies of words.
-    pub(crate) fn copied(alloc: Global, words: &[&str]) -> Result<Texts, AllocError>
-        ensures { IfOk result (λ copies. copies ≡ map (λ word. word.now) words.now) }
-    {
-        let mut copies = Texts::with_capacity(alloc, words.len(), bytes_of(words))?;
-        for word in words {
-            copies.push(word)?;
-        }
-        Ok(copies)
     }
 
     /// Leaves the first so many texts.
@@ -188,12 +163,3 @@ impl PartialEq for Texts {
 pub(crate) fn is_of_bytes(text: &str)
     ensures { IsOfBytes text.now }
 {}
-
-/// The bytes of all the words, or the most that a `usize` holds.
-fn bytes_of(words: &[&str]) -> usize {
-    let mut bytes: usize = 0;
-    for word in words {
-        bytes = bytes.saturating_add(word.len());
-    }
-    bytes
-}

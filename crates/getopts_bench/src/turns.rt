@@ -191,7 +191,7 @@ fn taken(matches: &Matches, named: &[Named]) -> usize {
         if let Some(place) = matches.opt_place(option.main()) {
             let occurrences = matches.occurrences_at(place);
             sum = sum
-                .wrapping_add(occurrences.count())
+                .wrapping_add(occurrences.len())
                 .wrapping_add(values_length(&occurrences));
         }
     }
@@ -201,7 +201,7 @@ fn taken(matches: &Matches, named: &[Named]) -> usize {
 /// The lengths of the values of occurrences, added up.
 fn values_length(occurrences: &Occurrences<'_>) -> usize {
     let mut sum = 0usize;
-    for nth in 0..occurrences.count() {
+    for nth in 0..occurrences.len() {
         if let Some((_, Some(value))) = occurrences.get(nth) {
             sum = sum.wrapping_add(value.len());
         }

@@ -167,8 +167,8 @@ impl Body {
         ensures bytes { OnOk result (string_bytes self.new.bytes
             ≡ string_bytes self.old.bytes ++ flat_map found_bytes occurrences.now) }
     {
-        self.numbers.push(occurrences.count())?;
-        for nth in 0..occurrences.count() {
+        self.numbers.push(occurrences.len())?;
+        for nth in 0..occurrences.len() {
             if let Some((position, value)) = occurrences.get(nth) {
                 self.push_occurrence(position, value)?;
             }

@@ -269,7 +269,7 @@ fn occurrence(
     nth: usize,
     answer: &mut Answer,
 ) -> Result<(), Trouble> {
-    answer.number(alloc, occurrences.count())?;
+    answer.number(alloc, occurrences.len())?;
     match occurrences.get(nth) {
         Some((position, value)) => {
             answer.number(alloc, position)?;

@@ -239,7 +239,7 @@ fn push_count(
     ensures { OnOk result (string_bytes text.new
         ≡ string_bytes text.old ++ count_line name.now occurrences.now) }
 {
-    let count = occurrences.count();
+    let count = occurrences.len();
     write!(text, "{name}: {count}")?;
     for nth in 0..count {
         if let Some((position, _)) = occurrences.get(nth) {
@@ -258,7 +258,7 @@ fn push_values(
     ensures { OnOk result (string_bytes text.new
         ≡ string_bytes text.old ++ flat_map (value_line name.now) (pairs_of occurrences.now)) }
 {
-    for nth in 0..occurrences.count() {
+    for nth in 0..occurrences.len() {
         if let Some((position, Some(value))) = occurrences.get(nth) {
             writeln!(text, "{name} @{position} = {value}")?;
         }

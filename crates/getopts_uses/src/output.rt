@@ -20,7 +20,7 @@ pub fn writes_out(matches: &Matches) -> bool {
         return false;
     };
     let outputs = matches.occurrences_at(place);
-    for nth in 0..outputs.count() {
+    for nth in 0..outputs.len() {
         if let Some((_, Some("-"))) = outputs.get(nth) {
             return true;
         }

@@ -8,7 +8,7 @@ use Rattle.getopts.specs.declared.groups.ParsingStyle.TheVariants.{FloatingFrees
 use Rattle.getopts.specs.Names.{Text, texts}
 use Rattle.getopts.specs.Line.{scanner_grammar}
 use Rattle.getopts.proofs.FailLemmas.{Tells-weaker}
-use Rattle.getopts.proofs.ScanLoop.{texts-one, ReadSoFar-none, ReadSoFar-free, ReadSoFar-added, IsReading-tail, IsReading-rest, IsReading-stop, IsScanFault-word, texts-drop, length-texts, take-drop, trailing_after-stop}
+use Rattle.getopts.proofs.ScanLoop.{ReadSoFar-none, ReadSoFar-free, ReadSoFar-added, IsReading-tail, IsReading-rest, IsReading-stop, IsScanFault-word, texts-drop, length-texts, take-drop, trailing_after-stop}
 use Rattle.getopts.proofs.ScanWords.{is_dashed-text}
 use Rattle.getopts.proofs.scan.Scanner.scan.Goals as goal
 
@@ -90,12 +90,11 @@ overflow_add-at-in-Cluster-2 c =
       length-drop (c.items.at + 1) c.args.words.now,
     )
 
-pub items-preserved-in_ok-push_copies-in-Free-2 : goal.items-preserved-in_ok-push_copies-in-Free-2
-items-preserved-in_ok-push_copies-in-Free-2 c =
+pub items-preserved-in_ok-push_copy-in-Free : goal.items-preserved-in_ok-push_copy-in-Free
+items-preserved-in_ok-push_copy-in-Free c =
     let floating : c.args.self.now.options.now.style ≡ FloatingFrees = search rules in
     record {
-      read = ReadSoFar-free (scanner_grammar c.args.self.now) c.args.words.now c.items.at _ _ c.items.invariant.read _ (omega arith) _ c.in-Free.ensures floating
-          (c.in_ok-push_copies-in-Free-2.ensures ∙ ap (λ (ws : List Text). map string_bytes c.items.line.free.items ++ ws) (texts-one c.args.words.now _ c.items.at (omega arith)));
+      read = ReadSoFar-free (scanner_grammar c.args.self.now) c.args.words.now c.items.at _ _ c.items.invariant.read _ (omega arith) _ c.in-Free.ensures floating c.in_ok-push_copy-in-Free.ensures;
       trailing = c.items.invariant.trailing;
     }
 
