@@ -16,12 +16,13 @@ pub(crate) struct Occurrence<'w> {
     pub value: Option<&'w str>,
 }
 
-/// One option that a line gives. Its value is told by its place among the values of the line.
+/// One option that a line gives. Its value is told by its number among the values of the line, the first
+/// of which has number 1; an option without a value has 0.
 #[derive(Clone, Copy, Debug)]
 pub(crate) struct Given {
     pub group: usize,
     pub position: usize,
-    pub value: Option<usize>,
+    pub value: usize,
 }
 
 /// The options that a line gives, in order, and their values.
@@ -76,9 +77,10 @@ impl Found {
         ensures { option_map occurrence_view result ≡ slice_get self.now place }
     {
         let given = *self.given.get(place)?;
-        let value = match given.value {
-            Some(value) => self.values.get(value),
-            None => None,
+        let value = if given.value == 0 {
+            None
+        } else {
+            self.values.get(given.value - 1)
         };
         Some(Occurrence {
             group: given.group,
@@ -93,11 +95,10 @@ impl Found {
     {
         let value = match occurrence.value {
             Some(value) => {
-                let place = self.values.len();
                 self.values.push(value)?;
-                Some(place)
+                self.values.len()
             }
-            None => None,
+            None => 0,
         };
         self.given.push(Given {
             group: occurrence.group,

@@ -27,10 +27,11 @@ pub fn run(alloc: Global, job: Job, times: usize) -> Result<usize, Fail> {
 /// Turns that declare the options, read the words, and take what the matches give.
 #[inline(never)]
 fn whole(alloc: Global, input: &Input, times: usize) -> Result<usize, Fail> {
+    let words = lent(alloc, &input.words)?;
     let mut sum = 0usize;
     for _ in 0..times {
         let options = declared(alloc, &input.options)?;
-        let matches = matches_of(alloc, &options, &input.words)?;
+        let matches = options.parse_words(alloc, &words)?;
         sum = sum.wrapping_add(taken(&matches, &input.options));
     }
     Ok(sum)
@@ -51,9 +52,10 @@ fn declare(alloc: Global, named: &[Named], times: usize) -> Result<usize, Fail> 
 #[inline(never)]
 fn read(alloc: Global, input: &Input, times: usize) -> Result<usize, Fail> {
     let options = declared(alloc, &input.options)?;
+    let words = lent(alloc, &input.words)?;
     let mut sum = 0usize;
     for _ in 0..times {
-        sum = sum.wrapping_add(free_words(alloc, &options, &input.words)?);
+        sum = sum.wrapping_add(free_words(alloc, &options, &words)?);
     }
     Ok(sum)
 }
@@ -73,9 +75,10 @@ fn accessors(alloc: Global, input: &Input, times: usize) -> Result<usize, Fail> 
 #[inline(never)]
 fn canonical(alloc: Global, input: &Input, times: usize) -> Result<usize, Fail> {
     let options = declared(alloc, &input.options)?;
+    let words = lent(alloc, &input.words)?;
     let mut sum = 0usize;
     for _ in 0..times {
-        sum = sum.wrapping_add(canonical_length(alloc, &options, &input.words)?);
+        sum = sum.wrapping_add(canonical_length(alloc, &options, &words)?);
     }
     Ok(sum)
 }
@@ -144,6 +147,15 @@ fn described_options(alloc: Global) -> Result<Options, AllocError> {
     Ok(options)
 }
 
+/// The words, lent.
+fn lent(alloc: Global, words: &[String]) -> Result<Vec<&str>, AllocError> {
+    let mut lent = Vec::with_capacity(alloc, words.len())?;
+    for word in words {
+        lent.push(word.as_str())?;
+    }
+    Ok(lent)
+}
+
 /// The matches of the words.
 fn matches_of(alloc: Global, options: &Options, words: &[String]) -> Result<Matches, Fail> {
     options.parse(alloc, words.iter().map(|word| word.as_str()))
@@ -162,14 +174,14 @@ fn clusters(alloc: Global, options: &Options, word: &str) -> Result<Matches, Fai
 }
 
 /// How many of the words are free.
-fn free_words(alloc: Global, options: &Options, words: &[String]) -> Result<usize, Fail> {
-    let matches = matches_of(alloc, options, words)?;
+fn free_words(alloc: Global, options: &Options, words: &[&str]) -> Result<usize, Fail> {
+    let matches = options.parse_words(alloc, words)?;
     Ok(matches.free.len())
 }
 
 /// The lengths of the words of the canonical line, added up.
-fn canonical_length(alloc: Global, options: &Options, words: &[String]) -> Result<usize, Fail> {
-    match options.canonical(alloc, words.iter().map(|word| word.as_str()))? {
+fn canonical_length(alloc: Global, options: &Options, words: &[&str]) -> Result<usize, Fail> {
+    match options.canonical_words(alloc, words)? {
         Some(line) => Ok(total_length(&line)),
         None => Ok(0),
     }

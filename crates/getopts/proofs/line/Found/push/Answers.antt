@@ -1,8 +1,9 @@
 -- An occurrence with a value is seen with it, and one without has none.
-use Rattle.std.proofs.Common.{◌≡◌, ◌++◌, ◌∷◌, [], ℕ, Some, None, map, length, refl, sym, ap, ◌∙◌}
+use Rattle.std.proofs.Common.{◌≡◌, ◌++◌, ◌∷◌, [], ◌+◌, ℕ, suc, map, length, refl, sym, ap, ◌∙◌, arith, length-append}
+use Rattle.std.proofs.lemmas.List.{map-append}
 use Rattle.std.specs.Option.{option_copied}
 use Rattle.getopts.specs.Held.Found.{given_view}
-use Rattle.getopts.proofs.LineLemmas.{given-value, given-bare}
+use Rattle.getopts.proofs.LineLemmas.{given-value}
 use Rattle.getopts.proofs.line.Found.push.Goals as goal
 use Rattle.getopts.proofs.line.Found.push.Goals.{in-Some+in_ok-push-in-Some, in-None}
 
@@ -13,18 +14,19 @@ returns c =
     let position = c.args.occurrence.position in
     elim c.match-occurrence.branch [
       | in-Some+in_ok-push-in-Some w ↦
-          let size : w.len-place.result ≡ length before = w.len-place.ensures in
-          let items : c.push-2.new.self.items ≡ c.self.inside.given.items ++ record { group = group; position = position; value = Some (length before) } ∷ [] =
-          c.in_ok-push.ensures.items ∙ (λ i. (w.self-inside-is i).given.items ++ record { group = group; position = position; value = (w.value-is ∙ ap (λ (n : ℕ). Some n) size) i } ∷ []) in
           let values : c.match-occurrence.self-inside.values ≡ before ++ w.in-Some.value.now ∷ [] =
           ap (λ inside. inside.values) w.self-inside-is ∙ w.in_ok-push-in-Some.ensures.ok in
+          let number : c.match-occurrence.value ≡ suc (length before) =
+          w.value-is ∙ w.len-value.ensures ∙ ap length w.in_ok-push-in-Some.ensures.ok ∙ omega (arith, length-append before (w.in-Some.value.now ∷ [])) in
+          let items : c.push-2.new.self.items ≡ c.self.inside.given.items ++ record { group = group; position = position; value = suc (length before) } ∷ [] =
+          c.in_ok-push.ensures.items ∙ (λ i. (w.self-inside-is i).given.items ++ record { group = group; position = position; value = number i } ∷ []) in
           (λ i. map (given_view (values i)) (items i))
-          ∙ given-value before c.self.inside.given.items (record { group = group; position = position; value = Some (length before) }) w.in-Some.value.now c.self.invariant refl
+          ∙ given-value before c.self.inside.given.items group position w.in-Some.value.now c.self.invariant
           ∙ (λ i. c.self.view_is i ++ record { mention = record { group = group; value = option_copied (sym w.in-Some.is i) }; position = position } ∷ [])
       | in-None w ↦
-          let items : c.push-2.new.self.items ≡ c.self.inside.given.items ++ record { group = group; position = position; value = None } ∷ [] =
+          let items : c.push-2.new.self.items ≡ c.self.inside.given.items ++ record { group = group; position = position; value = 0 } ∷ [] =
           c.in_ok-push.ensures.items ∙ (λ i. (w.self-inside-is i).given.items ++ record { group = group; position = position; value = w.value-is i } ∷ []) in
           (λ i. map (given_view ((w.self-inside-is i).values)) (items i))
-          ∙ given-bare before c.self.inside.given.items (record { group = group; position = position; value = None }) refl
+          ∙ map-append (given_view before) c.self.inside.given.items (record { group = group; position = position; value = 0 } ∷ [])
           ∙ (λ i. c.self.view_is i ++ record { mention = record { group = group; value = option_copied (sym w.in-None.is i) }; position = position } ∷ [])
     ]
