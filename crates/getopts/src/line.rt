@@ -95,7 +95,7 @@ impl Found {
     {
         let value = match occurrence.value {
             Some(value) => {
-                self.values.push(value)?;
+                self.values.push(value, self.given.capacity())?;
                 self.values.len()
             }
             None => 0,
