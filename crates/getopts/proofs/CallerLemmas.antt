@@ -3,9 +3,9 @@ use Rattle.std.proofs.Common.{◌≡◌, ◌==◌, ℕ, zero, suc, ◌+◌, Bool
 use Rattle.std.specs.List.{filter, filter_map, cons_option}
 use Rattle.std.proofs.lemmas.List.{length-map}
 use Rattle.getopts.specs.Names.{Text, resolution}
-use Rattle.getopts.specs.Options.{Grammar, Known, Declared, names_of, knowns_of, grammar_of}
-use Rattle.getopts.specs.Scan.{Reading, Mention, Occurrence, occurrence_at, occurrences_of, free_words}
-use Rattle.getopts.specs.ScanLaws.{mentions_of, positions_in}
+use Rattle.getopts.specs.Options.{Known, Declared, names_of, knowns_of, grammar_of}
+use Rattle.getopts.specs.Scan.{Reading, Mention, Occurrence, occurrences_of, free_words}
+use Rattle.getopts.specs.ScanLaws.{mentions_of}
 use Rattle.getopts.specs.Canon.{Content}
 use Rattle.getopts.specs.Matches.{Found, Matched, found_at, matched, matches_of, KeepsCounts}
 use Rattle.getopts.specs.Accessors.{IsReadAs, place_of, found_in, found_of, first_value, values_of}
@@ -100,39 +100,3 @@ OneContentHoldsSame_lem options accepted_when words others old new matches accep
       (accepted_when others (matches_of options new)).1 (new, record { reads = reads_new; keeps = keeps }, refl),
       subst (λ (those : Matched). HoldSame those (matches_of options new)) matches_are (HoldSame-content options old new told free),
     )
-
--- ---- occurrences by what they mention and where
-
--- a mention at each position
-put_at : List ℕ → List Mention → List Occurrence
-put_at (position ∷ positions) (m ∷ ms) = occurrence_at position m ∷ put_at positions ms
-put_at [] ms = []
-put_at positions [] = []
-
-put_at-parts : (os : List Occurrence) → put_at (map (λ (o : Occurrence). o.position) os) (map (λ (o : Occurrence). o.mention) os) ≡ os
-unfolding put_at
-put_at-parts [] = refl
-put_at-parts (o ∷ os) = ap (λ (more : List Occurrence). o ∷ more) (put_at-parts os)
-
-put_at-moved : (move : ℕ → ℕ) (os : List Occurrence) → put_at (map move (map (λ (o : Occurrence). o.position) os)) (map (λ (o : Occurrence). o.mention) os) ≡ map (λ (o : Occurrence). occurrence_at (move o.position) o.mention) os
-unfolding put_at
-put_at-moved move [] = refl
-put_at-moved move (o ∷ os) = ap (λ (more : List Occurrence). occurrence_at (move o.position) o.mention ∷ more) (put_at-moved move os)
-
--- readings that mention the same at the same positions have the same occurrences
-pub occurrences-same : (grammar : Grammar) (old new : Reading) → mentions_of grammar new ≡ mentions_of grammar old → positions_in grammar new ≡ positions_in grammar old
-    → occurrences_of grammar new ≡ occurrences_of grammar old
-occurrences-same grammar old new told places =
-    sym (put_at-parts (occurrences_of grammar new))
-    ∙ ap (λ (ms : List Mention). put_at (positions_in grammar new) ms) told
-    ∙ ap (λ (positions : List ℕ). put_at positions (mentions_of grammar old)) places
-    ∙ put_at-parts (occurrences_of grammar old)
-
--- and readings that mention the same at positions that were moved have the occurrences so moved
-pub occurrences-moved : (move : ℕ → ℕ) (grammar : Grammar) (old new : Reading) → mentions_of grammar new ≡ mentions_of grammar old → positions_in grammar new ≡ map move (positions_in grammar old)
-    → occurrences_of grammar new ≡ map (λ (o : Occurrence). occurrence_at (move o.position) o.mention) (occurrences_of grammar old)
-occurrences-moved move grammar old new told places =
-    sym (put_at-parts (occurrences_of grammar new))
-    ∙ ap (λ (ms : List Mention). put_at (positions_in grammar new) ms) told
-    ∙ ap (λ (positions : List ℕ). put_at positions (mentions_of grammar old)) places
-    ∙ put_at-moved move (occurrences_of grammar old)

@@ -2,7 +2,6 @@
 use Rattle.std.proofs.Common.{◌≡◌, ◌≢◌, ◌⊎◌, ◌↔◌, ℕ, zero, suc, ◌+◌, ◌==◌, Bool, true, false, cond, List, [], ◌∷◌, ◌++◌, length, map, Option, Some, None, refl, sym, ap, ◌∙◌, subst, inl, inr, arith, append-nil}
 use Rattle.std.proofs.lemmas.Bool.{cases_Bool, or_cases, or_left, or_right, true≢false}
 use Rattle.std.proofs.lemmas.List.{append_cancel_right, length-map}
-use Rattle.std.proofs.lemmas.List.Elements.{All-contains, All-from_recursion}
 use Rattle.std.proofs.lemmas.Option.{none-some, option_and_then_some, same_Some, slice_get-get_or}
 use Rattle.std.specs.Prelude.{slice_get}
 use Rattle.std.specs.List.{AllByRecursion, Contains, filter, flat_map}
@@ -249,11 +248,6 @@ pub IsSound-says : (options : Declared) (words : List Text) (content : Content) 
 IsSound-says options words content says =
     rw says.content_is (IsSound-reading (with_setting options says.style says.long_only) says.reading words says.reads.reads)
 
--- what a line says is fitting
-pub IsFitting-says : (options : Declared) (words : List Text) (content : Content) → Says options words content → IsFitting options.groups content
-IsFitting-says options words content says =
-    rw says.content_is (IsFitting-reading (with_setting options says.style says.long_only) says.reading words says.reads.reads)
-
 -- what a line says reads back, where it is plain
 pub ReadsBackEverywhere-says : (options : Declared) (words : List Text) (content : Content) → Says options words content
     → IsPlain options.groups content → ReadsBackEverywhere options content
@@ -404,13 +398,6 @@ HasNoItem-equals options m holds style long_only (long two name argument) after 
 HasNoItem-equals options m holds style long_only (cluster names end) after others lawful just same =
     let text : names ++ end_text end ≡ dash ∷ (main_at options.groups m.group ++ with_equals m.value) = cc in
     true≢false (sym (ap begins_with_dash text) ∙ lawful.short_form)
-
--- a content with a mention of such a group isn't plain
-pub not_plain-contains : (groups : List Group) (content : Content) (m : Mention) → Contains content.mentions m
-    → holds_equals (main_at groups m.group) ≡ true → ¬ (IsPlain groups content)
-not_plain-contains groups content m mentioned holds plain =
-    let each = All-from_recursion (λ k. HasPlainMain groups k.group) content.mentions plain in
-    true≢false (sym holds ∙ All-contains (λ k. HasPlainMain groups k.group) content.mentions m each mentioned)
 
 -- mentions are plain, or one is of such a group
 plain_cases : (groups : List Group) (ms : List Mention)

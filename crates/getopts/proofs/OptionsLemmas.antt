@@ -1,6 +1,5 @@
 -- The tests of `==` of options say exactly that what they compare is equal.
-use denote.Enum.Bare.{sameb}
-use Rattle.std.proofs.Common.{◌≡◌, ◌==◌, List, [], ◌∷◌, map, refl, ap}
+use Rattle.std.proofs.Common.{◌≡◌, List, [], ◌∷◌, map, refl, ap}
 use Rattle.std.specs.Bool.{Decides}
 use Rattle.std.specs.Cmp.{booleans_Decides}
 use Rattle.std.specs.Cmp.Lexicographic.{pointwise_decides, bytes_decides}
@@ -9,7 +8,6 @@ use Rattle.std.proofs.lemmas.Bool.Decides.{Decides-and, Decides-like, Decides-eq
 use Rattle.getopts.specs.Names.{Names}
 use Rattle.getopts.specs.Options.{Known, Group, Declared}
 use Rattle.getopts.specs.Same.{kind_index, occurrence_index, style_index, same_names, same_known, same_group, same_options}
-use Rattle.getopts.specs.contracts.groups.ParsingStyle.{the_type}
 use Rattle.getopts.specs.declared.groups.HasArg.{HasArg}
 use Rattle.getopts.specs.declared.groups.Occur.{Occur}
 use Rattle.getopts.specs.declared.groups.ParsingStyle.{ParsingStyle}
@@ -51,13 +49,6 @@ same_style FloatingFrees FloatingFrees h = refl
 same_style FloatingFrees StopAtFirstFree h = cc
 same_style StopAtFirstFree FloatingFrees h = cc
 same_style StopAtFirstFree StopAtFirstFree h = refl
-
--- the code's test of two styles
-pub style_test : (a b : ParsingStyle) → sameb the_type a b ≡ (style_index a == style_index b)
-style_test FloatingFrees FloatingFrees = refl
-style_test FloatingFrees StopAtFirstFree = refl
-style_test StopAtFirstFree FloatingFrees = refl
-style_test StopAtFirstFree StopAtFirstFree = refl
 
 -- the test of two names says exactly that they are equal
 pub same_names-decides : (a b : Names) → Decides (same_names a b) (a ≡ b)

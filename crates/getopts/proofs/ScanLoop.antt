@@ -55,18 +55,6 @@ followed-none (item ∷ []) more followed = ((λ bare. tt), tt)
 followed-none (item ∷ next ∷ items) more followed =
     ((λ bare. ends_alike next (spelled_all items more) (spelled_all items []) (followed.0 bare)), followed-none (next ∷ items) more followed.1)
 
--- at the start no item was read
-pub ReadSoFar-none : (grammar : Grammar) (words : List Text) → ReadSoFar grammar words 0 [] []
-ReadSoFar-none grammar words = record {
-  items = [];
-  spells = refl;
-  lawful = tt;
-  followed = tt;
-  occurrences_are = refl;
-  free_are = refl;
-  within = zero-le;
-}
-
 -- what is left past a word and some of the words after it
 drop_past : {X : Type 0} (words after : List X) (word : X) (at used : ℕ) → drop at words ≡ word ∷ after → drop (at + (1 + used)) words ≡ drop used after
 drop_past words after word at used left =

@@ -9,7 +9,7 @@ use Rattle.getopts.specs.Scan.{stop_word, none, attached, separate, flags, ends_
 use Rattle.getopts.specs.declared.groups.ParsingStyle.{ParsingStyle}
 use Rattle.getopts.proofs.ScanTurns.{IsNamed, Turn, ends, takes_one, takes_two, faults, turn, free_turn, with_item, after_turn, read_both, read}
 use Rattle.getopts.proofs.ScanTexts.{AllByRecursion-rest}
-use Rattle.getopts.proofs.ScanSteps.{TakesItem, spelled_turn, begins_turn, fault_turn, fault_dashed, turn_free, turn_stop, IsSoundTurn, turn_sound}
+use Rattle.getopts.proofs.ScanSteps.{TakesItem, spelled_turn, fault_turn, fault_dashed, turn_free, turn_stop, IsSoundTurn, turn_sound}
 
 -- One step of `read`, by the turn of the first word.
 module _ (grammar : Grammar) (word : Text) (more : List Text) where
@@ -48,11 +48,6 @@ taken_read grammar [] item others takes = absurd takes
 taken_read grammar (word ∷ more) item others (inl here) =
     read_one grammar word more item here.0 ∙ ap (λ (line : List Text). with_item item (read grammar line)) here.1
 taken_read grammar (word ∷ more) item others (inr here) = read_two grammar word more item here.1 others here.2 here.0
-
--- a line that begins with an item
-pub begins_read : (grammar : Grammar) → IsNamed grammar → (words : List Text) (item : Item) (others : List Text) → BeginsWith grammar words item others
-    → read grammar words ≡ with_item item (read grammar others)
-begins_read grammar named words item others begins = taken_read grammar words item others (begins_turn grammar named words item others begins)
 
 -- a reading with more items at its front
 abbrev pub with_items : List Item → Result Reading Fault → Result Reading Fault

@@ -7,7 +7,7 @@ use Rattle.std.proofs.lemmas.Slice.Eq.{bytes_eq-Decides}
 use Rattle.getopts.specs.Names.{Text}
 use Rattle.getopts.specs.Options.{Grammar}
 use Rattle.getopts.specs.Fail.{Fault, argument_missing, unrecognized_option, option_missing, option_duplicated, unexpected_argument}
-use Rattle.getopts.specs.Scan.{dash, is_dashed, holds_equals, stop_word, Argument, none, attached, separate, Dashes, one, two, End, flags, ends_in, Item, free, long, cluster, dash_text, with_equals, long_word, attached_argument, argument_words, end_text, end_words, spelled, MayStandBefore, FitsLong, FitsEnd, IsFlag, IsLawfulEnd, IsLawfulCluster, IsLawfulItem, is_bare, EndsOrIsDashed, Tail, stop, tail_words, IsLawfulTail, BeginsWith, IsLongForm, IsShortForm, HasUnknownFlag, EndsInYes, IsFaultAt}
+use Rattle.getopts.specs.Scan.{dash, is_dashed, holds_equals, stop_word, Argument, none, attached, separate, Dashes, one, two, End, flags, ends_in, Item, free, long, cluster, dash_text, with_equals, long_word, attached_argument, argument_words, end_text, end_words, spelled, MayStandBefore, FitsLong, FitsEnd, IsFlag, IsLawfulEnd, IsLawfulCluster, IsLawfulItem, is_bare, EndsOrIsDashed, stop, tail_words, IsLawfulTail, BeginsWith, IsLongForm, IsShortForm, HasUnknownFlag, EndsInYes, IsFaultAt}
 use Rattle.getopts.specs.declared.groups.HasArg.{HasArg}
 use Rattle.getopts.specs.declared.groups.HasArg.TheVariants.{Yes, No, Maybe}
 use Rattle.getopts.specs.declared.groups.ParsingStyle.{ParsingStyle}
@@ -283,79 +283,6 @@ turn_sound grammar named word more = by_shape (shape grammar word) where
   by_shape (is_long dashes text form) = rw (turn_long grammar dashes word text more form) (long_sound grammar dashes word text more form)
   by_shape (is_short text form) = rw (turn_short grammar word text more form) (cluster_sound grammar named word [] text more form tt)
 
--- What a sound turn says, by its case. Cite them with `named_sound`, `long_sound`, `option_sound`, `byte_sound`,
--- `cluster_sound` or `turn_sound`.
-module _ (grammar : Grammar) (word : Text) (more : List Text) (said : Turn) (sound : IsSoundTurn grammar word more said) where
-  -- the line begins with the item, which this word alone spells
-  pub sound_one : (item : Item) → said ≡ takes_one item → BeginsWith grammar (word ∷ more) item more
-  sound_one item e = subst (λ (t : Turn). IsSoundTurn grammar word more t) e sound
-
-  -- the line begins with the item, which this word and the next spell
-  pub sound_two : (item : Item) → said ≡ takes_two item
-      → (next : Text) × (others : List Text) × (more ≡ next ∷ others) × BeginsWith grammar (word ∷ more) item others
-  sound_two item e = subst (λ (t : Turn). IsSoundTurn grammar word more t) e sound
-
-  -- the line is this lawful tail
-  pub sound_ends : (tail : Tail) → said ≡ ends tail → IsLawfulTail grammar tail × (tail_words tail ≡ word ∷ more)
-  sound_ends tail e = subst (λ (t : Turn). IsSoundTurn grammar word more t) e sound
-
-  -- the word has this fault
-  pub sound_faults : (fault : Fault) → IsUtf8 word → said ≡ faults fault → IsFaultAt grammar word more fault
-  sound_faults fault utf8 e = let at : IsSoundTurn grammar word more (faults fault) = subst (λ (t : Turn). IsSoundTurn grammar word more t) e sound in at utf8
-
--- The same of the first word of a line.
-module _ (grammar : Grammar) (named : IsNamed grammar) (word : Text) (more : List Text) where
-  pub turn_one : (item : Item) → turn grammar word more ≡ takes_one item → BeginsWith grammar (word ∷ more) item more
-  turn_one = sound_one grammar word more (turn grammar word more) (turn_sound grammar named word more)
-
-  pub turn_two : (item : Item) → turn grammar word more ≡ takes_two item
-      → (next : Text) × (others : List Text) × (more ≡ next ∷ others) × BeginsWith grammar (word ∷ more) item others
-  turn_two = sound_two grammar word more (turn grammar word more) (turn_sound grammar named word more)
-
-  pub turn_ends : (tail : Tail) → turn grammar word more ≡ ends tail → IsLawfulTail grammar tail × (tail_words tail ≡ word ∷ more)
-  turn_ends = sound_ends grammar word more (turn grammar word more) (turn_sound grammar named word more)
-
-  pub turn_faults : (fault : Fault) → IsUtf8 word → turn grammar word more ≡ faults fault → IsFaultAt grammar word more fault
-  turn_faults = sound_faults grammar word more (turn grammar word more) (turn_sound grammar named word more)
-
--- The same of a word in long form, by its name and its attached argument.
-module _ (grammar : Grammar) (dashes : Dashes) (word name : Text) (argument : Option Text) (more : List Text)
-    (form : HasDashes grammar dashes word (name ++ with_equals argument)) (plain : holds_equals name ≡ false) where
-  pub named_one : (item : Item) → named_turn (grammar.kind_of name) dashes name argument more ≡ takes_one item → BeginsWith grammar (word ∷ more) item more
-  named_one = sound_one grammar word more (named_turn (grammar.kind_of name) dashes name argument more) (named_sound grammar dashes word name argument more form plain (grammar.kind_of name) refl)
-
-  pub named_two : (item : Item) → named_turn (grammar.kind_of name) dashes name argument more ≡ takes_two item
-      → (next : Text) × (others : List Text) × (more ≡ next ∷ others) × BeginsWith grammar (word ∷ more) item others
-  named_two = sound_two grammar word more (named_turn (grammar.kind_of name) dashes name argument more) (named_sound grammar dashes word name argument more form plain (grammar.kind_of name) refl)
-
-  pub named_faults : (fault : Fault) → IsUtf8 word → named_turn (grammar.kind_of name) dashes name argument more ≡ faults fault → IsFaultAt grammar word more fault
-  named_faults = sound_faults grammar word more (named_turn (grammar.kind_of name) dashes name argument more) (named_sound grammar dashes word name argument more form plain (grammar.kind_of name) refl)
-
--- The same of a word in long form, by its text.
-module _ (grammar : Grammar) (dashes : Dashes) (word text : Text) (more : List Text) (form : HasDashes grammar dashes word text) where
-  pub long_one : (item : Item) → long_turn grammar dashes text more ≡ takes_one item → BeginsWith grammar (word ∷ more) item more
-  long_one = sound_one grammar word more (long_turn grammar dashes text more) (long_sound grammar dashes word text more form)
-
-  pub long_two : (item : Item) → long_turn grammar dashes text more ≡ takes_two item
-      → (next : Text) × (others : List Text) × (more ≡ next ∷ others) × BeginsWith grammar (word ∷ more) item others
-  long_two = sound_two grammar word more (long_turn grammar dashes text more) (long_sound grammar dashes word text more form)
-
-  pub long_faults : (fault : Fault) → IsUtf8 word → long_turn grammar dashes text more ≡ faults fault → IsFaultAt grammar word more fault
-  long_faults = sound_faults grammar word more (long_turn grammar dashes text more) (long_sound grammar dashes word text more form)
-
--- The same of a word in short form, by its flags and the text after them.
-module _ (grammar : Grammar) (named : IsNamed grammar) (word : Text) (names : List ℕ) (text : Text) (more : List Text)
-    (form : IsShortForm grammar word (names ++ text)) (each : AllByRecursion (IsFlag grammar) names) where
-  pub cluster_one : (item : Item) → cluster_turn grammar names text more ≡ takes_one item → BeginsWith grammar (word ∷ more) item more
-  cluster_one = sound_one grammar word more (cluster_turn grammar names text more) (cluster_sound grammar named word names text more form each)
-
-  pub cluster_two : (item : Item) → cluster_turn grammar names text more ≡ takes_two item
-      → (next : Text) × (others : List Text) × (more ≡ next ∷ others) × BeginsWith grammar (word ∷ more) item others
-  cluster_two = sound_two grammar word more (cluster_turn grammar names text more) (cluster_sound grammar named word names text more form each)
-
-  pub cluster_faults : (fault : Fault) → IsUtf8 word → cluster_turn grammar names text more ≡ faults fault → IsFaultAt grammar word more fault
-  cluster_faults = sound_faults grammar word more (cluster_turn grammar names text more) (cluster_sound grammar named word names text more form each)
-
 -- Now the other way: what a line begins with settles the turn of its first word.
 
 -- the turn of a word in long form, by its name and its attached argument
@@ -507,12 +434,6 @@ spelled_turn grammar named (cluster names flags) more lawful followed =
     inl (short_turn_flags grammar (dash ∷ (names ++ [])) names [] more (lawful_short grammar names flags lawful) lawful.each, refl)
 spelled_turn grammar named (cluster names (ends_in option argument)) more lawful followed =
     ending_taken grammar names option argument more lawful lawful.last.0 lawful.last.1 lawful.last.2 followed
-
--- a line that begins with an item
-pub begins_turn : (grammar : Grammar) → IsNamed grammar → (words : List Text) (item : Item) (more : List Text) → BeginsWith grammar words item more
-    → TakesItem grammar words item more
-begins_turn grammar named words item more begins =
-    subst (λ (line : List Text). TakesItem grammar line item more) (sym begins.spells) (spelled_turn grammar named item more begins.lawful begins.followed)
 
 -- the turn of a name that is typed in long form, by its kind
 long_fault : (grammar : Grammar) (word name : Text) (argument : Option Text) (more : List Text) (kind : Option HasArg)

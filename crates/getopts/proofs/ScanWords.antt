@@ -7,7 +7,7 @@ use Rattle.std.proofs.lemmas.Bool.Decides.{Decides-eqb, nat_tests}
 use Rattle.getopts.specs.declared.groups.HasArg.{HasArg}
 use Rattle.getopts.specs.declared.groups.HasArg.TheVariants.{Yes, No, Maybe}
 use Rattle.getopts.specs.Names.{Text}
-use Rattle.getopts.specs.Scan.{dash, equals_sign, is_dashed, begins_with_dash, holds_equals, attached, FitsEnd, one, two, IsShortForm}
+use Rattle.getopts.specs.Scan.{dash, equals_sign, is_dashed, begins_with_dash, holds_equals, attached, FitsEnd, one, IsShortForm}
 use Rattle.getopts.specs.Options.{Grammar}
 use Rattle.getopts.specs.Line.{IsInLongForm}
 
@@ -68,16 +68,6 @@ begins_with_dash-other (c ∷ text) h = other (eqb c dash) (λ e. h text (ap (λ
 pub is_dashed-text : (text : Text) → text ≢ [] → is_dashed (dash ∷ text) ≡ true
 is_dashed-text [] filled = absurd (filled refl)
 is_dashed-text (c ∷ text) filled = refl
-
--- two dashes and a text that isn't empty are a word in long form
-pub IsInLongForm-two : (grammar : Grammar) (text long : Text) → text ≡ dash ∷ long → text ≢ dash ∷ [] → IsInLongForm grammar (dash ∷ text) long
-IsInLongForm-two grammar text long text_is no_stop = record {
-  dashes = two;
-  before = tt;
-  word_is = ap (λ t. dash ∷ t) text_is;
-  dashed = ap (λ t. is_dashed (dash ∷ t)) text_is;
-  no_stop = λ e. no_stop (cc);
-}
 
 -- in long-only mode one dash and a text that doesn't begin with one are a word in long form
 pub IsInLongForm-one : (grammar : Grammar) (text : Text) → grammar.long_only ≡ true → text ≢ [] → ((more : Text) → text ≢ dash ∷ more) → IsInLongForm grammar (dash ∷ text) text

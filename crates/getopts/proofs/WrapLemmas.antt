@@ -6,7 +6,6 @@ use Rattle.std.proofs.lemmas.Bool.{leb-true, le-leb}
 use Rattle.std.proofs.lemmas.List.Elements.{All-nil, All-cons, All-head, All-tail}
 use Rattle.std.proofs.lemmas.List.Sums.{sum_by-append}
 use Rattle.getopts.specs.Wrap.{Word, Run, width_of, columns_of, FitsIn, IsFittingBreaking, NoneTakesMore, IsTightBreaking, IsFewestBreaking}
-use Rattle.getopts.specs.Only.{IsTheOnly}
 
 -- ---- filling one row after the other
 
@@ -181,10 +180,6 @@ runs_of-only limit words ([] ∷ runs) tight = absurd (omega (arith, All-head (�
 runs_of-only limit words ((word ∷ more) ∷ runs) tight =
     sym (runs_from-only limit runs (word ∷ []) more (omega arith) (All-tail (λ run. 0 < length run) (word ∷ more) runs tight.fitting.nonempty) tight.fitting.fits tight.tight)
     ∙ ap (runs_of limit) tight.fitting.joined
-
--- words have one tight breaking, and no other
-pub one_tight_breaking : (limit : ℕ) (words : List Word) → IsTheOnly (IsTightBreaking limit words) (runs_of limit words)
-one_tight_breaking limit words others = (runs_of-only limit words others, λ same. subst (IsTightBreaking limit words) (sym same) (runs_of-tight limit words))
 
 -- ---- no fitting breaking has fewer runs
 
