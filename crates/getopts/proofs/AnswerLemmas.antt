@@ -1,21 +1,20 @@
 -- What `parse` and `canonical` answer to words, computed: each line has an answer of both, and no other.
-use Rattle.std.proofs.Common.{◌≡◌, ◌==◌, ℕ, Bool, true, false, not, nat_lt, List, [], ◌∷◌, length, arith, Option, Some, None, Result, Ok, Err, MatchOption, refl, sym, ap, ◌∙◌, inl, inr}
+use Rattle.std.proofs.Common.{◌≡◌, ◌==◌, ℕ, Bool, true, false, nat_lt, List, [], ◌∷◌, length, arith, Option, Some, None, Result, Ok, Err, MatchOption, refl, ap, inl, inr}
 use Rattle.std.specs.Prelude.{if◌then◌else◌}
-use Rattle.std.specs.List.{AllByRecursion, list_all}
+use Rattle.std.specs.List.{AllByRecursion}
 use Rattle.std.specs.Str.{IsUtf8}
-use Rattle.std.proofs.lemmas.Bool.{and_parts, not-true, true≢false}
 use Rattle.std.proofs.lemmas.Bool.Decides.{nat_tests}
 use Rattle.getopts.specs.Names.{Text, AreTexts}
-use Rattle.getopts.specs.Options.{Group, Declared, AreLawfullyNamed, grammar_of}
+use Rattle.getopts.specs.Options.{Declared, AreLawfullyNamed, grammar_of}
 use Rattle.getopts.specs.Fail.{Fault}
-use Rattle.getopts.specs.Scan.{holds_equals, Mention, Reading, IsReading}
+use Rattle.getopts.specs.Scan.{Reading, IsReading}
 use Rattle.getopts.specs.Matches.{Matched, MatchedGroup, matches_of, FitsCount, KeepsCount, KeepsCounts, broken_count, IsCountFault}
-use Rattle.getopts.specs.Canon.{content_of, main_at, HasPlainMain, canonical_line}
+use Rattle.getopts.specs.Canon.{content_of, canonical_line}
 use Rattle.getopts.specs.CanonAnswers.{IsAcceptedWith, IsParseAnswer, IsCanonicalAnswer}
 use Rattle.getopts.specs.Refuted.Forms.{EachLineHasAnswers}
 use Rattle.getopts.specs.declared.groups.Occur.{Occur}
 use Rattle.getopts.specs.declared.groups.Occur.TheVariants.{Req, Optional, Multi}
-use Rattle.getopts.proofs.CanonLemmas.{HasUnwritable-content, HasCanonicalLine-says, Says-reading}
+use Rattle.getopts.proofs.CanonLemmas.{is_plain, is_plain-true, is_plain-false, HasUnwritable-content, HasCanonicalLine-says, Says-reading}
 use Rattle.getopts.proofs.ParseLemmas.{named_here, only_reads, HasNoReading-fault}
 use Rattle.getopts.proofs.ScanReadings.{read_reading, read_fault}
 use Rattle.getopts.proofs.ScanTurns.{read}
@@ -44,7 +43,7 @@ first_count_fault [] = None
 first_count_fault (group ∷ groups) = if fits_count group.known.occurrence (length group.found) then first_count_fault groups else Some (broken_count group)
 
 -- the groups keep their counts, or this is their fault
-abbrev HaveFault : List MatchedGroup → Option Fault → Type 0
+abbrev pub HaveFault : List MatchedGroup → Option Fault → Type 0
 HaveFault groups fault = MatchOption fault (KeepsCounts groups) (IsCountFault groups)
 
 -- one more group, which keeps its count
@@ -74,28 +73,10 @@ HaveFault-first group groups others false breaks = record {
   fault_is = refl;
 }
 
-first_count_fault-is : (groups : List MatchedGroup) → HaveFault groups (first_count_fault groups)
+-- what is computed is the fault of groups
+pub first_count_fault-is : (groups : List MatchedGroup) → HaveFault groups (first_count_fault groups)
 first_count_fault-is [] = tt
 first_count_fault-is (group ∷ groups) = HaveFault-first group groups (first_count_fault-is groups) (fits_count group.known.occurrence (length group.found)) refl
-
--- ---- plain contents
-
--- whether no mentioned group has a main name that holds `=`
-abbrev pub is_plain : List Group → List Mention → Bool
-is_plain groups mentions = list_all (λ m. not (holds_equals (main_at groups m.group))) mentions
-
-is_plain-true : (groups : List Group) (mentions : List Mention) → is_plain groups mentions ≡ true → AllByRecursion (λ m. HasPlainMain groups m.group) mentions
-is_plain-true groups [] plain = tt
-is_plain-true groups (m ∷ ms) plain =
-    let parts = and_parts (not (holds_equals (main_at groups m.group))) (is_plain groups ms) plain in
-    (not-true (holds_equals (main_at groups m.group)) parts.0, is_plain-true groups ms parts.1)
-
-is_plain-from : (groups : List Group) (mentions : List Mention) → AllByRecursion (λ m. HasPlainMain groups m.group) mentions → is_plain groups mentions ≡ true
-is_plain-from groups [] plain = refl
-is_plain-from groups (m ∷ ms) plain = rw (plain.0) (is_plain-from groups ms plain.1)
-
-is_plain-false : (groups : List Group) (mentions : List Mention) → is_plain groups mentions ≡ false → ¬ (AllByRecursion (λ m. HasPlainMain groups m.group) mentions)
-is_plain-false groups mentions other = λ plain. true≢false (sym (is_plain-from groups mentions plain) ∙ other)
 
 -- ---- answers
 

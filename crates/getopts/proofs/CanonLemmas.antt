@@ -1,10 +1,10 @@
 -- The laws of the canonical line.
-use Rattle.std.proofs.Common.{◌≡◌, ◌≢◌, ◌⊎◌, ◌↔◌, ℕ, zero, suc, ◌+◌, ◌==◌, Bool, true, false, cond, List, [], ◌∷◌, ◌++◌, length, map, Option, Some, None, refl, sym, ap, ◌∙◌, subst, inl, inr, arith, append-nil}
-use Rattle.std.proofs.lemmas.Bool.{cases_Bool, or_cases, or_left, or_right, true≢false}
+use Rattle.std.proofs.Common.{◌≡◌, ◌≢◌, ◌⊎◌, ◌↔◌, ℕ, zero, suc, ◌+◌, ◌==◌, Bool, true, false, not, List, [], ◌∷◌, ◌++◌, length, map, Option, Some, None, refl, sym, ap, ◌∙◌, subst, inl, inr, arith, append-nil}
+use Rattle.std.proofs.lemmas.Bool.{cases_Bool, and_parts, not-true, or_cases, or_left, or_right, true≢false}
 use Rattle.std.proofs.lemmas.List.{append_cancel_right, length-map}
 use Rattle.std.proofs.lemmas.Option.{none-some, option_and_then_some, same_Some, slice_get-get_or}
 use Rattle.std.specs.Prelude.{slice_get}
-use Rattle.std.specs.List.{AllByRecursion, Contains, filter, flat_map}
+use Rattle.std.specs.List.{AllByRecursion, Contains, filter, flat_map, list_all}
 use Rattle.std.specs.Option.{option_and_then, unwrap_or}
 use Rattle.getopts.specs.Names.{Text, Names, IsLawfullyNamed, main_name, resolution}
 use Rattle.getopts.specs.Options.{Known, Group, Declared, AreLawfullyNamed, names_of, knowns_of, Grammar, kind_at, kind_of, grammar_of}
@@ -16,10 +16,11 @@ use Rattle.getopts.specs.Theorem.{CanonicalLinesTell}
 use Rattle.getopts.specs.declared.groups.HasArg.{HasArg}
 use Rattle.getopts.specs.declared.groups.HasArg.TheVariants.{Yes, No, Maybe}
 use Rattle.getopts.specs.declared.groups.ParsingStyle.{ParsingStyle}
-use Rattle.getopts.proofs.NamesLemmas.{AllByRecursion-map, AllByRecursion-follows, resolution-main_name, resolution-nil, resolution_within}
+use Rattle.getopts.proofs.ListLemmas.{AllByRecursion-append, AllByRecursion-follows, AllByRecursion-map, length-filter-map}
+use Rattle.getopts.proofs.NamesLemmas.{resolution-main_name, resolution-nil, resolution_within}
 use Rattle.getopts.proofs.ScanPositions.{mentions_of-items}
 use Rattle.getopts.proofs.ScanReadings.{only_reading}
-use Rattle.getopts.proofs.ScanTexts.{AllByRecursion-append, begins_with_dash-append, long_argument-append, long_name-append}
+use Rattle.getopts.proofs.ScanTexts.{begins_with_dash-append, long_argument-append, long_name-append}
 use Rattle.getopts.proofs.ScanTurns.{IsNamed, long_argument, long_name}
 
 -- the main name at a place, where a group is there
@@ -202,15 +203,6 @@ content_of-canonical : (options : Declared) (content : Content) → AllByRecursi
     → content_of (grammar_of options) (canonical_reading options.groups content) ≡ content
 content_of-canonical options content good =
     rw (mentions_of-items (grammar_of options) (canonical_reading options.groups content), mentions-canonical_all options content.mentions good, free_items-canonical options.groups content.mentions) refl
-
--- a filter passes as many elements of a mapped list as of the list
-length-cond : {X Y : Type 0} (passes : Bool) (x : X) (y : Y) (xs : List X) (ys : List Y) → length xs ≡ length ys → length (cond passes (x ∷ xs) xs) ≡ length (cond passes (y ∷ ys) ys)
-length-cond true x y xs ys same = ap suc same
-length-cond false x y xs ys same = same
-
-length-filter-map : {X Y : Type 0} (p : Y → Bool) (f : X → Y) (xs : List X) → length (filter p (map f xs)) ≡ length (filter (λ x. p (f x)) xs)
-length-filter-map p f [] = refl
-length-filter-map p f (x ∷ xs) = length-cond (p (f x)) (f x) x (filter p (map f xs)) (filter (λ y. p (f y)) xs) (length-filter-map p f xs)
 
 -- the number of mentions of the group at a place
 abbrev count_at : ℕ → List Mention → ℕ
@@ -398,6 +390,25 @@ HasNoItem-equals options m holds style long_only (long two name argument) after 
 HasNoItem-equals options m holds style long_only (cluster names end) after others lawful just same =
     let text : names ++ end_text end ≡ dash ∷ (main_at options.groups m.group ++ with_equals m.value) = cc in
     true≢false (sym (ap begins_with_dash text) ∙ lawful.short_form)
+
+-- whether no mentioned group has a main name that holds `=`
+abbrev pub is_plain : List Group → List Mention → Bool
+is_plain groups mentions = list_all (λ m. not (holds_equals (main_at groups m.group))) mentions
+
+-- where none has, they are plain
+pub is_plain-true : (groups : List Group) (mentions : List Mention) → is_plain groups mentions ≡ true → AllByRecursion (λ m. HasPlainMain groups m.group) mentions
+is_plain-true groups [] plain = tt
+is_plain-true groups (m ∷ ms) plain =
+    let parts = and_parts (not (holds_equals (main_at groups m.group))) (is_plain groups ms) plain in
+    (not-true (holds_equals (main_at groups m.group)) parts.0, is_plain-true groups ms parts.1)
+
+is_plain-from : (groups : List Group) (mentions : List Mention) → AllByRecursion (λ m. HasPlainMain groups m.group) mentions → is_plain groups mentions ≡ true
+is_plain-from groups [] plain = refl
+is_plain-from groups (m ∷ ms) plain = rw (plain.0) (is_plain-from groups ms plain.1)
+
+-- and else they aren't
+pub is_plain-false : (groups : List Group) (mentions : List Mention) → is_plain groups mentions ≡ false → ¬ (AllByRecursion (λ m. HasPlainMain groups m.group) mentions)
+is_plain-false groups mentions other = λ plain. true≢false (sym (is_plain-from groups mentions plain) ∙ other)
 
 -- mentions are plain, or one is of such a group
 plain_cases : (groups : List Group) (ms : List Mention)

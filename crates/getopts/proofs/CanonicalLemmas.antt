@@ -1,7 +1,7 @@
 -- What the code finds in accepted words is what they say, and words have one answer.
 use Rattle.std.proofs.Common.{◌≡◌, ◌==◌, ◌<◌, ℕ, Bool, true, false, not, List, [], ◌∷◌, ◌++◌, length, get_or, map, Option, Some, None, Result, Ok, Err, IfSome, IfNone, refl, sym, ap, ◌∙◌, subst, inl, inr}
-use Rattle.std.proofs.lemmas.Bool.{and_parts, and_from, not-true, not_from_false, true≢false}
-use Rattle.std.proofs.lemmas.List.Folds.{list_any_at}
+use Rattle.std.proofs.lemmas.Bool.{true≢false}
+use Rattle.std.proofs.lemmas.List.Folds.{list_any_at, list_all-map}
 use Rattle.std.specs.List.{AllByRecursion, list_all}
 use Rattle.getopts.specs.Names.{Text, texts}
 use Rattle.getopts.specs.Options.{Group, Declared, AreLawfullyNamed, grammar_of, knowns_of}
@@ -15,7 +15,7 @@ use Rattle.getopts.specs.Canon.{Content, IsCountKeeping, content_of, main_at, Ha
 use Rattle.getopts.specs.AcceptedLine.{IsAcceptedLine}
 use Rattle.getopts.specs.CanonAnswers.{IsAcceptedWith, IsWritten, IsUnwritable, IsParseAnswer, IsCanonicalAnswer, AnsweredLinesTell}
 use Rattle.getopts.specs.declared.line.AcceptedLine.{AcceptedLine}
-use Rattle.getopts.proofs.CanonLemmas.{HasCanonicalLine-says, HasUnwritable-content, CanonicalLinesTell-lawful}
+use Rattle.getopts.proofs.CanonLemmas.{is_plain-true, is_plain-false, HasCanonicalLine-says, HasUnwritable-content, CanonicalLinesTell-lawful}
 use Rattle.getopts.proofs.OnlyLemmas.{meets}
 use Rattle.getopts.proofs.ParseLemmas.{only_reads, named_here, groups_are, IsAccepted-reading}
 use Rattle.getopts.proofs.ScanTurns.{IsNamed}
@@ -32,22 +32,16 @@ holds_equals-found text false there at = sym (holds_equals-none text (λ k withi
 -- occurrences of groups whose main names hold no `=`
 pub plain-list_all : (groups : List Group) (found : List Occurrence) → list_all (λ o. not (holds_equals (main_at groups o.mention.group))) found ≡ true
     → AllByRecursion (λ m. HasPlainMain groups m.group) (map (λ (o : Occurrence). o.mention) found)
-plain-list_all groups [] all = tt
-plain-list_all groups (o ∷ found) all =
-    let parts = and_parts (not (holds_equals (main_at groups o.mention.group))) (list_all (λ p. not (holds_equals (main_at groups p.mention.group))) found) all in
-    (not-true (holds_equals (main_at groups o.mention.group)) parts.0, plain-list_all groups found parts.1)
-
-list_all-plain : (groups : List Group) (found : List Occurrence) → AllByRecursion (λ m. HasPlainMain groups m.group) (map (λ (o : Occurrence). o.mention) found)
-    → list_all (λ o. not (holds_equals (main_at groups o.mention.group))) found ≡ true
-list_all-plain groups [] plain = refl
-list_all-plain groups (o ∷ found) plain =
-    and_from (not (holds_equals (main_at groups o.mention.group))) (list_all (λ p. not (holds_equals (main_at groups p.mention.group))) found)
-    (not_from_false (holds_equals (main_at groups o.mention.group)) plain.0) (list_all-plain groups found plain.1)
+plain-list_all groups found all =
+    is_plain-true groups (map (λ (o : Occurrence). o.mention) found)
+    (list_all-map (λ m. not (holds_equals (main_at groups m.group))) (λ (o : Occurrence). o.mention) found ∙ all)
 
 -- an occurrence of a group whose main name holds `=`
 pub not_plain-list_all : (groups : List Group) (found : List Occurrence) → list_all (λ o. not (holds_equals (main_at groups o.mention.group))) found ≡ false
     → ¬ (AllByRecursion (λ m. HasPlainMain groups m.group) (map (λ (o : Occurrence). o.mention) found))
-not_plain-list_all groups found some plain = true≢false (sym (list_all-plain groups found plain) ∙ some)
+not_plain-list_all groups found some =
+    is_plain-false groups (map (λ (o : Occurrence). o.mention) found)
+    (list_all-map (λ m. not (holds_equals (main_at groups m.group))) (λ (o : Occurrence). o.mention) found ∙ some)
 
 -- what words are accepted with is what a reading says that keeps the counts
 pub count_keeping : (options : Declared) (words : List Text) (content : Content) (is : IsAcceptedWith options words content) → IsCountKeeping options is.reading words

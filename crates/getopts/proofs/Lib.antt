@@ -7,6 +7,7 @@ pub mod FailLemmas
 pub mod IndexLemmas
 pub mod KeyLemmas
 pub mod LineLemmas
+pub mod ListLemmas
 pub mod MatchesLemmas
 pub mod NamesLemmas
 pub mod OccurrencesLemmas

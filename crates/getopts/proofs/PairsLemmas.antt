@@ -11,6 +11,7 @@ use Rattle.getopts.specs.Table.{names_in}
 use Rattle.getopts.specs.Held.Groups.{known_with, HaveLawfulNames}
 use Rattle.getopts.specs.Held.Options.{group_with}
 use Rattle.getopts.specs.declared.groups.Kinds.{Kinds}
+use Rattle.getopts.proofs.ListLemmas.{AllByRecursion-unmap}
 
 module _ {X Y : Type 0} (make : X → Text → Text → Y) where
   -- as many are made as there are elements
@@ -115,11 +116,6 @@ names-knowns_of (group ∷ groups) = ap (λ (more : List Names). group.known.nam
 -- what is known of the groups that options hold
 pub knowns_of-held : (knowns : List Known) (help : List Text) → length help ≡ 2 * length knowns → knowns_of (beside_pairs group_with knowns help) ≡ knowns
 knowns_of-held = beside_pairs-map group_with (λ group. group.known) (λ known hint description. refl)
-
--- what holds of all that a map gives
-pub AllByRecursion-unmap : {X Y : Type 0} (P : Y → Type 0) (f : X → Y) (xs : List X) → AllByRecursion P (map f xs) → AllByRecursion (λ x. P (f x)) xs
-AllByRecursion-unmap P f [] all = tt
-AllByRecursion-unmap P f (x ∷ xs) all = (all.0, AllByRecursion-unmap P f xs all.1)
 
 -- what holds of all that is known of groups
 pub all_known : (P : Known → Type 0) (knowns : List Known) (groups : List Group) → knowns_of groups ≡ knowns → AllByRecursion P knowns → AllByRecursion (λ group. P group.known) groups

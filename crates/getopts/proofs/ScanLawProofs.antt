@@ -1,5 +1,6 @@
 -- The laws of readings, proved of every grammar.
-use Rattle.std.proofs.Common.{◌≡◌, ◌≢◌, ◌==◌, ℕ, zero, suc, ◌+◌, ◌<◌, ◌≤◌, Bool, true, false, cond, List, [], ◌∷◌, ◌++◌, length, map, drop, get_or, Some, refl, sym, ap, ◌∙◌, subst, arith}
+use Rattle.std.proofs.Common.{◌≡◌, ◌≢◌, ◌==◌, ℕ, zero, suc, ◌+◌, ◌<◌, ◌≤◌, Bool, true, false, cond, List, [], ◌∷◌, ◌++◌, length, map, get_or, Some, refl, sym, ap, ◌∙◌, subst, arith}
+use Rattle.std.proofs.Math.Seq.{drop-append_seam}
 use Rattle.std.specs.List.{AllByRecursion, flat_map}
 use Rattle.std.proofs.lemmas.List.{append-nil, append_assoc, length-append}
 use Rattle.std.proofs.lemmas.Grind.{flat_map-append}
@@ -9,28 +10,10 @@ use Rattle.getopts.specs.Scan.{dash, is_dashed, begins_with_dash, Argument, none
 use Rattle.getopts.specs.Matches.{Found, found_at, matched}
 use Rattle.getopts.specs.ScanLaws.{AreSame, AreAny, AreHigherAfter, AreLowerAfter, ReadsAlike, MayStandFor, mentions_of, positions_in, LongAttachedOrSeparate, ShortAttachedOrSeparate, ClusterSplits, OneDashOrTwo, is_last_bare, joined_reading, HasContentOfBoth, LinesCompose, IsAfterStop, TrailingStartIsAfterStop, IsSubsequence, empty, kept, left_out, FreeWordsAreSubsequence, NeverDecrease, HavePositionsInOrder}
 use Rattle.getopts.specs.declared.groups.HasArg.TheVariants.{Yes}
-use Rattle.getopts.proofs.ScanTexts.{AllByRecursion-append}
+use Rattle.getopts.proofs.ListLemmas.{AllByRecursion-append, AllByRecursion-left, AllByRecursion-right}
 use Rattle.getopts.proofs.ScanPositions.{mentions_of-items, positions_in-one_higher}
-use Rattle.getopts.proofs.ScanReadings.{spelled_all-append as spelled_all-before_both}
-
-AllByRecursion-left : {X : Type 0} (P : X → Type 0) (xs ys : List X) → AllByRecursion P (xs ++ ys) → AllByRecursion P xs
-AllByRecursion-left P [] ys each = tt
-AllByRecursion-left P (x ∷ xs) ys each = (each.0, AllByRecursion-left P xs ys each.1)
-
-AllByRecursion-right : {X : Type 0} (P : X → Type 0) (xs ys : List X) → AllByRecursion P (xs ++ ys) → AllByRecursion P ys
-AllByRecursion-right P [] ys each = each
-AllByRecursion-right P (x ∷ xs) ys each = AllByRecursion-right P xs ys each.1
-
--- what is left of joined lists without the first
-drop-append : {X : Type 0} (xs ys : List X) → drop (length xs) (xs ++ ys) ≡ ys
-drop-append [] ys = refl
-drop-append (x ∷ xs) ys = drop-append xs ys
-
--- the first word of an item is the same whatever follows it
-EndsOrIsDashed-spelled : (item : Item) (words others : List Text) → EndsOrIsDashed (spelled item words) → EndsOrIsDashed (spelled item others)
-EndsOrIsDashed-spelled (free word) words others begins = begins
-EndsOrIsDashed-spelled (long dashes name argument) words others begins = begins
-EndsOrIsDashed-spelled (cluster names end) words others begins = begins
+use Rattle.getopts.proofs.ScanReadings.{EndsOrIsDashed-spelled, spelled_all-append}
+use Rattle.getopts.proofs.ScanTexts.{is_dashed-text}
 
 -- only ordinary mode has bare clusters
 ordinary_from_bare : (grammar : Grammar) (item : Item) → IsLawfulItem grammar item → is_bare item ≡ true → grammar.long_only ≡ false
@@ -50,14 +33,9 @@ filled_from_lawful grammar [] flags lawful nil = lawful refl
 filled_from_lawful grammar [] (ends_in option argument) lawful nil = cc nil
 filled_from_lawful grammar (name ∷ names) end lawful nil = cc nil
 
--- `-` and a text that isn't empty are a dashed word
-is_dashed-cons : (text : Text) → text ≢ [] → is_dashed (dash ∷ text) ≡ true
-is_dashed-cons [] filled = absurd (filled refl)
-is_dashed-cons (byte ∷ text) filled = refl
-
 -- a lawful cluster's word is dashed
 is_dashed-cluster : (grammar : Grammar) (names : List ℕ) (end : End) → IsLawfulCluster grammar names end → is_dashed (dash ∷ (names ++ end_text end)) ≡ true
-is_dashed-cluster grammar names end lawful = is_dashed-cons (names ++ end_text end) (filled_from_lawful grammar names end lawful.last)
+is_dashed-cluster grammar names end lawful = is_dashed-text (names ++ end_text end) (filled_from_lawful grammar names end lawful.last)
 
 -- What lets new items stand where old ones stood, before these words: they are lawful and well followed
 -- where the old ones are, and begin with a dashed word in ordinary mode.
@@ -297,9 +275,9 @@ pub ClusterSplits_lem : (grammar : Grammar) → ClusterSplits grammar
 ClusterSplits_lem grammar = record { after_flag = MayStandFor-split grammar }
 
 -- the words of two lists of items
-pub spelled_all-append : (items others : List Item) (more : List Text) → spelled_all (items ++ others) more ≡ spelled_all items (spelled_all others more)
-spelled_all-append [] others more = refl
-spelled_all-append (item ∷ items) others more = ap (spelled item) (spelled_all-append items others more)
+pub spelled_all-joined : (items others : List Item) (more : List Text) → spelled_all (items ++ others) more ≡ spelled_all items (spelled_all others more)
+spelled_all-joined [] others more = refl
+spelled_all-joined (item ∷ items) others more = ap (spelled item) (spelled_all-joined items others more)
 
 -- bare clusters stay followed as they may be where others stand after the last item, which isn't bare
 AreWellFollowed-append : (items others : List Item) (more : List Text) → is_last_bare items ≡ false → AreWellFollowed items [] → AreWellFollowed others more → AreWellFollowed (items ++ others) more
@@ -311,7 +289,7 @@ AreWellFollowed-append (item ∷ next ∷ items) others more last before after =
 -- a line read to its end by these items, and the items and the tail of another, are read together
 IsReading-joined : (grammar : Grammar) (items : List Item) (second : Reading) (words more : List Text) → IsReading grammar (record { items = items; tail = line_end }) words → is_last_bare items ≡ false → IsReading grammar second more → IsReading grammar (record { items = items ++ second.items; tail = second.tail }) (words ++ more)
 IsReading-joined grammar items second words more reads last after = record {
-  spells = spelled_all-append items second.items (tail_words second.tail) ∙ (ap (spelled_all items) after.spells ∙ (spelled_all-before_both items [] more ∙ ap (λ front. front ++ more) reads.spells));
+  spells = spelled_all-joined items second.items (tail_words second.tail) ∙ (ap (spelled_all items) after.spells ∙ (spelled_all-append items [] more ∙ ap (λ front. front ++ more) reads.spells));
   items = AllByRecursion-append (IsLawfulItem grammar) items second.items reads.items after.items;
   tail = after.tail;
   followed = AreWellFollowed-append items second.items (tail_words second.tail) last reads.followed after.followed;
@@ -352,7 +330,7 @@ IsAfterStop-tail frees items (stop (word ∷ words)) start are at =
       below = rw (are, ← here) (omega (arith, length-append frees (word ∷ words)));
       words = word ∷ words;
       tail_is = refl;
-      free_from = rw (are, ← here) (drop-append frees (word ∷ words));
+      free_from = rw (are, ← here) (drop-append_seam frees (word ∷ words));
     }
 
 -- the trailing start is after the stop

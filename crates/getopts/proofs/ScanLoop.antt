@@ -1,5 +1,5 @@
 -- A line that was read up to a place: its items so far, one more item, and each way in which it goes on.
-use Rattle.std.proofs.Common.{◌≡◌, ◌<◌, ◌≤◌, ◌+◌, ◌-◌, ℕ, Bool, true, false, List, [], ◌∷◌, ◌++◌, length, map, take, drop, refl, ap, ◌∙◌, sym, subst, append_assoc, zero-le, arith, add-one, zero-add, add-zero, suc, length-drop, drop-drop, get_or, Bor, zero, not, eqb}
+use Rattle.std.proofs.Common.{◌≡◌, ◌<◌, ◌≤◌, ◌+◌, ◌-◌, ℕ, Bool, true, false, List, [], ◌∷◌, ◌++◌, length, map, take, drop, refl, ap, ◌∙◌, sym, subst, append_assoc, zero-le, arith, add-one, zero-add, add-zero, suc, length-drop, get_or, Bor, zero, not, eqb}
 use Rattle.std.specs.Bool.{then_some}
 use Rattle.std.specs.List.{AllByRecursion}
 use Rattle.std.proofs.lemmas.List.{append-nil, take_all, length-map}
@@ -10,10 +10,10 @@ use Rattle.getopts.specs.Fail.{Fault}
 use Rattle.getopts.specs.Line.{AddsItem}
 use Rattle.getopts.specs.declared.groups.ParsingStyle.TheVariants.{FloatingFrees, StopAtFirstFree}
 use Rattle.getopts.specs.Scan.{Item, free, long, cluster, spelled, spelled_all, IsLawfulItem, is_dashed, stop_word, is_bare, EndsOrIsDashed, AreWellFollowed, BeginsWith, Occurrence, occurrence_at, word_count, occurrences_after, mentions, free_items, Tail, stop, rest, tail_words, trailing_after, IsLawfulTail, IsReading, IsFaultAt, IsScanFault, BeginsFree}
-use Rattle.getopts.proofs.ScanTexts.{AllByRecursion-append}
-use Rattle.getopts.proofs.ScanLawProofs.{free_items-append, spelled_all-append}
+use Rattle.getopts.proofs.ListLemmas.{AllByRecursion-append, drop_past}
+use Rattle.getopts.proofs.ScanLawProofs.{free_items-append, spelled_all-joined}
 use Rattle.getopts.proofs.ScanPositions.{word_count-cons, length-spelled_all}
-use Rattle.getopts.proofs.ScanReadings.{spelled_all-append as words_after}
+use Rattle.getopts.proofs.ScanReadings.{EndsOrIsDashed-spelled, spelled_all-append}
 
 -- The words before this place spell items, with these occurrences and free words.
 pub record ReadSoFar (grammar : Grammar) (words : List Text) (at : ℕ) (occurrences : List Occurrence) (frees : List Text) : Type 0 where
@@ -40,26 +40,14 @@ occurrences_after-push before grammar (first ∷ items) item =
 followed-push : (items : List Item) (item : Item) (more : List Text) → AreWellFollowed items (spelled item more) → (is_bare item ≡ true → EndsOrIsDashed more) → AreWellFollowed (items ++ item ∷ []) more
 followed-push [] item more followed last = (last, tt)
 followed-push (first ∷ items) item more followed last =
-    ((λ bare. subst EndsOrIsDashed (sym (spelled_all-append items (item ∷ []) more)) (followed.0 bare)), followed-push items item more followed.1 last)
-
--- whether the first word of an item is dashed doesn't depend on what follows the item
-ends_alike : (item : Item) (more others : List Text) → EndsOrIsDashed (spelled item more) → EndsOrIsDashed (spelled item others)
-ends_alike (free word) more others dashed = dashed
-ends_alike (long dashes name argument) more others dashed = dashed
-ends_alike (cluster names end) more others dashed = dashed
+    ((λ bare. subst EndsOrIsDashed (sym (spelled_all-joined items (item ∷ []) more)) (followed.0 bare)), followed-push items item more followed.1 last)
 
 -- items that are well followed are so at the end of a line
 followed-none : (items : List Item) (more : List Text) → AreWellFollowed items more → AreWellFollowed items []
 followed-none [] more followed = tt
 followed-none (item ∷ []) more followed = ((λ bare. tt), tt)
 followed-none (item ∷ next ∷ items) more followed =
-    ((λ bare. ends_alike next (spelled_all items more) (spelled_all items []) (followed.0 bare)), followed-none (next ∷ items) more followed.1)
-
--- what is left past a word and some of the words after it
-drop_past : {X : Type 0} (words after : List X) (word : X) (at used : ℕ) → drop at words ≡ word ∷ after → drop (at + (1 + used)) words ≡ drop used after
-drop_past words after word at used left =
-    let place : at + (1 + used) ≡ at + suc used = omega arith in
-    ap (λ n. drop n words) place ∙ sym (drop-drop (suc used) at words) ∙ ap (drop (suc used)) left
+    ((λ bare. EndsOrIsDashed-spelled next (spelled_all items more) (spelled_all items []) (followed.0 bare)), followed-none (next ∷ items) more followed.1)
 
 module _ (grammar : Grammar) (words : List Text) (at : ℕ) (occurrences : List Occurrence) (frees : List Text) (before : ReadSoFar grammar words at occurrences frees) where
   -- one more item
@@ -74,7 +62,7 @@ module _ (grammar : Grammar) (words : List Text) (at : ℕ) (occurrences : List 
       let spells_next : drop at words ≡ spelled item (drop (at + (1 + used)) words) = left ∙ begins.spells ∙ ap (spelled item) (sym next) in
       record {
         items = before.items ++ item ∷ [];
-        spells = spelled_all-append before.items (item ∷ []) (drop (at + (1 + used)) words) ∙ ap (spelled_all before.items) (sym spells_next) ∙ before.spells;
+        spells = spelled_all-joined before.items (item ∷ []) (drop (at + (1 + used)) words) ∙ ap (spelled_all before.items) (sym spells_next) ∙ before.spells;
         lawful = AllByRecursion-append (IsLawfulItem grammar) before.items (item ∷ []) before.lawful (begins.lawful, tt);
         followed = followed-push before.items item (drop (at + (1 + used)) words) (subst (AreWellFollowed before.items) spells_next before.followed)
             (λ bare. subst EndsOrIsDashed (sym next) (begins.followed bare));
@@ -101,7 +89,7 @@ module _ (grammar : Grammar) (words : List Text) (at : ℕ) (occurrences : List 
     word = word;
     after = after;
     items = before.items;
-    words_are = sym before.spells ∙ ap (spelled_all before.items) left ∙ words_after before.items [] (word ∷ after);
+    words_are = sym before.spells ∙ ap (spelled_all before.items) left ∙ spelled_all-append before.items [] (word ∷ after);
     reads = record {
       spells = refl;
       items = before.lawful;

@@ -10,7 +10,7 @@ use Rattle.getopts.specs.Options.{Known, Grammar}
 use Rattle.getopts.specs.Scan.{Item, free, long, cluster, spelled, spelled_all, Tail, tail_words, Reading, IsReading, Mention, mentions, Occurrence, occurrence_at, word_count, occurrences_after, occurrences_of}
 use Rattle.getopts.specs.Matches.{Found, found_at, matched}
 use Rattle.getopts.specs.ScanLaws.{mentions_of, positions_in, one_higher_after, StandsInItem, PositionsAreWords, HavePositionsBelow}
-use Rattle.getopts.proofs.ScanTexts.{AllByRecursion-append}
+use Rattle.getopts.proofs.ListLemmas.{AllByRecursion-append, slice_get-append}
 use Rattle.getopts.proofs.ScanReadings.{spelled_all-append}
 
 -- the words of items, and those that follow
@@ -161,11 +161,6 @@ position-mentioned : (position : ℕ) (told : List Mention) (occurrence : Occurr
 position-mentioned position [] occurrence held = absurd (omega (arith, held.1))
 position-mentioned position (first ∷ told) occurrence (zero, below, is) = ap (λ (o : Occurrence). o.position) (sym is)
 position-mentioned position (first ∷ told) occurrence (suc k, below, is) = position-mentioned position told occurrence (k, omega arith, is)
-
--- the first element of a list is where those before it end
-slice_get-append : {X : Type 0} (xs ys : List X) → slice_get (xs ++ ys) (length xs) ≡ slice_get ys 0
-slice_get-append [] ys = refl
-slice_get-append (x ∷ xs) ys = slice_get-append xs ys
 
 -- the first word of an item is the same whatever follows it
 first_word-spelled : (item : Item) (more : List Text) → slice_get (spelled item more) 0 ≡ slice_get (spelled item []) 0

@@ -7,8 +7,8 @@ use Rattle.getopts.specs.Options.{Grammar}
 use Rattle.getopts.specs.Fail.{Fault}
 use Rattle.getopts.specs.Scan.{stop_word, none, attached, separate, flags, ends_in, Item, free, long, cluster, spelled, spelled_all, IsLawfulItem, EndsOrIsDashed, AreWellFollowed, Tail, line_end, stop, rest, tail_words, IsLawfulTail, Reading, IsReading, BeginsWith, IsFaultAt, IsScanFault}
 use Rattle.getopts.specs.declared.groups.ParsingStyle.{ParsingStyle}
+use Rattle.getopts.proofs.ListLemmas.{AllByRecursion-right}
 use Rattle.getopts.proofs.ScanTurns.{IsNamed, Turn, ends, takes_one, takes_two, faults, turn, free_turn, with_item, after_turn, read_both, read}
-use Rattle.getopts.proofs.ScanTexts.{AllByRecursion-rest}
 use Rattle.getopts.proofs.ScanSteps.{TakesItem, spelled_turn, fault_turn, fault_dashed, turn_free, turn_stop, IsSoundTurn, turn_sound}
 
 -- One step of `read`, by the turn of the first word.
@@ -104,6 +104,12 @@ pub spelled_all-append : (items : List Item) (xs ys : List Text) → spelled_all
 spelled_all-append [] xs ys = refl
 spelled_all-append (item ∷ items) xs ys = ap (spelled item) (spelled_all-append items xs ys) ∙ spelled-append item (spelled_all items xs) ys
 
+-- the first word of an item is the same whatever follows it
+pub EndsOrIsDashed-spelled : (item : Item) (words others : List Text) → EndsOrIsDashed (spelled item words) → EndsOrIsDashed (spelled item others)
+EndsOrIsDashed-spelled (free word) words others begins = begins
+EndsOrIsDashed-spelled (long dashes name argument) words others begins = begins
+EndsOrIsDashed-spelled (cluster names end) words others begins = begins
+
 -- words that end or are dashed, before others that do
 ends-append : (xs ys : List Text) → EndsOrIsDashed xs → EndsOrIsDashed ys → EndsOrIsDashed (xs ++ ys)
 ends-append [] ys front more = more
@@ -126,7 +132,7 @@ followed-append (item ∷ items) more followed dashed = (
 pub fault_read : (grammar : Grammar) → IsNamed grammar → (words : List Text) (fault : Fault) → AreTexts words → IsScanFault grammar words fault
     → read grammar words ≡ Err fault
 fault_read grammar named words fault texts is =
-    let utf8 : AreTexts (is.word ∷ is.after) = AllByRecursion-rest IsUtf8 is.before (is.word ∷ is.after) (subst AreTexts is.words_are texts) in
+    let utf8 : AreTexts (is.word ∷ is.after) = AllByRecursion-right IsUtf8 is.before (is.word ∷ is.after) (subst AreTexts is.words_are texts) in
     let line : words ≡ spelled_all is.items (is.word ∷ is.after) =
     is.words_are ∙ ap (λ (front : List Text). front ++ is.word ∷ is.after) (sym is.reads.spells) ∙ sym (spelled_all-append is.items [] (is.word ∷ is.after)) in
     let followed : AreWellFollowed is.items (is.word ∷ is.after) =

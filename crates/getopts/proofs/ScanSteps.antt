@@ -12,8 +12,9 @@ use Rattle.getopts.specs.declared.groups.HasArg.{HasArg}
 use Rattle.getopts.specs.declared.groups.HasArg.TheVariants.{Yes, No, Maybe}
 use Rattle.getopts.specs.declared.groups.ParsingStyle.{ParsingStyle}
 use Rattle.getopts.specs.declared.groups.ParsingStyle.TheVariants.{FloatingFrees, StopAtFirstFree}
+use Rattle.getopts.proofs.ListLemmas.{AllByRecursion-append, filled-append}
 use Rattle.getopts.proofs.ScanTurns.{IsNamed, Turn, ends, takes_one, takes_two, faults, first_char, named_turn, long_name, long_argument, long_turn, maybe_turn, option_turn, byte_turn, cluster_turn, item_turn, free_turn, turn}
-use Rattle.getopts.proofs.ScanTexts.{name-append-argument, holds_equals-long_name, long_name-append, long_argument-append, begins_with_dash-append, begins_with_dash-front, filled-append, AllByRecursion-append, IsUtf8-past_ascii, IsUtf8-past_asciis, begins_with_char, encode-ascii_byte, length-encode-wide, first_char-append}
+use Rattle.getopts.proofs.ScanTexts.{name-append-argument, holds_equals-long_name, long_name-append, long_argument-append, begins_with_dash-append, begins_with_dash-front, IsUtf8-past_ascii, IsUtf8-past_asciis, begins_with_char, encode-ascii_byte, length-encode-wide, first_char-append}
 use Rattle.std.proofs.lemmas.Str.{length-encode, len_utf8_bounds}
 
 -- What a turn says of a line that begins with this word is so: its tail, its item or its fault.

@@ -2,7 +2,7 @@
 use Rattle.std.proofs.Common.{◌≡◌, ◌≢◌, ◌==◌, ℕ, ◌<◌, ◌≤◌, true, false, List, [], ◌∷◌, ◌++◌, length, Option, Some, None, refl, sym, ap, ◌∙◌, subst, inl, inr, arith, one-add, add-one, encode_utf8}
 use Rattle.std.proofs.lemmas.Bool.{cases_Bool, cases_lt, eqb-true, or_parts, and_parts}
 use Rattle.getopts.specs.Names.{Text}
-use Rattle.getopts.specs.Scan.{equals_sign, begins_with_dash, holds_equals, with_equals}
+use Rattle.getopts.specs.Scan.{equals_sign, begins_with_dash, holds_equals, with_equals, dash, is_dashed}
 use Rattle.getopts.proofs.ScanTurns.{long_name, long_argument, first_char}
 use Rattle.std.specs.List.{AllByRecursion}
 use Rattle.std.specs.Char.{IsScalar}
@@ -10,6 +10,7 @@ use Rattle.std.specs.Str.{IsUtf8, chars}
 use Rattle.std.proofs.lemmas.Str.{IsUtf8-past_char, encode_ascii, chars_past_char, chars-encodes, char_from_byte, byte_from_char, length-encode}
 use Rattle.std.proofs.lemmas.Bool.Decides.{nat_tests}
 use lib.Utf8.{scalars, encodes, encode, scalar as scalar_test}
+pub use Rattle.getopts.proofs.ListLemmas.{AllByRecursion-append}
 
 -- a byte other than `=` belongs to the name
 long_name-cons : (c : ℕ) (text : Text) → (c == equals_sign) ≡ false → long_name (c ∷ text) ≡ c ∷ long_name text
@@ -62,20 +63,10 @@ pub begins_with_dash-front : (name more : Text) → begins_with_dash (name ++ mo
 begins_with_dash-front [] more plain = refl
 begins_with_dash-front (c ∷ name) more plain = plain
 
--- a list with an element is not empty
-pub filled-append : {X : Type 0} (front : List X) (x : X) (more : List X) → front ++ x ∷ more ≢ []
-filled-append [] x more e = cc e
-filled-append (y ∷ front) x more e = cc e
-
--- what holds of each element of two lists holds of each of the second
-pub AllByRecursion-rest : {X : Type 0} (P : X → Type 0) (xs ys : List X) → AllByRecursion P (xs ++ ys) → AllByRecursion P ys
-AllByRecursion-rest P [] ys all = all
-AllByRecursion-rest P (x ∷ xs) ys all = AllByRecursion-rest P xs ys all.1
-
--- what holds of each of two lists holds of each of both
-pub AllByRecursion-append : {X : Type 0} (P : X → Type 0) (xs ys : List X) → AllByRecursion P xs → AllByRecursion P ys → AllByRecursion P (xs ++ ys)
-AllByRecursion-append P [] ys front others = others
-AllByRecursion-append P (x ∷ xs) ys front others = (front.0, AllByRecursion-append P xs ys front.1 others)
+-- `-` and a text that isn't empty is a dashed word
+pub is_dashed-text : (text : Text) → text ≢ [] → is_dashed (dash ∷ text) ≡ true
+is_dashed-text [] filled = absurd (filled refl)
+is_dashed-text (c ∷ text) filled = refl
 
 -- a text after an ASCII byte
 pub IsUtf8-past_ascii : (byte : ℕ) (text : Text) → byte < 128 → IsUtf8 (byte ∷ text) → IsUtf8 text

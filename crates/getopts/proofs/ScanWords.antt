@@ -10,6 +10,7 @@ use Rattle.getopts.specs.Names.{Text}
 use Rattle.getopts.specs.Scan.{dash, equals_sign, is_dashed, begins_with_dash, holds_equals, attached, FitsEnd, one, IsShortForm}
 use Rattle.getopts.specs.Options.{Grammar}
 use Rattle.getopts.specs.Line.{IsInLongForm}
+use Rattle.getopts.proofs.ScanTexts.{is_dashed-text}
 
 -- a word that doesn't begin with `-` isn't dashed
 pub is_dashed-other : (word : Text) → ((rest : Text) → word ≢ dash ∷ rest) → is_dashed word ≡ false
@@ -63,11 +64,6 @@ begins_with_dash-other (c ∷ text) h = other (eqb c dash) (λ e. h text (ap (λ
   other : (b : Bool) → b ≢ true → b ≡ false
   other true no_dash = absurd (no_dash refl)
   other false no_dash = refl
-
--- `-` and a text that isn't empty is a dashed word
-pub is_dashed-text : (text : Text) → text ≢ [] → is_dashed (dash ∷ text) ≡ true
-is_dashed-text [] filled = absurd (filled refl)
-is_dashed-text (c ∷ text) filled = refl
 
 -- in long-only mode one dash and a text that doesn't begin with one are a word in long form
 pub IsInLongForm-one : (grammar : Grammar) (text : Text) → grammar.long_only ≡ true → text ≢ [] → ((more : Text) → text ≢ dash ∷ more) → IsInLongForm grammar (dash ∷ text) text

@@ -1,56 +1,30 @@
 -- The main theorem, of options that are lawfully named, by texts.
-use Rattle.std.proofs.Common.{◌⊎◌, ℕ, zero, suc, List, [], ◌∷◌, refl, sym, ap, subst, inl, inr, arith}
+use Rattle.std.proofs.Common.{◌⊎◌, List, refl, sym, subst, inl, inr, Option, Some, None}
 use Rattle.std.specs.List.{AllByRecursion}
 use Rattle.std.specs.Str.{IsUtf8}
 use Rattle.getopts.specs.Names.{Text, AreTexts}
 use Rattle.getopts.specs.Options.{Declared, AreLawfullyNamed, grammar_of}
 use Rattle.getopts.specs.Fail.{Fault}
 use Rattle.getopts.specs.Scan.{Reading, IsReading, IsScanFault}
-use Rattle.getopts.specs.Matches.{Matched, MatchedGroup, matches_of, FitsCount, KeepsCounts, broken_count, IsCountFault}
+use Rattle.getopts.specs.Matches.{Matched, MatchedGroup, matches_of, KeepsCounts, IsCountFault}
 use Rattle.getopts.specs.Parse.{IsAccepted, BreaksCounts, HasNoReading, IsRefused}
 use Rattle.getopts.specs.Canon.{content_of, IsPlain, canonical_line, IsCountKeeping, HasCanonicalLine}
 use Rattle.getopts.specs.CanonAnswers.{IsAcceptedWith, IsWritten, EachPlainContent, AnsweredLinesTell}
 use Rattle.getopts.specs.Theorem.{IsFirstFault, OneReading, AcceptedExactlyWhen, RefusedExactlyWhen, OneOfThree, OneReadingGivesAll, CanonicalLinesTell}
-use Rattle.getopts.specs.declared.groups.Occur.{Occur}
-use Rattle.getopts.specs.declared.groups.Occur.TheVariants.{Req, Optional, Multi}
 use Rattle.getopts.proofs.CanonLemmas.{Says-reading, HasCanonicalLine-says, CanonicalLinesTell-lawful}
 use Rattle.getopts.proofs.CanonicalLemmas.{accepted_reads, breaking_reads, only_matches, not_refused, only_content, only_line, AnsweredLinesTell-lawful}
 use Rattle.getopts.proofs.OnlyLemmas.{IsTheOnly-from, meets}
 use Rattle.getopts.proofs.ParseLemmas.{only_reads, named_here, HasNoReading-fault}
 use Rattle.getopts.proofs.ScanReadings.{only_reading, reading_or_fault}
 use Rattle.getopts.proofs.ScanTurns.{IsNamed}
-
--- a count fits, or it doesn't
-FitsCount-cases : (occurrence : Occur) (count : ℕ) → FitsCount occurrence count ⊎ (¬ (FitsCount occurrence count))
-FitsCount-cases Req zero = inr (λ is. absurd (omega (arith, is)))
-FitsCount-cases Req (suc zero) = inl refl
-FitsCount-cases Req (suc (suc count)) = inr (λ is. absurd (omega (arith, is)))
-FitsCount-cases Optional zero = inl (omega arith)
-FitsCount-cases Optional (suc zero) = inl (omega arith)
-FitsCount-cases Optional (suc (suc count)) = inr (λ is. absurd (omega (arith, is)))
-FitsCount-cases Multi count = inl tt
+use Rattle.getopts.proofs.AnswerLemmas.{HaveFault, first_count_fault, first_count_fault-is}
 
 -- groups keep their counts, or they have a count fault
 KeepsCounts-cases : (groups : List MatchedGroup) → KeepsCounts groups ⊎ ((fault : Fault) × IsCountFault groups fault)
-KeepsCounts-cases [] = inl tt
-KeepsCounts-cases (group ∷ groups) = elim (FitsCount-cases group.known.occurrence _) [
-  | inl fits ↦ elim (KeepsCounts-cases groups) [
-    | inl keeps ↦ inl (fits, keeps)
-    | inr breaks ↦ inr (
-      breaks.0,
-      record {
-        before = group ∷ breaks.1.before;
-        group = breaks.1.group;
-        after = breaks.1.after;
-        groups_are = ap (λ (gs : List MatchedGroup). group ∷ gs) breaks.1.groups_are;
-        kept = (fits, breaks.1.kept);
-        broken = breaks.1.broken;
-        fault_is = breaks.1.fault_is;
-      },
-    )
-  ]
-  | inr broken ↦ inr (broken_count group, record { before = []; group = group; after = groups; groups_are = refl; kept = tt; broken = broken; fault_is = refl })
-]
+KeepsCounts-cases groups = by_fault (first_count_fault groups) (first_count_fault-is groups) where
+  by_fault : (fault : Option Fault) → HaveFault groups fault → KeepsCounts groups ⊎ ((fault : Fault) × IsCountFault groups fault)
+  by_fault None kept = inl kept
+  by_fault (Some fault) is = inr (fault, is)
 
 module _ (options : Declared) (lawful : AreLawfullyNamed options.groups) (shorts : AllByRecursion (λ group. IsUtf8 group.known.names.short) options.groups) where
   named : IsNamed (grammar_of options)

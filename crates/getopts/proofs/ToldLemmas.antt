@@ -18,9 +18,11 @@ use Rattle.getopts.specs.declared.groups.HasArg.{HasArg}
 use Rattle.getopts.specs.declared.groups.HasArg.TheVariants.{Yes}
 use Rattle.getopts.specs.declared.groups.Occur.{Occur}
 use Rattle.getopts.specs.declared.groups.Occur.TheVariants.{Req}
+use Rattle.getopts.proofs.ListLemmas.{AllByRecursion-unmap}
 use Rattle.getopts.proofs.CanonLemmas.{FitsGroup, IsFitting-reading}
 use Rattle.getopts.proofs.MatchesLemmas.{knowns-matched}
 use Rattle.getopts.proofs.ScanReadings.{spelled_all-append}
+use Rattle.getopts.proofs.PairsLemmas.{names-knowns_of}
 
 -- the names of known groups
 names-known : (groups : List MatchedGroup) (knowns : List Known) → map (λ (group : MatchedGroup). group.known) groups ≡ knowns
@@ -30,15 +32,11 @@ names-known groups knowns same = names-map groups ∙ ap (map (λ (known : Known
   names-map [] = refl
   names-map (group ∷ groups) = ap (λ (more : List Names). group.known.names ∷ more) (names-map groups)
 
-names_of-knowns : (groups : List Group) → map (λ (known : Known). known.names) (knowns_of groups) ≡ names_of groups
-names_of-knowns [] = refl
-names_of-knowns (group ∷ groups) = ap (λ (more : List Names). group.known.names ∷ more) (names_of-knowns groups)
-
 -- a name resolves alike among groups and among those that matches hold of them
 pub place_of-groups : (options : Declared) (groups : List MatchedGroup) → AreGroupsOf options groups → (name : Text)
     → resolution (names_of options.groups) name ≡ place_of groups name
 place_of-groups options groups are name =
-    ap (λ (names : List Names). resolution names name) (sym (names-known groups (knowns_of options.groups) are ∙ names_of-knowns options.groups))
+    ap (λ (names : List Names). resolution names name) (sym (names-known groups (knowns_of options.groups) are ∙ names-knowns_of options.groups))
 
 -- each name that the options declare is defined
 pub DefineDeclared-groups : (options : Declared) (groups : List MatchedGroup) → AreGroupsOf options groups → DefineDeclared options groups
@@ -137,11 +135,6 @@ kind_at-known : (groups : List Group) (i : ℕ) (known : Known) → slice_get (k
 kind_at-known [] i known there = cc there
 kind_at-known (group ∷ groups) zero known there = ap (λ (k : Known). Some k.kind) (same_Some _ _ there)
 kind_at-known (group ∷ groups) (suc i) known there = kind_at-known groups i known there
-
--- what holds of each image holds of each element
-AllByRecursion-unmap : {X Y : Type 0} (P : Y → Type 0) (f : X → Y) (xs : List X) → AllByRecursion P (map f xs) → AllByRecursion (λ x. P (f x)) xs
-AllByRecursion-unmap P f [] each = tt
-AllByRecursion-unmap P f (x ∷ xs) each = (each.0, AllByRecursion-unmap P f xs each.1)
 
 module _ (options : Declared) (words : List Text) (matches : Matched) (accepted : IsAccepted options words matches) where
   groups_are : matches.groups ≡ matched 0 (knowns_of options.groups) (occurrences_of (grammar_of options) accepted.reading)

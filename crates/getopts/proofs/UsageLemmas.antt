@@ -14,7 +14,8 @@ use Rattle.getopts.specs.Only.{IsTheOnly}
 use Rattle.getopts.specs.Usage.{AddsTheOnly, any_short, spaces, head, next_row, padding, row_text, IsUsageRow, AreUsageRows, usage_text, IsUsageText}
 use Rattle.getopts.specs.Wrap.{width_of, IsDescriptionRows, joined, parting, AddsDescription}
 use Rattle.getopts.specs.declared.groups.Group.{Group as Borrowed}
-use Rattle.getopts.proofs.WrapLines.{all_zip_push, rows_exactly}
+use Rattle.getopts.proofs.ListLemmas.{all_zip_push}
+use Rattle.getopts.proofs.WrapLines.{rows_exactly}
 use Rattle.getopts.proofs.WrapTexts.{joined-push}
 
 -- what holds anyway holds where the answer is `Ok`

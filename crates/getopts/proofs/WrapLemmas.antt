@@ -1,11 +1,12 @@
 -- Breakings of a line's words: filling rows from the left gives the one tight breaking, and no fitting breaking has fewer runs.
 use Rattle.std.proofs.Common.{◌≡◌, ℕ, ◌+◌, ◌<◌, ◌≤◌, Bool, true, false, cond, List, [], ◌∷◌, ◌++◌, length, sym, refl, ap, ◌∙◌, subst, inl, inr, ⊎_elim, append_assoc, append-nil, arith, length-append}
-use Rattle.std.specs.Prelude.{nat_le, ◌⊎◌, All}
+use Rattle.std.specs.Prelude.{nat_le, All}
 use Rattle.std.specs.List.{flat_map}
 use Rattle.std.proofs.lemmas.Bool.{leb-true, le-leb}
 use Rattle.std.proofs.lemmas.List.Elements.{All-nil, All-cons, All-head, All-tail}
 use Rattle.std.proofs.lemmas.List.Sums.{sum_by-append}
 use Rattle.getopts.specs.Wrap.{Word, Run, width_of, columns_of, FitsIn, IsFittingBreaking, NoneTakesMore, IsTightBreaking, IsFewestBreaking}
+use Rattle.getopts.proofs.ListLemmas.{Within, cuts}
 
 -- ---- filling one row after the other
 
@@ -76,23 +77,6 @@ room-inside : (limit : ℕ) (front run : Run) (word : Word) (back : Run) → 0 <
 room-inside limit front run word back has_word fits =
     let regrouped : FitsIn limit (front ++ ((run ++ word ∷ []) ++ back)) = subst (λ (inner : Run). FitsIn limit (front ++ inner)) (sym (append_assoc run (word ∷ []) back)) fits in
     room_where_fits limit run word has_word (FitsIn-inside limit front (run ++ word ∷ []) back (omega (arith, length-append run (word ∷ []))) regrouped)
-
--- ---- of two cuts of one list, one lies within the other
-
-Within : {X : Type 0} (xs ys us vs : List X) → Type 0
-Within {X} xs ys us vs = (middle : List X) × (us ≡ xs ++ middle) × (ys ≡ middle ++ vs)
-
-cuts : {X : Type 0} (xs ys us vs : List X) → xs ++ ys ≡ us ++ vs → Within xs ys us vs ⊎ Within us vs xs ys
-unfolding Within
-cuts [] ys us vs e = inl (us, refl, e)
-cuts (x ∷ xs) ys [] vs e = inr (x ∷ xs, refl, sym e)
-cuts (x ∷ xs) ys (u ∷ us) vs e =
-    let heads : x ≡ u = cc in
-    let tails : xs ++ ys ≡ us ++ vs = cc in
-    ⊎_elim
-    (λ (w : Within xs ys us vs). inl (w.0, (let longer = w.1 in cc), w.2))
-    (λ (w : Within us vs xs ys). inr (w.0, (let longer = w.1 in cc), w.2))
-    (cuts xs ys us vs tails)
 
 -- ---- filling gives a tight breaking
 
@@ -218,7 +202,7 @@ after_from limit others ahead front run (word ∷ words) has_word fitting =
     (λ _. omega (arith, ahead front (word ∷ []) words (omega arith) fitting))
 
 from_after : (limit : ℕ) (other : Run) (others : List Run) → AheadAfter limit others → AheadFrom limit (other ∷ others)
-unfolding AheadAfter AheadFrom Within
+unfolding AheadAfter AheadFrom
 from_after limit other others ahead front run words has_word fitting =
     ⊎_elim
     (λ (w : Within other (flat_map (λ run. run) others) (front ++ run) words). omega (arith, ahead w.0 run words has_word (fitting-tail limit _ (w.0 ++ words) other others fitting w.2)))

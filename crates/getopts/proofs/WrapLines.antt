@@ -6,29 +6,14 @@ use Rattle.std.proofs.lemmas.Bool.Decides.{nat_tests}
 use Rattle.std.proofs.lemmas.List.{map-append}
 use Rattle.std.proofs.lemmas.List.Concat.{flat_map-append}
 use Rattle.getopts.specs.Wrap.{Word, Run, text_of, IsTightBreaking, IsFewestBreaking, words_of, words_of_lines, BreaksInto, IsDescriptionRows, joined, continued, AddsDescription, AddsLine}
+use Rattle.getopts.proofs.ListLemmas.{all_zip_push, all_zip_weaker}
 use Rattle.getopts.proofs.WrapLemmas.{runs_of, runs_of-only, runs_of-is_fewest}
 use Rattle.getopts.proofs.WrapTexts.{joined-append}
-
--- one more pair at the end of two lists
-pub all_zip_push : {A B : Type 0} (R : A → B → Type 0) (xs : List A) (ys : List B) (x : A) (y : B) → AllZip R xs ys → R x y → AllZip R (xs ++ x ∷ []) (ys ++ y ∷ [])
-all_zip_push R [] [] x y all last = (last, tt)
-all_zip_push R [] (z ∷ ys) x y all last = absurd all
-all_zip_push R (z ∷ xs) [] x y all last = absurd all
-all_zip_push R (u ∷ xs) (v ∷ ys) x y all last = (all.0, all_zip_push R xs ys x y all.1 last)
-
--- a relation that follows from another, pair by pair
-all_zip_weaker : {A B : Type 0} (R Q : A → B → Type 0) → ((x : A) (y : B) → R x y → Q x y) → (xs : List A) (ys : List B) → AllZip R xs ys → AllZip Q xs ys
-all_zip_weaker R Q weaker [] [] all = tt
-all_zip_weaker R Q weaker [] (z ∷ ys) all = absurd all
-all_zip_weaker R Q weaker (z ∷ xs) [] all = absurd all
-all_zip_weaker R Q weaker (u ∷ xs) (v ∷ ys) all = (weaker u v all.0, all_zip_weaker R Q weaker xs ys all.1)
+use Rattle.std.proofs.lemmas.Slice.Zip.{AllZip-map}
 
 -- lists whose pairs are those of a function are what the function gives
 all_zip_only : {A B : Type 0} (R : A → B → Type 0) (f : A → B) → ((x : A) (y : B) → R x y → y ≡ f x) → (xs : List A) (ys : List B) → AllZip R xs ys → ys ≡ map f xs
-all_zip_only R f only [] [] all = refl
-all_zip_only R f only [] (z ∷ ys) all = absurd all
-all_zip_only R f only (z ∷ xs) [] all = absurd all
-all_zip_only R f only (u ∷ xs) (v ∷ ys) all = let head = only u v all.0 in let rest = all_zip_only R f only xs ys all.1 in cc
+all_zip_only R f only xs ys all = AllZip-map f xs ys (all_zip_weaker R (λ x y. y ≡ f x) only xs ys all)
 
 -- The text has grown by the rows of the lines so far, and the flag tells whether there is any.
 pub record LinesSoFar (limit : ℕ) (separator : List ℕ) (lines : List (List ℕ)) (begun : Bool) (old text : List ℕ) : Type 0 where
