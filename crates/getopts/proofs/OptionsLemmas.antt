@@ -7,7 +7,8 @@ use Rattle.std.specs.List.{AllZip}
 use Rattle.std.proofs.lemmas.Bool.Decides.{Decides-and, Decides-like, Decides-eqb}
 use Rattle.getopts.specs.Names.{Names}
 use Rattle.getopts.specs.Options.{Known, Group, Declared}
-use Rattle.getopts.specs.Same.{kind_index, occurrence_index, style_index, same_names, same_known, same_group, same_options}
+use Rattle.getopts.specs.Same.{kind_index, occurrence_index, style_index, same_names, same_known}
+use Rattle.getopts.specs.Same.{same_group, same_options}
 use Rattle.getopts.specs.declared.groups.HasArg.{HasArg}
 use Rattle.getopts.specs.declared.groups.Occur.{Occur}
 use Rattle.getopts.specs.declared.groups.ParsingStyle.{ParsingStyle}
@@ -16,7 +17,8 @@ use Rattle.getopts.specs.declared.groups.Occur.TheVariants.{Req, Optional, Multi
 use Rattle.getopts.specs.declared.groups.ParsingStyle.TheVariants.{FloatingFrees, StopAtFirstFree}
 
 -- lists whose elements are alike through a map have the same image
-pub map-alike : {X Y : Type 0} (f : X → Y) (xs ys : List X) → AllZip (λ x y. f y ≡ f x) xs ys → map f ys ≡ map f xs
+pub map-alike : {X Y : Type 0} (f : X → Y) (xs ys : List X) → AllZip (λ x y. f y ≡ f x) xs ys
+    → map f ys ≡ map f xs
 map-alike f [] [] h = refl
 map-alike f [] (y ∷ ys) h = absurd h
 map-alike f (x ∷ xs) [] h = absurd h
@@ -52,7 +54,8 @@ same_style StopAtFirstFree StopAtFirstFree h = refl
 
 -- the test of two names says exactly that they are equal
 pub same_names-decides : (a b : Names) → Decides (same_names a b) (a ≡ b)
-same_names-decides a b = Decides-like (same_names a b) (λ h. λ i. record { short = h.0 i; long = h.1 i }) (λ e. (ap (λ n. n.short) e, ap (λ n. n.long) e))
+same_names-decides a b = Decides-like (same_names a b) (λ h. λ i. record { short = h.0 i; long = h.1 i })
+    (λ e. (ap (λ n. n.short) e, ap (λ n. n.long) e))
     (Decides-and _ _ (bytes_decides a.short b.short) (bytes_decides a.long b.long))
 
 -- the test of what is known of two groups says exactly that it is equal
@@ -60,7 +63,9 @@ pub same_known-decides : (a b : Known) → Decides (same_known a b) (a ≡ b)
 same_known-decides a b = Decides-like (same_known a b)
     (λ h. λ i. record { names = h.0 i; kind = same_kind a.kind b.kind h.1.0 i; occurrence = same_occurrence a.occurrence b.occurrence h.1.1 i })
     (λ e. (ap (λ k. k.names) e, (ap (λ k. kind_index k.kind) e, ap (λ k. occurrence_index k.occurrence) e)))
-    (Decides-and _ _ (same_names-decides a.names b.names) (Decides-and _ _ (Decides-eqb (kind_index a.kind) (kind_index b.kind)) (Decides-eqb (occurrence_index a.occurrence) (occurrence_index b.occurrence))))
+    (Decides-and _ _ (same_names-decides a.names b.names)
+    (Decides-and _ _ (Decides-eqb (kind_index a.kind) (kind_index b.kind))
+    (Decides-eqb (occurrence_index a.occurrence) (occurrence_index b.occurrence))))
 
 -- the test of two groups says exactly that they are equal
 pub same_group-decides : (a b : Group) → Decides (same_group a b) (a ≡ b)
@@ -74,4 +79,6 @@ pub same_options-decides : (a b : Declared) → Decides (same_options a b) (a �
 same_options-decides a b = Decides-like (same_options a b)
     (λ h. λ i. record { groups = h.0 i; style = same_style a.style b.style h.1.0 i; long_only = h.1.1 i })
     (λ e. (ap (λ o. o.groups) e, (ap (λ o. style_index o.style) e, ap (λ o. o.long_only) e)))
-    (Decides-and _ _ (pointwise_decides same_group-decides a.groups b.groups) (Decides-and _ _ (Decides-eqb (style_index a.style) (style_index b.style)) (booleans_Decides a.long_only b.long_only)))
+    (Decides-and _ _ (pointwise_decides same_group-decides a.groups b.groups)
+    (Decides-and _ _ (Decides-eqb (style_index a.style) (style_index b.style))
+    (booleans_Decides a.long_only b.long_only)))

@@ -1,5 +1,7 @@
 -- Lemmas on texts that stand in pairs beside a list.
-use Rattle.std.proofs.Common.{◌≡◌, ◌≤◌, ◌<◌, ℕ, zero, suc, ◌+◌, ◌*◌, List, [], ◌∷◌, ◌++◌, map, length, slice_get, get_or, Some, None, option_map, refl, ap, sym, ◌∙◌, subst, arith}
+use Rattle.std.proofs.Common.{◌≡◌, ◌≤◌, ◌<◌, ℕ, zero, suc, ◌+◌, ◌*◌, List, [], ◌∷◌, ◌++◌, map}
+use Rattle.std.proofs.Common.{length, slice_get, get_or, Some, None, option_map, refl, ap, sym, ◌∙◌}
+use Rattle.std.proofs.Common.{subst, arith}
 use Rattle.std.specs.List.{AllByRecursion}
 use Rattle.std.proofs.lemmas.Option.{slice_get-get_or}
 use Rattle.std.specs.Option.{option_map_or}
@@ -15,15 +17,18 @@ use Rattle.getopts.proofs.ListLemmas.{AllByRecursion-unmap}
 
 module _ {X Y : Type 0} (make : X → Text → Text → Y) where
   -- as many are made as there are elements
-  pub beside_pairs-length : (xs : List X) (texts : List Text) → length texts ≡ 2 * length xs → length (beside_pairs make xs texts) ≡ length xs
+  pub beside_pairs-length : (xs : List X) (texts : List Text) → length texts ≡ 2 * length xs
+      → length (beside_pairs make xs texts) ≡ length xs
   beside_pairs-length [] texts fits = refl
   beside_pairs-length (x ∷ xs) [] fits = absurd (omega arith)
   beside_pairs-length (x ∷ xs) (a ∷ []) fits = absurd (omega arith)
   beside_pairs-length (x ∷ xs) (a ∷ b ∷ texts) fits = ap suc (beside_pairs-length xs texts (omega arith))
 
   -- one more element beside one more pair
-  pub beside_pairs-push : (xs : List X) (texts : List Text) (x : X) (a b : Text) → length texts ≡ 2 * length xs
-      → beside_pairs make (xs ++ x ∷ []) (texts ++ a ∷ b ∷ []) ≡ beside_pairs make xs texts ++ make x a b ∷ []
+  pub beside_pairs-push : (xs : List X) (texts : List Text) (x : X) (a b : Text)
+      → length texts ≡ 2 * length xs
+      → beside_pairs make (xs ++ x ∷ []) (texts ++ a ∷ b ∷ [])
+      ≡ beside_pairs make xs texts ++ make x a b ∷ []
   beside_pairs-push [] [] x a b fits = refl
   beside_pairs-push [] (t ∷ texts) x a b fits = absurd (omega arith)
   beside_pairs-push (y ∷ xs) [] x a b fits = absurd (omega arith)
@@ -31,7 +36,9 @@ module _ {X Y : Type 0} (make : X → Text → Text → Y) where
   beside_pairs-push (y ∷ xs) (c ∷ d ∷ texts) x a b fits = ap (λ (ys : List Y). make y c d ∷ ys) (beside_pairs-push xs texts x a b (omega arith))
 
   -- what stands at a place
-  pub beside_pairs-get : (xs : List X) (texts : List Text) (i : ℕ) (x : X) (a b : Text) → slice_get xs i ≡ Some x → slice_get texts (2 * i) ≡ Some a → slice_get texts (2 * i + 1) ≡ Some b
+  pub beside_pairs-get : (xs : List X) (texts : List Text) (i : ℕ) (x : X) (a b : Text)
+      → slice_get xs i ≡ Some x → slice_get texts (2 * i) ≡ Some a
+      → slice_get texts (2 * i + 1) ≡ Some b
       → slice_get (beside_pairs make xs texts) i ≡ Some (make x a b)
   beside_pairs-get [] texts i x a b at first second = cc at
   beside_pairs-get (y ∷ xs) [] i x a b at first second = cc first
@@ -47,7 +54,8 @@ module _ {X Y : Type 0} (make : X → Text → Text → Y) where
       beside_pairs-get xs texts i x a b at (rw twice at first) (rw more at second)
 
   -- past the last element there is nothing
-  pub beside_pairs-past : (xs : List X) (texts : List Text) (i : ℕ) → slice_get xs i ≡ None → slice_get (beside_pairs make xs texts) i ≡ None
+  pub beside_pairs-past : (xs : List X) (texts : List Text) (i : ℕ) → slice_get xs i ≡ None
+      → slice_get (beside_pairs make xs texts) i ≡ None
   beside_pairs-past [] texts i past = refl
   beside_pairs-past (x ∷ xs) [] i past = refl
   beside_pairs-past (x ∷ xs) (a ∷ []) i past = refl
@@ -55,15 +63,19 @@ module _ {X Y : Type 0} (make : X → Text → Text → Y) where
   beside_pairs-past (x ∷ xs) (a ∷ b ∷ texts) (suc i) past = beside_pairs-past xs texts i past
 
   -- what is made, seen as what it was made of
-  pub beside_pairs-map : (view : Y → X) → ((x : X) (a b : Text) → view (make x a b) ≡ x) → (xs : List X) (texts : List Text) → length texts ≡ 2 * length xs → map view (beside_pairs make xs texts) ≡ xs
+  pub beside_pairs-map : (view : Y → X) → ((x : X) (a b : Text) → view (make x a b) ≡ x)
+      → (xs : List X) (texts : List Text) → length texts ≡ 2 * length xs
+      → map view (beside_pairs make xs texts) ≡ xs
   beside_pairs-map view same [] texts fits = refl
   beside_pairs-map view same (x ∷ xs) [] fits = absurd (omega arith)
   beside_pairs-map view same (x ∷ xs) (a ∷ []) fits = absurd (omega arith)
   beside_pairs-map view same (x ∷ xs) (a ∷ b ∷ texts) fits = λ i. same x a b i ∷ beside_pairs-map view same xs texts (omega arith) i
 
 -- what is seen of a made element without its texts
-pub beside_pairs-through : {X Y Z : Type 0} (make : X → Text → Text → Y) (view : Y → Z) (of : X → Z) → ((x : X) (a b : Text) → view (make x a b) ≡ of x)
-    → (xs : List X) (texts : List Text) (i : ℕ) → length texts ≡ 2 * length xs → option_map view (slice_get (beside_pairs make xs texts) i) ≡ option_map of (slice_get xs i)
+pub beside_pairs-through : {X Y Z : Type 0} (make : X → Text → Text → Y) (view : Y → Z) (of : X → Z)
+    → ((x : X) (a b : Text) → view (make x a b) ≡ of x) → (xs : List X) (texts : List Text) (i : ℕ)
+    → length texts ≡ 2 * length xs
+    → option_map view (slice_get (beside_pairs make xs texts) i) ≡ option_map of (slice_get xs i)
 beside_pairs-through make view of same [] texts i fits = refl
 beside_pairs-through make view of same (x ∷ xs) [] i fits = absurd (omega arith)
 beside_pairs-through make view of same (x ∷ xs) (a ∷ []) i fits = absurd (omega arith)
@@ -71,8 +83,12 @@ beside_pairs-through make view of same (x ∷ xs) (a ∷ b ∷ texts) zero fits 
 beside_pairs-through make view of same (x ∷ xs) (a ∷ b ∷ texts) (suc i) fits = beside_pairs-through make view of same xs texts i (omega arith)
 
 -- the main name of the group that was made of two names
-pub main-beside : (kinds : List Kinds) (texts : List Text) (i : ℕ) (a b : Text) → length texts ≡ 2 * length kinds → slice_get texts (2 * i) ≡ Some a → slice_get texts (2 * i + 1) ≡ Some b
-    → option_map_or (λ (known : Known). main_name known.names) (slice_get (beside_pairs known_with kinds texts) i) [] ≡ main_name (record { short = a; long = b })
+pub main-beside : (kinds : List Kinds) (texts : List Text) (i : ℕ) (a b : Text)
+    → length texts ≡ 2 * length kinds → slice_get texts (2 * i) ≡ Some a
+    → slice_get texts (2 * i + 1) ≡ Some b
+    → option_map_or (λ (known : Known). main_name known.names)
+    (slice_get (beside_pairs known_with kinds texts) i) []
+    ≡ main_name (record { short = a; long = b })
 main-beside [] [] i a b fits first second = cc first
 main-beside [] (c ∷ texts) i a b fits first second = absurd (omega arith)
 main-beside (x ∷ kinds) [] i a b fits first second = absurd (omega arith)
@@ -87,16 +103,20 @@ main-beside (x ∷ kinds) (c ∷ d ∷ texts) (suc i) a b fits first second =
     main-beside kinds texts i a b (omega arith) (rw twice at first) (rw more at second)
 
 -- an element that was read at a place
-pub slice_get-read : {X : Type 0} (xs : List X) (i : ℕ) (x : X) → i < length xs → ((d : X) → x ≡ get_or xs i d) → slice_get xs i ≡ Some x
+pub slice_get-read : {X : Type 0} (xs : List X) (i : ℕ) (x : X) → i < length xs
+    → ((d : X) → x ≡ get_or xs i d) → slice_get xs i ≡ Some x
 slice_get-read xs i x within is = slice_get-get_or xs i x within ∙ ap (λ y. Some y) (sym (is x))
 
 -- the kinds of groups are those that they were made of
 pub kinds-beside : (kinds : List Kinds) (texts : List Text) → length texts ≡ 2 * length kinds
-    → map (λ (known : Known). let k : Kinds = record { hasarg = known.kind; occur = known.occurrence } in k) (beside_pairs known_with kinds texts) ≡ kinds
+    → map (λ (known : Known). let k : Kinds = record
+    { hasarg = known.kind; occur = known.occurrence } in
+    k) (beside_pairs known_with kinds texts) ≡ kinds
 kinds-beside = beside_pairs-map known_with (λ known. record { hasarg = known.kind; occur = known.occurrence }) (λ kinds short long. refl)
 
 -- the names of groups are the texts that they were made of
-pub name_texts-beside : (kinds : List Kinds) (texts : List Text) → length texts ≡ 2 * length kinds → name_texts (beside_pairs known_with kinds texts) ≡ texts
+pub name_texts-beside : (kinds : List Kinds) (texts : List Text) → length texts ≡ 2 * length kinds
+    → name_texts (beside_pairs known_with kinds texts) ≡ texts
 name_texts-beside [] [] fits = refl
 name_texts-beside [] (t ∷ texts) fits = absurd (omega arith)
 name_texts-beside (x ∷ kinds) [] fits = absurd (omega arith)
@@ -104,30 +124,38 @@ name_texts-beside (x ∷ kinds) (a ∷ []) fits = absurd (omega arith)
 name_texts-beside (x ∷ kinds) (a ∷ b ∷ texts) fits = ap (λ (more : List Text). a ∷ b ∷ more) (name_texts-beside kinds texts (omega arith))
 
 -- the names of groups, from their texts
-pub names_in-name_texts : (knowns : List Known) → names_in (name_texts knowns) ≡ map (λ (known : Known). known.names) knowns
+pub names_in-name_texts : (knowns : List Known)
+    → names_in (name_texts knowns) ≡ map (λ (known : Known). known.names) knowns
 names_in-name_texts [] = refl
 names_in-name_texts (known ∷ knowns) = ap (λ (more : List Names). known.names ∷ more) (names_in-name_texts knowns)
 
 -- the names of what is known of groups
-pub names-knowns_of : (groups : List Group) → map (λ (known : Known). known.names) (knowns_of groups) ≡ names_of groups
+pub names-knowns_of : (groups : List Group)
+    → map (λ (known : Known). known.names) (knowns_of groups) ≡ names_of groups
 names-knowns_of [] = refl
 names-knowns_of (group ∷ groups) = ap (λ (more : List Names). group.known.names ∷ more) (names-knowns_of groups)
 
 -- what is known of the groups that options hold
-pub knowns_of-held : (knowns : List Known) (help : List Text) → length help ≡ 2 * length knowns → knowns_of (beside_pairs group_with knowns help) ≡ knowns
+pub knowns_of-held : (knowns : List Known) (help : List Text) → length help ≡ 2 * length knowns
+    → knowns_of (beside_pairs group_with knowns help) ≡ knowns
 knowns_of-held = beside_pairs-map group_with (λ group. group.known) (λ known hint description. refl)
 
 -- what holds of all that is known of groups
-pub all_known : (P : Known → Type 0) (knowns : List Known) (groups : List Group) → knowns_of groups ≡ knowns → AllByRecursion P knowns → AllByRecursion (λ group. P group.known) groups
+pub all_known : (P : Known → Type 0) (knowns : List Known) (groups : List Group)
+    → knowns_of groups ≡ knowns → AllByRecursion P knowns
+    → AllByRecursion (λ group. P group.known) groups
 all_known P knowns groups same all = AllByRecursion-unmap P (λ group. group.known) groups (subst (AllByRecursion P) (sym same) all)
 
 -- a look-up among the texts of groups' names is one among the groups' names
-pub names_in-groups : (groups : List Group) → names_in (name_texts (knowns_of groups)) ≡ names_of groups
+pub names_in-groups : (groups : List Group)
+    → names_in (name_texts (knowns_of groups)) ≡ names_of groups
 names_in-groups groups = names_in-name_texts (knowns_of groups) ∙ names-knowns_of groups
 
 -- the main name at a place, from what is known of the groups
-pub main_at-held : (knowns : List Known) (help : List Text) (place : ℕ) → length help ≡ 2 * length knowns
-    → main_at (beside_pairs group_with knowns help) place ≡ option_map_or (λ (known : Known). main_name known.names) (slice_get knowns place) []
+pub main_at-held : (knowns : List Known) (help : List Text) (place : ℕ)
+    → length help ≡ 2 * length knowns
+    → main_at (beside_pairs group_with knowns help) place
+    ≡ option_map_or (λ (known : Known). main_name known.names) (slice_get knowns place) []
 main_at-held [] help place fits = refl
 main_at-held (known ∷ knowns) [] place fits = absurd (omega arith)
 main_at-held (known ∷ knowns) (a ∷ []) place fits = absurd (omega arith)
@@ -135,6 +163,7 @@ main_at-held (known ∷ knowns) (a ∷ b ∷ help) zero fits = refl
 main_at-held (known ∷ knowns) (a ∷ b ∷ help) (suc place) fits = main_at-held knowns help place (omega arith)
 
 -- what is known of lawfully named groups is lawfully named
-pub HaveLawfulNames-known : (groups : List Group) → AreLawfullyNamed groups → HaveLawfulNames (knowns_of groups)
+pub HaveLawfulNames-known : (groups : List Group) → AreLawfullyNamed groups
+    → HaveLawfulNames (knowns_of groups)
 HaveLawfulNames-known [] lawful = tt
 HaveLawfulNames-known (group ∷ groups) lawful = (lawful.0, HaveLawfulNames-known groups lawful.1)

@@ -1,10 +1,12 @@
 -- The tests of `==` say exactly that what they compare is equal.
-use Rattle.std.proofs.Common.{◌≡◌, ◌==◌, ◌&&◌, ◌*◌, Bool, List, [], ◌∷◌, map, length, arith, Option, Some, None, refl, ap, sym, ◌∙◌}
+use Rattle.std.proofs.Common.{◌≡◌, ◌==◌, ◌&&◌, ◌*◌, Bool, List, [], ◌∷◌, map, length, arith, Option}
+use Rattle.std.proofs.Common.{Some, None, refl, ap, sym, ◌∙◌}
 use Rattle.std.specs.Bool.{Decides}
 use Rattle.std.specs.Cmp.Lexicographic.{pointwise, pointwise_decides, bytes_decides}
 use Rattle.std.specs.Option.{option_eq}
 use Rattle.std.proofs.lemmas.Bool.{false≢true}
-use Rattle.std.proofs.lemmas.Bool.Decides.{Decides-and, Decides-like, Decides-eqb, same_from_decides}
+use Rattle.std.proofs.lemmas.Bool.Decides.{Decides-and, Decides-like, Decides-eqb}
+use Rattle.std.proofs.lemmas.Bool.Decides.{same_from_decides}
 use Rattle.getopts.specs.Names.{Text}
 use Rattle.getopts.specs.Options.{Known, Group, knowns_of}
 use Rattle.getopts.specs.Matches.{Found, MatchedGroup, Matched}
@@ -25,13 +27,18 @@ abbrev pub same_kinds : Kinds → Kinds → Bool
 same_kinds kinds other = same_known (known_with kinds [] []) (known_with other [] [])
 
 same_kinds-decides : (a b : Kinds) → Decides (same_kinds a b) (a ≡ b)
-same_kinds-decides a b = Decides-like (same_kinds a b) (λ e. ap kinds_of e) (λ e. ap (λ (k : Kinds). known_with k [] []) e) (same_known-decides (known_with a [] []) (known_with b [] []))
+same_kinds-decides a b = Decides-like (same_kinds a b) (λ e. ap kinds_of e)
+    (λ e. ap (λ (k : Kinds). known_with k [] []) e) (same_known-decides (known_with a [] []) (known_with b [] []))
 
 -- groups are the same where their kinds and the texts of their names are
-pub same_groups : (kinds others : List Kinds) (texts other_texts : List Text) → length texts ≡ 2 * length kinds → length other_texts ≡ 2 * length others
-    → (pointwise same_kinds kinds others && pointwise (pointwise ◌==◌) texts other_texts) ≡ pointwise same_known (beside_pairs known_with kinds texts) (beside_pairs known_with others other_texts)
+pub same_groups : (kinds others : List Kinds) (texts other_texts : List Text)
+    → length texts ≡ 2 * length kinds → length other_texts ≡ 2 * length others
+    → (pointwise same_kinds kinds others && pointwise (pointwise ◌==◌) texts other_texts)
+    ≡ pointwise same_known (beside_pairs known_with kinds texts)
+    (beside_pairs known_with others other_texts)
 same_groups kinds others texts other_texts fits other_fits =
-    let by_parts : Decides (pointwise same_kinds kinds others && pointwise (pointwise ◌==◌) texts other_texts) ((kinds ≡ others) × (texts ≡ other_texts)) =
+    let by_parts : Decides (pointwise same_kinds kinds others && pointwise (pointwise ◌==◌) texts other_texts)
+    ((kinds ≡ others) × (texts ≡ other_texts)) =
     Decides-and _ _ (pointwise_decides same_kinds-decides kinds others) (pointwise_decides bytes_decides texts other_texts) in
     same_from_decides _ _
     (Decides-like _ (λ same i. beside_pairs known_with (same.0 i) (same.1 i)) (λ e. (
@@ -41,10 +48,14 @@ same_groups kinds others texts other_texts fits other_fits =
     (pointwise_decides same_known-decides (beside_pairs known_with kinds texts) (beside_pairs known_with others other_texts))
 
 -- groups with their help texts are the same where what is known of them and the texts are
-pub same_helped : (knowns others : List Known) (help other_help : List Text) → length help ≡ 2 * length knowns → length other_help ≡ 2 * length others
-    → (pointwise same_known knowns others && pointwise (pointwise ◌==◌) help other_help) ≡ pointwise same_group (beside_pairs group_with knowns help) (beside_pairs group_with others other_help)
+pub same_helped : (knowns others : List Known) (help other_help : List Text)
+    → length help ≡ 2 * length knowns → length other_help ≡ 2 * length others
+    → (pointwise same_known knowns others && pointwise (pointwise ◌==◌) help other_help)
+    ≡ pointwise same_group (beside_pairs group_with knowns help)
+    (beside_pairs group_with others other_help)
 same_helped knowns others help other_help fits other_fits =
-    let by_parts : Decides (pointwise same_known knowns others && pointwise (pointwise ◌==◌) help other_help) ((knowns ≡ others) × (help ≡ other_help)) =
+    let by_parts : Decides (pointwise same_known knowns others && pointwise (pointwise ◌==◌) help other_help)
+    ((knowns ≡ others) × (help ≡ other_help)) =
     Decides-and _ _ (pointwise_decides same_known-decides knowns others) (pointwise_decides bytes_decides help other_help) in
     same_from_decides _ _
     (Decides-like _ (λ same i. beside_pairs group_with (same.0 i) (same.1 i)) (λ e. (
@@ -56,7 +67,8 @@ same_helped knowns others help other_help fits other_fits =
       help_texts [] = []
       help_texts (group ∷ groups) = group.hint ∷ group.description ∷ help_texts groups
 
-      help-beside : (ks : List Known) (texts : List Text) → length texts ≡ 2 * length ks → help_texts (beside_pairs group_with ks texts) ≡ texts
+      help-beside : (ks : List Known) (texts : List Text) → length texts ≡ 2 * length ks
+          → help_texts (beside_pairs group_with ks texts) ≡ texts
       help-beside [] [] texts_fit = refl
       help-beside [] (t ∷ texts) texts_fit = absurd (omega arith)
       help-beside (k ∷ ks) [] texts_fit = absurd (omega arith)
@@ -64,7 +76,8 @@ same_helped knowns others help other_help fits other_fits =
       help-beside (k ∷ ks) (a ∷ b ∷ texts) texts_fit = ap (λ (more : List Text). a ∷ b ∷ more) (help-beside ks texts (omega arith))
 
 -- a test of options says exactly that they are equal, where that of their values does
-options_decide : {X : Type 0} (E : X → X → Bool) → ((a b : X) → Decides (E a b) (a ≡ b)) → (o p : Option X) → Decides (option_eq E o p) (o ≡ p)
+options_decide : {X : Type 0} (E : X → X → Bool) → ((a b : X) → Decides (E a b) (a ≡ b))
+    → (o p : Option X) → Decides (option_eq E o p) (o ≡ p)
 options_decide E decides None None = (λ _. refl, λ _. refl)
 options_decide E decides None (Some y) = (λ e. absurd (false≢true e), λ e. cc e)
 options_decide E decides (Some x) None = (λ e. absurd (false≢true e), λ e. cc e)

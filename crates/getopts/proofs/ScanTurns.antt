@@ -1,13 +1,16 @@
 -- A tool of the proofs: reading word by word. `read` is what the code computes; the definitions in
 -- `specs/Scan.antt` don't rest on it.
-use Rattle.std.proofs.Common.{◌≡◌, ◌==◌, ◌⊎◌, ℕ, ◌<◌, List, [], ◌∷◌, ◌++◌, Option, Some, None, Result, Ok, Err}
+use Rattle.std.proofs.Common.{◌≡◌, ◌==◌, ◌⊎◌, ℕ, ◌<◌, List, [], ◌∷◌, ◌++◌, Option, Some, None}
+use Rattle.std.proofs.Common.{Result, Ok, Err}
 use Rattle.std.specs.Prelude.{if◌then◌else◌, encode_utf8}
 use Rattle.std.specs.List.{before_first, after_first}
 use Rattle.std.specs.Str.{chars, bytes_eq}
 use Rattle.getopts.specs.Names.{Text}
 use Rattle.getopts.specs.Options.{Grammar}
 use Rattle.getopts.specs.Fail.{Fault, argument_missing, unrecognized_option, unexpected_argument}
-use Rattle.getopts.specs.Scan.{dash, equals_sign, is_dashed, holds_equals, stop_word, Dashes, one, two, none, attached, separate, flags, ends_in, Item, free, long, cluster, Tail, line_end, stop, rest, Reading}
+use Rattle.getopts.specs.Scan.{dash, equals_sign, is_dashed, holds_equals, stop_word, Dashes, one}
+use Rattle.getopts.specs.Scan.{two, none, attached, separate, flags, ends_in, Item, free, long}
+use Rattle.getopts.specs.Scan.{cluster, Tail, line_end, stop, rest, Reading}
 use Rattle.getopts.specs.declared.groups.HasArg.{HasArg}
 use Rattle.getopts.specs.declared.groups.HasArg.TheVariants.{Yes, No, Maybe}
 use Rattle.getopts.specs.declared.groups.ParsingStyle.{ParsingStyle}
@@ -18,8 +21,8 @@ pub record IsNamed (grammar : Grammar) : Type 0 where
   pub empty : grammar.kind_of [] ≡ None
   pub ascii : (byte : ℕ) → byte < 128 ⊎ (grammar.kind_of (byte ∷ []) ≡ None)
 
--- What the first word of a line gives, with the words after it: a tail that ends the line; an item of
--- this word, or of this word and the next; or a fault.
+-- What the first word of a line gives, with the words after it: a tail that ends the line; an item
+-- of this word, or of this word and the next; or a fault.
 pub data Turn : Type 0 where
   ends : Tail → Turn
   takes_one : Item → Turn
@@ -63,7 +66,8 @@ long_turn grammar dashes text more = named_turn (grammar.kind_of (long_name text
 -- a name of kind Maybe at the end of a cluster
 abbrev pub maybe_turn : List ℕ → ℕ → List Text → Turn
 maybe_turn names option [] = takes_one (cluster names (ends_in option none))
-maybe_turn names option (word ∷ more) = if is_dashed word then takes_one (cluster names (ends_in option none)) else takes_two (cluster names (ends_in option (separate word)))
+maybe_turn names option (word ∷ more) = if is_dashed word then takes_one (cluster names (ends_in option none)) else
+    takes_two (cluster names (ends_in option (separate word)))
 
 -- a name of kind Yes or Maybe in a cluster, after flags, by the text after it
 abbrev pub option_turn : HasArg → List ℕ → ℕ → Text → List Text → Turn
@@ -82,7 +86,8 @@ byte_turn (Some Maybe) names byte text more after = option_turn Maybe names byte
 -- a cluster, by the flags that were read and the text that is left
 unfoldable pub cluster_turn : Grammar → List ℕ → Text → List Text → Turn
 cluster_turn grammar names [] more = takes_one (cluster names flags)
-cluster_turn grammar names (byte ∷ text) more = byte_turn (grammar.kind_of (byte ∷ [])) names byte text more (cluster_turn grammar (names ++ byte ∷ []) text more)
+cluster_turn grammar names (byte ∷ text) more = byte_turn (grammar.kind_of (byte ∷ [])) names byte text more
+    (cluster_turn grammar (names ++ byte ∷ []) text more)
 
 -- a dashed word other than `--`
 unfoldable pub item_turn : Grammar → Text → List Text → Turn
@@ -108,7 +113,8 @@ abbrev pub with_item : Item → Result Reading Fault → Result Reading Fault
 with_item item (Ok reading) = Ok (record { items = item ∷ reading.items; tail = reading.tail })
 with_item item (Err fault) = Err fault
 
--- the outcome of a line, by the turn of its first word and the outcomes of the words after one and after two
+-- the outcome of a line, by the turn of its first word and the outcomes of the words after one and
+-- after two
 abbrev pub after_turn : Turn → Result Reading Fault → Result Reading Fault → Result Reading Fault
 after_turn (ends tail) after_one after_two = Ok (record { items = []; tail = tail })
 after_turn (takes_one item) after_one after_two = with_item item after_one
@@ -118,7 +124,11 @@ after_turn (faults fault) after_one after_two = Err fault
 -- the outcomes of a line and of the line without its first word
 unfoldable pub read_both : Grammar → List Text → Result Reading Fault × Result Reading Fault
 read_both grammar [] = (Ok (record { items = []; tail = line_end }), Ok (record { items = []; tail = line_end }))
-read_both grammar (word ∷ more) = (after_turn (turn grammar word more) (read_both grammar more).0 (read_both grammar more).1, (read_both grammar more).0)
+read_both grammar (word ∷ more) = (
+  after_turn (turn grammar word more) (read_both grammar more).0
+      (read_both grammar more).1,
+  (read_both grammar more).0,
+)
 
 -- the reading of a line, or its fault
 unfoldable pub read : Grammar → List Text → Result Reading Fault

@@ -2,7 +2,10 @@
 use Rattle.getopts.proofs.CallerLemmas.{OneContentHoldsSame_lem}
 use Rattle.getopts.proofs.CanonLemmas.{IsSound-says}
 use Rattle.getopts.proofs.ParseLemmas.{keeps_laws}
-use Rattle.getopts.proofs.TheoremLemmas.{OneReading-options, AcceptedExactlyWhen-options, RefusedExactlyWhen-options, OneOfThree-options, OneReadingGivesAll-options, CanonicalLinesTell-options, AnsweredLinesTell-options, HasCanonicalLine-options}
+use Rattle.getopts.proofs.TheoremLemmas.{OneReading-options, AcceptedExactlyWhen-options}
+use Rattle.getopts.proofs.TheoremLemmas.{RefusedExactlyWhen-options, OneOfThree-options}
+use Rattle.getopts.proofs.TheoremLemmas.{OneReadingGivesAll-options, CanonicalLinesTell-options}
+use Rattle.getopts.proofs.TheoremLemmas.{AnsweredLinesTell-options, HasCanonicalLine-options}
 use Rattle.getopts.proofs.theorem.one_reading_one_canonical_line.Goals as goal
 
 pub returns : goal.returns

@@ -5,4 +5,10 @@ use Rattle.getopts.proofs.PairsLemmas.{beside_pairs-length}
 use Rattle.getopts.proofs.options.Options.group_count.Goals as goal
 
 pub returns : goal.returns
-returns c = rw (← c.self.view_is) (omega (arith, c.len.ensures, beside_pairs-length group_with c.self.inside.groups c.self.inside.help c.self.invariant.help_fits))
+returns c = rw (← c.self.view_is)
+    (omega (
+      arith,
+      c.len.ensures,
+      beside_pairs-length group_with c.self.inside.groups c.self.inside.help
+          c.self.invariant.help_fits,
+    ))

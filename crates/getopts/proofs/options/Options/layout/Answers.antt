@@ -10,7 +10,8 @@ pub loop-place-preserved : goal.loop-place-preserved
 loop-place-preserved c =
     let groups = c.args.self.now.groups in
     elim c.match-group.branch [
-      | in-Some w ↦ any_short_more groups c.loop-place.place c.group.result w.in-Some.group c.group.ensures w.in-Some.is c.loop-place.any_short _ c.loop-place.invariant (rw w.is_empty.ensures at w.any_short-is)
+      | in-Some w ↦ any_short_more groups c.loop-place.place c.group.result w.in-Some.group c.group.ensures
+          w.in-Some.is c.loop-place.any_short _ c.loop-place.invariant (rw w.is_empty.ensures at w.any_short-is)
       | in_default w ↦ absurd (group_missing groups c.loop-place.place c.group.result (omega arith) c.group.ensures w.in_default.not-Some)
     ]
 

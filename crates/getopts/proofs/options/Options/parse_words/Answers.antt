@@ -10,7 +10,9 @@ use Rattle.getopts.proofs.options.Options.parse_words.Goals as goal
 pub returns-clause-accepted : goal.returns-clause-accepted
 returns-clause-accepted c =
     let groups : c.in_ok-groups.groups ≡ knowns_of c.args.self.now.groups = c.in_ok-groups.ensures.cases ∙ c.groups.ensures.groups in
-    rw (c.in_ok-of_line.ensures, groups) (IsAccepted-line c.args.self.now (texts c.args.words.items) c.in_ok-accepted.accepted c.in_ok-accepted.ensures.accepted)
+    rw (c.in_ok-of_line.ensures, groups)
+    (IsAccepted-line c.args.self.now (texts c.args.words.items) c.in_ok-accepted.accepted
+    c.in_ok-accepted.ensures.accepted)
 
 pub returns-clause-counts : goal.returns-clause-counts
 returns-clause-counts c = counts-accepted c.args.self.now (texts c.args.words.items) c.in_ok-of_line.field-0 (returns-clause-accepted c)

@@ -1,4 +1,5 @@
--- The code's tests of the groups, the style and the mode are the test of the options, which says that they are equal.
+-- The code's tests of the groups, the style and the mode are the test of the options, which says
+-- that they are equal.
 use Rattle.std.proofs.Common.{arith}
 use Rattle.std.proofs.lemmas.Grind.{common_steps}
 use Rattle.std.proofs.lemmas.Bool.Decides.{Decides-at}
