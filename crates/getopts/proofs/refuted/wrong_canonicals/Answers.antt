@@ -1,6 +1,6 @@
 -- What each line of words is answered, computed.
 use Rattle.std.proofs.Common.{refl}
-use Rattle.getopts.proofs.RefutedLemmas.{read_on_literals, refutes_canonical}
+use Rattle.getopts.proofs.MainTheorem.Refuted.{read_on_literals, refutes_canonical}
 use Rattle.getopts.proofs.refuted.wrong_canonicals.Goals as goal
 
 pub returns-clause-canonical_value_apart : goal.returns-clause-canonical_value_apart

@@ -7,7 +7,8 @@ use Rattle.std.proofs.lemmas.Bool.{true≢false}
 use Rattle.getopts.specs.Names.{resolution}
 use Rattle.getopts.specs.Table.{entry_at, names_in, group_by_name, Finds, IsTableOf}
 use Rattle.getopts.specs.Refuted.Naming.{a_apple, two_apples}
-use Rattle.getopts.proofs.TableLemmas.{AreKeyed-none, AreKeyed-push, IsTableOf-found, Finds-table}
+use Rattle.getopts.proofs.Lookup.Entries.{AreKeyed-none, AreKeyed-push, IsTableOf-found}
+use Rattle.getopts.proofs.Lookup.Entries.{Finds-table}
 use Rattle.getopts.proofs.refuted.wrong_names.Goals as goal
 
 pub returns-clause-long_name_of_one_byte_is_lawful :

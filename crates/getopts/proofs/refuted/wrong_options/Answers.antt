@@ -1,7 +1,7 @@
 -- The options that each call makes.
 use Rattle.std.proofs.Common.{refl}
 use Rattle.getopts.specs.Same.{same_options}
-use Rattle.getopts.proofs.RefutedLemmas.{differ}
+use Rattle.getopts.proofs.MainTheorem.Refuted.{differ}
 use Rattle.getopts.proofs.refuted.wrong_options.Goals as goal
 
 pub returns-clause-new_is_long_only : goal.returns-clause-new_is_long_only

@@ -1,7 +1,7 @@
 -- What each line of words is answered, computed.
 use Rattle.std.proofs.Common.{refl}
-use Rattle.getopts.proofs.RefutedLemmas.{read_on_literals, refutes_parse, refutes_texts}
-use Rattle.getopts.proofs.RefutedLemmas.{e_acute_text}
+use Rattle.getopts.proofs.MainTheorem.Refuted.{read_on_literals, refutes_parse, refutes_texts}
+use Rattle.getopts.proofs.MainTheorem.Refuted.{e_acute_text}
 use Rattle.getopts.proofs.refuted.wrong_parses.Goals as goal
 
 pub returns-clause-every_word_is_free : goal.returns-clause-every_word_is_free

@@ -6,9 +6,10 @@ use Rattle.std.specs.List.{flat_map}
 use Rattle.std.specs.Str.{bytes_eq}
 use Rattle.getopts.specs.Refuted.Forms.{typed}
 use Rattle.getopts.specs.Refuted.Printing.{accented, a_alone, a_and_b, a_and_bee}
-use Rattle.getopts.proofs.RefutedLemmas.{differ}
-use Rattle.getopts.proofs.RefutedTexts.{rows_on_literals, refutes_usage_rows, refutes_usage}
-use Rattle.getopts.proofs.RefutedTexts.{refutes_made, text_of_x}
+use Rattle.getopts.proofs.MainTheorem.Refuted.{differ}
+use Rattle.getopts.proofs.MainTheorem.RefutedTexts.{rows_on_literals, refutes_usage_rows}
+use Rattle.getopts.proofs.MainTheorem.RefutedTexts.{refutes_usage}
+use Rattle.getopts.proofs.MainTheorem.RefutedTexts.{refutes_made, text_of_x}
 use Rattle.getopts.proofs.refuted.wrong_texts.Goals as goal
 
 pub returns-clause-unrecognized_text_without_its_colon :

@@ -4,7 +4,7 @@ use Rattle.std.proofs.lemmas.Result.{on_ok_weaker}
 use Rattle.getopts.specs.Held.Groups.{group_view}
 use Rattle.getopts.specs.Names.{Text}
 use Rattle.getopts.specs.Usage.{padding}
-use Rattle.getopts.proofs.UsageLemmas.{row_added}
+use Rattle.getopts.proofs.Wrapping.Usage.{row_added}
 use Rattle.getopts.proofs.row.push_row.Goals as goal
 
 pub returns : goal.returns

@@ -1,6 +1,6 @@
 -- A word with no dash at its front isn't dashed.
 use Rattle.std.proofs.Common.{◌≡◌, None, rules}
-use Rattle.getopts.proofs.ScanWords.{is_dashed-other}
+use Rattle.getopts.proofs.Scanning.Words.{is_dashed-other}
 use Rattle.getopts.proofs.scan.dashed_text.Goals as goal
 
 pub returns-in_err-text : goal.returns-in_err-text

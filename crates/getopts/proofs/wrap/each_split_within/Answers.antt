@@ -4,8 +4,8 @@ use Rattle.std.specs.Prelude.{IfOk}
 use Rattle.std.specs.Str.Lines.{lines}
 use Rattle.std.proofs.lemmas.Result.{IfOk-weaker}
 use Rattle.getopts.specs.Wrap.{IsDescriptionRows, joined}
-use Rattle.getopts.proofs.WrapLines.{rows_exactly, rows_fewest}
-use Rattle.getopts.proofs.WrapTexts.{lines_joined}
+use Rattle.getopts.proofs.Wrapping.Lines.{rows_exactly, rows_fewest}
+use Rattle.getopts.proofs.Wrapping.Texts.{lines_joined}
 use Rattle.getopts.proofs.wrap.each_split_within.Goals as goal
 
 -- what the rows are

@@ -4,7 +4,7 @@ use Rattle.std.proofs.lemmas.Iterator.Consumers.{YieldsList-end}
 use Rattle.std.proofs.lemmas.Iterator.Splits.{YieldsList-from_str_split}
 use Rattle.std.proofs.lemmas.List.{map-append}
 use Rattle.getopts.specs.Wrap.{words_of}
-use Rattle.getopts.proofs.WrapLines.{LinesSoFar, lines_none, lines_add, lines_end}
+use Rattle.getopts.proofs.Wrapping.Lines.{LinesSoFar, lines_none, lines_add, lines_end}
 use Rattle.getopts.proofs.wrap.push_description.Goals as goal
 
 pub loop-line-init : goal.loop-line-init

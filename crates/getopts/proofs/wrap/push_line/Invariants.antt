@@ -1,7 +1,7 @@
 use Rattle.std.proofs.Common.{◌++◌, string_bytes}
 use Rattle.std.specs.Str.Iter.{split_whitespace_rest}
 use Rattle.getopts.specs.Wrap.{parting}
-use Rattle.getopts.proofs.WrapRows.{RowsSoFar}
+use Rattle.getopts.proofs.Wrapping.Rows.{RowsSoFar}
 use Rattle.getopts.proofs.wrap.push_line.Given as goal
 
 abbrev pub invariant-loop-word : goal.invariant-loop-word

@@ -2,7 +2,8 @@
 use Rattle.std.proofs.Common.{sym}
 use Rattle.std.proofs.lemmas.Option.{slice_get_past}
 use Rattle.getopts.specs.Held.Groups.{known_with}
-use Rattle.getopts.proofs.PairsLemmas.{beside_pairs-past, beside_pairs-get, slice_get-read}
+use Rattle.getopts.proofs.Lists.{slice_get-read}
+use Rattle.getopts.proofs.Held.Pairs.{beside_pairs-past, beside_pairs-get}
 use Rattle.getopts.proofs.groups.Groups.get.Goals as goal
 
 pub returns-in_err-kinds : goal.returns-in_err-kinds

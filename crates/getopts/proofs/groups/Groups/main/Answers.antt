@@ -2,7 +2,7 @@
 use Rattle.std.proofs.Common.{refl, arith}
 use Rattle.std.proofs.lemmas.Option.{slice_get_past}
 use Rattle.getopts.specs.Held.Groups.{known_with}
-use Rattle.getopts.proofs.PairsLemmas.{beside_pairs-past, main-beside}
+use Rattle.getopts.proofs.Held.Pairs.{beside_pairs-past, main-beside}
 use Rattle.getopts.proofs.groups.Groups.main.Goals as goal
 
 pub returns-in-Some : goal.returns-in-Some

@@ -5,7 +5,8 @@ use Rattle.std.proofs.lemmas.Option.{slice_get_past}
 use Rattle.getopts.specs.Held.Groups.{known_with}
 use Rattle.getopts.specs.Options.{Known}
 use Rattle.getopts.specs.declared.groups.Kinds.{Kinds}
-use Rattle.getopts.proofs.PairsLemmas.{beside_pairs-through, slice_get-read}
+use Rattle.getopts.proofs.Lists.{slice_get-read}
+use Rattle.getopts.proofs.Held.Pairs.{beside_pairs-through}
 use Rattle.getopts.proofs.groups.Groups.occur.Goals as goal
 
 pub returns-in_err-get : goal.returns-in_err-get

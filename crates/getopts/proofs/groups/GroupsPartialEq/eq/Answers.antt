@@ -1,5 +1,5 @@
 -- Groups are the same where their kinds and names are.
-use Rattle.getopts.proofs.SameLemmas.{same_groups}
+use Rattle.getopts.proofs.Held.Same.{same_groups}
 use Rattle.getopts.proofs.groups.GroupsPartialEq.eq.Goals as goal
 
 pub returns-then-eq : goal.returns-then-eq

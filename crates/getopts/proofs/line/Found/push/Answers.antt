@@ -6,7 +6,7 @@ use Rattle.std.specs.Option.{option_copied}
 use Rattle.getopts.specs.Names.{Text, texts}
 use Rattle.getopts.specs.Held.Found.{given_view, HasItsValue}
 use Rattle.getopts.specs.declared.line.Found.TheInside.{Inside}
-use Rattle.getopts.proofs.LineLemmas.{given-value, given-bare}
+use Rattle.getopts.proofs.Held.Line.{given-value, given-bare}
 use Rattle.getopts.proofs.line.Found.push.Goals as goal
 use Rattle.getopts.proofs.line.Found.push.Goals.{in-Some+in_ok-push-in-Some, in-None}
 

@@ -3,8 +3,8 @@ use Rattle.std.proofs.Common.{◌≡◌, Some, slice_get, Option, sym, ap, ◌�
 use Rattle.std.specs.Option.{option_copied, option_and_then}
 use Rattle.getopts.specs.Names.{Text}
 use Rattle.getopts.specs.Matches.{Found}
-use Rattle.getopts.proofs.PairsLemmas.{slice_get-read}
-use Rattle.getopts.proofs.OccurrencesLemmas.{founds-past, founds-at}
+use Rattle.getopts.proofs.Lists.{slice_get-read}
+use Rattle.getopts.proofs.Held.Occurrences.{founds-past, founds-at}
 use Rattle.getopts.proofs.occurrences.Occurrences.get.Goals as goal
 use Rattle.getopts.proofs.occurrences.Occurrences.get.Goals.{in-Some, in-None}
 

@@ -3,7 +3,7 @@ use Rattle.std.proofs.Common.{List, ap, ◌∙◌}
 use Rattle.getopts.specs.Options.{Group, Declared, group_of, with_group}
 use Rattle.getopts.specs.Pairs.{beside_pairs}
 use Rattle.getopts.specs.Held.Options.{group_with}
-use Rattle.getopts.proofs.PairsLemmas.{beside_pairs-push}
+use Rattle.getopts.proofs.Held.Pairs.{beside_pairs-push}
 use Rattle.getopts.proofs.options.Options.add_group.Goals as goal
 
 pub returns-in-Ok-clause-added : goal.returns-in-Ok-clause-added

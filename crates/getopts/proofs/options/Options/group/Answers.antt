@@ -3,7 +3,7 @@ use Rattle.std.proofs.Common.{sym, arith}
 use Rattle.std.proofs.lemmas.Option.{slice_get_within}
 use Rattle.getopts.specs.Held.Groups.{known_view}
 use Rattle.getopts.specs.Held.Options.{group_with}
-use Rattle.getopts.proofs.PairsLemmas.{beside_pairs-past, beside_pairs-get}
+use Rattle.getopts.proofs.Held.Pairs.{beside_pairs-past, beside_pairs-get}
 use Rattle.getopts.proofs.options.Options.group.Goals as goal
 
 pub returns-in_err-known : goal.returns-in_err-known

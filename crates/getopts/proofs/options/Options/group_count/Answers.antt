@@ -1,7 +1,7 @@
 -- There are as many groups as are known.
 use Rattle.std.proofs.Common.{arith}
 use Rattle.getopts.specs.Held.Options.{group_with}
-use Rattle.getopts.proofs.PairsLemmas.{beside_pairs-length}
+use Rattle.getopts.proofs.Held.Pairs.{beside_pairs-length}
 use Rattle.getopts.proofs.options.Options.group_count.Goals as goal
 
 pub returns : goal.returns

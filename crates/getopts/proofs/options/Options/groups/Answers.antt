@@ -3,7 +3,7 @@ use Rattle.std.proofs.Common.{◌≡◌, sym, ap, ◌∙◌}
 use Rattle.std.specs.Str.{IsUtf8}
 use Rattle.getopts.specs.Names.{IsLawfullyNamed}
 use Rattle.getopts.specs.Options.{Known, Declared, knowns_of}
-use Rattle.getopts.proofs.PairsLemmas.{knowns_of-held, all_known}
+use Rattle.getopts.proofs.Held.Pairs.{knowns_of-held, all_known}
 use Rattle.getopts.proofs.options.Options.groups.Goals as goal
 
 pub returns : goal.returns

@@ -2,7 +2,7 @@
 use Rattle.std.proofs.Common.{refl}
 use Rattle.getopts.specs.Options.{Known, Group}
 use Rattle.getopts.specs.Held.Options.{group_with}
-use Rattle.getopts.proofs.PairsLemmas.{beside_pairs-through}
+use Rattle.getopts.proofs.Held.Pairs.{beside_pairs-through}
 use Rattle.getopts.proofs.options.Options.hasarg.Goals as goal
 
 pub returns : goal.returns

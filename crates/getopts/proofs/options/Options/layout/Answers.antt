@@ -1,7 +1,7 @@
 use Rattle.std.proofs.Common.{ap, ◌∙◌, arith}
 use Rattle.std.proofs.lemmas.List.{take_all}
 use Rattle.getopts.specs.Usage.{any_short}
-use Rattle.getopts.proofs.UsageLemmas.{any_short_more, group_missing}
+use Rattle.getopts.proofs.Wrapping.Usage.{any_short_more, group_missing}
 use Rattle.getopts.proofs.options.Options.layout.Goals as goal
 use Rattle.getopts.proofs.options.Options.layout.Goals.{in-Some, in_default}
 

@@ -9,14 +9,14 @@ use Rattle.getopts.specs.Matches.{Matched, KeepsCounts}
 use Rattle.getopts.specs.ScanLaws.{HavePositionsInOrder, HavePositionsBelow}
 use Rattle.getopts.specs.Parse.{IsAccepted, IsRefused}
 use Rattle.getopts.specs.declared.fail.Fail.{Fail}
-use Rattle.getopts.proofs.FailLemmas.{Tells-weaker}
-use Rattle.getopts.proofs.ParseLemmas.{positions_below-accepted}
-use Rattle.getopts.proofs.ScanLoop.{length-texts}
+use Rattle.getopts.proofs.Parsing.Faults.{Tells-weaker}
+use Rattle.getopts.proofs.Parsing.Parsed.{positions_below-accepted}
+use Rattle.getopts.proofs.Scanning.Loop.{length-texts}
 use Rattle.getopts.specs.Told.{AreGroupsOf, HaveValuesByKind, DefineDeclared, HoldRequiredOnce}
 use Rattle.getopts.specs.Told.{HoldNeededValues, HaveLastWordsFree}
-use Rattle.getopts.proofs.ToldLemmas.{DefineDeclared-groups, HoldRequiredOnce-groups}
-use Rattle.getopts.proofs.ToldLemmas.{HoldNeededValues-groups, HaveLastWordsFree-accepted}
-use Rattle.getopts.proofs.ToldLemmas.{IfOk-both}
+use Rattle.getopts.proofs.Parsing.Told.{DefineDeclared-groups, HoldRequiredOnce-groups}
+use Rattle.getopts.proofs.Parsing.Told.{HoldNeededValues-groups, HaveLastWordsFree-accepted}
+use Rattle.getopts.proofs.Parsing.Told.{IfOk-both}
 use Rattle.getopts.proofs.options.Options.parse.Goals as goal
 
 pub returns-clause-accepted : goal.returns-clause-accepted

@@ -2,9 +2,9 @@
 use Rattle.std.proofs.Common.{◌≡◌, ◌∙◌}
 use Rattle.getopts.specs.Names.{texts}
 use Rattle.getopts.specs.Options.{knowns_of}
-use Rattle.getopts.proofs.CanonicalLemmas.{IsAccepted-line}
-use Rattle.getopts.proofs.ParseLemmas.{counts-accepted, keeps_laws}
-use Rattle.getopts.proofs.ToldLemmas.{AreGroupsOf-accepted, HaveValuesByKind-accepted}
+use Rattle.getopts.proofs.Canonical.Answered.{IsAccepted-line}
+use Rattle.getopts.proofs.Parsing.Parsed.{counts-accepted, keeps_laws}
+use Rattle.getopts.proofs.Parsing.Told.{AreGroupsOf-accepted, HaveValuesByKind-accepted}
 use Rattle.getopts.proofs.options.Options.parse_words.Goals as goal
 
 pub returns-clause-accepted : goal.returns-clause-accepted

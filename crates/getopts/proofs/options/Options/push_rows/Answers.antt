@@ -1,6 +1,6 @@
 use Rattle.std.proofs.Common.{[], ◌∷◌, ◌++◌, ap, ◌∙◌, refl, sym, append-nil, arith, codes}
 use Rattle.std.proofs.Common.{string_bytes, length-append}
-use Rattle.getopts.proofs.UsageLemmas.{group_missing, text_more, rows_more, rows_all}
+use Rattle.getopts.proofs.Wrapping.Usage.{group_missing, text_more, rows_more, rows_all}
 use Rattle.getopts.proofs.options.Options.push_rows.Goals as goal
 use Rattle.getopts.proofs.options.Options.push_rows.Goals.{in-Some+in_ok-push_parting+in_ok-push_row}
 use Rattle.getopts.proofs.options.Options.push_rows.Goals.{in_default}

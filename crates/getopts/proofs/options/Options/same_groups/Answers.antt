@@ -1,5 +1,5 @@
 -- Groups are the same where what is known of them and their help texts are.
-use Rattle.getopts.proofs.SameLemmas.{same_helped}
+use Rattle.getopts.proofs.Held.Same.{same_helped}
 use Rattle.getopts.proofs.options.Options.same_groups.Goals as goal
 
 pub returns-then-eq : goal.returns-then-eq

@@ -4,7 +4,7 @@ use Rattle.getopts.specs.Scan.{separate}
 use Rattle.getopts.specs.Names.{texts}
 use Rattle.getopts.specs.Line.{scanner_grammar}
 use Rattle.getopts.specs.declared.groups.HasArg.TheVariants.{Yes, No, Maybe}
-use Rattle.getopts.proofs.ScanItems.{ReadsItem-long, ReadsItem-attached, texts-first}
+use Rattle.getopts.proofs.Scanning.Items.{ReadsItem-long, ReadsItem-attached, texts-first}
 use Rattle.getopts.proofs.scan.Scanner.long.Goals as goal
 
 pub returns-in-No-None-clause-ok : goal.returns-in-No-None-clause-ok

@@ -1,7 +1,7 @@
 -- Two dashes, or one in long-only mode, make a word in long form; else it is in short form.
 use Rattle.std.proofs.Common.{sym, ◌∙◌}
 use Rattle.getopts.specs.Line.{scanner_grammar}
-use Rattle.getopts.proofs.ScanWords.{IsInLongForm-one, IsShortForm-text}
+use Rattle.getopts.proofs.Scanning.Words.{IsInLongForm-one, IsShortForm-text}
 use Rattle.getopts.proofs.scan.Scanner.long_text.Goals as goal
 
 pub returns-in-None : goal.returns-in-None

@@ -7,8 +7,9 @@ use Rattle.getopts.specs.declared.groups.ParsingStyle.TheVariants.{FloatingFrees
 use Rattle.getopts.specs.Names.{Text}
 use Rattle.getopts.specs.Names.{texts}
 use Rattle.getopts.specs.Line.{scanner_grammar}
-use Rattle.getopts.proofs.FailLemmas.{Tells-weaker}
-use Rattle.getopts.proofs.ScanLoop.{ReadSoFar-free, ReadSoFar-added, IsReading-tail, IsReading-rest, IsReading-stop, IsScanFault-word, texts-drop, length-texts, take-drop, trailing_after-stop}
+use Rattle.getopts.proofs.Lists.{take-drop}
+use Rattle.getopts.proofs.Parsing.Faults.{Tells-weaker}
+use Rattle.getopts.proofs.Scanning.Loop.{ReadSoFar-free, ReadSoFar-added, IsReading-tail, IsReading-rest, IsReading-stop, IsScanFault-word, texts-drop, length-texts, trailing_after-stop}
 use Rattle.getopts.proofs.scan.Scanner.scan.Goals as goal
 
 pub returns-clause-ok : goal.returns-clause-ok

@@ -7,7 +7,7 @@ use Rattle.std.proofs.lemmas.Str.{IsCharBoundary-start, IsUtf8-string_bytes}
 use Rattle.std.specs.Str.{IsCharBoundary}
 use Rattle.std.specs.String.{string_bytes}
 use Rattle.getopts.specs.Pieces.{pieces}
-use Rattle.getopts.proofs.PiecesLemmas.{length-pieces, pieces-at, AreEnds-at}
+use Rattle.getopts.proofs.Held.Pieces.{length-pieces, pieces-at, AreEnds-at}
 use Rattle.getopts.proofs.texts.Texts.get.Goals as goal
 use Rattle.getopts.proofs.texts.Texts.get.Goals.{After-deref-2, then-place-eq0, else-place-eq0}
 

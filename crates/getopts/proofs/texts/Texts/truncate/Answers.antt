@@ -5,8 +5,8 @@ use Rattle.std.proofs.lemmas.List.{take_all}
 use Rattle.std.specs.String.{string_bytes}
 use Rattle.getopts.specs.Pieces.{pieces}
 use Rattle.getopts.specs.Texts.{IsWellCut}
-use Rattle.getopts.proofs.PiecesLemmas.{length-pieces}
-use Rattle.getopts.proofs.TextsLemmas.{texts_take}
+use Rattle.getopts.proofs.Held.Pieces.{length-pieces}
+use Rattle.getopts.proofs.Held.Texts.{texts_take}
 use Rattle.getopts.proofs.texts.Texts.truncate.Goals as goal
 use Rattle.getopts.proofs.texts.Texts.truncate.Goals.{then-len-eq0, else-len-eq0}
 

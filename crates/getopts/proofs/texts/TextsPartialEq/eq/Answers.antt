@@ -1,5 +1,5 @@
 -- The texts are the same where the one text and the ends are.
-use Rattle.getopts.proofs.TextsLemmas.{same_texts}
+use Rattle.getopts.proofs.Held.Texts.{same_texts}
 use Rattle.getopts.proofs.texts.TextsPartialEq.eq.Goals as goal
 
 pub returns-then-eq : goal.returns-then-eq
