@@ -1,41 +1,20 @@
-pub mod AnswerLemmas
-pub mod CallerLemmas
-pub mod CanonLemmas
-pub mod CanonicalLemmas
-pub mod CountLemmas
-pub mod FailLemmas
-pub mod IndexLemmas
-pub mod KeyLemmas
-pub mod LineLemmas
-pub mod MatchesLemmas
-pub mod NamesLemmas
-pub mod OccurrencesLemmas
-pub mod OnlyLemmas
-pub mod OptionsLemmas
-pub mod PairsLemmas
-pub mod ParseLemmas
-pub mod PiecesLemmas
-pub mod RefutedLemmas
-pub mod RefutedTexts
-pub mod SameLemmas
-pub mod ScanClusters
-pub mod ScanItems
-pub mod ScanLawProofs
-pub mod ScanLoop
-pub mod ScanPositions
-pub mod ScanReadings
-pub mod ScanSteps
-pub mod ScanTexts
-pub mod ScanTurns
-pub mod ScanWords
-pub mod TableCounts
-pub mod TableLemmas
-pub mod TextsLemmas
-pub mod TheoremLemmas
-pub mod ToldLemmas
-pub mod UsageLemmas
-pub mod WrapLemmas
-pub mod WrapLines
-pub mod WrapRows
-pub mod WrapTexts
-pub mod WrapWords
+-- Lemmas, by rooms. Beside them stands a folder for each function whose proof needs a file.
+
+-- facts of lists of anything
+pub mod Lists
+-- how words read: a tool of the proofs, read word by word, and what holds of all readings
+pub mod Reading
+-- how the code scans: a word, an item, a cluster, and the line up to a place
+pub mod Scanning
+-- what names resolve to, and the table that they are looked up in
+pub mod Lookup
+-- what is held, and what is seen of it
+pub mod Held
+-- from a reading or a fault to the answer of `parse`
+pub mod Parsing
+-- canonical lines, and the answer of `canonical`
+pub mod Canonical
+-- the main theorem, lemmas for callers, and the wrong answers that are refuted
+pub mod MainTheorem
+-- descriptions in rows, and usage texts
+pub mod Wrapping

@@ -11,7 +11,7 @@ use Rattle.getopts.specs.Names.{texts}
 use Rattle.getopts.specs.Accessors.{found_in, place_of}
 use Rattle.getopts.specs.Held.Occurrences.{held_found}
 use Rattle.getopts.specs.Matches.{Found, Matched, MatchedGroup}
-use Rattle.getopts.proofs.OccurrencesLemmas.{founds-more}
+use Rattle.getopts.proofs.Held.Occurrences.{founds-more}
 use Rattle.getopts.specs.Names.{Text}
 use Rattle.getopts.specs.Options.{Group, Declared}
 use Rattle.getopts.specs.Told.{AreGroupsOf}

@@ -10,7 +10,7 @@ use Rattle.getopts.specs.Matches.{found_at}
 use Rattle.getopts.specs.Scan.{Occurrence, holds_equals}
 use Rattle.getopts.specs.Held.Accepted.{index_of}
 use Rattle.getopts.specs.Canon.{main_at}
-use Rattle.getopts.proofs.CountLemmas.{length-found_at, list_all-by_group, list_all-fails_by_group}
+use Rattle.getopts.proofs.Parsing.Counts.{length-found_at, list_all-by_group, list_all-fails_by_group}
 use Rattle.getopts.proofs.canon.are_plain.Goals as goal
 use Rattle.getopts.proofs.canon.are_plain.Goals.{else-count-gt0-via-then-count-gt0+else-holds_equals, else-count-gt0-via-else-count-gt0}
 

@@ -6,8 +6,8 @@ use Rattle.getopts.specs.Names.{Text}
 use Rattle.getopts.specs.Scan.{two, long_word, Occurrence}
 use Rattle.getopts.specs.Canon.{canonical_word}
 use Rattle.getopts.specs.Line.{occurrence_view}
-use Rattle.getopts.proofs.CountLemmas.{none_past}
-use Rattle.getopts.proofs.LineLemmas.{take-get}
+use Rattle.getopts.proofs.Parsing.Counts.{none_past}
+use Rattle.getopts.proofs.Held.Line.{take-get}
 use Rattle.getopts.proofs.canon.canonical_line.Goals as goal
 use Rattle.getopts.proofs.canon.canonical_line.Goals.{in-Some+in_ok-canonical_word+in_ok-push, in_default}
 

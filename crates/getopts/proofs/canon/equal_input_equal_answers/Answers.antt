@@ -1,5 +1,5 @@
 -- Readings, counts and faults are the only ones of their words.
-use Rattle.getopts.proofs.CanonicalLemmas.{only_parse_answer, only_canonical_answer}
+use Rattle.getopts.proofs.Canonical.Answered.{only_parse_answer, only_canonical_answer}
 use Rattle.getopts.proofs.canon.equal_input_equal_answers.Goals as goal
 
 pub returns-clause-parse : goal.returns-clause-parse

@@ -6,8 +6,8 @@ use Rattle.getopts.specs.Names.{Text, main_name}
 use Rattle.getopts.specs.Options.{Known}
 use Rattle.getopts.specs.Matches.{matched, found_at, count_fault, FitsCount, IsCountFault}
 use Rattle.getopts.specs.declared.groups.Occur.{Occur}
-use Rattle.getopts.proofs.CountLemmas.{KeepsCounts-more, IsCountFault-at, length-found_at, length-matched, known-there, none_known}
-use Rattle.getopts.proofs.FailLemmas.{Tells-weaker}
+use Rattle.getopts.proofs.Parsing.Counts.{KeepsCounts-more, IsCountFault-at, length-found_at, length-matched, known-there, none_known}
+use Rattle.getopts.proofs.Parsing.Faults.{Tells-weaker}
 use Rattle.getopts.proofs.counts.counted.Goals as goal
 use Rattle.getopts.proofs.counts.counted.Goals.{in-Some+else-not-fits_count, in_default}
 

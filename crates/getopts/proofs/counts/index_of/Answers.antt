@@ -5,7 +5,7 @@ use Rattle.getopts.specs.Index.{places_by_group}
 use Rattle.getopts.specs.Scan.{Occurrence}
 use Rattle.getopts.specs.Held.Accepted.{index_of}
 use Rattle.getopts.specs.declared.line.Given.{Given}
-use Rattle.getopts.proofs.CountLemmas.{groups-given}
+use Rattle.getopts.proofs.Parsing.Counts.{groups-given}
 use Rattle.getopts.proofs.counts.index_of.Goals as goal
 
 pub returns : goal.returns

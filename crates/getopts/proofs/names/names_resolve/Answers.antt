@@ -1,6 +1,7 @@
 -- The facts of resolution, of lawfully named groups.
 use Rattle.getopts.specs.Names.{IsLawfullyNamed}
-use Rattle.getopts.proofs.NamesLemmas.{AllByRecursion-map, resolution-main_name, OneByteIsShort-lawful, resolution-nil}
+use Rattle.getopts.proofs.Lists.{AllByRecursion-map}
+use Rattle.getopts.proofs.Lookup.Names.{resolution-main_name, OneByteIsShort-lawful, resolution-nil}
 use Rattle.getopts.specs.Options.{names_of}
 use Rattle.getopts.proofs.names.names_resolve.Goals as goal
 

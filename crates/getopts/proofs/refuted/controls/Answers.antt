@@ -1,6 +1,6 @@
 -- Refused words have no matches and no line, and a contract can't let through what it refuses.
 use Rattle.std.proofs.Common.{refl}
-use Rattle.getopts.proofs.RefutedLemmas.{read_on_literals, not_accepted, not_written}
+use Rattle.getopts.proofs.MainTheorem.Refuted.{read_on_literals, not_accepted, not_written}
 use Rattle.getopts.proofs.refuted.controls.Goals as goal
 
 pub returns-clause-no_row_of_refused_words : goal.returns-clause-no_row_of_refused_words

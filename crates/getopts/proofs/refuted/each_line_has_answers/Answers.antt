@@ -1,5 +1,5 @@
 -- A line has a reading or a fault, and a reading keeps the counts or breaks them.
-use Rattle.getopts.proofs.AnswerLemmas.{EachLineHasAnswers_lem}
+use Rattle.getopts.proofs.MainTheorem.Computed.{EachLineHasAnswers_lem}
 use Rattle.getopts.proofs.refuted.each_line_has_answers.Goals as goal
 
 pub returns : goal.returns

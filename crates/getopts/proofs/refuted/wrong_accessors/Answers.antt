@@ -4,14 +4,15 @@ use Rattle.std.specs.Cmp.Lexicographic.{pointwise}
 use Rattle.std.specs.Option.{option_eq}
 use Rattle.std.proofs.lemmas.Bool.{true≢false}
 use Rattle.getopts.specs.Same.{same_found}
-use Rattle.getopts.proofs.RefutedLemmas.{read_on_literals, refutes_parse, differ}
+use Rattle.getopts.proofs.MainTheorem.Refuted.{read_on_literals, refutes_parse, differ}
 use Rattle.getopts.proofs.refuted.wrong_accessors.Goals as goal
 
 pub returns-clause-separate_argument_not_counted : goal.returns-clause-separate_argument_not_counted
 unfolding read_on_literals
 returns-clause-separate_argument_not_counted c = refutes_parse _ refl _ refl _ _ _ refl (λ wrong. cc)
 
-pub returns-clause-positions_are_places_of_groups : goal.returns-clause-positions_are_places_of_groups
+pub returns-clause-positions_are_places_of_groups :
+    goal.returns-clause-positions_are_places_of_groups
 unfolding read_on_literals
 returns-clause-positions_are_places_of_groups c = refutes_parse _ refl _ refl _ _ _ refl (λ wrong. cc)
 
@@ -45,9 +46,11 @@ returns-clause-strs_keep_the_last c = refutes_parse _ refl _ refl _ _ _ refl (λ
 
 pub returns-clause-strs_pos_numbers_the_values : goal.returns-clause-strs_pos_numbers_the_values
 unfolding read_on_literals
-returns-clause-strs_pos_numbers_the_values c = refutes_parse _ refl _ refl _ _ _ refl (λ wrong. differ (pointwise (λ p q. p.0 == q.0)) _ _ refl refl wrong)
+returns-clause-strs_pos_numbers_the_values c = refutes_parse _ refl _ refl _ _ _ refl
+    (λ wrong. differ (pointwise (λ p q. p.0 == q.0)) _ _ refl refl wrong)
 
-pub returns-clause-str_of_an_absent_option_is_empty : goal.returns-clause-str_of_an_absent_option_is_empty
+pub returns-clause-str_of_an_absent_option_is_empty :
+    goal.returns-clause-str_of_an_absent_option_is_empty
 unfolding read_on_literals
 returns-clause-str_of_an_absent_option_is_empty c = refutes_parse _ refl _ refl _ _ _ refl (λ wrong. cc)
 
@@ -63,7 +66,8 @@ pub returns-clause-get_default_ignores_the_value : goal.returns-clause-get_defau
 unfolding read_on_literals
 returns-clause-get_default_ignores_the_value c = refutes_parse _ refl _ refl _ _ _ refl (λ wrong. cc)
 
-pub returns-clause-opts_str_stops_at_the_first_present : goal.returns-clause-opts_str_stops_at_the_first_present
+pub returns-clause-opts_str_stops_at_the_first_present :
+    goal.returns-clause-opts_str_stops_at_the_first_present
 unfolding read_on_literals
 returns-clause-opts_str_stops_at_the_first_present c = refutes_parse _ refl _ refl _ _ _ refl (λ wrong. cc)
 
@@ -71,7 +75,8 @@ pub returns-clause-opts_str_first_trims_names : goal.returns-clause-opts_str_fir
 unfolding read_on_literals
 returns-clause-opts_str_first_trims_names c = refutes_parse _ refl _ refl _ _ _ refl (λ wrong. cc)
 
-pub returns-clause-free_trailing_start_follows_free : goal.returns-clause-free_trailing_start_follows_free
+pub returns-clause-free_trailing_start_follows_free :
+    goal.returns-clause-free_trailing_start_follows_free
 unfolding read_on_literals
 returns-clause-free_trailing_start_follows_free c = refutes_parse _ refl _ refl _ _ _ refl (λ wrong. cc)
 

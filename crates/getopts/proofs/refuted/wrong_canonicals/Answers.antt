@@ -1,6 +1,6 @@
 -- What each line of words is answered, computed.
 use Rattle.std.proofs.Common.{refl}
-use Rattle.getopts.proofs.RefutedLemmas.{read_on_literals, refutes_canonical}
+use Rattle.getopts.proofs.MainTheorem.Refuted.{read_on_literals, refutes_canonical}
 use Rattle.getopts.proofs.refuted.wrong_canonicals.Goals as goal
 
 pub returns-clause-canonical_value_apart : goal.returns-clause-canonical_value_apart
@@ -19,7 +19,8 @@ pub returns-clause-canonical_hands_words_back : goal.returns-clause-canonical_ha
 unfolding read_on_literals
 returns-clause-canonical_hands_words_back c = refutes_canonical _ refl _ refl _ _ refl (λ wrong. cc)
 
-pub returns-clause-canonical_none_for_declared_name : goal.returns-clause-canonical_none_for_declared_name
+pub returns-clause-canonical_none_for_declared_name :
+    goal.returns-clause-canonical_none_for_declared_name
 unfolding read_on_literals
 returns-clause-canonical_none_for_declared_name c = refutes_canonical _ refl _ refl _ _ refl (λ wrong. cc)
 

@@ -1,13 +1,14 @@
 -- The options that each call makes.
 use Rattle.std.proofs.Common.{refl}
 use Rattle.getopts.specs.Same.{same_options}
-use Rattle.getopts.proofs.RefutedLemmas.{differ}
+use Rattle.getopts.proofs.MainTheorem.Refuted.{differ}
 use Rattle.getopts.proofs.refuted.wrong_options.Goals as goal
 
 pub returns-clause-new_is_long_only : goal.returns-clause-new_is_long_only
 returns-clause-new_is_long_only c = record { lets_through = refl; refuses = differ same_options _ _ refl refl }
 
-pub returns-clause-opt_swaps_hint_and_description : goal.returns-clause-opt_swaps_hint_and_description
+pub returns-clause-opt_swaps_hint_and_description :
+    goal.returns-clause-opt_swaps_hint_and_description
 returns-clause-opt_swaps_hint_and_description c = record { lets_through = refl; refuses = differ same_options _ _ refl refl }
 
 pub returns-clause-optflag_needs_an_argument : goal.returns-clause-optflag_needs_an_argument
@@ -28,7 +29,8 @@ returns-clause-optopt_may_go_without c = record { lets_through = refl; refuses =
 pub returns-clause-reqopt_may_be_left_out : goal.returns-clause-reqopt_may_be_left_out
 returns-clause-reqopt_may_be_left_out c = record { lets_through = refl; refuses = differ same_options _ _ refl refl }
 
-pub returns-clause-parsing_style_leaves_long_only : goal.returns-clause-parsing_style_leaves_long_only
+pub returns-clause-parsing_style_leaves_long_only :
+    goal.returns-clause-parsing_style_leaves_long_only
 returns-clause-parsing_style_leaves_long_only c = record { lets_through = refl; refuses = differ same_options _ _ refl refl }
 
 pub returns-clause-long_only_sets_the_style : goal.returns-clause-long_only_sets_the_style

@@ -1,6 +1,7 @@
 -- What each line of words is answered, computed.
 use Rattle.std.proofs.Common.{refl}
-use Rattle.getopts.proofs.RefutedLemmas.{read_on_literals, refutes_parse, refutes_texts, e_acute_text}
+use Rattle.getopts.proofs.MainTheorem.Refuted.{read_on_literals, refutes_parse, refutes_texts}
+use Rattle.getopts.proofs.MainTheorem.Refuted.{e_acute_text}
 use Rattle.getopts.proofs.refuted.wrong_parses.Goals as goal
 
 pub returns-clause-every_word_is_free : goal.returns-clause-every_word_is_free
@@ -11,21 +12,29 @@ pub returns-clause-long_optional_takes_next_word : goal.returns-clause-long_opti
 unfolding read_on_literals
 returns-clause-long_optional_takes_next_word c = refutes_parse _ refl _ refl _ _ _ refl (λ wrong. cc)
 
-pub returns-clause-bare_cluster_leaves_next_word_free : goal.returns-clause-bare_cluster_leaves_next_word_free
+pub returns-clause-bare_cluster_leaves_next_word_free :
+    goal.returns-clause-bare_cluster_leaves_next_word_free
 unfolding read_on_literals
 returns-clause-bare_cluster_leaves_next_word_free c = refutes_parse _ refl _ refl _ _ _ refl (λ wrong. cc)
 
-pub returns-clause-duplicate_refused_while_scanning : goal.returns-clause-duplicate_refused_while_scanning
+pub returns-clause-duplicate_refused_while_scanning :
+    goal.returns-clause-duplicate_refused_while_scanning
 unfolding read_on_literals
 returns-clause-duplicate_refused_while_scanning c = refutes_parse _ refl _ refl _ _ _ refl (λ wrong. cc)
 
 pub returns-clause-alias_beside_its_main_name : goal.returns-clause-alias_beside_its_main_name
 unfolding read_on_literals
-returns-clause-alias_beside_its_main_name c = (refutes_parse _ refl _ refl _ _ _ refl (λ wrong. cc), refutes_parse _ refl _ refl _ _ _ refl (λ wrong. cc))
+returns-clause-alias_beside_its_main_name c = (
+  refutes_parse _ refl _ refl _ _ _ refl (λ wrong. cc),
+  refutes_parse _ refl _ refl _ _ _ refl (λ wrong. cc),
+)
 
 pub returns-clause-alias_answers_its_declarer : goal.returns-clause-alias_answers_its_declarer
 unfolding read_on_literals
-returns-clause-alias_answers_its_declarer c = (refutes_parse _ refl _ refl _ _ _ refl (λ wrong. cc), refutes_parse _ refl _ refl _ _ _ refl (λ wrong. cc))
+returns-clause-alias_answers_its_declarer c = (
+  refutes_parse _ refl _ refl _ _ _ refl (λ wrong. cc),
+  refutes_parse _ refl _ refl _ _ _ refl (λ wrong. cc),
+)
 
 pub returns-clause-wide_character_resolves : goal.returns-clause-wide_character_resolves
 unfolding read_on_literals
@@ -59,7 +68,8 @@ pub returns-clause-mode_ignored_by_parse : goal.returns-clause-mode_ignored_by_p
 unfolding read_on_literals
 returns-clause-mode_ignored_by_parse c = refutes_parse _ refl _ refl _ _ _ refl (λ wrong. wrong)
 
-pub returns-clause-stop_word_after_first_free_stops : goal.returns-clause-stop_word_after_first_free_stops
+pub returns-clause-stop_word_after_first_free_stops :
+    goal.returns-clause-stop_word_after_first_free_stops
 unfolding read_on_literals
 returns-clause-stop_word_after_first_free_stops c = refutes_parse _ refl _ refl _ _ _ refl (λ wrong. cc)
 

@@ -2,8 +2,8 @@
 use Rattle.std.proofs.Common.{refl}
 use Rattle.std.specs.Cmp.Lexicographic.{pointwise}
 use Rattle.std.specs.Str.{bytes_eq}
-use Rattle.getopts.proofs.RefutedLemmas.{differ}
-use Rattle.getopts.proofs.RefutedTexts.{rows_on_literals, refutes_rows}
+use Rattle.getopts.proofs.MainTheorem.Refuted.{differ}
+use Rattle.getopts.proofs.MainTheorem.RefutedTexts.{rows_on_literals, refutes_rows}
 use Rattle.getopts.proofs.refuted.wrong_rows.Goals as goal
 
 pub returns-clause-one_word_a_row : goal.returns-clause-one_word_a_row

@@ -6,13 +6,21 @@ use Rattle.std.specs.List.{flat_map}
 use Rattle.std.specs.Str.{bytes_eq}
 use Rattle.getopts.specs.Refuted.Forms.{typed}
 use Rattle.getopts.specs.Refuted.Printing.{accented, a_alone, a_and_b, a_and_bee}
-use Rattle.getopts.proofs.RefutedLemmas.{differ}
-use Rattle.getopts.proofs.RefutedTexts.{rows_on_literals, refutes_usage_rows, refutes_usage, refutes_made, text_of_x}
+use Rattle.getopts.proofs.MainTheorem.Refuted.{differ}
+use Rattle.getopts.proofs.MainTheorem.RefutedTexts.{rows_on_literals, refutes_usage_rows}
+use Rattle.getopts.proofs.MainTheorem.RefutedTexts.{refutes_usage}
+use Rattle.getopts.proofs.MainTheorem.RefutedTexts.{refutes_made, text_of_x}
 use Rattle.getopts.proofs.refuted.wrong_texts.Goals as goal
 
-pub returns-clause-unrecognized_text_without_its_colon : goal.returns-clause-unrecognized_text_without_its_colon
+pub returns-clause-unrecognized_text_without_its_colon :
+    goal.returns-clause-unrecognized_text_without_its_colon
 unfolding rows_on_literals
-returns-clause-unrecognized_text_without_its_colon c = λ name is. record { lets_through = rw is refl; refuses = λ wrong. differ bytes_eq _ _ refl refl (wrong ∙ text_of_x name is) }
+returns-clause-unrecognized_text_without_its_colon c =
+    λ name is. record {
+      lets_through = rw is refl;
+      refuses = λ wrong. differ bytes_eq _ _ refl refl
+          (wrong ∙ text_of_x name is);
+    }
 
 pub returns-clause-multiple_option_without_dots : goal.returns-clause-multiple_option_without_dots
 unfolding rows_on_literals
@@ -22,7 +30,8 @@ pub returns-clause-required_option_in_brackets : goal.returns-clause-required_op
 unfolding rows_on_literals
 returns-clause-required_option_in_brackets c = record { lets_through = refl; refuses = differ bytes_eq _ _ refl refl }
 
-pub returns-clause-short_usage_names_the_long_name : goal.returns-clause-short_usage_names_the_long_name
+pub returns-clause-short_usage_names_the_long_name :
+    goal.returns-clause-short_usage_names_the_long_name
 unfolding rows_on_literals
 returns-clause-short_usage_names_the_long_name c = record { lets_through = refl; refuses = differ bytes_eq _ _ refl refl }
 
@@ -46,11 +55,13 @@ pub returns-clause-usage_rows_in_reverse : goal.returns-clause-usage_rows_in_rev
 unfolding rows_on_literals
 returns-clause-usage_rows_in_reverse c = refutes_usage_rows a_and_bee _ _ refl (differ (pointwise bytes_eq) _ _ refl refl)
 
-pub returns-clause-usage_rows_taken_from_the_back : goal.returns-clause-usage_rows_taken_from_the_back
+pub returns-clause-usage_rows_taken_from_the_back :
+    goal.returns-clause-usage_rows_taken_from_the_back
 unfolding rows_on_literals
 returns-clause-usage_rows_taken_from_the_back c = λ first last is_first is_last. record {
   lets_through = rw is_first refl;
-  refuses = λ wrong. differ (pointwise bytes_eq) (typed ("b" ∷ "a" ∷ [])) (typed ("a" ∷ "b" ∷ [])) refl refl (sym (wrong ∙ ap (λ text. text ∷ typed ("a" ∷ [])) is_last));
+  refuses = λ wrong. differ (pointwise bytes_eq) (typed ("b" ∷ "a" ∷ [])) (typed ("a" ∷ "b" ∷ [])) refl refl
+      (sym (wrong ∙ ap (λ text. text ∷ typed ("a" ∷ [])) is_last));
 }
 
 pub returns-clause-closure_called_with_no_rows : goal.returns-clause-closure_called_with_no_rows

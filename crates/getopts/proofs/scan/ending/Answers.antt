@@ -1,8 +1,8 @@
 -- Each way in which a cluster ends in an option, with its argument.
 use Rattle.std.proofs.Common.{refl, rules, zero-le}
 use Rattle.getopts.specs.Scan.{attached, separate}
-use Rattle.getopts.proofs.ScanItems.{texts-first}
-use Rattle.getopts.proofs.ScanWords.{FitsEnd-attached, filled-length, empty-length}
+use Rattle.getopts.proofs.Scanning.Items.{texts-first}
+use Rattle.getopts.proofs.Scanning.Words.{FitsEnd-attached, filled-length, empty-length}
 use Rattle.getopts.proofs.scan.ending.Goals as goal
 
 pub returns-then-not-is_empty-clause-ok : goal.returns-then-not-is_empty-clause-ok

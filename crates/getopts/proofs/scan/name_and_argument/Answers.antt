@@ -3,7 +3,7 @@ use Rattle.std.proofs.Common.{◌≡◌, ◌<◌, ◌-◌, ℕ, get_or, take, le
 use Rattle.std.proofs.lemmas.List.{get_or-take}
 use Rattle.std.proofs.lemmas.Str.{IsCharBoundary-after_ascii}
 use Rattle.getopts.specs.Scan.{equals_sign}
-use Rattle.getopts.proofs.ScanWords.{holds_equals-none}
+use Rattle.getopts.proofs.Scanning.Words.{holds_equals-none}
 use Rattle.getopts.proofs.scan.name_and_argument.Goals as goal
 
 sub-zero : (n : ℕ) → n - 0 ≡ n

@@ -1,8 +1,12 @@
 -- What the options keep makes their names lawful, and so the laws hold.
-use Rattle.getopts.proofs.CallerLemmas.{OneContentHoldsSame_lem}
-use Rattle.getopts.proofs.CanonLemmas.{IsSound-says}
-use Rattle.getopts.proofs.ParseLemmas.{keeps_laws}
-use Rattle.getopts.proofs.TheoremLemmas.{OneReading-options, AcceptedExactlyWhen-options, RefusedExactlyWhen-options, OneOfThree-options, OneReadingGivesAll-options, CanonicalLinesTell-options, AnsweredLinesTell-options, HasCanonicalLine-options}
+use Rattle.getopts.proofs.MainTheorem.Callers.{OneContentHoldsSame_lem}
+use Rattle.getopts.proofs.Canonical.Lines.{IsSound-says}
+use Rattle.getopts.proofs.Parsing.Parsed.{keeps_laws}
+use Rattle.getopts.proofs.MainTheorem.Theorem.{OneReading-options, AcceptedExactlyWhen-options}
+use Rattle.getopts.proofs.MainTheorem.Theorem.{RefusedExactlyWhen-options, OneOfThree-options}
+use Rattle.getopts.proofs.MainTheorem.Theorem.{OneReadingGivesAll-options}
+use Rattle.getopts.proofs.MainTheorem.Theorem.{CanonicalLinesTell-options}
+use Rattle.getopts.proofs.MainTheorem.Theorem.{AnsweredLinesTell-options, HasCanonicalLine-options}
 use Rattle.getopts.proofs.theorem.one_reading_one_canonical_line.Goals as goal
 
 pub returns : goal.returns

@@ -7,5 +7,6 @@ use Rattle.getopts.proofs.wrap.lines_of.Goals as goal
 -- all lines were taken
 pub returns : goal.returns
 returns c =
-    let all = YieldsList-from_lines c.args.text.now (ap lines_rest c.into_iter-line-iterator.ensures.into_iter_gives ∙ c.lines-line-items.ensures.rest) in
+    let all = YieldsList-from_lines c.args.text.now (ap lines_rest c.into_iter-line-iterator.ensures.into_iter_gives
+    ∙ c.lines-line-items.ensures.rest) in
     c.loop-line.invariant ∙ (YieldsList-end all c.loop-line.yielded _ c.loop-line.yielded_by _ _ c.in-None.is c.next.ensures.steps).0

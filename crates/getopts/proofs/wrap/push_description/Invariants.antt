@@ -1,5 +1,5 @@
 use Rattle.std.proofs.Common.{map, string_bytes}
-use Rattle.getopts.proofs.WrapLines.{LinesSoFar}
+use Rattle.getopts.proofs.Wrapping.Lines.{LinesSoFar}
 use Rattle.getopts.proofs.wrap.push_description.Given as goal
 
 -- the rows of the lines so far stand in the text

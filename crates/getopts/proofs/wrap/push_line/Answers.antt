@@ -1,17 +1,22 @@
-use Rattle.std.proofs.Common.{ℕ, ◌+◌, ◌<◌, List, ◌++◌, string_bytes, lit<, arith, refl, ap, ◌∙◌, sym, subst}
+use Rattle.std.proofs.Common.{ℕ, ◌+◌, ◌<◌, List, ◌++◌, string_bytes, lit<, arith, refl, ap, ◌∙◌}
+use Rattle.std.proofs.Common.{sym, subst}
 use Rattle.std.specs.Str.{IsUtf8}
 use Rattle.std.specs.Str.Iter.{split_whitespace_rest}
 use Rattle.getopts.specs.Wrap.{width_of, words_of}
-use Rattle.getopts.proofs.WrapWords.{words_of-none, words_of-step}
-use Rattle.getopts.proofs.WrapRows.{adds_none, rows_begin, rows_take, rows_end, rows_finish}
+use Rattle.getopts.proofs.Wrapping.Words.{words_of-none, words_of-step}
+use Rattle.getopts.proofs.Wrapping.Rows.{adds_none, rows_begin, rows_take, rows_end, rows_finish}
 use Rattle.getopts.proofs.wrap.push_line.Goals as goal
-use Rattle.getopts.proofs.wrap.push_line.Goals.{then-columns-lim+then-width-lim+in_ok-push, else-columns-lim+in_ok-push_str-2, else-columns-lim-via-then-columns-lim+else-width-lim, else-columns-lim-via-else-columns-lim}
+use Rattle.getopts.proofs.wrap.push_line.Goals.{then-columns-lim+then-width-lim+in_ok-push}
+use Rattle.getopts.proofs.wrap.push_line.Goals.{else-columns-lim+in_ok-push_str-2}
+use Rattle.getopts.proofs.wrap.push_line.Goals.{else-columns-lim-via-then-columns-lim+else-width-lim}
+use Rattle.getopts.proofs.wrap.push_line.Goals.{else-columns-lim-via-else-columns-lim}
 
 -- the line has no word
 pub returns-in_default : goal.returns-in_default
 returns-in_default c =
     let is_line = c.split_whitespace-words.ensures.rest in
-    adds_none c.args.lim c.args.separator.now c.args.line.now c.args.begun _ (words_of-none c.args.line.now c.utf8.line (rw is_line at c.in_default.ensures.steps.1))
+    adds_none c.args.lim c.args.separator.now c.args.line.now c.args.begun _
+    (words_of-none c.args.line.now c.utf8.line (rw is_line at c.in_default.ensures.steps.1))
 
 -- the first word begins a row
 pub loop-word-init : goal.loop-word-init
@@ -21,7 +26,8 @@ loop-word-init c =
     let utf8 : IsUtf8 (split_whitespace_rest c.split_whitespace-words.result) = subst IsUtf8 (sym is_line) c.utf8.line in
     let next = words_of-step c.split_whitespace-words.result c.next.new.self c.in-Some.first utf8 c.in-Some.ensures.steps in
     rw c.into_iter-word-iterator.ensures.into_iter_gives
-    (rows_begin c.args.lim c.args.separator.now c.args.line.now _ _ c.in-Some.first.now _ (split_whitespace_rest c.next.new.self) (next.0, ap words_of (sym is_line) ∙ next.1)
+    (rows_begin c.args.lim c.args.separator.now c.args.line.now _ _ c.in-Some.first.now _
+    (split_whitespace_rest c.next.new.self) (next.0, ap words_of (sym is_line) ∙ next.1)
     (c.in_ok-push_str.ensures.bytes ∙ ap (λ (text : List ℕ). text ++ c.in-Some.first.now) c.in_ok-push_parting.ensures) c.width-columns.ensures.value)
 
 -- the word joins the row in hand, or ends it and begins one
@@ -34,7 +40,9 @@ loop-word-preserved c =
     elim c.if-columns-lim.branch [
       | then-columns-lim+then-width-lim+in_ok-push w ↦
           rows_take so_far c.in-Some-word.word.now _ c.width-width.result _ _ next width_is (omega arith)
-          (c.in_ok-push_str-3.ensures.bytes ∙ ap (λ (text : List ℕ). text ++ c.in-Some-word.word.now) (ap string_bytes w.text-is ∙ w.in_ok-push.ensures.bytes ∙ ap (λ (space : List ℕ). string_bytes c.loop-word.text ++ space) (w.push.ensures.ascii (lit< tt))))
+          (c.in_ok-push_str-3.ensures.bytes ∙ ap (λ (text : List ℕ). text ++ c.in-Some-word.word.now)
+          (ap string_bytes w.text-is ∙ w.in_ok-push.ensures.bytes
+          ∙ ap (λ (space : List ℕ). string_bytes c.loop-word.text ++ space) (w.push.ensures.ascii (lit< tt))))
           (omega arith)
       | else-columns-lim+in_ok-push_str-2 w ↦
           let long : c.args.lim < c.loop-word.columns + (1 + c.width-width.result) =
@@ -43,7 +51,8 @@ loop-word-preserved c =
             | else-columns-lim-via-else-columns-lim full ↦ omega arith
           ] in
           rows_end so_far c.in-Some-word.word.now _ c.width-width.result _ _ next width_is long
-          (c.in_ok-push_str-3.ensures.bytes ∙ ap (λ (text : List ℕ). text ++ c.in-Some-word.word.now) (ap string_bytes w.text-is ∙ w.in_ok-push_str-2.ensures.bytes))
+          (c.in_ok-push_str-3.ensures.bytes ∙ ap (λ (text : List ℕ). text ++ c.in-Some-word.word.now)
+          (ap string_bytes w.text-is ∙ w.in_ok-push_str-2.ensures.bytes))
           (omega arith)
     ]
 

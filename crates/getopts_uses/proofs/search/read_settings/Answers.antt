@@ -8,7 +8,7 @@ use Rattle.getopts.specs.Matches.{Matched}
 use Rattle.getopts.specs.Names.{Text, texts}
 use Rattle.getopts.specs.Options.{Declared}
 use Rattle.getopts.specs.Parse.{IsAccepted}
-use Rattle.getopts.proofs.CallerLemmas.{IsReadAs-weaker}
+use Rattle.getopts.proofs.MainTheorem.Callers.{IsReadAs-weaker}
 use Rattle.getopts_uses.proofs.search.read_settings.Goals as goal
 
 -- what a number's text gives, with the reason of an error

@@ -1,7 +1,7 @@
 -- There are as many groups as kinds.
 use Rattle.std.proofs.Common.{arith}
 use Rattle.getopts.specs.Held.Groups.{known_with}
-use Rattle.getopts.proofs.PairsLemmas.{beside_pairs-length}
+use Rattle.getopts.proofs.Held.Pairs.{beside_pairs-length}
 use Rattle.getopts.proofs.groups.Groups.len.Goals as goal
 
 pub returns : goal.returns

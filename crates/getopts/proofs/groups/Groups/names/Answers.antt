@@ -1,6 +1,6 @@
 -- The names are the texts that they were made of.
 use Rattle.std.proofs.Common.{sym}
-use Rattle.getopts.proofs.PairsLemmas.{name_texts-beside}
+use Rattle.getopts.proofs.Held.Pairs.{name_texts-beside}
 use Rattle.getopts.proofs.groups.Groups.names.Goals as goal
 
 pub returns : goal.returns

@@ -1,6 +1,6 @@
 -- One more group stands beside one more pair of names.
 use Rattle.getopts.specs.Held.Groups.{known_with}
-use Rattle.getopts.proofs.PairsLemmas.{beside_pairs-push}
+use Rattle.getopts.proofs.Held.Pairs.{beside_pairs-push}
 use Rattle.getopts.proofs.groups.Groups.push.Goals as goal
 
 pub returns-clause-ok : goal.returns-clause-ok

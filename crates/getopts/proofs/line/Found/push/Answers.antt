@@ -3,7 +3,7 @@ use Rattle.std.proofs.Common.{◌≡◌, ◌++◌, ◌∷◌, [], suc, map, leng
 use Rattle.std.proofs.lemmas.List.{map-append}
 use Rattle.std.specs.Option.{option_copied}
 use Rattle.getopts.specs.Held.Found.{given_view}
-use Rattle.getopts.proofs.LineLemmas.{given-value}
+use Rattle.getopts.proofs.Held.Line.{given-value}
 use Rattle.getopts.proofs.line.Found.push.Goals as goal
 use Rattle.getopts.proofs.line.Found.push.Goals.{in-Some+in_ok-push-in-Some, in-None}
 

@@ -1,6 +1,6 @@
 -- The places that the index has for a group are those of its occurrences.
 use Rattle.std.proofs.Common.{◌≡◌, ◌∙◌, ap, List, ℕ, [], slice_get, unwrap_or}
-use Rattle.getopts.proofs.MatchesLemmas.{held_places, held_places-within, held_places-found}
+use Rattle.getopts.proofs.Held.Matches.{held_places, held_places-within, held_places-found}
 use Rattle.getopts.proofs.matches.Matches.occurrences_at.Goals as goal
 use Rattle.getopts.proofs.matches.Matches.occurrences_at.Goals.{After-places}
 

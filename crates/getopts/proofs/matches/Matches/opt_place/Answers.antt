@@ -1,5 +1,5 @@
 -- A name resolves among the groups held as among the texts of their names.
-use Rattle.getopts.proofs.MatchesLemmas.{place_of-matched, AreHeldLawfully-matched}
+use Rattle.getopts.proofs.Held.Matches.{place_of-matched, AreHeldLawfully-matched}
 use Rattle.getopts.proofs.matches.Matches.opt_place.Goals as goal
 
 pub returns-clause-place : goal.returns-clause-place

@@ -4,8 +4,8 @@ use Rattle.std.proofs.lemmas.Bool.{not-true, not-false}
 use Rattle.std.specs.Cmp.Lexicographic.{pointwise}
 use Rattle.getopts.specs.Matches.{MatchedGroup, Matched}
 use Rattle.getopts.specs.Same.{same_known, same_found}
-use Rattle.getopts.proofs.CountLemmas.{length-matched}
-use Rattle.getopts.proofs.MatchesLemmas.{knowns-matched, differ_known, differ_found, same_found_everywhere}
+use Rattle.getopts.proofs.Parsing.Counts.{length-matched}
+use Rattle.getopts.proofs.Held.Matches.{knowns-matched, differ_known, differ_found, same_found_everywhere}
 use Rattle.getopts.proofs.matches.Matches.same_groups.Goals as goal
 use Rattle.getopts.proofs.matches.Matches.same_groups.Goals.{After-ne}
 

@@ -3,7 +3,7 @@ use Rattle.std.proofs.Common.{◌≡◌, ◌∙◌, sym}
 use Rattle.std.specs.String.{string_bytes}
 use Rattle.getopts.specs.Matches.{matched}
 use Rattle.getopts.specs.Held.Accepted.{index_of}
-use Rattle.getopts.proofs.OptionsLemmas.{map-alike}
+use Rattle.getopts.proofs.Lists.{map-alike}
 use Rattle.getopts.proofs.matches.MatchesClone.clone.Goals as goal
 
 pub invariant_of-result : goal.invariant_of-result

@@ -2,8 +2,8 @@
 use Rattle.std.proofs.Common.{sym, ap, ◌∙◌}
 use Rattle.std.specs.Option.{option_map}
 use Rattle.getopts.specs.Held.Occurrences.{found_part}
-use Rattle.getopts.proofs.PairsLemmas.{slice_get-read}
-use Rattle.getopts.proofs.OccurrencesLemmas.{founds-past, founds-at}
+use Rattle.getopts.proofs.Lists.{slice_get-read}
+use Rattle.getopts.proofs.Held.Occurrences.{founds-past, founds-at}
 use Rattle.getopts.proofs.occurrences.Occurrences.get.Goals as goal
 
 pub returns-in_err-get : goal.returns-in_err-get

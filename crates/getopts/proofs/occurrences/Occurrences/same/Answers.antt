@@ -1,7 +1,7 @@
 -- Occurrences are the same where they are read as the same.
 use Rattle.std.proofs.Common.{sym}
 use Rattle.std.proofs.lemmas.Bool.{not-true, not-false}
-use Rattle.getopts.proofs.OccurrencesLemmas.{founds-differ, founds-same}
+use Rattle.getopts.proofs.Held.Occurrences.{founds-differ, founds-same}
 use Rattle.getopts.proofs.occurrences.Occurrences.same.Goals as goal
 
 pub returns-then-ne : goal.returns-then-ne

@@ -8,9 +8,9 @@ use Rattle.getopts.specs.Matches.{matched, KeepsCounts, IsCountFault}
 use Rattle.getopts.specs.Parse.{IsRefused}
 use Rattle.getopts.specs.Table.{IsTableOf}
 use Rattle.getopts.specs.Held.Accepted.{index_of}
-use Rattle.getopts.proofs.FailLemmas.{Tells-weaker}
-use Rattle.getopts.proofs.PairsLemmas.{HaveLawfulNames-known}
-use Rattle.getopts.proofs.ParseLemmas.{HasNoReading-fault, BreaksCounts-reading}
+use Rattle.getopts.proofs.Parsing.Faults.{Tells-weaker}
+use Rattle.getopts.proofs.Held.Pairs.{HaveLawfulNames-known}
+use Rattle.getopts.proofs.Parsing.Parsed.{HasNoReading-fault, BreaksCounts-reading}
 use Rattle.getopts.proofs.options.Options.accepted_line.Goals as goal
 
 pub scan-requires : goal.scan-requires

@@ -9,8 +9,8 @@ use Rattle.getopts.specs.Names.{texts}
 use Rattle.getopts.specs.Parse.{IsRefused}
 use Rattle.getopts.specs.CanonAnswers.{IsWritten, IsUnwritable}
 use Rattle.getopts.specs.declared.fail.Fail.{Fail}
-use Rattle.getopts.proofs.CanonicalLemmas.{IfSome-weaker, IfNone-weaker}
-use Rattle.getopts.proofs.FailLemmas.{Tells-weaker}
+use Rattle.getopts.proofs.Canonical.Answered.{IfSome-weaker, IfNone-weaker}
+use Rattle.getopts.proofs.Parsing.Faults.{Tells-weaker}
 use Rattle.getopts.proofs.options.Options.canonical.Goals as goal
 
 pub returns-clause-written : goal.returns-clause-written

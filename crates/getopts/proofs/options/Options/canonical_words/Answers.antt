@@ -1,7 +1,7 @@
 -- What the line says is what the words are accepted with.
 use Rattle.std.proofs.Common.{◌∙◌, sym}
 use Rattle.getopts.specs.Names.{texts}
-use Rattle.getopts.proofs.CanonicalLemmas.{IsWritten-line, IsUnwritable-line}
+use Rattle.getopts.proofs.Canonical.Answered.{IsWritten-line, IsUnwritable-line}
 use Rattle.getopts.proofs.options.Options.canonical_words.Goals as goal
 
 pub returns-in_ok-canonical_line-clause-written : goal.returns-in_ok-canonical_line-clause-written

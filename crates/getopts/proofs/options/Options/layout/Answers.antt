@@ -1,7 +1,7 @@
 use Rattle.std.proofs.Common.{ap, ◌∙◌, arith}
 use Rattle.std.proofs.lemmas.List.{take_all}
 use Rattle.getopts.specs.Usage.{any_short}
-use Rattle.getopts.proofs.UsageLemmas.{any_short_more, group_missing}
+use Rattle.getopts.proofs.Wrapping.Usage.{any_short_more, group_missing}
 use Rattle.getopts.proofs.options.Options.layout.Goals as goal
 use Rattle.getopts.proofs.options.Options.layout.Goals.{in-Some, in_default}
 
@@ -10,7 +10,8 @@ pub loop-place-preserved : goal.loop-place-preserved
 loop-place-preserved c =
     let groups = c.args.self.now.groups in
     elim c.match-group.branch [
-      | in-Some w ↦ any_short_more groups c.loop-place.place c.group.result w.in-Some.group c.group.ensures w.in-Some.is c.loop-place.any_short _ c.loop-place.invariant (rw w.is_empty.ensures at w.any_short-is)
+      | in-Some w ↦ any_short_more groups c.loop-place.place c.group.result w.in-Some.group c.group.ensures
+          w.in-Some.is c.loop-place.any_short _ c.loop-place.invariant (rw w.is_empty.ensures at w.any_short-is)
       | in_default w ↦ absurd (group_missing groups c.loop-place.place c.group.result (omega arith) c.group.ensures w.in_default.not-Some)
     ]
 

@@ -1,5 +1,5 @@
 -- The main name of what is known of a group is that of the group.
-use Rattle.getopts.proofs.PairsLemmas.{main_at-held}
+use Rattle.getopts.proofs.Held.Pairs.{main_at-held}
 use Rattle.getopts.proofs.options.Options.main.Goals as goal
 
 pub returns : goal.returns

@@ -1,5 +1,5 @@
 -- The names of what is known of the groups are those of the groups.
-use Rattle.getopts.proofs.PairsLemmas.{knowns_of-held}
+use Rattle.getopts.proofs.Held.Pairs.{knowns_of-held}
 use Rattle.getopts.proofs.options.Options.names.Goals as goal
 
 pub returns : goal.returns

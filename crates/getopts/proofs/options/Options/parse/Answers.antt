@@ -9,7 +9,7 @@ use Rattle.getopts.specs.ScanLaws.{HavePositionsBelow}
 use Rattle.getopts.specs.Parse.{IsAccepted, IsRefused}
 use Rattle.getopts.specs.Told.{HaveLastWordsFree}
 use Rattle.getopts.specs.declared.fail.Fail.{Fail}
-use Rattle.getopts.proofs.FailLemmas.{Tells-weaker}
+use Rattle.getopts.proofs.Parsing.Faults.{Tells-weaker}
 use Rattle.getopts.proofs.options.Options.parse.Goals as goal
 
 pub returns-clause-accepted : goal.returns-clause-accepted

@@ -3,11 +3,11 @@ use Rattle.std.proofs.Common.{◌≡◌, ◌∙◌, subst}
 use Rattle.getopts.specs.Names.{texts}
 use Rattle.getopts.specs.Options.{knowns_of}
 use Rattle.getopts.specs.ScanLaws.{HavePositionsBelow}
-use Rattle.getopts.proofs.CanonicalLemmas.{IsAccepted-line}
-use Rattle.getopts.proofs.ParseLemmas.{counts-accepted, positions_below-accepted, keeps_laws}
-use Rattle.getopts.proofs.ScanLoop.{length-texts}
-use Rattle.getopts.proofs.ToldLemmas.{AreGroupsOf-accepted, HaveValuesByKind-accepted, HaveLastWordsFree-accepted}
-use Rattle.getopts.proofs.ToldLemmas.{DefineDeclared-groups, HoldRequiredOnce-groups, HoldNeededValues-groups}
+use Rattle.getopts.proofs.Canonical.Answered.{IsAccepted-line}
+use Rattle.getopts.proofs.Parsing.Parsed.{counts-accepted, positions_below-accepted, keeps_laws}
+use Rattle.getopts.proofs.Scanning.Loop.{length-texts}
+use Rattle.getopts.proofs.Parsing.Told.{AreGroupsOf-accepted, HaveValuesByKind-accepted, HaveLastWordsFree-accepted}
+use Rattle.getopts.proofs.Parsing.Told.{DefineDeclared-groups, HoldRequiredOnce-groups, HoldNeededValues-groups}
 use Rattle.getopts.proofs.options.Options.parse_words.Goals as goal
 
 pub returns-clause-accepted : goal.returns-clause-accepted

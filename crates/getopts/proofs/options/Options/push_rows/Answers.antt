@@ -1,7 +1,9 @@
-use Rattle.std.proofs.Common.{[], ◌∷◌, ◌++◌, ap, ◌∙◌, refl, sym, append-nil, arith, codes, string_bytes, length-append}
-use Rattle.getopts.proofs.UsageLemmas.{group_missing, text_more, rows_more, rows_all}
+use Rattle.std.proofs.Common.{[], ◌∷◌, ◌++◌, ap, ◌∙◌, refl, sym, append-nil, arith, codes}
+use Rattle.std.proofs.Common.{string_bytes, length-append}
+use Rattle.getopts.proofs.Wrapping.Usage.{group_missing, text_more, rows_more, rows_all}
 use Rattle.getopts.proofs.options.Options.push_rows.Goals as goal
-use Rattle.getopts.proofs.options.Options.push_rows.Goals.{in-Some+in_ok-push_parting+in_ok-push_row, in_default}
+use Rattle.getopts.proofs.options.Options.push_rows.Goals.{in-Some+in_ok-push_parting+in_ok-push_row}
+use Rattle.getopts.proofs.options.Options.push_rows.Goals.{in_default}
 
 pub loop-place-init : goal.loop-place-init
 loop-place-init c = record { rows = []; count = refl; each = tt; text_is = sym (append-nil (string_bytes c.args.text.now)) }
@@ -18,8 +20,11 @@ loop-place-preserved c =
           record {
             rows = so_far.rows ++ row ∷ [];
             count = omega (arith, so_far.count, length-append so_far.rows (row ∷ []));
-            each = rows_more options place c.group.result w.in-Some.group c.group.ensures w.in-Some.is _ _ c.layout-layout.ensures.long_only c.layout-layout.ensures.any_short so_far.rows row so_far.each w.in_ok-push_row.ensures.1;
-            text_is = text_more (codes "\n") so_far.rows place _ _ _ _ row so_far.count so_far.text_is w.in_ok-push_parting.ensures (ap string_bytes w.text-is ∙ w.in_ok-push_row.ensures.2);
+            each = rows_more options place c.group.result w.in-Some.group c.group.ensures w.in-Some.is _ _
+                c.layout-layout.ensures.long_only c.layout-layout.ensures.any_short so_far.rows row so_far.each
+                w.in_ok-push_row.ensures.1;
+            text_is = text_more (codes "\n") so_far.rows place _ _ _ _ row so_far.count so_far.text_is
+                w.in_ok-push_parting.ensures (ap string_bytes w.text-is ∙ w.in_ok-push_row.ensures.2);
           }
       | in_default w ↦ absurd (group_missing options.groups place c.group.result (omega arith) c.group.ensures w.in_default.not-Some)
     ]

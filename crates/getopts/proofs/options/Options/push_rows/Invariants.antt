@@ -1,5 +1,5 @@
 use Rattle.std.proofs.Common.{string_bytes}
-use Rattle.getopts.proofs.UsageLemmas.{RowsInText}
+use Rattle.getopts.proofs.Wrapping.Usage.{RowsInText}
 use Rattle.getopts.proofs.options.Options.push_rows.Given as goal
 
 abbrev pub invariant-loop-place : goal.invariant-loop-place

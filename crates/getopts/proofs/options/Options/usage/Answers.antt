@@ -1,7 +1,7 @@
 -- The text is made of the usage rows, which are the only ones.
 use Rattle.std.proofs.Common.{◌≡◌, rules, string_bytes, append_assoc}
 use Rattle.getopts.specs.Usage.{usage_text}
-use Rattle.getopts.proofs.UsageLemmas.{text_is_the_only}
+use Rattle.getopts.proofs.Wrapping.Usage.{text_is_the_only}
 use Rattle.getopts.proofs.options.Options.usage.Goals as goal
 
 pub returns : goal.returns

@@ -1,8 +1,9 @@
--- The code's tests of the groups, the style and the mode are the test of the options, which says that they are equal.
+-- The code's tests of the groups, the style and the mode are the test of the options, which says
+-- that they are equal.
 use Rattle.std.proofs.Common.{arith}
 use Rattle.std.proofs.lemmas.Grind.{common_steps}
 use Rattle.std.proofs.lemmas.Bool.Decides.{Decides-at}
-use Rattle.getopts.proofs.OptionsLemmas.{same_options-decides}
+use Rattle.getopts.proofs.Held.Options.{same_options-decides}
 use Rattle.getopts.proofs.options.OptionsPartialEq.eq.Goals as goal
 
 pub returns-then-eq-clause-answer : goal.returns-then-eq-clause-answer

@@ -4,10 +4,10 @@ use Rattle.std.specs.Option.{option_copied}
 use Rattle.std.proofs.lemmas.Str.{IsCharBoundary-after_ascii}
 use Rattle.getopts.specs.Fail.{unrecognized_option}
 use Rattle.getopts.specs.Scan.{IsFaultAt}
-use Rattle.getopts.proofs.FailLemmas.{Tells-one}
+use Rattle.getopts.proofs.Parsing.Faults.{Tells-one}
 use Rattle.getopts.specs.Names.{texts}
 use Rattle.getopts.specs.Line.{scanner_grammar}
-use Rattle.getopts.proofs.ScanClusters.{FlagsRead-none, FlagsRead-more, AddsItem-flags, AddsItem-ends, IsFaultAt-unknown}
+use Rattle.getopts.proofs.Scanning.Clusters.{FlagsRead-none, FlagsRead-more, AddsItem-flags, AddsItem-ends, IsFaultAt-unknown}
 use Rattle.getopts.proofs.scan.Scanner.cluster.Goals as goal
 
 pub names-init : goal.names-init

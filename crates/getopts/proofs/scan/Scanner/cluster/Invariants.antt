@@ -1,6 +1,6 @@
 -- The names before this place are flags, one byte each, and their occurrences were added.
 use Rattle.getopts.specs.Line.{scanner_grammar}
-use Rattle.getopts.proofs.ScanClusters.{FlagsRead}
+use Rattle.getopts.proofs.Scanning.Clusters.{FlagsRead}
 use Rattle.getopts.proofs.scan.Scanner.cluster.Given as goal
 
 abbrev pub invariant-names : goal.invariant-names

@@ -5,7 +5,7 @@ use Rattle.getopts.specs.Scan.{separate}
 use Rattle.getopts.specs.Names.{texts}
 use Rattle.getopts.specs.Line.{scanner_grammar}
 use Rattle.getopts.specs.declared.groups.HasArg.TheVariants.{Yes, No, Maybe}
-use Rattle.getopts.proofs.ScanItems.{AddsItem-long, AddsItem-attached, FitsLong-maybe, texts-first}
+use Rattle.getopts.proofs.Scanning.Items.{AddsItem-long, AddsItem-attached, FitsLong-maybe, texts-first}
 use Rattle.getopts.proofs.scan.Scanner.long.Goals as goal
 use Rattle.getopts.proofs.scan.Scanner.long.Goals.{in-No-None, in-Yes-None+in-Some-first, in-Yes-Some, in-Maybe-default}
 

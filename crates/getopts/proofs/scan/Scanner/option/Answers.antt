@@ -3,7 +3,7 @@ use Rattle.std.proofs.Common.{◌≡◌, Some, None, refl, sym, ap, ◌∙◌}
 use Rattle.getopts.specs.Names.{resolution}
 use Rattle.getopts.specs.Options.{names_of}
 use Rattle.getopts.specs.Table.{names_in}
-use Rattle.getopts.proofs.PairsLemmas.{names_in-groups}
+use Rattle.getopts.proofs.Held.Pairs.{names_in-groups}
 use Rattle.getopts.proofs.scan.Scanner.option.Goals as goal
 
 pub returns-in_err-place : goal.returns-in_err-place

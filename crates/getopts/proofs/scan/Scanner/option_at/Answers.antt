@@ -2,8 +2,8 @@
 use Rattle.std.proofs.Common.{◌≡◌, ◌∷◌, [], slice_index, ◌∙◌, true, false}
 use Rattle.std.specs.Char.{is_ascii}
 use Rattle.std.proofs.lemmas.Str.{IsCharBoundary-after_ascii}
-use Rattle.getopts.proofs.NamesLemmas.{wide_unknown}
-use Rattle.getopts.proofs.ScanWords.{slice_range-one, ascii_below, wide_above}
+use Rattle.getopts.proofs.Lookup.Names.{wide_unknown}
+use Rattle.getopts.proofs.Scanning.Words.{slice_range-one, ascii_below, wide_above}
 use Rattle.getopts.proofs.scan.Scanner.option_at.Goals as goal
 
 pub range-requires-clause-end_boundary : goal.range-requires-clause-end_boundary

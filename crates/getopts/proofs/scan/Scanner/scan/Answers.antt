@@ -7,9 +7,10 @@ use Rattle.getopts.specs.Scan.{line_end, stop, rest, free_items, trailing_after,
 use Rattle.getopts.specs.declared.groups.ParsingStyle.TheVariants.{FloatingFrees, StopAtFirstFree}
 use Rattle.getopts.specs.Names.{Text, texts}
 use Rattle.getopts.specs.Line.{scanner_grammar}
-use Rattle.getopts.proofs.FailLemmas.{Tells-weaker}
-use Rattle.getopts.proofs.ScanLoop.{ReadSoFar-none, ReadSoFar-free, ReadSoFar-added, IsReading-tail, IsReading-rest, IsReading-stop, IsScanFault-word, texts-drop, length-texts, take-drop, trailing_after-stop}
-use Rattle.getopts.proofs.ScanWords.{is_dashed-text}
+use Rattle.getopts.proofs.Parsing.Faults.{Tells-weaker}
+use Rattle.getopts.proofs.Scanning.Loop.{ReadSoFar-none, ReadSoFar-free, ReadSoFar-added, IsReading-tail, IsReading-rest, IsReading-stop, IsScanFault-word, texts-drop, length-texts, trailing_after-stop}
+use Rattle.getopts.proofs.Lists.{take-drop}
+use Rattle.getopts.proofs.Reading.Texts.{is_dashed-text}
 use Rattle.getopts.proofs.scan.Scanner.scan.Goals as goal
 
 pub items-init : goal.items-init

@@ -2,7 +2,7 @@
 use Rattle.std.proofs.Common.{◌<◌, subst}
 use Rattle.std.specs.String.{string_bytes}
 use Rattle.getopts.specs.Texts.{AreOfBytes}
-use Rattle.getopts.proofs.PiecesLemmas.{All-pieces}
+use Rattle.getopts.proofs.Held.Pieces.{All-pieces}
 use Rattle.getopts.proofs.texts.Texts.are_of_bytes.Goals as goal
 
 pub returns : goal.returns

@@ -7,17 +7,19 @@ use Rattle.std.proofs.lemmas.Str.{IsCharBoundary-start, IsUtf8-string_bytes}
 use Rattle.std.specs.Str.{IsCharBoundary}
 use Rattle.std.specs.String.{string_bytes}
 use Rattle.getopts.specs.Pieces.{pieces}
-use Rattle.getopts.proofs.PiecesLemmas.{length-pieces, pieces-at, AreEnds-at}
+use Rattle.getopts.proofs.Held.Pieces.{length-pieces, pieces-at, AreEnds-at}
 use Rattle.getopts.proofs.texts.Texts.get.Goals as goal
 use Rattle.getopts.proofs.texts.Texts.get.Goals.{After-deref-2, then-place-eq0, else-place-eq0}
 
 within : (c : After-deref-2) → c.args.place < length c.self.inside.ends.items
 within c = rw (← c.deref.ensures.value) c.in_ok-end.ensures.lookup.3.0
 
-ends_at : (c : After-deref-2) → get_or c.self.inside.ends.items c.args.place 0 ≡ c.in_ok-end.field-0.now
+ends_at : (c : After-deref-2)
+    → get_or c.self.inside.ends.items c.args.place 0 ≡ c.in_ok-end.field-0.now
 ends_at c = rw (← c.deref.ensures.value) (sym (c.in_ok-end.ensures.lookup.3.1 0))
 
-starts_at : (c : After-deref-2) → get_or (0 ∷ c.self.inside.ends.items) c.args.place 0 ≡ c.if-place-eq0.start
+starts_at : (c : After-deref-2)
+    → get_or (0 ∷ c.self.inside.ends.items) c.args.place 0 ≡ c.if-place-eq0.start
 starts_at c = let there = within c in elim c.if-place-eq0.branch [
   | then-place-eq0 w ↦ grind (arith, common_steps)
   | else-place-eq0 w ↦ grind (arith, common_steps)
@@ -37,12 +39,15 @@ pub range-requires-clause-start_boundary : goal.range-requires-clause-start_boun
 range-requires-clause-start_boundary c =
     let text = string_bytes c.self.inside.text in
     let starts = 0 ∷ c.self.inside.ends.items in
-    let cuts = All-cons (IsCharBoundary text) 0 _ (IsCharBoundary-start text (IsUtf8-string_bytes c.self.inside.text)) c.self.invariant.between_characters in
+    let cuts = All-cons (IsCharBoundary text) 0 _ (IsCharBoundary-start text (IsUtf8-string_bytes c.self.inside.text))
+    c.self.invariant.between_characters in
     λ _. rw (c.deref-2.ensures, ← starts_at c) (All-get_or (IsCharBoundary text) starts c.args.place 0 (omega (arith, within c)) cuts)
 
 pub range-requires-clause-end_boundary : goal.range-requires-clause-end_boundary
 range-requires-clause-end_boundary c =
-    rw (c.deref-2.ensures, ← ends_at c) (All-get_or (IsCharBoundary (string_bytes c.self.inside.text)) _ c.args.place 0 (within c) c.self.invariant.between_characters)
+    rw (c.deref-2.ensures, ← ends_at c)
+    (All-get_or (IsCharBoundary (string_bytes c.self.inside.text)) _ c.args.place 0
+    (within c) c.self.invariant.between_characters)
 
 pub returns : goal.returns
 returns c =

@@ -4,7 +4,7 @@ use Rattle.std.proofs.lemmas.Grind.{common_steps}
 use Rattle.std.specs.String.{string_bytes}
 use Rattle.getopts.specs.Pieces.{pieces}
 use Rattle.getopts.specs.Texts.{IsWellCut}
-use Rattle.getopts.proofs.TextsLemmas.{texts_push}
+use Rattle.getopts.proofs.Held.Texts.{texts_push}
 use Rattle.getopts.proofs.texts.Texts.push_pair.Goals as goal
 
 first_added : (c : goal.After-push_reserved-2) → let text = string_bytes c.push_str.new.self in let ends = c.push_reserved.new.self.items in

@@ -5,12 +5,13 @@ use Rattle.std.proofs.lemmas.List.{take_all}
 use Rattle.std.specs.String.{string_bytes}
 use Rattle.getopts.specs.Pieces.{pieces}
 use Rattle.getopts.specs.Texts.{IsWellCut}
-use Rattle.getopts.proofs.PiecesLemmas.{length-pieces}
-use Rattle.getopts.proofs.TextsLemmas.{texts_take}
+use Rattle.getopts.proofs.Held.Pieces.{length-pieces}
+use Rattle.getopts.proofs.Held.Texts.{texts_take}
 use Rattle.getopts.proofs.texts.Texts.truncate.Goals as goal
 use Rattle.getopts.proofs.texts.Texts.truncate.Goals.{then-len-eq0, else-len-eq0}
 
-ends_at : (c : goal.After-truncate-then-len) → get_or (0 ∷ c.self.inside.ends.items) c.args.len 0 ≡ c.if-len-eq0.end
+ends_at : (c : goal.After-truncate-then-len)
+    → get_or (0 ∷ c.self.inside.ends.items) c.args.len 0 ≡ c.if-len-eq0.end
 ends_at c = elim c.if-len-eq0.branch [
   | then-len-eq0 w ↦ grind (arith, common_steps)
   | else-len-eq0 w ↦ grind (arith, common_steps)

@@ -1,0 +1,280 @@
+-- What the code finds in accepted words is what they say, and words have one answer.
+use Rattle.std.proofs.Common.{◌≡◌, ◌==◌, ◌<◌, ℕ, Bool, true, false, not, List, [], ◌∷◌, ◌++◌}
+use Rattle.std.proofs.Common.{length, get_or, map, Option, Some, None, Result, Ok, Err, IfSome}
+use Rattle.std.proofs.Common.{IfNone, refl, sym, ap, ◌∙◌, subst, inl, inr}
+use Rattle.std.proofs.lemmas.Bool.{true≢false}
+use Rattle.std.proofs.lemmas.List.Folds.{list_any_at, list_all-map}
+use Rattle.std.specs.List.{AllByRecursion, list_all}
+use Rattle.std.specs.String.{string_bytes}
+use Rattle.getopts.specs.Names.{Text}
+use Rattle.getopts.specs.Options.{Group, Declared, AreLawfullyNamed, grammar_of, knowns_of}
+use Rattle.getopts.specs.Fail.{Fault}
+use Rattle.getopts.specs.Scan.{equals_sign, holds_equals, Reading, IsScanFault, Occurrence}
+use Rattle.getopts.specs.ScanLaws.{mentions_of}
+use Rattle.getopts.specs.Line.{line_content}
+use Rattle.getopts.specs.Matches.{Matched, MatchedGroup, matches_of, matched, KeepsCount}
+use Rattle.getopts.specs.Matches.{KeepsCounts, IsCountFault, broken_count}
+use Rattle.getopts.specs.Parse.{Reads, IsAccepted, BreaksCounts, IsRefused}
+use Rattle.getopts.specs.Canon.{Content, IsCountKeeping, content_of, main_at, HasPlainMain, IsPlain}
+use Rattle.getopts.specs.Canon.{canonical_line, with_setting, Says}
+use Rattle.getopts.specs.AcceptedLine.{IsAcceptedLine}
+use Rattle.getopts.specs.CanonAnswers.{IsAcceptedWith, IsWritten, IsUnwritable, IsParseAnswer}
+use Rattle.getopts.specs.CanonAnswers.{IsCanonicalAnswer, AnsweredLinesTell}
+use Rattle.getopts.specs.declared.accepted.AcceptedLine.{AcceptedLine}
+use Rattle.getopts.proofs.Canonical.Lines.{is_plain-true, is_plain-false, HasCanonicalLine-says}
+use Rattle.getopts.proofs.Canonical.Lines.{HasUnwritable-content, CanonicalLinesTell-lawful}
+use Rattle.getopts.proofs.Parsing.Only.{meets}
+use Rattle.getopts.proofs.Parsing.Parsed.{only_reads, named_here, groups_are, IsAccepted-reading}
+use Rattle.getopts.proofs.Reading.Turns.{IsNamed}
+use Rattle.getopts.proofs.Scanning.Words.{holds_equals-none}
+
+-- a test that finds `=` just where it is
+pub holds_equals-found : (text : Text) (found : Bool)
+    → (found ≡ true → (k : ℕ) × (k < length text) × (get_or text k 0 ≡ equals_sign))
+    → ((k : ℕ) → k < length text → get_or text k 0 ≡ equals_sign → found ≡ true)
+    → found ≡ holds_equals text
+holds_equals-found text true there at =
+    let place = there refl in
+    sym (list_any_at (λ c. c == equals_sign) text place.0 0 place.1 (rw place.2 refl))
+holds_equals-found text false there at = sym (holds_equals-none text (λ k within is. true≢false (sym (at k within is))))
+
+-- occurrences of groups whose main names hold no `=`
+pub plain-list_all : (groups : List Group) (found : List Occurrence)
+    → list_all (λ o. not (holds_equals (main_at groups o.mention.group))) found ≡ true
+    → AllByRecursion (λ m. HasPlainMain groups m.group) (map (λ (o : Occurrence). o.mention) found)
+plain-list_all groups found all =
+    is_plain-true groups (map (λ (o : Occurrence). o.mention) found)
+    (list_all-map (λ m. not (holds_equals (main_at groups m.group))) (λ (o : Occurrence). o.mention) found ∙ all)
+
+-- an occurrence of a group whose main name holds `=`
+pub not_plain-list_all : (groups : List Group) (found : List Occurrence)
+    → list_all (λ o. not (holds_equals (main_at groups o.mention.group))) found ≡ false
+    → ¬ (AllByRecursion (λ m. HasPlainMain groups m.group)
+    (map (λ (o : Occurrence). o.mention) found))
+not_plain-list_all groups found some =
+    is_plain-false groups (map (λ (o : Occurrence). o.mention) found)
+    (list_all-map (λ m. not (holds_equals (main_at groups m.group))) (λ (o : Occurrence). o.mention) found ∙ some)
+
+-- what words are accepted with is what a reading says that keeps the counts
+pub count_keeping : (options : Declared) (words : List Text) (content : Content)
+    (is : IsAcceptedWith options words content) → IsCountKeeping options is.reading words
+count_keeping options words content is = record { reads = meets (Reads options words) is.reading is.only; keeps = is.counts }
+
+module _ (options : Declared) (words : List Text) (accepted : AcceptedLine)
+    (is : IsAcceptedLine options words accepted) where
+  -- the names of the options are names
+  pub IsNamed-line : IsNamed (grammar_of options)
+  IsNamed-line = named_here options is.lawful is.shorts
+
+  -- the matches of the line are accepted
+  pub IsAccepted-line : IsAccepted options words (record {
+    groups = matched 0 (knowns_of options.groups) accepted.line.found;
+    free = map string_bytes accepted.line.free.items;
+    trailing_start = accepted.line.trailing_start;
+  })
+  IsAccepted-line = IsAccepted-reading options is.lawful is.shorts words is.reads.reading is.reads.reads
+      accepted.line.found is.reads.occurrences (map string_bytes accepted.line.free.items) accepted.line.trailing_start is.keeps is.reads.free is.reads.trailing
+
+  -- the words are accepted with what the line says
+  pub IsAcceptedWith-line : IsAcceptedWith options words (line_content accepted.line)
+  IsAcceptedWith-line =
+      let reading = is.reads.reading in
+      let told : map (λ (o : Occurrence). o.mention) accepted.line.found ≡ mentions_of (grammar_of options) reading =
+      ap (map (λ (o : Occurrence). o.mention)) is.reads.occurrences in
+      record {
+        reading = reading;
+        only = only_reads options is.lawful is.shorts words reading is.reads.reads;
+        counts = subst KeepsCounts
+            (groups_are options is.lawful is.shorts words reading is.reads.reads accepted.line.found
+            is.reads.occurrences) is.keeps;
+        content_is = λ i. record { mentions = told i; free = is.reads.free i };
+      }
+
+  -- and the line says it
+  Says-line : Says options words (line_content accepted.line)
+  Says-line = record {
+    style = options.style;
+    long_only = options.long_only;
+    reading = IsAcceptedWith-line.reading;
+    reads = count_keeping options words (line_content accepted.line) IsAcceptedWith-line;
+    content_is = IsAcceptedWith-line.content_is;
+  }
+
+  -- where they hold no group whose main name holds `=`, the line that is made is theirs
+  pub IsWritten-line : list_all
+      (λ o. not (holds_equals (main_at options.groups o.mention.group))) accepted.line.found ≡ true
+      → (answer : List Text) → answer ≡ canonical_line options.groups (line_content accepted.line)
+      → IsWritten options words answer
+  IsWritten-line plain answer answer_is = record {
+    content = line_content accepted.line;
+    accepted = IsAcceptedWith-line;
+    plain = plain-list_all options.groups accepted.line.found plain;
+    line_is = answer_is;
+    laws = HasCanonicalLine-says options words (line_content accepted.line) is.lawful IsNamed-line
+        Says-line (plain-list_all options.groups accepted.line.found plain);
+  }
+
+  -- else some mention can't be written
+  pub IsUnwritable-line : list_all
+      (λ o. not (holds_equals (main_at options.groups o.mention.group))) accepted.line.found ≡ false
+      → IsUnwritable options words
+  IsUnwritable-line some =
+      let not_plain = not_plain-list_all options.groups accepted.line.found some in
+      record {
+        content = line_content accepted.line;
+        accepted = IsAcceptedWith-line;
+        not_plain = not_plain;
+        unwritable = HasUnwritable-content options (line_content accepted.line) not_plain;
+      }
+
+-- the main theorem, of two answered lines
+pub AnsweredLinesTell-lawful : (options : Declared) → AreLawfullyNamed options.groups
+    → IsNamed (grammar_of options) → AnsweredLinesTell options
+AnsweredLinesTell-lawful options lawful named style other_style long_only other_long_only words others line other written written_other =
+    let says : Says options words written.content = record {
+      style = style;
+      long_only = long_only;
+      reading = written.accepted.reading;
+      reads = count_keeping (with_setting options style long_only) words written.content written.accepted;
+      content_is = written.accepted.content_is;
+    } in
+    let says_other : Says options others written_other.content = record {
+      style = other_style;
+      long_only = other_long_only;
+      reading = written_other.accepted.reading;
+      reads = count_keeping (with_setting options other_style other_long_only) others written_other.content written_other.accepted;
+      content_is = written_other.accepted.content_is;
+    } in
+    let tell = CanonicalLinesTell-lawful options lawful words others written.content written_other.content says
+    written.plain says_other written_other.plain in (
+      λ same. tell.0 (sym written.line_is ∙ same ∙ written_other.line_is),
+      λ same. written.line_is ∙ tell.1 same ∙ sym written_other.line_is,
+    )
+
+-- what an answered line meets, and what holds where none is answered
+pub IfSome-weaker : {X : Type 0} (answer : Option X) (P Q : X → Type 0) → ((x : X) → P x → Q x)
+    → IfSome answer P → IfSome answer Q
+IfSome-weaker None P Q follows holds = tt
+IfSome-weaker (Some x) P Q follows holds = follows x holds
+
+pub IfNone-weaker : {X : Type 0} (answer : Option X) (P Q : Type 0) → (P → Q) → IfNone answer P
+    → IfNone answer Q
+IfNone-weaker None P Q follows holds = follows holds
+IfNone-weaker (Some x) P Q follows holds = tt
+
+-- a group keeps its count where all do
+KeepsCount-at : (before : List MatchedGroup) (group : MatchedGroup) (after : List MatchedGroup)
+    → KeepsCounts (before ++ group ∷ after) → KeepsCount group
+KeepsCount-at [] group after keeps = keeps.0
+KeepsCount-at (first ∷ before) group after keeps = KeepsCount-at before group after keeps.1
+
+-- the first group that breaks its count is one
+first_broken : (before others : List MatchedGroup) (group other : MatchedGroup)
+    (after more : List MatchedGroup) → before ++ group ∷ after ≡ others ++ other ∷ more
+    → KeepsCounts before → ¬ (KeepsCount group) → KeepsCounts others → ¬ (KeepsCount other)
+    → group ≡ other
+first_broken [] [] group other after more same kept broken kept_other broken_other = cc
+first_broken [] (first ∷ others) group other after more same kept broken kept_other broken_other =
+    let is : first ≡ group = cc in absurd (broken (subst KeepsCount is kept_other.0))
+first_broken (first ∷ before) [] group other after more same kept broken kept_other broken_other =
+    let is : first ≡ other = cc in absurd (broken_other (subst KeepsCount is kept.0))
+first_broken (first ∷ before) (second ∷ others) group other after more same kept broken kept_other broken_other =
+    let later : before ++ group ∷ after ≡ others ++ other ∷ more = cc in
+    first_broken before others group other after more later kept.1 broken kept_other.1 broken_other
+
+-- groups have one count fault
+only_count_fault : (groups : List MatchedGroup) (fault other : Fault) → IsCountFault groups fault
+    → IsCountFault groups other → fault ≡ other
+only_count_fault groups fault other is is_other =
+    let group = first_broken is.before is_other.before is.group is_other.group is.after is_other.after
+    (sym is.groups_are ∙ is_other.groups_are) is.kept is.broken is_other.kept is_other.broken in
+    is.fault_is ∙ ap broken_count group ∙ sym is_other.fault_is
+
+-- groups that keep their counts have none
+no_count_fault : (groups : List MatchedGroup) (fault : Fault) → KeepsCounts groups
+    → IsCountFault groups fault → ⊥
+no_count_fault groups fault keeps is = is.broken (KeepsCount-at is.before is.group is.after (subst KeepsCounts is.groups_are keeps))
+
+module _ (options : Declared) (words : List Text) where
+  -- accepted words, and those that break the counts, have their reading
+  pub accepted_reads : (m : Matched) (is : IsAccepted options words m)
+      → Reads options words is.reading
+  accepted_reads m is = meets (Reads options words) is.reading is.only
+
+  pub breaking_reads : (fault : Fault) (is : BreaksCounts options words fault)
+      → Reads options words is.reading
+  breaking_reads fault is = meets (Reads options words) is.reading is.only
+
+  pub only_matches : (m n : Matched) → IsAccepted options words m → IsAccepted options words n
+      → m ≡ n
+  only_matches m n is is_other =
+      is.matches_are ∙ ap (matches_of options) ((is_other.only is.reading).0 (accepted_reads m is)) ∙ sym is_other.matches_are
+
+  only_refusal : (fault other : Fault) → IsRefused options words fault
+      → IsRefused options words other → fault ≡ other
+  only_refusal fault other (inl is) (inl is_other) = (is_other.only fault).0 (meets (IsScanFault (grammar_of options) words) fault is.only)
+  only_refusal fault other (inl is) (inr is_other) = absurd (is.no_reading is_other.reading (breaking_reads other is_other))
+  only_refusal fault other (inr is) (inl is_other) = absurd (is_other.no_reading is.reading (breaking_reads fault is))
+  only_refusal fault other (inr is) (inr is_other) =
+      let same : is.reading ≡ is_other.reading = (is_other.only is.reading).0 (breaking_reads fault is) in
+      only_count_fault (matches_of options is_other.reading).groups fault other
+      (subst (λ (r : Reading). IsCountFault (matches_of options r).groups fault) same is.breaks) is_other.breaks
+
+  -- words with a reading that keeps the counts aren't refused
+  pub not_refused : (reading : Reading) (fault : Fault) → IsCountKeeping options reading words
+      → IsRefused options words fault → ⊥
+  not_refused reading fault keeps (inl is) = is.no_reading reading keeps.reads
+  not_refused reading fault keeps (inr is) =
+      let same : reading ≡ is.reading = (is.only reading).0 keeps.reads in
+      no_count_fault (matches_of options is.reading).groups fault
+      (subst (λ (r : Reading). KeepsCounts (matches_of options r).groups) same keeps.keeps) is.breaks
+
+  -- words have one answer of `parse`
+  pub only_parse_answer : (answer other : Result Matched Fault) → IsParseAnswer options words answer
+      → IsParseAnswer options words other → answer ≡ other
+  only_parse_answer (Ok m) (Ok n) is is_other = ap Ok (only_matches m n is is_other)
+  only_parse_answer (Ok m)
+      (Err other) is is_other =
+      absurd (not_refused is.reading other (record { reads = accepted_reads m is; keeps = is.counts }) is_other)
+  only_parse_answer (Err fault)
+      (Ok n) is is_other =
+      absurd (not_refused is_other.reading fault
+      (record { reads = accepted_reads n is_other; keeps = is_other.counts }) is)
+  only_parse_answer (Err fault) (Err other) is is_other = ap Err (only_refusal fault other is is_other)
+
+  -- words are accepted with one content
+  pub only_content : (content other : Content) → IsAcceptedWith options words content
+      → IsAcceptedWith options words other → content ≡ other
+  only_content content other is is_other =
+      is.content_is ∙ ap (content_of (grammar_of options))
+      ((is_other.only is.reading).0 (count_keeping options words content is).reads) ∙ sym is_other.content_is
+
+  pub only_line : (line other : List Text) → IsWritten options words line
+      → IsWritten options words other → line ≡ other
+  only_line line other is is_other =
+      is.line_is ∙ ap (canonical_line options.groups) (only_content is.content is_other.content is.accepted is_other.accepted) ∙ sym is_other.line_is
+
+  -- words aren't both written and unwritable
+  not_both : (line : List Text) → IsWritten options words line → IsUnwritable options words → ⊥
+  not_both line is is_other = is_other.not_plain (subst (IsPlain options.groups)
+      (only_content is.content is_other.content is.accepted is_other.accepted) is.plain)
+
+  -- words have one answer of `canonical`
+  pub only_canonical_answer : (answer other : Result (Option (List Text)) Fault)
+      → IsCanonicalAnswer options words answer → IsCanonicalAnswer options words other
+      → answer ≡ other
+  only_canonical_answer (Ok (Some line)) (Ok (Some other)) is is_other = ap (λ (l : List Text). Ok (Some l)) (only_line line other is is_other)
+  only_canonical_answer (Ok (Some line)) (Ok None) is is_other = absurd (not_both line is is_other)
+  only_canonical_answer (Ok None) (Ok (Some other)) is is_other = absurd (not_both other is_other is)
+  only_canonical_answer (Ok None) (Ok None) is is_other = refl
+  only_canonical_answer (Ok (Some line)) (Err other) is is_other =
+      absurd (not_refused is.accepted.reading other (count_keeping options words is.content is.accepted) is_other)
+  only_canonical_answer (Ok None) (Err other) is is_other =
+      absurd (not_refused is.accepted.reading other (count_keeping options words is.content is.accepted) is_other)
+  only_canonical_answer (Err fault) (Ok (Some other)) is is_other =
+      absurd (not_refused is_other.accepted.reading fault
+      (count_keeping options words is_other.content is_other.accepted) is)
+  only_canonical_answer (Err fault) (Ok None) is is_other =
+      absurd (not_refused is_other.accepted.reading fault
+      (count_keeping options words is_other.content is_other.accepted) is)
+  only_canonical_answer (Err fault) (Err other) is is_other = ap Err (only_refusal fault other is is_other)

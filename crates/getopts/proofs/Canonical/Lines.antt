@@ -1,0 +1,518 @@
+-- The laws of the canonical line.
+use Rattle.std.proofs.Common.{◌≡◌, ◌≢◌, ◌⊎◌, ◌↔◌, ℕ, zero, suc, ◌+◌, ◌==◌, Bool, true, false, not}
+use Rattle.std.proofs.Common.{List, [], ◌∷◌, ◌++◌, length, map, Option, Some, None, refl, sym, ap}
+use Rattle.std.proofs.Common.{◌∙◌, subst, inl, inr, arith, append-nil}
+use Rattle.std.proofs.lemmas.Bool.{cases_Bool, and_parts, not-true, or_cases, or_left, or_right}
+use Rattle.std.proofs.lemmas.Bool.{true≢false}
+use Rattle.std.proofs.lemmas.List.{append_cancel_right, length-map}
+use Rattle.std.proofs.lemmas.Option.{none-some, option_and_then_some, same_Some, slice_get-get_or}
+use Rattle.std.specs.Prelude.{slice_get}
+use Rattle.std.specs.List.{AllByRecursion, Contains, filter, flat_map, list_all}
+use Rattle.std.specs.Option.{option_and_then, unwrap_or}
+use Rattle.getopts.specs.Names.{Text, Names, IsLawfullyNamed, main_name, resolution}
+use Rattle.getopts.specs.Options.{Known, Group, Declared, AreLawfullyNamed, names_of, knowns_of}
+use Rattle.getopts.specs.Options.{Grammar, kind_at, kind_of, grammar_of}
+use Rattle.getopts.specs.Scan.{dash, equals_sign, begins_with_dash, holds_equals, stop_word}
+use Rattle.getopts.specs.Scan.{Argument, none, attached, separate, one, two, flags, ends_in}
+use Rattle.getopts.specs.Scan.{end_text, attached_argument, argument_words, value_of, with_equals}
+use Rattle.getopts.specs.Scan.{Item, free, long, cluster, spelled_all, FitsLong, FitsEnd, IsFlag}
+use Rattle.getopts.specs.Scan.{IsLawfulItem, AreWellFollowed, Reading, IsReading, Mention, mention}
+use Rattle.getopts.specs.Scan.{mentions, Occurrence, occurrences_of, free_items}
+use Rattle.getopts.specs.ScanLaws.{mentions_of}
+use Rattle.getopts.specs.Matches.{found_at, matched, FitsCount, KeepsCounts}
+use Rattle.getopts.specs.Canon.{Content, content_of, main_at, HasPlainMain, AnswersMain, FitsKind}
+use Rattle.getopts.specs.Canon.{IsPlain, IsSound, canonical_word, canonical_line, attached_value}
+use Rattle.getopts.specs.Canon.{canonical_item, canonical_reading, with_setting, IsCountKeeping}
+use Rattle.getopts.specs.Canon.{Says, ReadsBackEverywhere, SaysNothingElse, IsOnlyContent}
+use Rattle.getopts.specs.Canon.{HasCanonicalLine, HasNoItem, HasUnwritable}
+use Rattle.getopts.specs.Theorem.{CanonicalLinesTell}
+use Rattle.getopts.specs.declared.groups.HasArg.{HasArg}
+use Rattle.getopts.specs.declared.groups.HasArg.TheVariants.{Yes, No, Maybe}
+use Rattle.getopts.specs.declared.groups.ParsingStyle.{ParsingStyle}
+use Rattle.getopts.proofs.Lists.{AllByRecursion-append, AllByRecursion-follows}
+use Rattle.getopts.proofs.Lists.{AllByRecursion-map, length-filter-map}
+use Rattle.getopts.proofs.Lookup.Names.{resolution-main_name, resolution-nil, resolution_within}
+use Rattle.getopts.proofs.Reading.Positions.{mentions_of-items}
+use Rattle.getopts.proofs.Reading.Readings.{only_reading}
+use Rattle.getopts.proofs.Reading.Texts.{begins_with_dash-append, long_argument-append}
+use Rattle.getopts.proofs.Reading.Texts.{long_name-append}
+use Rattle.getopts.proofs.Reading.Turns.{IsNamed, long_argument, long_name}
+
+-- the main name at a place, where a group is there
+main_at-Some : (groups : List Group) (place : ℕ) (names : Names)
+    → slice_get (names_of groups) place ≡ Some names → main_at groups place ≡ main_name names
+main_at-Some [] place names there = cc there
+main_at-Some (group ∷ groups) zero names there = ap main_name (same_Some group.known.names names there)
+main_at-Some (group ∷ groups) (suc place) names there = main_at-Some groups place names there
+
+-- the group that a name resolves to is what its own main name resolves to
+pub AnswersMain-resolution : (groups : List Group) (name : Text) (place : ℕ)
+    → resolution (names_of groups) name ≡ Some place → AnswersMain groups place
+AnswersMain-resolution groups name place resolves =
+    let within = resolution_within (names_of groups) name place resolves in
+    let there = slice_get-get_or (names_of groups) place (record { short = []; long = [] }) within in
+    rw (main_at-Some groups place _ there) (resolution-main_name (names_of groups) name place _ resolves there)
+
+-- the main name of such a group isn't empty
+main_at-filled : (groups : List Group) (place : ℕ) → AreLawfullyNamed groups
+    → AnswersMain groups place → main_at groups place ≢ []
+main_at-filled groups place lawful own empty =
+    let no_name = resolution-nil (names_of groups) (AllByRecursion-map IsLawfullyNamed (λ group. group.known.names) groups lawful) in
+    none-some place (sym no_name ∙ (rw empty at own))
+
+-- a mentioned group is there, and its kind may have the value
+abbrev pub FitsGroup : List Group → Mention → Type 0
+FitsGroup groups m = (kind : HasArg) × (kind_at groups m.group ≡ Some kind) × FitsKind kind m.value
+
+-- fitting content: each mentioned group is there, and its kind may have the value
+abbrev pub IsFitting : List Group → Content → Type 0
+IsFitting groups content = AllByRecursion (FitsGroup groups) content.mentions
+
+-- a mention as a lawful item may have it
+record IsGood (groups : List Group) (m : Mention) : Type 0 where
+  own : AnswersMain groups m.group
+  fits : FitsGroup groups m
+
+-- what a name mentions that resolves to a group of this kind
+IsGood-mention : (options : Declared) (name : Text) (kind : HasArg) (value : Option Text)
+    → kind_of options.groups name ≡ Some kind → FitsKind kind value
+    → IsGood options.groups (mention (grammar_of options) name value)
+IsGood-mention options name kind value known fits = option_and_then_some _ (resolution (names_of options.groups) name) kind known by_place where
+  by_place : (place : ℕ) → resolution (names_of options.groups) name ≡ Some place
+      → kind_at options.groups place ≡ Some kind
+      → IsGood options.groups (mention (grammar_of options) name value)
+  by_place place resolves there =
+      let same : unwrap_or (resolution (names_of options.groups) name) 0 ≡ place = ap (λ o. unwrap_or o 0) resolves in
+      rw same (record { own = AnswersMain-resolution options.groups name place resolves; fits = (kind, there, fits) })
+
+-- a lawful argument gives a value that the kind may have
+FitsKind-long : (kind : HasArg) (argument : Argument) → FitsLong kind argument
+    → FitsKind kind (value_of argument)
+FitsKind-long No none fits = fits
+FitsKind-long No (attached value) fits = fits
+FitsKind-long No (separate word) fits = fits
+FitsKind-long Yes none fits = fits
+FitsKind-long Yes (attached value) fits = fits
+FitsKind-long Yes (separate word) fits = fits
+FitsKind-long Maybe none fits = fits
+FitsKind-long Maybe (attached value) fits = fits
+FitsKind-long Maybe (separate word) fits = absurd fits
+
+FitsKind-end : (kind : HasArg) (argument : Argument) → FitsEnd kind argument
+    → FitsKind kind (value_of argument)
+FitsKind-end No argument fits = absurd fits
+FitsKind-end Yes none fits = fits
+FitsKind-end Yes (attached value) fits = tt
+FitsKind-end Yes (separate word) fits = fits
+FitsKind-end Maybe none fits = fits
+FitsKind-end Maybe (attached value) fits = tt
+FitsKind-end Maybe (separate word) fits = tt
+
+-- the mentions of flags, of a lawful item and of lawful items
+IsGood-flags : (options : Declared) (names : List ℕ)
+    → AllByRecursion (IsFlag (grammar_of options)) names
+    → AllByRecursion (IsGood options.groups)
+    (map (λ name. mention (grammar_of options) (name ∷ []) None) names)
+IsGood-flags options names each =
+    AllByRecursion-map (IsGood options.groups) (λ name. mention (grammar_of options) (name ∷ []) None) names
+    (AllByRecursion-follows (IsFlag (grammar_of options)) _ (λ name flag. IsGood-mention options (name ∷ []) No None flag tt) names each)
+
+IsGood-item : (options : Declared) (item : Item) → IsLawfulItem (grammar_of options) item
+    → AllByRecursion (IsGood options.groups) (mentions (grammar_of options) item)
+IsGood-item options (free word) lawful = tt
+IsGood-item options (long dashes name argument) lawful =
+    let known = lawful.resolves in
+    (IsGood-mention options name known.0 (value_of argument) known.1 (FitsKind-long known.0 argument known.2), tt)
+IsGood-item options (cluster names flags) lawful = AllByRecursion-append (IsGood options.groups) _ [] (IsGood-flags options names lawful.each) tt
+IsGood-item options (cluster names (ends_in option argument)) lawful =
+    let known = lawful.last in
+    AllByRecursion-append (IsGood options.groups) _ _ (IsGood-flags options names lawful.each)
+    (IsGood-mention options (option ∷ []) known.0 (value_of argument) known.1 (FitsKind-end known.0 argument known.2), tt)
+
+IsGood-items : (options : Declared) (items : List Item)
+    → AllByRecursion (IsLawfulItem (grammar_of options)) items
+    → AllByRecursion (IsGood options.groups) (flat_map (mentions (grammar_of options)) items)
+IsGood-items options [] lawful = tt
+IsGood-items options (item ∷ items) lawful =
+    AllByRecursion-append (IsGood options.groups) _ _ (IsGood-item options item lawful.0) (IsGood-items options items lawful.1)
+
+IsGood-reading : (options : Declared) (reading : Reading)
+    → AllByRecursion (IsLawfulItem (grammar_of options)) reading.items
+    → AllByRecursion (IsGood options.groups) (mentions_of (grammar_of options) reading)
+IsGood-reading options reading lawful = rw (mentions_of-items (grammar_of options) reading) (IsGood-items options reading.items lawful)
+
+-- the content of any reading is sound
+pub IsSound-reading : (options : Declared) (reading : Reading) (words : List Text)
+    → IsReading (grammar_of options) reading words
+    → IsSound options.groups (content_of (grammar_of options) reading)
+IsSound-reading options reading words reads =
+    AllByRecursion-follows (IsGood options.groups) (λ m. AnswersMain options.groups m.group)
+    (λ m good. good.own) _ (IsGood-reading options reading reads.items)
+
+-- the content of any reading is fitting
+pub IsFitting-reading : (options : Declared) (reading : Reading) (words : List Text)
+    → IsReading (grammar_of options) reading words
+    → IsFitting options.groups (content_of (grammar_of options) reading)
+IsFitting-reading options reading words reads =
+    AllByRecursion-follows (IsGood options.groups) (FitsGroup options.groups) (λ m good. good.fits) _ (IsGood-reading options reading reads.items)
+
+-- what a value gives as an attached argument
+attached_argument-attached_value : (value : Option Text)
+    → attached_argument (attached_value value) ≡ value
+attached_argument-attached_value None = refl
+attached_argument-attached_value (Some value) = refl
+
+argument_words-attached_value : (value : Option Text) (more : List Text)
+    → argument_words (attached_value value) more ≡ more
+argument_words-attached_value None more = refl
+argument_words-attached_value (Some value) more = refl
+
+value_of-attached_value : (value : Option Text) → value_of (attached_value value) ≡ value
+value_of-attached_value None = refl
+value_of-attached_value (Some value) = refl
+
+FitsLong-attached_value : (kind : HasArg) (value : Option Text) → FitsKind kind value
+    → FitsLong kind (attached_value value)
+FitsLong-attached_value No None fits = fits
+FitsLong-attached_value No (Some value) fits = fits
+FitsLong-attached_value Yes None fits = fits
+FitsLong-attached_value Yes (Some value) fits = fits
+FitsLong-attached_value Maybe None fits = fits
+FitsLong-attached_value Maybe (Some value) fits = fits
+
+-- canonical items spell canonical words
+spelled_all-canonical : (groups : List Group) (ms : List Mention) (more : List Text)
+    → spelled_all (map (canonical_item groups) ms) more ≡ map (canonical_word groups) ms ++ more
+spelled_all-canonical groups [] more = refl
+spelled_all-canonical groups (m ∷ ms) more = rw (
+  attached_argument-attached_value m.value,
+  argument_words-attached_value m.value,
+  spelled_all-canonical groups ms more,
+) refl
+
+-- a canonical item is lawful, where the main name holds no `=`
+IsLawfulItem-canonical : (options : Declared) (m : Mention) → IsGood options.groups m
+    → HasPlainMain options.groups m.group
+    → IsLawfulItem (grammar_of options) (canonical_item options.groups m)
+IsLawfulItem-canonical options m good plain =
+    let known : kind_of options.groups (main_at options.groups m.group) ≡ Some good.fits.0 =
+    ap (option_and_then (kind_at options.groups)) good.own ∙ good.fits.1 in
+    record { before = tt; cut_once = plain; resolves = (good.fits.0, known, FitsLong-attached_value good.fits.0 m.value good.fits.2) }
+
+IsLawfulItem-canonical_all : (options : Declared) (ms : List Mention)
+    → AllByRecursion (IsGood options.groups) ms
+    → AllByRecursion (λ m. HasPlainMain options.groups m.group) ms
+    → AllByRecursion (IsLawfulItem (grammar_of options)) (map (canonical_item options.groups) ms)
+IsLawfulItem-canonical_all options [] good plain = tt
+IsLawfulItem-canonical_all options (m ∷ ms) good plain =
+    (IsLawfulItem-canonical options m good.0 plain.0, IsLawfulItem-canonical_all options ms good.1 plain.1)
+
+-- a canonical item mentions what it was written for
+mentions-canonical : (options : Declared) (m : Mention) → IsGood options.groups m
+    → mentions (grammar_of options) (canonical_item options.groups m) ≡ m ∷ []
+mentions-canonical options m good =
+    let place : unwrap_or (resolution (names_of options.groups) (main_at options.groups m.group)) 0 ≡ m.group = ap (λ o. unwrap_or o 0) good.own in
+    rw (place, value_of-attached_value m.value) refl
+
+mentions-canonical_all : (options : Declared) (ms : List Mention)
+    → AllByRecursion (IsGood options.groups) ms
+    → flat_map (mentions (grammar_of options)) (map (canonical_item options.groups) ms) ≡ ms
+mentions-canonical_all options [] good = refl
+mentions-canonical_all options (m ∷ ms) good =
+    ap (λ (here : List Mention). here ++ flat_map (mentions (grammar_of options))
+    (map (canonical_item options.groups) ms)) (mentions-canonical options m good.0)
+    ∙ ap (λ (others : List Mention). m ∷ others) (mentions-canonical_all options ms good.1)
+
+-- none is free
+free_items-canonical : (groups : List Group) (ms : List Mention)
+    → free_items (map (canonical_item groups) ms) ≡ []
+free_items-canonical groups [] = refl
+free_items-canonical groups (m ∷ ms) = free_items-canonical groups ms
+
+-- none is bare
+AreWellFollowed-canonical : (groups : List Group) (ms : List Mention) (more : List Text)
+    → AreWellFollowed (map (canonical_item groups) ms) more
+AreWellFollowed-canonical groups [] more = tt
+AreWellFollowed-canonical groups (m ∷ ms) more = (λ bare. absurd (true≢false (sym bare)), AreWellFollowed-canonical groups ms more)
+
+-- the canonical reading reads the canonical line
+IsReading-canonical : (options : Declared) (content : Content)
+    → AllByRecursion (IsGood options.groups) content.mentions → IsPlain options.groups content
+    → IsReading (grammar_of options) (canonical_reading options.groups content)
+    (canonical_line options.groups content)
+IsReading-canonical options content good plain = record {
+  spells = spelled_all-canonical options.groups content.mentions (stop_word ∷ content.free);
+  items = IsLawfulItem-canonical_all options content.mentions good plain;
+  tail = tt;
+  followed = AreWellFollowed-canonical options.groups content.mentions (stop_word ∷ content.free);
+}
+
+-- and has the content
+content_of-canonical : (options : Declared) (content : Content)
+    → AllByRecursion (IsGood options.groups) content.mentions
+    → content_of (grammar_of options) (canonical_reading options.groups content) ≡ content
+content_of-canonical options content good =
+    rw (
+      mentions_of-items (grammar_of options) (canonical_reading options.groups content),
+      mentions-canonical_all options content.mentions good,
+      free_items-canonical options.groups content.mentions,
+    ) refl
+
+-- the number of mentions of the group at a place
+abbrev count_at : ℕ → List Mention → ℕ
+count_at place ms = length (filter (λ m. m.group == place) ms)
+
+-- a group has as many occurrences as mentions
+length-found_at : (place : ℕ) (grammar : Grammar) (reading : Reading)
+    → length (found_at place (occurrences_of grammar reading))
+    ≡ count_at place (mentions_of grammar reading)
+length-found_at place grammar reading =
+    length-map _ _ ∙ sym (length-filter-map (λ m. m.group == place) (λ (o : Occurrence). o.mention) (occurrences_of grammar reading))
+
+-- the counts depend on the number of occurrences for each place
+KeepsCounts-numbers : (knowns : List Known) (place : ℕ) (old new : List Occurrence)
+    → ((k : ℕ) → length (found_at k old) ≡ length (found_at k new))
+    → KeepsCounts (matched place knowns old) → KeepsCounts (matched place knowns new)
+KeepsCounts-numbers [] place old new same keeps = tt
+KeepsCounts-numbers (known ∷ knowns) place old new same keeps =
+    (subst (λ (count : ℕ). FitsCount known.occurrence count) (same place) keeps.0, KeepsCounts-numbers knowns (place + 1) old new same keeps.1)
+
+-- readings with equal mentions keep the counts alike
+pub KeepsCounts-mentions : (knowns : List Known) (grammar other_grammar : Grammar)
+    (reading other : Reading) → mentions_of grammar reading ≡ mentions_of other_grammar other
+    → KeepsCounts (matched 0 knowns (occurrences_of grammar reading))
+    → KeepsCounts (matched 0 knowns (occurrences_of other_grammar other))
+KeepsCounts-mentions knowns grammar other_grammar reading other same keeps =
+    KeepsCounts-numbers knowns 0 _ _
+    (λ k. length-found_at k grammar reading ∙ ap (count_at k) same ∙ sym (length-found_at k other_grammar other)) keeps
+
+-- a reading that keeps the counts says its content
+pub Says-reading : (options : Declared) (reading : Reading) (words : List Text)
+    → IsCountKeeping options reading words
+    → Says options words (content_of (grammar_of options) reading)
+Says-reading options reading words reads = record {
+  style = options.style;
+  long_only = options.long_only;
+  reading = reading;
+  reads = reads;
+  content_is = refl;
+}
+
+-- what a line says is sound
+pub IsSound-says : (options : Declared) (words : List Text) (content : Content)
+    → Says options words content → IsSound options.groups content
+IsSound-says options words content says =
+    rw says.content_is (IsSound-reading (with_setting options says.style says.long_only) says.reading words says.reads.reads)
+
+-- what a line says reads back, where it is plain
+pub ReadsBackEverywhere-says : (options : Declared) (words : List Text) (content : Content)
+    → Says options words content → IsPlain options.groups content
+    → ReadsBackEverywhere options content
+ReadsBackEverywhere-says options words content says plain style long_only =
+    let said = with_setting options says.style says.long_only in
+    let set = with_setting options style long_only in
+    let good : AllByRecursion (IsGood options.groups) content.mentions = rw says.content_is
+    (IsGood-reading said says.reading says.reads.reads.items) in
+    let back = content_of-canonical set content good in
+    let told : mentions_of (grammar_of said) says.reading ≡ mentions_of (grammar_of set)
+    (canonical_reading options.groups content) = ap (λ c. c.mentions) (sym says.content_is ∙ sym back) in
+    record {
+      reads = record {
+        reads = IsReading-canonical set content good plain;
+        keeps = KeepsCounts-mentions (knowns_of options.groups) (grammar_of said)
+            (grammar_of set) says.reading (canonical_reading options.groups content) told says.reads.keeps;
+      };
+      same = back;
+    }
+
+-- names are texts in both styles and both modes
+IsNamed-with_setting : (options : Declared) (style : ParsingStyle) (long_only : Bool)
+    → IsNamed (grammar_of options) → IsNamed (grammar_of (with_setting options style long_only))
+IsNamed-with_setting options style long_only named = record { empty = named.empty; ascii = named.ascii }
+
+-- a canonical line that reads back says nothing else, since a line has one reading at most
+pub SaysNothingElse-reads_back : (options : Declared) (content : Content)
+    → IsNamed (grammar_of options) → ReadsBackEverywhere options content
+    → SaysNothingElse options content
+SaysNothingElse-reads_back options content named back other says =
+    let there = back says.style says.long_only in
+    let set = grammar_of (with_setting options says.style says.long_only) in
+    let same = only_reading set (IsNamed-with_setting options says.style says.long_only named)
+    (canonical_line options.groups content) says.reading _ says.reads.reads there.reads.reads in
+    says.content_is ∙ ap (content_of set) same ∙ there.same
+
+-- a text that holds no `=` is cut off at one place only
+cut_once-with_equals : (a b : Text) (v w : Option Text) → holds_equals a ≡ false
+    → holds_equals b ≡ false → a ++ with_equals v ≡ b ++ with_equals w → (a ≡ b) × (v ≡ w)
+cut_once-with_equals a b v w none_a none_b same = (
+  sym (long_name-append a v none_a) ∙ ap long_name same ∙ long_name-append b w none_b,
+  sym (long_argument-append a v none_a) ∙ ap long_argument same ∙ long_argument-append b w none_b,
+)
+
+-- the text after the dashes of a canonical word
+canonical_word-text : (groups : List Group) (m : Mention) (text : Text)
+    → canonical_word groups m ≡ dash ∷ dash ∷ text
+    → main_at groups m.group ++ with_equals m.value ≡ text
+canonical_word-text groups m text same = cc
+
+-- the word tells the mention
+canonical_word-cancel : (groups : List Group) (m o : Mention) → AnswersMain groups m.group
+    → AnswersMain groups o.group → HasPlainMain groups m.group → HasPlainMain groups o.group
+    → canonical_word groups m ≡ canonical_word groups o → m ≡ o
+canonical_word-cancel groups m o own own_other plain plain_other same =
+    let text = canonical_word-text groups m (main_at groups o.group ++ with_equals o.value) same in
+    let parts = cut_once-with_equals (main_at groups m.group) (main_at groups o.group) m.value o.value plain plain_other text in
+    let place : m.group ≡ o.group = same_Some _ _ (sym own ∙ ap (resolution (names_of groups)) parts.0 ∙ own_other) in
+    let mention_with : ℕ → Option Text → Mention = λ group value. record { group = group; value = value } in
+    ap (λ group. mention_with group m.value) place ∙ ap (mention_with o.group) parts.1
+
+-- `--` is the word of no mention
+canonical_word-no_stop : (groups : List Group) (m : Mention) → AreLawfullyNamed groups
+    → AnswersMain groups m.group → HasPlainMain groups m.group → canonical_word groups m ≢ stop_word
+canonical_word-no_stop groups m lawful own plain same =
+    let parts = cut_once-with_equals (main_at groups m.group) [] m.value None plain refl (canonical_word-text groups m [] same) in
+    main_at-filled groups m.group lawful own parts.0
+
+-- the line tells the mentions and the free words
+canonical_line-parts : (groups : List Group) (ms os : List Mention) (frees others : List Text)
+    → AreLawfullyNamed groups → AllByRecursion (λ m. AnswersMain groups m.group) ms
+    → AllByRecursion (λ m. AnswersMain groups m.group) os
+    → AllByRecursion (λ m. HasPlainMain groups m.group) ms
+    → AllByRecursion (λ m. HasPlainMain groups m.group) os
+    → map (canonical_word groups) ms ++ stop_word ∷ frees
+    ≡ map (canonical_word groups) os ++ stop_word ∷ others → (ms ≡ os) × (frees ≡ others)
+canonical_line-parts groups [] [] frees others lawful own own_other plain plain_other same = (refl, cc)
+canonical_line-parts groups [] (o ∷ os) frees others lawful own own_other plain plain_other same =
+    let first : canonical_word groups o ≡ stop_word = cc in
+    absurd (canonical_word-no_stop groups o lawful own_other.0 plain_other.0 first)
+canonical_line-parts groups (m ∷ ms) [] frees others lawful own own_other plain plain_other same =
+    let first : canonical_word groups m ≡ stop_word = cc in
+    absurd (canonical_word-no_stop groups m lawful own.0 plain.0 first)
+canonical_line-parts groups (m ∷ ms) (o ∷ os) frees others lawful own own_other plain plain_other same =
+    let first : canonical_word groups m ≡ canonical_word groups o = cc in
+    let after : map (canonical_word groups) ms ++ stop_word ∷ frees ≡ map (canonical_word groups) os ++ stop_word ∷ others = cc in
+    let head : m ≡ o = canonical_word-cancel groups m o own.0 own_other.0 plain.0 plain_other.0 first in
+    let parts = canonical_line-parts groups ms os frees others lawful own.1 own_other.1 plain.1 plain_other.1 after in
+    let told : ms ≡ os = parts.0 in
+    (cc, parts.1)
+
+-- sound and plain contents have equal canonical lines exactly if they are equal
+pub canonical_line-same : (groups : List Group) (content other : Content) → AreLawfullyNamed groups
+    → IsSound groups content → IsPlain groups content → IsSound groups other → IsPlain groups other
+    → (canonical_line groups content ≡ canonical_line groups other) ↔ (content ≡ other)
+canonical_line-same groups content other lawful sound plain sound_other plain_other = (tells, ap (canonical_line groups)) where
+  tells : canonical_line groups content ≡ canonical_line groups other → content ≡ other
+  tells same =
+      let parts = canonical_line-parts groups content.mentions other.mentions content.free other.free lawful sound
+      sound_other plain plain_other same in
+      let content_with : List Mention → List Text → Content = λ told frees. record { mentions = told; free = frees } in
+      ap (λ told. content_with told content.free) parts.0 ∙ ap (content_with other.mentions) parts.1
+
+-- a sound and plain content alone has its canonical line
+pub IsOnlyContent-sound : (groups : List Group) (content : Content) → AreLawfullyNamed groups
+    → IsSound groups content → IsPlain groups content → IsOnlyContent groups content
+IsOnlyContent-sound groups content lawful sound plain other sound_other plain_other =
+    canonical_line-same groups other content lawful sound_other plain_other sound plain
+
+-- the laws of the canonical line of a plain content that a line says
+pub HasCanonicalLine-says : (options : Declared) (words : List Text) (content : Content)
+    → AreLawfullyNamed options.groups → IsNamed (grammar_of options) → Says options words content
+    → IsPlain options.groups content → HasCanonicalLine options content
+HasCanonicalLine-says options words content lawful named says plain =
+    let sound = IsSound-says options words content says in
+    let back = ReadsBackEverywhere-says options words content says plain in
+    let nothing_else = SaysNothingElse-reads_back options content named back in
+    record {
+      sound = sound;
+      reads_back = back;
+      says_nothing_else = nothing_else;
+      its_own = λ other says_other. ap (canonical_line options.groups) (nothing_else other says_other);
+      only = IsOnlyContent-sound options.groups content lawful sound plain;
+    }
+
+-- two canonical lines are equal exactly if they say the same
+pub CanonicalLinesTell-lawful : (options : Declared) → AreLawfullyNamed options.groups
+    → CanonicalLinesTell options
+CanonicalLinesTell-lawful options lawful words others content other says plain says_other plain_other =
+    canonical_line-same options.groups content other lawful (IsSound-says options words content says) plain
+    (IsSound-says options others other says_other) plain_other
+
+-- a text whose front holds `=` holds it
+holds_equals-append : (a b : Text) → holds_equals a ≡ true → holds_equals (a ++ b) ≡ true
+holds_equals-append [] b holds = cc
+holds_equals-append (c ∷ a) b holds = elim (or_cases (c == equals_sign) (holds_equals a) holds) [
+  | inl here ↦ or_left (c == equals_sign) (holds_equals (a ++ b)) here
+  | inr later ↦ or_right (c == equals_sign) (holds_equals (a ++ b)) (holds_equals-append a b later)
+]
+
+-- a name that holds no `=`, with an argument, isn't a main name that holds `=`, with the same value
+no_name-equals : (name main : Text) (argument : Argument) → holds_equals name ≡ false
+    → holds_equals main ≡ true
+    → name ++ with_equals (attached_argument argument) ≡ main ++ with_equals (value_of argument) → ⊥
+no_name-equals name main none cut_once holds same =
+    true≢false (sym holds ∙ ap holds_equals (sym (append_cancel_right name main [] same)) ∙ cut_once)
+no_name-equals name main (attached value) cut_once holds same =
+    true≢false (sym holds ∙ ap holds_equals (sym (append_cancel_right name main (equals_sign ∷ value) same)) ∙ cut_once)
+no_name-equals name main (separate word) cut_once holds same =
+    true≢false (sym (holds_equals-append main (equals_sign ∷ word) holds) ∙ ap holds_equals (sym same ∙ append-nil name) ∙ cut_once)
+
+-- the canonical word begins no lawful item with just its mention, where the main name holds `=`
+pub HasNoItem-equals : (options : Declared) (m : Mention)
+    → holds_equals (main_at options.groups m.group) ≡ true → HasNoItem options m
+HasNoItem-equals options m holds style long_only (free word) after others lawful just same = absurd cc
+HasNoItem-equals options m holds style long_only (long one name argument) after others lawful just same =
+    let text : name ++ with_equals (attached_argument argument) ≡ dash ∷ (main_at options.groups m.group ++ with_equals m.value) = cc in
+    true≢false (sym (ap begins_with_dash text) ∙ begins_with_dash-append name (attached_argument argument) lawful.before.1)
+HasNoItem-equals options m holds style long_only (long two name argument) after others lawful just same =
+    let text : name ++ with_equals (attached_argument argument) ≡ main_at options.groups m.group ++ with_equals m.value = cc in
+    let mentioned : mention (grammar_of (with_setting options style long_only)) name (value_of argument) ≡ m = cc in
+    let value : m.value ≡ value_of argument = sym (ap (λ k. k.value) mentioned) in
+    no_name-equals name (main_at options.groups m.group) argument lawful.cut_once holds
+    (text ∙ ap (λ v. main_at options.groups m.group ++ with_equals v) value)
+HasNoItem-equals options m holds style long_only (cluster names end) after others lawful just same =
+    let text : names ++ end_text end ≡ dash ∷ (main_at options.groups m.group ++ with_equals m.value) = cc in
+    true≢false (sym (ap begins_with_dash text) ∙ lawful.short_form)
+
+-- whether no mentioned group has a main name that holds `=`
+abbrev pub is_plain : List Group → List Mention → Bool
+is_plain groups mentions = list_all (λ m. not (holds_equals (main_at groups m.group))) mentions
+
+-- where none has, they are plain
+pub is_plain-true : (groups : List Group) (mentions : List Mention)
+    → is_plain groups mentions ≡ true → AllByRecursion (λ m. HasPlainMain groups m.group) mentions
+is_plain-true groups [] plain = tt
+is_plain-true groups (m ∷ ms) plain =
+    let parts = and_parts (not (holds_equals (main_at groups m.group))) (is_plain groups ms) plain in
+    (not-true (holds_equals (main_at groups m.group)) parts.0, is_plain-true groups ms parts.1)
+
+is_plain-from : (groups : List Group) (mentions : List Mention)
+    → AllByRecursion (λ m. HasPlainMain groups m.group) mentions → is_plain groups mentions ≡ true
+is_plain-from groups [] plain = refl
+is_plain-from groups (m ∷ ms) plain = rw (plain.0) (is_plain-from groups ms plain.1)
+
+-- and else they aren't
+pub is_plain-false : (groups : List Group) (mentions : List Mention)
+    → is_plain groups mentions ≡ false
+    → ¬ (AllByRecursion (λ m. HasPlainMain groups m.group) mentions)
+is_plain-false groups mentions other = λ plain. true≢false (sym (is_plain-from groups mentions plain) ∙ other)
+
+-- mentions are plain, or one is of such a group
+plain_cases : (groups : List Group) (ms : List Mention)
+    → AllByRecursion (λ m. HasPlainMain groups m.group) ms
+    ⊎ ((m : Mention) × Contains ms m × (holds_equals (main_at groups m.group) ≡ true))
+plain_cases groups [] = inl tt
+plain_cases groups (m ∷ ms) = elim (cases_Bool (holds_equals (main_at groups m.group))) [
+  | inl holds ↦ inr (m, (0, omega arith, refl), holds)
+  | inr plain ↦ elim (plain_cases groups ms) [
+    | inl others ↦ inl (plain, others)
+    | inr found ↦ inr (found.0, (suc found.1.0, omega arith, found.1.2), found.2)
+  ]
+]
+
+-- a content that isn't plain has a mention that can't be written
+pub HasUnwritable-content : (options : Declared) (content : Content)
+    → ¬ (IsPlain options.groups content) → HasUnwritable options content
+HasUnwritable-content options content not_plain = elim (plain_cases options.groups content.mentions) [
+  | inl plain ↦ absurd (not_plain plain)
+  | inr found ↦ record { unwritable = found.0; mentioned = found.1; no_item = HasNoItem-equals options found.0 found.2 }
+]

@@ -1,0 +1,106 @@
+-- The tests of `==` say exactly that what they compare is equal.
+use Rattle.std.proofs.Common.{◌≡◌, ◌==◌, ◌&&◌, ◌*◌, Bool, List, [], ◌∷◌, map, length, arith, Option}
+use Rattle.std.proofs.Common.{Some, None, refl, ap, sym, ◌∙◌}
+use Rattle.std.specs.Bool.{Decides}
+use Rattle.std.specs.Cmp.Lexicographic.{pointwise, pointwise_decides, bytes_decides}
+use Rattle.std.specs.Option.{option_eq}
+use Rattle.std.proofs.lemmas.Bool.{false≢true}
+use Rattle.std.proofs.lemmas.Bool.Decides.{Decides-and, Decides-like, Decides-eqb}
+use Rattle.std.proofs.lemmas.Bool.Decides.{same_from_decides}
+use Rattle.getopts.specs.Names.{Text}
+use Rattle.getopts.specs.Options.{Known, Group, knowns_of}
+use Rattle.getopts.specs.Matches.{Found, MatchedGroup, Matched}
+use Rattle.getopts.specs.Pairs.{beside_pairs, name_texts}
+use Rattle.getopts.specs.Held.Groups.{known_with}
+use Rattle.getopts.specs.Held.Options.{group_with}
+use Rattle.getopts.specs.Same.{same_known, same_group, same_found, same_matched_group, same_matches}
+use Rattle.getopts.specs.declared.groups.Kinds.{Kinds}
+use Rattle.getopts.proofs.Held.Options.{same_known-decides, same_group-decides}
+use Rattle.getopts.proofs.Held.Pairs.{kinds-beside, name_texts-beside, knowns_of-held}
+
+-- the kinds of a group
+abbrev kinds_of : Known → Kinds
+kinds_of known = record { hasarg = known.kind; occur = known.occurrence }
+
+-- the test of two groups' kinds
+abbrev pub same_kinds : Kinds → Kinds → Bool
+same_kinds kinds other = same_known (known_with kinds [] []) (known_with other [] [])
+
+same_kinds-decides : (a b : Kinds) → Decides (same_kinds a b) (a ≡ b)
+same_kinds-decides a b = Decides-like (same_kinds a b) (λ e. ap kinds_of e)
+    (λ e. ap (λ (k : Kinds). known_with k [] []) e) (same_known-decides (known_with a [] []) (known_with b [] []))
+
+-- groups are the same where their kinds and the texts of their names are
+pub same_groups : (kinds others : List Kinds) (texts other_texts : List Text)
+    → length texts ≡ 2 * length kinds → length other_texts ≡ 2 * length others
+    → (pointwise same_kinds kinds others && pointwise (pointwise ◌==◌) texts other_texts)
+    ≡ pointwise same_known (beside_pairs known_with kinds texts)
+    (beside_pairs known_with others other_texts)
+same_groups kinds others texts other_texts fits other_fits =
+    let by_parts : Decides (pointwise same_kinds kinds others && pointwise (pointwise ◌==◌) texts other_texts)
+    ((kinds ≡ others) × (texts ≡ other_texts)) =
+    Decides-and _ _ (pointwise_decides same_kinds-decides kinds others) (pointwise_decides bytes_decides texts other_texts) in
+    same_from_decides _ _
+    (Decides-like _ (λ same i. beside_pairs known_with (same.0 i) (same.1 i)) (λ e. (
+      sym (kinds-beside kinds texts fits) ∙ ap (map kinds_of) e ∙ kinds-beside others other_texts other_fits,
+      sym (name_texts-beside kinds texts fits) ∙ ap name_texts e ∙ name_texts-beside others other_texts other_fits,
+    )) by_parts)
+    (pointwise_decides same_known-decides (beside_pairs known_with kinds texts) (beside_pairs known_with others other_texts))
+
+-- groups with their help texts are the same where what is known of them and the texts are
+pub same_helped : (knowns others : List Known) (help other_help : List Text)
+    → length help ≡ 2 * length knowns → length other_help ≡ 2 * length others
+    → (pointwise same_known knowns others && pointwise (pointwise ◌==◌) help other_help)
+    ≡ pointwise same_group (beside_pairs group_with knowns help)
+    (beside_pairs group_with others other_help)
+same_helped knowns others help other_help fits other_fits =
+    let by_parts : Decides (pointwise same_known knowns others && pointwise (pointwise ◌==◌) help other_help)
+    ((knowns ≡ others) × (help ≡ other_help)) =
+    Decides-and _ _ (pointwise_decides same_known-decides knowns others) (pointwise_decides bytes_decides help other_help) in
+    same_from_decides _ _
+    (Decides-like _ (λ same i. beside_pairs group_with (same.0 i) (same.1 i)) (λ e. (
+      sym (knowns_of-held knowns help fits) ∙ ap knowns_of e ∙ knowns_of-held others other_help other_fits,
+      sym (help-beside knowns help fits) ∙ ap help_texts e ∙ help-beside others other_help other_fits,
+    )) by_parts)
+    (pointwise_decides same_group-decides (beside_pairs group_with knowns help) (beside_pairs group_with others other_help)) where
+      help_texts : List Group → List Text
+      help_texts [] = []
+      help_texts (group ∷ groups) = group.hint ∷ group.description ∷ help_texts groups
+
+      help-beside : (ks : List Known) (texts : List Text) → length texts ≡ 2 * length ks
+          → help_texts (beside_pairs group_with ks texts) ≡ texts
+      help-beside [] [] texts_fit = refl
+      help-beside [] (t ∷ texts) texts_fit = absurd (omega arith)
+      help-beside (k ∷ ks) [] texts_fit = absurd (omega arith)
+      help-beside (k ∷ ks) (a ∷ []) texts_fit = absurd (omega arith)
+      help-beside (k ∷ ks) (a ∷ b ∷ texts) texts_fit = ap (λ (more : List Text). a ∷ b ∷ more) (help-beside ks texts (omega arith))
+
+-- a test of options says exactly that they are equal, where that of their values does
+options_decide : {X : Type 0} (E : X → X → Bool) → ((a b : X) → Decides (E a b) (a ≡ b))
+    → (o p : Option X) → Decides (option_eq E o p) (o ≡ p)
+options_decide E decides None None = (λ _. refl, λ _. refl)
+options_decide E decides None (Some y) = (λ e. absurd (false≢true e), λ e. cc e)
+options_decide E decides (Some x) None = (λ e. absurd (false≢true e), λ e. cc e)
+options_decide E decides (Some x) (Some y) = (λ e. ap (λ z. Some z) ((decides x y).0 e), λ e. (decides x y).1 (cc e))
+
+-- the test of two occurrences says exactly that they are equal
+same_found-decides : (a b : Found) → Decides (same_found a b) (a ≡ b)
+same_found-decides a b = Decides-like (same_found a b)
+    (λ h. λ i. record { position = h.0 i; value = h.1 i })
+    (λ e. (ap (λ f. f.position) e, ap (λ f. f.value) e))
+    (Decides-and _ _ (Decides-eqb a.position b.position) (options_decide (pointwise ◌==◌) bytes_decides a.value b.value))
+
+-- the test of two groups says exactly that they are equal
+same_matched_group-decides : (a b : MatchedGroup) → Decides (same_matched_group a b) (a ≡ b)
+same_matched_group-decides a b = Decides-like (same_matched_group a b)
+    (λ h. λ i. record { known = h.0 i; found = h.1 i })
+    (λ e. (ap (λ g. g.known) e, ap (λ g. g.found) e))
+    (Decides-and _ _ (same_known-decides _ _) (pointwise_decides same_found-decides a.found b.found))
+
+-- the test of two matches says exactly that they are equal
+pub same_matches-decides : (a b : Matched) → Decides (same_matches a b) (a ≡ b)
+same_matches-decides a b = Decides-like (same_matches a b)
+    (λ h. λ i. record { groups = h.0 i; free = h.1.0 i; trailing_start = h.1.1 i })
+    (λ e. (ap (λ m. m.groups) e, (ap (λ m. m.free) e, ap (λ m. m.trailing_start) e)))
+    (Decides-and _ _ (pointwise_decides same_matched_group-decides a.groups b.groups)
+    (Decides-and _ _ (pointwise_decides bytes_decides a.free b.free) (options_decide ◌==◌ Decides-eqb a.trailing_start b.trailing_start)))

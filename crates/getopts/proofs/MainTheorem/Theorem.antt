@@ -1,0 +1,158 @@
+-- The main theorem, of options that are lawfully named, by texts.
+use Rattle.std.proofs.Common.{◌⊎◌, List, refl, sym, subst, inl, inr, Option, Some, None}
+use Rattle.std.specs.List.{AllByRecursion}
+use Rattle.std.specs.Str.{IsUtf8}
+use Rattle.getopts.specs.Names.{Text, AreTexts}
+use Rattle.getopts.specs.Options.{Declared, AreLawfullyNamed, grammar_of}
+use Rattle.getopts.specs.Fail.{Fault}
+use Rattle.getopts.specs.Scan.{Reading, IsReading, IsScanFault}
+use Rattle.getopts.specs.Matches.{Matched, MatchedGroup, matches_of, KeepsCounts, IsCountFault}
+use Rattle.getopts.specs.Parse.{IsAccepted, BreaksCounts, HasNoReading, IsRefused}
+use Rattle.getopts.specs.Canon.{content_of, IsPlain, canonical_line, IsCountKeeping}
+use Rattle.getopts.specs.Canon.{HasCanonicalLine}
+use Rattle.getopts.specs.CanonAnswers.{IsAcceptedWith, IsWritten, EachPlainContent}
+use Rattle.getopts.specs.CanonAnswers.{AnsweredLinesTell}
+use Rattle.getopts.specs.Theorem.{IsFirstFault, OneReading, AcceptedExactlyWhen, RefusedExactlyWhen}
+use Rattle.getopts.specs.Theorem.{OneOfThree, OneReadingGivesAll, CanonicalLinesTell}
+use Rattle.getopts.proofs.Canonical.Lines.{Says-reading, HasCanonicalLine-says}
+use Rattle.getopts.proofs.Canonical.Lines.{CanonicalLinesTell-lawful}
+use Rattle.getopts.proofs.Canonical.Answered.{accepted_reads, breaking_reads, only_matches}
+use Rattle.getopts.proofs.Canonical.Answered.{not_refused, only_content, only_line}
+use Rattle.getopts.proofs.Canonical.Answered.{AnsweredLinesTell-lawful}
+use Rattle.getopts.proofs.Parsing.Only.{IsTheOnly-from, meets}
+use Rattle.getopts.proofs.Parsing.Parsed.{only_reads, named_here, HasNoReading-fault}
+use Rattle.getopts.proofs.Reading.Readings.{only_reading, reading_or_fault}
+use Rattle.getopts.proofs.Reading.Turns.{IsNamed}
+use Rattle.getopts.proofs.MainTheorem.Computed.{HaveFault, first_count_fault, first_count_fault-is}
+
+-- groups keep their counts, or they have a count fault
+KeepsCounts-cases : (groups : List MatchedGroup)
+    → KeepsCounts groups ⊎ ((fault : Fault) × IsCountFault groups fault)
+KeepsCounts-cases groups = by_fault (first_count_fault groups) (first_count_fault-is groups) where
+  by_fault : (fault : Option Fault) → HaveFault groups fault
+      → KeepsCounts groups ⊎ ((fault : Fault) × IsCountFault groups fault)
+  by_fault None kept = inl kept
+  by_fault (Some fault) is = inr (fault, is)
+
+module _ (options : Declared) (lawful : AreLawfullyNamed options.groups)
+    (shorts : AllByRecursion (λ group. IsUtf8 group.known.names.short) options.groups) where
+  named : IsNamed (grammar_of options)
+  named = named_here options lawful shorts
+
+  -- words have one reading at most
+  pub OneReading-options : OneReading options
+  OneReading-options words reading other reads other_reads = only_reading (grammar_of options) named words other reading other_reads reads
+
+  -- a reading that keeps the counts is accepted, with its matches and its content
+  accepted : (words : List Text) (reading : Reading) → IsCountKeeping options reading words
+      → IsAccepted options words (matches_of options reading)
+  accepted words reading keeps = record {
+    reading = reading;
+    only = only_reads options lawful shorts words reading keeps.reads;
+    counts = keeps.keeps;
+    matches_are = refl;
+  }
+
+  accepted_with : (words : List Text) (reading : Reading) → IsCountKeeping options reading words
+      → IsAcceptedWith options words (content_of (grammar_of options) reading)
+  accepted_with words reading keeps = record {
+    reading = reading;
+    only = only_reads options lawful shorts words reading keeps.reads;
+    counts = keeps.keeps;
+    content_is = refl;
+  }
+
+  -- canonical lines keep their laws
+  pub HasCanonicalLine-options : EachPlainContent options (HasCanonicalLine options)
+  HasCanonicalLine-options words content says plain = HasCanonicalLine-says options words content lawful named says plain
+
+  written : (words : List Text) (reading : Reading) → IsCountKeeping options reading words
+      → IsPlain options.groups (content_of (grammar_of options) reading)
+      → IsWritten options words
+      (canonical_line options.groups (content_of (grammar_of options) reading))
+  written words reading keeps plain = record {
+    content = content_of (grammar_of options) reading;
+    accepted = accepted_with words reading keeps;
+    plain = plain;
+    line_is = refl;
+    laws = HasCanonicalLine-options words (content_of (grammar_of options) reading) (Says-reading options reading words keeps) plain;
+  }
+
+  -- accepted exactly when a reading keeps the counts
+  pub AcceptedExactlyWhen-options : AcceptedExactlyWhen options
+  AcceptedExactlyWhen-options words matches = (
+    λ is. (is.reading, record { reads = accepted_reads options words matches is; keeps = is.counts }, is.matches_are),
+    λ has. subst (IsAccepted options words) (sym has.2) (accepted words has.0 has.1),
+  )
+
+  first_fault : (words : List Text) (fault : Fault) → IsRefused options words fault
+      → IsFirstFault options words fault
+  first_fault words fault (inl is) = inl (meets (IsScanFault (grammar_of options) words) fault is.only)
+  first_fault words fault (inr is) = inr (is.reading, breaking_reads options words fault is, is.breaks)
+
+  breaks_counts : (words : List Text) (fault : Fault) (reading : Reading)
+      → IsReading (grammar_of options) reading words
+      → IsCountFault (matches_of options reading).groups fault → BreaksCounts options words fault
+  breaks_counts words fault reading reads breaks = record {
+    reading = reading;
+    only = only_reads options lawful shorts words reading reads;
+    breaks = breaks;
+  }
+
+  refused : (words : List Text) (fault : Fault) → AreTexts words → IsFirstFault options words fault
+      → IsRefused options words fault
+  refused words fault texts (inl scan) = inl (HasNoReading-fault options lawful shorts words texts fault scan)
+  refused words fault texts (inr count) = inr (breaks_counts words fault count.0 count.1 count.2)
+
+  -- refused exactly when none does
+  pub RefusedExactlyWhen-options : RefusedExactlyWhen options
+  RefusedExactlyWhen-options words fault texts = (
+    λ is. (λ reading keeps. not_refused options words reading fault keeps is, first_fault words fault is),
+    λ told. refused words fault texts told.1,
+  )
+
+  -- words are accepted, or break the counts, or have no reading
+  one_of_three : (words : List Text) → AreTexts words
+      → ((matches : Matched) × IsAccepted options words matches)
+      ⊎ (((fault : Fault) × BreaksCounts options words fault)
+      ⊎ ((fault : Fault) × HasNoReading options words fault))
+  one_of_three words texts = elim (reading_or_fault (grammar_of options) named words texts) [
+    | inl read ↦ elim (KeepsCounts-cases (matches_of options read.0).groups) [
+      | inl keeps ↦ inl (matches_of options read.0, accepted words read.0 (record { reads = read.1; keeps = keeps }))
+      | inr breaks ↦ inr (inl (breaks.0, breaks_counts words breaks.0 read.0 read.1 breaks.1))
+    ]
+    | inr fault ↦ inr (inr (fault.0, HasNoReading-fault options lawful shorts words texts fault.0 fault.1))
+  ]
+
+  count_keeping : (words : List Text) (matches : Matched) (is : IsAccepted options words matches)
+      → IsCountKeeping options is.reading words
+  count_keeping words matches is = record { reads = accepted_reads options words matches is; keeps = is.counts }
+
+  pub OneOfThree-options : OneOfThree options
+  OneOfThree-options words texts = (
+    one_of_three words texts,
+    λ both. not_refused options words both.0.1.reading both.1.0 (count_keeping words both.0.0 both.0.1) (inr both.1.1),
+    λ both. not_refused options words both.0.1.reading both.1.0 (count_keeping words both.0.0 both.0.1) (inl both.1.1),
+    λ both. both.1.1.no_reading both.0.1.reading (breaking_reads options words both.0.0 both.0.1),
+  )
+
+  -- one reading gives the matches, the content and the canonical line
+  pub OneReadingGivesAll-options : OneReadingGivesAll options
+  OneReadingGivesAll-options words reading keeps = record {
+    matches = IsTheOnly-from (IsAccepted options words) (matches_of options reading) (accepted words reading keeps)
+        (λ other is. only_matches options words other (matches_of options reading) is (accepted words reading keeps));
+    content = IsTheOnly-from (IsAcceptedWith options words) (content_of (grammar_of options) reading) (accepted_with words reading keeps)
+        (λ other is. only_content options words other (content_of (grammar_of options) reading) is (accepted_with words reading keeps));
+    line = λ plain. IsTheOnly-from (IsWritten options words)
+        (canonical_line options.groups (content_of (grammar_of options) reading)) (written words reading keeps plain)
+        (λ other is. only_line options words other (canonical_line options.groups
+        (content_of (grammar_of options) reading)) is (written words reading keeps plain));
+  }
+
+  -- two canonical lines
+  pub CanonicalLinesTell-options : CanonicalLinesTell options
+  CanonicalLinesTell-options = CanonicalLinesTell-lawful options lawful
+
+  -- two answers
+  pub AnsweredLinesTell-options : AnsweredLinesTell options
+  AnsweredLinesTell-options = AnsweredLinesTell-lawful options lawful named

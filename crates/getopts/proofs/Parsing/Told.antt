@@ -1,0 +1,237 @@
+-- What accepted matches tell of the names that the options declare.
+use Rattle.std.proofs.Common.{◌≡◌, ◌==◌, ◌<◌, ◌+◌, ℕ, zero, suc, Bool, true, false, cond, List, []}
+use Rattle.std.proofs.Common.{◌∷◌, ◌++◌, length, append_assoc, map, slice_get, Option, Some, None}
+use Rattle.std.proofs.Common.{IsSome, refl, ap, sym, subst, ◌∙◌, arith, add-zero, zero-add}
+use Rattle.std.specs.List.{AllByRecursion, filter}
+use Rattle.std.specs.Option.{option_map}
+use Rattle.std.proofs.lemmas.Bool.{eqb-true}
+use Rattle.std.proofs.lemmas.Option.{option_and_then_some, same_Some}
+use Rattle.getopts.specs.Names.{Text, Names, resolution}
+use Rattle.getopts.specs.Options.{Known, Group, Grammar, Declared, names_of, knowns_of, kind_at}
+use Rattle.getopts.specs.Options.{grammar_of}
+use Rattle.getopts.specs.Scan.{Occurrence, Item, free, long, cluster, Tail, line_end, stop, rest}
+use Rattle.getopts.specs.Scan.{stop_word, spelled_all, tail_words, tail_frees, free_items}
+use Rattle.getopts.specs.Scan.{free_words, IsLawfulItem, Reading, IsReading, occurrences_of}
+use Rattle.getopts.specs.Matches.{Found, Matched, MatchedGroup, found_at, matched, FitsCount}
+use Rattle.getopts.specs.Matches.{KeepsCounts}
+use Rattle.getopts.specs.Accessors.{place_of, found_of, found_in, first_value}
+use Rattle.getopts.specs.Canon.{FitsKind}
+use Rattle.getopts.specs.Parse.{IsAccepted}
+use Rattle.getopts.specs.Told.{HaveLastWordsFree, HaveValuesFor, AreGroupsOf, HaveValuesByKind}
+use Rattle.getopts.specs.Told.{DefineDeclared, HoldRequiredOnce, HoldNeededValues}
+use Rattle.getopts.specs.ScanLaws.{EndIn}
+use Rattle.getopts.specs.declared.groups.ParsingStyle.TheVariants.{FloatingFrees, StopAtFirstFree}
+use Rattle.getopts.specs.declared.groups.HasArg.{HasArg}
+use Rattle.getopts.specs.declared.groups.HasArg.TheVariants.{Yes}
+use Rattle.getopts.specs.declared.groups.Occur.{Occur}
+use Rattle.getopts.specs.declared.groups.Occur.TheVariants.{Req}
+use Rattle.getopts.proofs.Lists.{AllByRecursion-unmap}
+use Rattle.getopts.proofs.Canonical.Lines.{FitsGroup, IsFitting-reading}
+use Rattle.getopts.proofs.Held.Matches.{knowns-matched}
+use Rattle.getopts.proofs.Reading.Readings.{spelled_all-append}
+use Rattle.getopts.proofs.Held.Pairs.{names-knowns_of}
+
+-- the names of known groups
+names-known : (groups : List MatchedGroup) (knowns : List Known)
+    → map (λ (group : MatchedGroup). group.known) groups ≡ knowns
+    → map (λ (group : MatchedGroup). group.known.names) groups
+    ≡ map (λ (known : Known). known.names) knowns
+names-known groups knowns same = names-map groups ∙ ap (map (λ (known : Known). known.names)) same where
+  names-map : (groups : List MatchedGroup)
+      → map (λ (group : MatchedGroup). group.known.names) groups
+      ≡ map (λ (known : Known). known.names) (map (λ (group : MatchedGroup). group.known) groups)
+  names-map [] = refl
+  names-map (group ∷ groups) = ap (λ (more : List Names). group.known.names ∷ more) (names-map groups)
+
+-- a name resolves alike among groups and among those that matches hold of them
+pub place_of-groups : (options : Declared) (groups : List MatchedGroup) → AreGroupsOf options groups
+    → (name : Text) → resolution (names_of options.groups) name ≡ place_of groups name
+place_of-groups options groups are name =
+    ap (λ (names : List Names). resolution names name)
+    (sym (names-known groups (knowns_of options.groups) are ∙ names-knowns_of options.groups))
+
+-- each name that the options declare is defined
+pub DefineDeclared-groups : (options : Declared) (groups : List MatchedGroup)
+    → AreGroupsOf options groups → DefineDeclared options groups
+DefineDeclared-groups options groups are name declares = subst (λ (place : Option ℕ). IsSome place) (place_of-groups options groups are name) declares
+
+-- what is found of a group at a place among those that match these
+module _ (P : Known → List Found → Type 0) where
+  at_place : (knowns : List Known) (groups : List MatchedGroup)
+      → map (λ (group : MatchedGroup). group.known) groups ≡ knowns
+      → AllByRecursion (λ (group : MatchedGroup). P group.known group.found) groups
+      → (place : ℕ) (known : Known) → slice_get knowns place ≡ Some known
+      → P known (found_in groups (Some place))
+  at_place [] groups are each place known there = cc there
+  at_place (first ∷ knowns) [] are each place known there = cc are
+  at_place (first ∷ knowns) (group ∷ groups) are each zero known there =
+      let same : group.known ≡ known = cc in
+      subst (λ (k : Known). P k group.found) same each.0
+  at_place (first ∷ knowns) (group ∷ groups) are each (suc place) known there =
+      let others : map (λ (group : MatchedGroup). group.known) groups ≡ knowns = cc in
+      at_place knowns groups others each.1 place known there
+
+-- the kinds of known groups
+kind-known : (groups : List Group) (place : ℕ) (kind : HasArg)
+    → option_map (λ (group : Group). group.known.kind) (slice_get groups place) ≡ Some kind
+    → (known : Known) × (slice_get (knowns_of groups) place ≡ Some known) × (known.kind ≡ kind)
+kind-known [] place kind there = cc there
+kind-known (group ∷ groups) zero kind there = (group.known, refl, same_Some _ _ there)
+kind-known (group ∷ groups) (suc place) kind there = kind-known groups place kind there
+
+occurrence-known : (groups : List Group) (place : ℕ) (occurrence : Occur)
+    → option_map (λ (group : Group). group.known.occurrence) (slice_get groups place)
+    ≡ Some occurrence
+    → (known : Known) × (slice_get (knowns_of groups) place ≡ Some known)
+    × (known.occurrence ≡ occurrence)
+occurrence-known [] place occurrence there = cc there
+occurrence-known (group ∷ groups) zero occurrence there = (group.known, refl, same_Some _ _ there)
+occurrence-known (group ∷ groups) (suc place) occurrence there = occurrence-known groups place occurrence there
+
+module _ (options : Declared) (groups : List MatchedGroup) (are : AreGroupsOf options groups) where
+  -- each required option was given once
+  pub HoldRequiredOnce-groups : KeepsCounts groups → HoldRequiredOnce options groups
+  HoldRequiredOnce-groups keeps name required = option_and_then_some _ (resolution (names_of options.groups) name) Req required by_place where
+    by_place : (place : ℕ) → resolution (names_of options.groups) name ≡ Some place
+        → option_map (λ (group : Group). group.known.occurrence) (slice_get options.groups place)
+        ≡ Some Req → length (found_of groups name) ≡ 1
+    by_place place resolves there =
+        let known = occurrence-known options.groups place Req there in
+        let fits = at_place (λ known found. FitsCount known.occurrence (length found))
+        (knowns_of options.groups) groups are keeps place known.0 known.1 in
+        let once : FitsCount Req (length (found_in groups (Some place))) =
+        subst (λ (occurrence : Occur). FitsCount occurrence (length (found_in groups (Some place)))) known.2 fits in
+        ap (λ (at : Option ℕ). length (found_in groups at))
+        (sym (place_of-groups options groups are name) ∙ resolves) ∙ once
+
+  -- occurrences that have values have a first
+  first_there : (founds : List Found) → HaveValuesFor Yes founds → 0 < length founds
+      → IsSome (first_value founds)
+  first_there [] each some = absurd (omega arith)
+  first_there (found ∷ founds) each some = there found.value each.0 where
+    there : (value : Option Text) → FitsKind Yes value → IsSome value
+    there None fits = absurd fits
+    there (Some text) fits = refl
+
+  -- each option that needs an argument and was given has a value
+  pub HoldNeededValues-groups : HaveValuesByKind groups → HoldNeededValues options groups
+  HoldNeededValues-groups have name needs = option_and_then_some _ (resolution (names_of options.groups) name) Yes needs by_place where
+    by_place : (place : ℕ) → resolution (names_of options.groups) name ≡ Some place
+        → option_map (λ (group : Group). group.known.kind) (slice_get options.groups place)
+        ≡ Some Yes → 0 < length (found_of groups name) → IsSome (first_value (found_of groups name))
+    by_place place resolves there =
+        let known = kind-known options.groups place Yes there in
+        let fits = at_place (λ known found. HaveValuesFor known.kind found) (knowns_of options.groups) groups are have place known.0 known.1 in
+        let values : HaveValuesFor Yes (found_in groups (Some place)) =
+        subst (λ (kind : HasArg). HaveValuesFor kind (found_in groups (Some place))) known.2 fits in
+        let here : Some place ≡ place_of groups name = sym resolves ∙ place_of-groups options groups are name in
+        first_there (found_of groups name)
+        (subst (λ (at : Option ℕ). HaveValuesFor Yes (found_in groups at)) here values)
+
+-- an occurrence of a group of a kind
+FitsKind-place : (groups : List Group) (o : Occurrence) (place : ℕ) (kind : HasArg)
+    → kind_at groups place ≡ Some kind → FitsGroup groups o.mention → o.mention.group ≡ place
+    → FitsKind kind o.mention.value
+FitsKind-place groups o place kind there fits here =
+    let same : fits.0 ≡ kind = same_Some _ _ (sym fits.1 ∙ ap (kind_at groups) here ∙ there) in
+    subst (λ (k : HasArg). FitsKind k o.mention.value) same fits.2
+
+-- the occurrences of one group have values as its kind wants
+HaveValuesFor-found_at : (groups : List Group) (place : ℕ) (kind : HasArg)
+    → kind_at groups place ≡ Some kind → (occurrences : List Occurrence)
+    → AllByRecursion (λ o. FitsGroup groups o.mention) occurrences
+    → HaveValuesFor kind (found_at place occurrences)
+HaveValuesFor-found_at groups place kind there [] each = tt
+HaveValuesFor-found_at groups place kind there (o ∷ occurrences) each = here (o.mention.group == place) refl
+    (HaveValuesFor-found_at groups place kind there occurrences each.1) where
+      here : (is : Bool) → (o.mention.group == place) ≡ is
+          → HaveValuesFor kind (found_at place occurrences)
+          → HaveValuesFor kind
+          (map (λ (o : Occurrence). record { position = o.position; value = o.mention.value })
+          (cond is (o ∷ filter (λ (o : Occurrence). o.mention.group == place) occurrences)
+          (filter (λ (o : Occurrence). o.mention.group == place) occurrences)))
+      here true is others = (FitsKind-place groups o place kind there each.0 (eqb-true o.mention.group place is), others)
+      here false is others = others
+
+-- the groups of matches have values as their kinds want
+HaveValuesByKind-matched : (groups : List Group) (first : ℕ) (knowns : List Known)
+    (occurrences : List Occurrence)
+    → ((i : ℕ) (known : Known) → slice_get knowns i ≡ Some known
+    → kind_at groups (first + i)
+    ≡ Some known.kind) → AllByRecursion (λ o. FitsGroup groups
+    o.mention) occurrences → HaveValuesByKind (matched first knowns occurrences)
+HaveValuesByKind-matched groups first [] occurrences are each = tt
+HaveValuesByKind-matched groups first (known ∷ knowns) occurrences are each = (
+  HaveValuesFor-found_at groups first known.kind (subst (λ n. kind_at groups n ≡ Some known.kind) (add-zero first)
+      (are 0 known refl)) occurrences each,
+  HaveValuesByKind-matched groups (first + 1) knowns occurrences
+      (λ i other there. subst (λ n. kind_at groups n ≡ Some other.kind) (moved i) (are (suc i) other there)) each,
+) where
+  moved : (i : ℕ) → first + suc i ≡ first + 1 + i
+  moved i = omega arith
+
+kind_at-known : (groups : List Group) (i : ℕ) (known : Known)
+    → slice_get (knowns_of groups) i ≡ Some known → kind_at groups i ≡ Some known.kind
+kind_at-known [] i known there = cc there
+kind_at-known (group ∷ groups) zero known there = ap (λ (k : Known). Some k.kind) (same_Some _ _ there)
+kind_at-known (group ∷ groups) (suc i) known there = kind_at-known groups i known there
+
+module _ (options : Declared) (words : List Text) (matches : Matched)
+    (accepted : IsAccepted options words matches) where
+  groups_are : matches.groups
+      ≡ matched 0 (knowns_of options.groups) (occurrences_of (grammar_of options) accepted.reading)
+  groups_are = ap (λ (m : Matched). m.groups) accepted.matches_are
+
+  -- accepted matches hold the groups of the options
+  pub AreGroupsOf-accepted : AreGroupsOf options matches.groups
+  AreGroupsOf-accepted = ap (map (λ (group : MatchedGroup). group.known)) groups_are
+      ∙ knowns-matched 0 (knowns_of options.groups) (occurrences_of (grammar_of options) accepted.reading)
+
+  -- and values as their kinds want
+  pub HaveValuesByKind-accepted : HaveValuesByKind matches.groups
+  HaveValuesByKind-accepted =
+      let occurrences = occurrences_of (grammar_of options) accepted.reading in
+      let fits = IsFitting-reading options accepted.reading words ((accepted.only accepted.reading).1 refl) in
+      let each : AllByRecursion (λ o. FitsGroup options.groups o.mention) occurrences =
+      AllByRecursion-unmap (FitsGroup options.groups)
+      (λ (o : Occurrence). o.mention) occurrences fits in
+      subst HaveValuesByKind (sym groups_are)
+      (HaveValuesByKind-matched options.groups 0 (knowns_of options.groups) occurrences
+      (λ i known there. subst (λ n. kind_at options.groups n ≡ Some known.kind) (sym (zero-add i))
+      (kind_at-known options.groups i known there)) each)
+
+-- the words of a tail end in its free words
+EndIn-tail : (tail : Tail) → EndIn (tail_words tail) (tail_frees tail)
+EndIn-tail line_end = ([], refl)
+EndIn-tail (stop words) = (stop_word ∷ [], refl)
+EndIn-tail (rest words) = ([], refl)
+
+-- under `StopAtFirstFree` no item is free
+no_free_items : (grammar : Grammar) → grammar.style ≡ StopAtFirstFree → (items : List Item)
+    → AllByRecursion (IsLawfulItem grammar) items → free_items items ≡ []
+no_free_items grammar style [] lawful = refl
+no_free_items grammar style (free word ∷ items) lawful = let floating : grammar.style ≡ FloatingFrees = lawful.0.1 in absurd cc
+no_free_items grammar style (long dashes name argument ∷ items) lawful = no_free_items grammar style items lawful.1
+no_free_items grammar style (cluster names end ∷ items) lawful = no_free_items grammar style items lawful.1
+
+-- under `StopAtFirstFree` the words of a reading end in its free words
+EndIn-reading : (grammar : Grammar) (reading : Reading) (words : List Text)
+    → IsReading grammar reading words → grammar.style ≡ StopAtFirstFree
+    → EndIn words (free_words reading)
+EndIn-reading grammar reading words reads style =
+    let tail = EndIn-tail reading.tail in
+    let front = spelled_all reading.items [] in
+    let none : free_words reading ≡ tail_frees reading.tail =
+    ap (λ (frees : List Text). frees ++ tail_frees reading.tail)
+    (no_free_items grammar style reading.items reads.items) in
+    let joined : front ++ (tail.0 ++ tail_frees reading.tail) ≡ (front ++ tail.0) ++ tail_frees reading.tail = simp append_assoc in
+    let parts : words ≡ front ++ tail_words reading.tail = sym reads.spells ∙ spelled_all-append reading.items [] (tail_words reading.tail) in
+    (front ++ tail.0, parts ∙ ap (λ (ws : List Text). front ++ ws) tail.1 ∙ joined ∙ ap (λ (ws : List Text). (front ++ tail.0) ++ ws) (sym none))
+
+-- under `StopAtFirstFree` the words end in the free words that accepted matches hold
+pub HaveLastWordsFree-accepted : (options : Declared) (words : List Text) (matches : Matched)
+    → IsAccepted options words matches → HaveLastWordsFree options words matches.free
+HaveLastWordsFree-accepted options words matches accepted style =
+    subst (EndIn words) (ap (λ (m : Matched). m.free) (sym accepted.matches_are))
+    (EndIn-reading (grammar_of options) accepted.reading words
+    ((accepted.only accepted.reading).1 refl) style)

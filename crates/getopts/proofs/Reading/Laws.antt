@@ -1,0 +1,527 @@
+-- The laws of readings, proved of every grammar.
+use Rattle.std.proofs.Common.{◌≡◌, ◌≢◌, ◌==◌, ℕ, zero, suc, ◌+◌, ◌<◌, ◌≤◌, Bool, true, false, cond}
+use Rattle.std.proofs.Common.{List, [], ◌∷◌, ◌++◌, length, map, get_or, Some, refl, sym, ap, ◌∙◌}
+use Rattle.std.proofs.Common.{subst, arith}
+use Rattle.std.proofs.Math.Seq.{drop-append_seam}
+use Rattle.std.specs.List.{AllByRecursion, flat_map}
+use Rattle.std.proofs.lemmas.List.{append-nil, append_assoc, length-append}
+use Rattle.std.proofs.lemmas.Grind.{flat_map-append}
+use Rattle.getopts.specs.Names.{Text}
+use Rattle.getopts.specs.Options.{Known, Grammar}
+use Rattle.getopts.specs.Scan.{dash, is_dashed, begins_with_dash, Argument, none, attached}
+use Rattle.getopts.specs.Scan.{separate, Dashes, one, two, End, flags, ends_in, Item, free, long}
+use Rattle.getopts.specs.Scan.{cluster, dash_text, end_text, spelled, spelled_all, MayStandBefore}
+use Rattle.getopts.specs.Scan.{FitsLong, FitsEnd, IsLawfulEnd, IsLawfulLong, IsLawfulCluster}
+use Rattle.getopts.specs.Scan.{IsLawfulItem, is_bare, EndsOrIsDashed, AreWellFollowed, Tail}
+use Rattle.getopts.specs.Scan.{line_end, stop, rest, tail_words, Reading, IsReading, Mention}
+use Rattle.getopts.specs.Scan.{mentions, Occurrence, occurrence_at, word_count, occurrences_after}
+use Rattle.getopts.specs.Scan.{occurrences_of, free_items, tail_frees, free_words, trailing_after}
+use Rattle.getopts.specs.Matches.{Found, found_at, matched}
+use Rattle.getopts.specs.ScanLaws.{AreSame, AreAny, AreHigherAfter, AreLowerAfter, ReadsAlike}
+use Rattle.getopts.specs.ScanLaws.{MayStandFor, mentions_of, positions_in, LongAttachedOrSeparate}
+use Rattle.getopts.specs.ScanLaws.{ShortAttachedOrSeparate, ClusterSplits, OneDashOrTwo}
+use Rattle.getopts.specs.ScanLaws.{is_last_bare, joined_reading, HasContentOfBoth, LinesCompose}
+use Rattle.getopts.specs.ScanLaws.{IsAfterStop, TrailingStartIsAfterStop, IsSubsequence, empty}
+use Rattle.getopts.specs.ScanLaws.{kept, left_out, FreeWordsAreSubsequence, NeverDecrease}
+use Rattle.getopts.specs.ScanLaws.{HavePositionsInOrder}
+use Rattle.getopts.specs.declared.groups.HasArg.TheVariants.{Yes}
+use Rattle.getopts.proofs.Lists.{AllByRecursion-append, AllByRecursion-left}
+use Rattle.getopts.proofs.Lists.{AllByRecursion-right}
+use Rattle.getopts.proofs.Reading.Positions.{mentions_of-items, positions_in-one_higher}
+use Rattle.getopts.proofs.Reading.Readings.{EndsOrIsDashed-spelled, spelled_all-append}
+use Rattle.getopts.proofs.Reading.Texts.{is_dashed-text}
+
+-- only ordinary mode has bare clusters
+ordinary_from_bare : (grammar : Grammar) (item : Item) → IsLawfulItem grammar item
+    → is_bare item ≡ true → grammar.long_only ≡ false
+ordinary_from_bare grammar (free word) lawful bare = cc bare
+ordinary_from_bare grammar (long dashes name argument) lawful bare = cc bare
+ordinary_from_bare grammar (cluster names end) lawful bare = lawful.ordinary
+
+-- in ordinary mode a word in long form is dashed
+is_dashed-long : (grammar : Grammar) (dashes : Dashes) (name text : Text)
+    → MayStandBefore grammar.long_only dashes name → grammar.long_only ≡ false
+    → is_dashed (dash_text dashes ++ text) ≡ true
+is_dashed-long grammar one name text before ordinary = cc (before.0, ordinary)
+is_dashed-long grammar two name text before ordinary = refl
+
+-- a cluster whose end is lawful has a text after its dash
+filled_from_lawful : (grammar : Grammar) (names : List ℕ) (end : End)
+    → IsLawfulEnd grammar names end → names ++ end_text end ≢ []
+filled_from_lawful grammar [] flags lawful nil = lawful refl
+filled_from_lawful grammar [] (ends_in option argument) lawful nil = cc nil
+filled_from_lawful grammar (name ∷ names) end lawful nil = cc nil
+
+-- a lawful cluster's word is dashed
+is_dashed-cluster : (grammar : Grammar) (names : List ℕ) (end : End)
+    → IsLawfulCluster grammar names end → is_dashed (dash ∷ (names ++ end_text end)) ≡ true
+is_dashed-cluster grammar names end lawful = is_dashed-text (names ++ end_text end) (filled_from_lawful grammar names end lawful.last)
+
+-- What lets new items stand where old ones stood, before these words: they are lawful and well
+-- followed where the old ones are, and begin with a dashed word in ordinary mode.
+record FitInPlace (grammar : Grammar) (old new : List Item) (more : List Text) : Type 0 where
+  lawful : AllByRecursion (IsLawfulItem grammar) old → AllByRecursion (IsLawfulItem grammar) new
+  dashed : AllByRecursion (IsLawfulItem grammar) new → grammar.long_only ≡ false
+      → EndsOrIsDashed (spelled_all new more)
+  followed : AreWellFollowed old more → AreWellFollowed new more
+
+-- items in front begin with a dashed word before the new ones too
+EndsOrIsDashed-in_place : (front old new : List Item) (more : List Text)
+    → EndsOrIsDashed (spelled_all new more) → EndsOrIsDashed (spelled_all (front ++ old) more)
+    → EndsOrIsDashed (spelled_all (front ++ new) more)
+EndsOrIsDashed-in_place [] old new more dashed begins = dashed
+EndsOrIsDashed-in_place (item ∷ front) old new more dashed begins = EndsOrIsDashed-spelled item _ _ begins
+
+-- items in front are well followed by the new ones too
+AreWellFollowed-in_place : (grammar : Grammar) (front old new : List Item) (more : List Text)
+    → AllByRecursion (IsLawfulItem grammar) front
+    → (grammar.long_only ≡ false → EndsOrIsDashed (spelled_all new more))
+    → (AreWellFollowed old more → AreWellFollowed new more) → AreWellFollowed (front ++ old) more
+    → AreWellFollowed (front ++ new) more
+AreWellFollowed-in_place grammar [] old new more lawful dashed followed before = followed before
+AreWellFollowed-in_place grammar (item ∷ front) old new more lawful dashed followed before = (
+  λ bare. EndsOrIsDashed-in_place front old new more (dashed (ordinary_from_bare grammar item lawful.0 bare)) (before.0 bare),
+  AreWellFollowed-in_place grammar front old new more lawful.1 dashed followed before.1,
+)
+
+-- with new items that fit in place of old ones a reading stays a reading, of the words that it
+-- spells
+IsReading-in_place : (grammar : Grammar) (front old new : List Item) (tail : Tail)
+    (words : List Text) → FitInPlace grammar old new (tail_words tail)
+    → IsReading grammar (record { items = front ++ old; tail = tail }) words
+    → IsReading grammar (record { items = front ++ new; tail = tail })
+    (spelled_all (front ++ new) (tail_words tail))
+IsReading-in_place grammar front old new tail words fit reads =
+    let ahead : AllByRecursion (IsLawfulItem grammar) front = AllByRecursion-left (IsLawfulItem grammar) front old reads.items in
+    let lawful : AllByRecursion (IsLawfulItem grammar) new = fit.lawful (AllByRecursion-right (IsLawfulItem grammar) front old reads.items) in
+    record {
+      spells = refl;
+      items = AllByRecursion-append (IsLawfulItem grammar) front new ahead lawful;
+      tail = reads.tail;
+      followed = AreWellFollowed-in_place grammar front old new (tail_words tail) ahead (fit.dashed lawful) fit.followed reads.followed;
+    }
+
+-- items in front leave the same occurrences where the new items have those of the old ones
+occurrences_after-in_place : (grammar : Grammar) (front old new : List Item)
+    → ((before : ℕ) → occurrences_after before grammar new ≡ occurrences_after before grammar old)
+    → (before : ℕ)
+    → occurrences_after before grammar (front ++ new)
+    ≡ occurrences_after before grammar (front ++ old)
+occurrences_after-in_place grammar [] old new same before = same before
+occurrences_after-in_place grammar (item ∷ front) old new same before =
+    ap (λ later. map (occurrence_at before) (mentions grammar item) ++ later)
+    (occurrences_after-in_place grammar front old new same (before + word_count (item ∷ [])))
+
+-- the free items of two lists
+pub free_items-append : (items others : List Item)
+    → free_items (items ++ others) ≡ free_items items ++ free_items others
+free_items-append [] others = refl
+free_items-append (free word ∷ items) others = ap (λ words. word ∷ words) (free_items-append items others)
+free_items-append (long dashes name argument ∷ items) others = free_items-append items others
+free_items-append (cluster names end ∷ items) others = free_items-append items others
+
+-- items in front leave the same free words where the new items have those of the old ones
+free_items-in_place : (front old new : List Item) → free_items new ≡ free_items old
+    → free_items (front ++ new) ≡ free_items (front ++ old)
+free_items-in_place front old new same = rw (free_items-append front new, same, ← free_items-append front old)
+
+-- items in front leave the same mentions where the new items have those of the old ones
+mentions_of-in_place : (grammar : Grammar) (front old new : List Item) (tail : Tail)
+    → flat_map (mentions grammar) new ≡ flat_map (mentions grammar) old
+    → mentions_of grammar (record { items = front ++ new; tail = tail })
+    ≡ mentions_of grammar (record { items = front ++ old; tail = tail })
+mentions_of-in_place grammar front old new tail same =
+    mentions_of-items grammar (record { items = front ++ new; tail = tail })
+    ∙ rw (flat_map-append (mentions grammar) front new, same, ← flat_map-append (mentions grammar) front old) refl
+    ∙ sym (mentions_of-items grammar (record { items = front ++ old; tail = tail }))
+
+-- new items that fit, with the same mentions and free words and with alike positions, read alike
+ReadsAlike-in_place : (grammar : Grammar) (Alike : List ℕ → List ℕ → Type 0)
+    (front old new : List Item) (tail : Tail) (words : List Text)
+    → FitInPlace grammar old new (tail_words tail)
+    → flat_map (mentions grammar) new ≡ flat_map (mentions grammar) old
+    → Alike (positions_in grammar (record { items = front ++ old; tail = tail }))
+    (positions_in grammar (record { items = front ++ new; tail = tail }))
+    → free_items new ≡ free_items old
+    → IsReading grammar (record { items = front ++ old; tail = tail }) words
+    → ReadsAlike grammar Alike (record { items = front ++ old; tail = tail })
+    (record { items = front ++ new; tail = tail })
+ReadsAlike-in_place grammar Alike front old new tail words fit same alike same_free reads =
+    let same_words : free_items (front ++ new) ≡ free_items (front ++ old) = free_items-in_place front old new same_free in
+    record {
+      reads = IsReading-in_place grammar front old new tail words fit reads;
+      mentions = mentions_of-in_place grammar front old new tail same;
+      free = ap (λ frees. frees ++ tail_frees tail) same_words;
+      trailing = ap (λ frees. trailing_after (length frees) tail) same_words;
+      positions = alike;
+    }
+
+-- Of two items with the same mentions and no free word, one spells one word more: either may stand
+-- for the other where it fits, and later positions are one higher with the longer one.
+module _ (grammar : Grammar) (item longer : Item)
+    (same : mentions grammar longer ≡ mentions grammar item)
+    (same_free : free_items (longer ∷ []) ≡ free_items (item ∷ []))
+    (one_more : word_count (longer ∷ []) ≡ word_count (item ∷ []) + 1) where
+  -- the longer one for the other
+  MayStandFor-longer : ((back : List Item) (more : List Text)
+      → FitInPlace grammar (item ∷ back)
+      (longer ∷ back) more) → MayStandFor grammar AreHigherAfter (longer ∷ []) item
+  MayStandFor-longer fit front back tail words reads =
+      ReadsAlike-in_place grammar (AreHigherAfter (word_count front)) front (item ∷ back) (longer ∷ back) tail words (fit back (tail_words tail))
+      (ap (λ (told : List Mention). told ++ flat_map (mentions grammar) back) same)
+      (positions_in-one_higher grammar item longer back same one_more front tail)
+      (free_items-append (longer ∷ []) back ∙ ap (λ frees. frees ++ free_items back) same_free ∙ sym (free_items-append (item ∷ []) back)) reads
+
+  -- the other for the longer one
+  MayStandFor-shorter : ((back : List Item) (more : List Text)
+      → FitInPlace grammar (longer ∷ back)
+      (item ∷ back) more) → MayStandFor grammar AreLowerAfter (item ∷ []) longer
+  MayStandFor-shorter fit front back tail words reads =
+      ReadsAlike-in_place grammar (AreLowerAfter (word_count front)) front (longer ∷ back) (item ∷ back) tail words (fit back (tail_words tail))
+      (ap (λ (told : List Mention). told ++ flat_map (mentions grammar) back) (sym same))
+      (positions_in-one_higher grammar item longer back same one_more front tail)
+      (free_items-append (item ∷ []) back ∙ ap (λ frees. frees ++ free_items back) (sym same_free) ∙ sym (free_items-append (longer ∷ []) back)) reads
+
+-- a lawful long item fits in place of one with the same name
+FitInPlace-long : (grammar : Grammar) (dashes other : Dashes) (name : Text)
+    (argument new_argument : Argument) (back : List Item) (more : List Text)
+    → (IsLawfulLong grammar dashes name argument → IsLawfulLong grammar other name new_argument)
+    → FitInPlace grammar (long dashes name argument ∷ back)
+    (long other name new_argument ∷ back) more
+FitInPlace-long grammar dashes other name argument new_argument back more lawful = record {
+  lawful = λ each. (lawful each.0, each.1);
+  dashed = λ each ordinary. is_dashed-long grammar other name _ each.0.before ordinary;
+  followed = λ each. (λ bare. cc bare, each.1);
+}
+
+-- a lawful long item of kind Yes stays lawful with another argument that Yes may have
+IsLawfulLong-yes : (grammar : Grammar) (dashes : Dashes) (name : Text)
+    (argument new_argument : Argument) → grammar.kind_of name ≡ Some Yes → FitsLong Yes new_argument
+    → IsLawfulLong grammar dashes name argument → IsLawfulLong grammar dashes name new_argument
+IsLawfulLong-yes grammar dashes name argument new_argument kind fits lawful = record {
+  before = lawful.before;
+  cut_once = lawful.cut_once;
+  resolves = (Yes, kind, fits);
+}
+
+-- a long argument attached or separate
+pub LongAttachedOrSeparate_lem : (grammar : Grammar) → LongAttachedOrSeparate grammar
+LongAttachedOrSeparate_lem grammar = record {
+  to_separate = λ dashes name argument kind.
+      MayStandFor-longer grammar (long dashes name (attached argument)) (long dashes name (separate argument)) refl refl refl
+      (λ back more. FitInPlace-long grammar dashes dashes name _ _ back more
+      (IsLawfulLong-yes grammar dashes name (attached argument) (separate argument) kind tt));
+  to_attached = λ dashes name argument kind.
+      MayStandFor-shorter grammar (long dashes name (attached argument)) (long dashes name (separate argument)) refl refl refl
+      (λ back more. FitInPlace-long grammar dashes dashes name _ _ back more
+      (IsLawfulLong-yes grammar dashes name (separate argument) (attached argument) kind tt));
+}
+
+-- in long-only mode either dashes may stand before a name that doesn't begin with `-`
+MayStandBefore-long_only : (long_only : Bool) (dashes : Dashes) (name : Text) → long_only ≡ true
+    → begins_with_dash name ≡ false → MayStandBefore long_only dashes name
+MayStandBefore-long_only long_only one name only plain = (only, plain)
+MayStandBefore-long_only long_only two name only plain = tt
+
+-- one dash or two
+pub OneDashOrTwo_lem : (grammar : Grammar) → OneDashOrTwo grammar
+OneDashOrTwo_lem grammar = record {
+  other_dashes = λ dashes other name argument only plain front back tail words reads.
+      ReadsAlike-in_place grammar (AreSame (word_count front)) front (long dashes name argument ∷ back) (long other name argument ∷ back) tail words
+      (FitInPlace-long grammar dashes other name argument argument back (tail_words tail) (λ lawful. record {
+        before = MayStandBefore-long_only grammar.long_only other name only plain;
+        cut_once = lawful.cut_once;
+        resolves = lawful.resolves;
+      })) refl
+      (ap (map (λ (o : Occurrence). o.position))
+      (occurrences_after-in_place grammar front (long dashes name argument ∷ back) (long other name argument ∷ back)
+      (λ before. refl) 0))
+      refl reads;
+}
+
+-- an argument doesn't change how a cluster begins after its dash
+begins_with_dash-argument : (names : List ℕ) (option : ℕ) (text other : Text)
+    → begins_with_dash (names ++ option ∷ text) ≡ begins_with_dash (names ++ option ∷ other)
+begins_with_dash-argument [] option text other = refl
+begins_with_dash-argument (name ∷ names) option text other = refl
+
+-- a cluster that ends in an option of kind Yes fits in place of one with another argument
+FitInPlace-cluster : (grammar : Grammar) (names : List ℕ) (option : ℕ)
+    (argument new_argument : Argument) (back : List Item) (more : List Text)
+    → grammar.kind_of (option ∷ []) ≡ Some Yes → FitsEnd Yes new_argument
+    → is_bare (cluster names (ends_in option new_argument)) ≡ false
+    → FitInPlace grammar (cluster names (ends_in option argument) ∷ back)
+    (cluster names (ends_in option new_argument) ∷ back) more
+FitInPlace-cluster grammar names option argument new_argument back more kind fits filled = record {
+  lawful = λ each. (
+    record {
+      ordinary = each.0.ordinary;
+      short_form = begins_with_dash-argument names option _ _ ∙ each.0.short_form;
+      each = each.0.each;
+      last = (Yes, kind, fits);
+    },
+    each.1,
+  );
+  dashed = λ each ordinary. is_dashed-cluster grammar names (ends_in option new_argument) each.0;
+  followed = λ each. (λ bare. cc (bare, filled), each.1);
+}
+
+-- a short argument attached or separate
+pub ShortAttachedOrSeparate_lem : (grammar : Grammar) → ShortAttachedOrSeparate grammar
+ShortAttachedOrSeparate_lem grammar = record {
+  to_separate = λ names option argument kind.
+      MayStandFor-longer grammar (cluster names (ends_in option (attached argument)))
+      (cluster names (ends_in option (separate argument))) refl refl refl
+      (λ back more. FitInPlace-cluster grammar names option (attached argument) (separate argument) back more kind tt refl);
+  to_attached = λ names option argument kind filled.
+      MayStandFor-shorter grammar (cluster names (ends_in option (attached argument)))
+      (cluster names (ends_in option (separate argument))) refl refl refl
+      (λ back more. FitInPlace-cluster grammar names option (separate argument) (attached argument) back more kind filled refl);
+}
+
+-- a cluster whose rest is bare is bare
+is_bare-rest : (flag : ℕ) (names : List ℕ) (end : End) → is_bare (cluster names end) ≡ true
+    → is_bare (cluster (flag ∷ names) end) ≡ true
+is_bare-rest flag names flags bare = bare
+is_bare-rest flag names (ends_in option none) bare = bare
+is_bare-rest flag names (ends_in option (attached argument)) bare = bare
+is_bare-rest flag names (ends_in option (separate word)) bare = bare
+
+-- the rest of a cluster ends lawfully, where it has a text
+IsLawfulEnd-rest : (grammar : Grammar) (flag : ℕ) (names : List ℕ) (end : End)
+    → names ++ end_text end ≢ [] → IsLawfulEnd grammar (flag ∷ names) end
+    → IsLawfulEnd grammar names end
+IsLawfulEnd-rest grammar flag names flags filled lawful = λ nil. filled (append-nil names ∙ nil)
+IsLawfulEnd-rest grammar flag names (ends_in option argument) filled lawful = lawful
+
+-- a cluster may stand split after its first flag
+MayStandFor-split : (grammar : Grammar) (flag : ℕ) (names : List ℕ) (end : End)
+    → names ++ end_text end ≢ [] → begins_with_dash (names ++ end_text end) ≡ false
+    → MayStandFor grammar AreAny (cluster (flag ∷ []) flags ∷ cluster names end ∷ [])
+    (cluster (flag ∷ names) end)
+MayStandFor-split grammar flag names end filled plain front back tail words reads =
+    ReadsAlike-in_place grammar (AreAny (word_count front)) front (cluster (flag ∷ names) end ∷ back)
+    (cluster (flag ∷ []) flags ∷ cluster names end ∷ back) tail words fit
+    refl tt refl reads
+  where
+    fit : FitInPlace grammar (cluster (flag ∷ names) end ∷ back)
+        (cluster (flag ∷ []) flags ∷ cluster names end ∷ back) (tail_words tail)
+    fit = record {
+      lawful = λ each. (
+        record {
+          ordinary = each.0.ordinary;
+          short_form = each.0.short_form;
+          each = (each.0.each.0, tt);
+          last = λ nil. cc nil;
+        },
+        (
+          record {
+            ordinary = each.0.ordinary;
+            short_form = plain;
+            each = each.0.each.1;
+            last = IsLawfulEnd-rest grammar flag names end filled each.0.last;
+          },
+          each.1,
+        ),
+      );
+      dashed = λ each ordinary. refl;
+      followed = λ each. (λ bare. cc bare, (λ bare. each.0 (is_bare-rest flag names end bare), each.1));
+    }
+
+-- a cluster splits
+pub ClusterSplits_lem : (grammar : Grammar) → ClusterSplits grammar
+ClusterSplits_lem grammar = record { after_flag = MayStandFor-split grammar }
+
+-- the words of two lists of items
+pub spelled_all-joined : (items others : List Item) (more : List Text)
+    → spelled_all (items ++ others) more ≡ spelled_all items (spelled_all others more)
+spelled_all-joined [] others more = refl
+spelled_all-joined (item ∷ items) others more = ap (spelled item) (spelled_all-joined items others more)
+
+-- bare clusters stay followed as they may be where others stand after the last item, which isn't
+-- bare
+AreWellFollowed-append : (items others : List Item) (more : List Text) → is_last_bare items ≡ false
+    → AreWellFollowed items [] → AreWellFollowed others more
+    → AreWellFollowed (items ++ others) more
+AreWellFollowed-append [] others more last before after = after
+AreWellFollowed-append (item ∷ []) others more last before after = (λ bare. cc (last, bare), after)
+AreWellFollowed-append (item ∷ next ∷ items) others more last before after =
+    (λ bare. EndsOrIsDashed-spelled next _ _ (before.0 bare), AreWellFollowed-append (next ∷ items) others more last before.1 after)
+
+-- a line read to its end by these items, and the items and the tail of another, are read together
+IsReading-joined : (grammar : Grammar) (items : List Item) (second : Reading)
+    (words more : List Text) → IsReading grammar (record { items = items; tail = line_end }) words
+    → is_last_bare items ≡ false → IsReading grammar second more
+    → IsReading grammar (record { items = items ++ second.items; tail = second.tail })
+    (words ++ more)
+IsReading-joined grammar items second words more reads last after = record {
+  spells = spelled_all-joined items second.items (tail_words second.tail)
+      ∙ (ap (spelled_all items) after.spells ∙ (spelled_all-append items [] more
+      ∙ ap (λ front. front ++ more) reads.spells));
+  items = AllByRecursion-append (IsLawfulItem grammar) items second.items reads.items after.items;
+  tail = after.tail;
+  followed = AreWellFollowed-append items second.items (tail_words second.tail) last reads.followed after.followed;
+}
+
+-- two readings joined have the content of both
+HasContentOfBoth-joined : (grammar : Grammar) (first second : Reading) → first.tail ≡ line_end
+    → HasContentOfBoth grammar first second (joined_reading first second)
+HasContentOfBoth-joined grammar first second ends = record {
+  mentions = rw (
+    mentions_of-items grammar (joined_reading first second),
+    mentions_of-items grammar first,
+    mentions_of-items grammar second,
+  ) (flat_map-append (mentions grammar) first.items second.items);
+  free = rw (
+    free_items-append first.items second.items,
+    ends,
+    append-nil (free_items first.items),
+    append_assoc (free_items first.items) (free_items second.items) (tail_frees second.tail),
+  ) refl;
+}
+
+-- a first line read to its end, and the items and the tail of a second, are read together
+IsReading-joined_reading : (grammar : Grammar) (first second : Reading) (words more : List Text)
+    → IsReading grammar first words → first.tail ≡ line_end → is_last_bare first.items ≡ false
+    → IsReading grammar second more
+    → IsReading grammar (joined_reading first second) (words ++ more)
+IsReading-joined_reading grammar first second words more reads ends last after =
+    IsReading-joined grammar first.items second words more
+    (subst (λ tail. IsReading grammar (record { items = first.items; tail = tail }) words) ends reads) last after
+
+-- lines compose, where a line has one reading at most
+pub LinesCompose_lem : (grammar : Grammar)
+    → ((reading other : Reading) (words : List Text) → IsReading grammar reading words
+    → IsReading grammar other words → reading ≡ other) → LinesCompose grammar
+LinesCompose_lem grammar only = record {
+  of_both = λ first second words more reads ends last after.
+      let both = IsReading-joined_reading grammar first second words more reads ends last after in (
+        both,
+        λ whole reads_whole. subst (HasContentOfBoth grammar first second)
+            (only (joined_reading first second) whole (words ++ more) both reads_whole)
+            (HasContentOfBoth-joined grammar first second ends),
+      );
+}
+
+-- the trailing start of a tail after so many free words
+IsAfterStop-tail : (frees : List Text) (items : List Item) (tail : Tail) (start : ℕ)
+    → free_items items ≡ frees → trailing_after (length frees) tail ≡ Some start
+    → IsAfterStop (record { items = items; tail = tail }) start
+IsAfterStop-tail frees items line_end start are at = cc at
+IsAfterStop-tail frees items (rest words) start are at = cc at
+IsAfterStop-tail frees items (stop []) start are at = cc at
+IsAfterStop-tail frees items (stop (word ∷ words)) start are at =
+    let here : length frees ≡ start = cc at in
+    record {
+      below = rw (are, ← here) (omega (arith, length-append frees (word ∷ words)));
+      words = word ∷ words;
+      tail_is = refl;
+      free_from = rw (are, ← here) (drop-append_seam frees (word ∷ words));
+    }
+
+-- the trailing start is after the stop
+pub TrailingStartIsAfterStop_lem : (grammar : Grammar) → TrailingStartIsAfterStop grammar
+TrailingStartIsAfterStop_lem grammar = record {
+  after_stop = λ reading words start reads at. IsAfterStop-tail (free_items reading.items) reading.items reading.tail start refl at;
+}
+
+-- each word is among the words
+IsSubsequence-refl : (words : List Text) → IsSubsequence words words
+IsSubsequence-refl [] = empty
+IsSubsequence-refl (word ∷ words) = kept word (IsSubsequence-refl words)
+
+-- the free words of a tail are among its words
+IsSubsequence-tail : (tail : Tail) → IsSubsequence (tail_frees tail) (tail_words tail)
+IsSubsequence-tail line_end = empty
+IsSubsequence-tail (stop words) = left_out _ (IsSubsequence-refl words)
+IsSubsequence-tail (rest words) = IsSubsequence-refl words
+
+-- the free words of items and a tail are among their words
+IsSubsequence-items : (items : List Item) (tail : Tail)
+    → IsSubsequence (free_items items ++ tail_frees tail) (spelled_all items (tail_words tail))
+IsSubsequence-items [] tail = IsSubsequence-tail tail
+IsSubsequence-items (free word ∷ items) tail = kept word (IsSubsequence-items items tail)
+IsSubsequence-items (long dashes name none ∷ items) tail = left_out _ (IsSubsequence-items items tail)
+IsSubsequence-items (long dashes name (attached argument) ∷ items) tail = left_out _ (IsSubsequence-items items tail)
+IsSubsequence-items (long dashes name (separate word) ∷ items) tail = left_out _ (left_out _ (IsSubsequence-items items tail))
+IsSubsequence-items (cluster names flags ∷ items) tail = left_out _ (IsSubsequence-items items tail)
+IsSubsequence-items (cluster names (ends_in option none) ∷ items) tail = left_out _ (IsSubsequence-items items tail)
+IsSubsequence-items (cluster names (ends_in option (attached argument)) ∷ items) tail = left_out _ (IsSubsequence-items items tail)
+IsSubsequence-items (cluster names (ends_in option (separate word)) ∷ items) tail = left_out _ (left_out _ (IsSubsequence-items items tail))
+
+-- free words are a subsequence of the words
+pub FreeWordsAreSubsequence_lem : (grammar : Grammar) → FreeWordsAreSubsequence grammar
+FreeWordsAreSubsequence_lem grammar = record {
+  subsequence = λ reading words reads. subst (IsSubsequence (free_words reading)) reads.spells (IsSubsequence-items reading.items reading.tail);
+}
+
+-- the positions are at least this one, and never decrease
+abbrev RiseFrom : ℕ → List Found → Type 0
+RiseFrom low [] = Unit {0}
+RiseFrom low (found ∷ founds) = (low ≤ found.position) × RiseFrom found.position founds
+
+-- so they do from a lower one
+RiseFrom-lower : (low high : ℕ) (founds : List Found) → low ≤ high → RiseFrom high founds
+    → RiseFrom low founds
+RiseFrom-lower low high [] below rise = tt
+RiseFrom-lower low high (found ∷ founds) below rise = (omega (arith, rise.0), rise.1)
+
+-- each is at least the lowest
+RiseFrom-get_or : (low : ℕ) (founds : List Found) → RiseFrom low founds
+    → (index : ℕ) (default : Found) → index < length founds
+    → low ≤ (get_or founds index default).position
+RiseFrom-get_or low [] rise index default in_range = absurd (omega arith)
+RiseFrom-get_or low (found ∷ founds) rise zero default in_range = rise.0
+RiseFrom-get_or low (found ∷ founds) rise (suc index) default in_range =
+    let step : found.position ≤ (get_or founds index default).position = RiseFrom-get_or found.position founds rise.1 index default (omega arith) in
+    omega (arith, rise.0, step)
+
+-- positions that rise never decrease
+NeverDecrease-from_rise : (low : ℕ) (founds : List Found) → RiseFrom low founds
+    → NeverDecrease founds
+NeverDecrease-from_rise low [] rise i j default ordered in_range = absurd (omega arith)
+NeverDecrease-from_rise low (found ∷ founds) rise zero zero default ordered in_range = omega arith
+NeverDecrease-from_rise low (found ∷ founds) rise zero (suc j) default ordered in_range =
+    RiseFrom-get_or found.position founds rise.1 j default (omega arith)
+NeverDecrease-from_rise low (found ∷ founds) rise (suc i) zero default ordered in_range = absurd (omega arith)
+NeverDecrease-from_rise low (found ∷ founds) rise (suc i) (suc j) default ordered in_range =
+    NeverDecrease-from_rise found.position founds rise.1 i j default (omega arith) (omega arith)
+
+-- they still rise where an occurrence at the lowest position stands before them, or is left out
+RiseFrom-more : (here : Bool) (first : Occurrence) (later : List Occurrence)
+    → RiseFrom first.position
+    (map (λ o. record { position = o.position; value = o.mention.value }) later)
+    → RiseFrom first.position
+    (map (λ o. record { position = o.position; value = o.mention.value })
+    (cond here (first ∷ later) later))
+RiseFrom-more true first later rise = (omega arith, rise)
+RiseFrom-more false first later rise = rise
+
+-- the occurrences of one item rise from its position, where the later ones do
+RiseFrom-item : (place position : ℕ) (told : List Mention) (later : List Occurrence)
+    → RiseFrom position (found_at place later)
+    → RiseFrom position (found_at place (map (occurrence_at position) told ++ later))
+RiseFrom-item place position [] later rise = rise
+RiseFrom-item place position (first ∷ told) later rise = RiseFrom-more (first.group == place)
+    (occurrence_at position first) _ (RiseFrom-item place position told later rise)
+
+-- the occurrences of items rise from the first position
+RiseFrom-items : (grammar : Grammar) (place before : ℕ) (items : List Item)
+    → RiseFrom before (found_at place (occurrences_after before grammar items))
+RiseFrom-items grammar place before [] = tt
+RiseFrom-items grammar place before (item ∷ items) = RiseFrom-item place before (mentions grammar item)
+    (occurrences_after (before + word_count (item ∷ [])) grammar items)
+    (RiseFrom-lower before (before + word_count (item ∷ [])) _ (omega arith) (RiseFrom-items grammar place (before + word_count (item ∷ [])) items))
+
+-- the positions of each group's occurrences never decrease
+pub NeverDecrease-reading : (grammar : Grammar) (reading : Reading) (place : ℕ)
+    → NeverDecrease (found_at place (occurrences_of grammar reading))
+NeverDecrease-reading grammar reading place = NeverDecrease-from_rise 0 _ (RiseFrom-items grammar place 0 reading.items)
+
+-- positions in order, of the groups that matches of a reading hold
+pub HavePositionsInOrder-matched : (grammar : Grammar) (reading : Reading) (place : ℕ)
+    (knowns : List Known)
+    → HavePositionsInOrder (matched place knowns (occurrences_of grammar reading))
+HavePositionsInOrder-matched grammar reading place [] = tt
+HavePositionsInOrder-matched grammar reading place (known ∷ knowns) =
+    (NeverDecrease-reading grammar reading place, HavePositionsInOrder-matched grammar reading (place + 1) knowns)

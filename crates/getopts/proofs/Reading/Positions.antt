@@ -1,0 +1,305 @@
+-- Positions: how many words items spell, which occurrences are one higher, and what stands at a
+-- position.
+use Rattle.std.proofs.Common.{◌≡◌, ◌==◌, ℕ, zero, suc, ◌+◌, ◌<◌, ◌≤◌, Bool, true, false, cond, List}
+use Rattle.std.proofs.Common.{[], ◌∷◌, ◌++◌, length, map, refl, ap, ◌∙◌, sym, subst, inl, inr}
+use Rattle.std.proofs.Common.{add-zero, zero-add, arith}
+use Rattle.std.specs.Prelude.{nat_le, slice_get, Contains}
+use Rattle.std.specs.List.{AllByRecursion, flat_map}
+use Rattle.std.proofs.lemmas.List.{map-append, length-append}
+use Rattle.std.proofs.lemmas.List.Elements.{Contains-append_cases}
+use Rattle.std.proofs.lemmas.Bool.Decides.{nat_tests}
+use Rattle.getopts.specs.Names.{Text}
+use Rattle.getopts.specs.Options.{Known, Grammar}
+use Rattle.getopts.specs.Scan.{Item, free, long, cluster, spelled, spelled_all, Tail, tail_words}
+use Rattle.getopts.specs.Scan.{Reading, IsReading, Mention, mentions, Occurrence, occurrence_at}
+use Rattle.getopts.specs.Scan.{word_count, occurrences_after, occurrences_of}
+use Rattle.getopts.specs.Matches.{Found, found_at, matched}
+use Rattle.getopts.specs.ScanLaws.{mentions_of, positions_in, one_higher_after, StandsInItem}
+use Rattle.getopts.specs.ScanLaws.{PositionsAreWords, HavePositionsBelow}
+use Rattle.getopts.proofs.Lists.{AllByRecursion-append, slice_get-append}
+use Rattle.getopts.proofs.Reading.Readings.{spelled_all-append}
+
+-- the words of items, and those that follow
+pub length-spelled_all : (items : List Item) (more : List Text)
+    → length (spelled_all items more) ≡ word_count items + length more
+length-spelled_all items more = ap length (spelled_all-append items [] more) ∙ length-append (spelled_all items []) more
+
+-- the words of an item, and those of the items after it
+pub word_count-cons : (item : Item) (items : List Item)
+    → word_count (item ∷ items) ≡ word_count (item ∷ []) + word_count items
+word_count-cons item items = length-spelled_all (item ∷ []) (spelled_all items [])
+
+-- an item spells a word
+pub spells_word : (item : Item) (more : List Text) → 0 < length (spelled item more)
+spells_word (free word) more = omega arith
+spells_word (long dashes name argument) more = omega arith
+spells_word (cluster names end) more = omega arith
+
+-- mentions are occurrences without their positions
+mention-occurrence_at : (before : ℕ) (ms : List Mention)
+    → map (λ (o : Occurrence). o.mention) (map (occurrence_at before) ms) ≡ ms
+mention-occurrence_at before [] = refl
+mention-occurrence_at before (m ∷ ms) = ap (λ (others : List Mention). m ∷ others) (mention-occurrence_at before ms)
+
+mention-occurrences_after : (before : ℕ) (grammar : Grammar) (items : List Item)
+    → map (λ (o : Occurrence). o.mention) (occurrences_after before grammar items)
+    ≡ flat_map (mentions grammar) items
+mention-occurrences_after before grammar [] = refl
+mention-occurrences_after before grammar (item ∷ items) =
+    let here = mention-occurrence_at before (mentions grammar item) in
+    let after = mention-occurrences_after (before + word_count (item ∷ [])) grammar items in
+    simp (map-append, here, after)
+
+-- what a reading mentions is what its items mention, one after the other
+pub mentions_of-items : (grammar : Grammar) (reading : Reading)
+    → mentions_of grammar reading ≡ flat_map (mentions grammar) reading.items
+mentions_of-items grammar reading = mention-occurrences_after 0 grammar reading.items
+
+-- an occurrence, one position higher where it stands after this one
+abbrev raised_after : ℕ → Occurrence → Occurrence
+raised_after position o = record { mention = o.mention; position = one_higher_after position o.position }
+
+position-raised_after : (position : ℕ) (os : List Occurrence)
+    → map (λ (o : Occurrence). o.position) (map (raised_after position) os)
+    ≡ map (one_higher_after position) (map (λ (o : Occurrence). o.position) os)
+position-raised_after position [] = refl
+position-raised_after position (o ∷ os) = ap (λ (ps : List ℕ). one_higher_after position o.position ∷ ps) (position-raised_after position os)
+
+-- mentions that aren't after this position stay where they are
+raised_after-stays : (at position : ℕ) (told : List Mention) → position ≤ at
+    → map (raised_after at) (map (occurrence_at position) told) ≡ map (occurrence_at position) told
+raised_after-stays at position [] within = refl
+raised_after-stays at position (first ∷ told) within =
+    let here : nat_le position at ≡ true = grind (arith, nat_tests) in
+    ap (λ b. record { mention = first; position = cond b position (position + 1) } ∷ map (raised_after at) (map (occurrence_at position) told)) here
+    ∙ ap (λ (os : List Occurrence). occurrence_at position first ∷ os) (raised_after-stays at position told within)
+
+-- mentions after this position are one higher
+raised_after-moves : (at position : ℕ) (told : List Mention) → at < position
+    → map (raised_after at) (map (occurrence_at position) told)
+    ≡ map (occurrence_at (position + 1)) told
+raised_after-moves at position [] past = refl
+raised_after-moves at position (first ∷ told) past =
+    let here : nat_le position at ≡ false = grind (arith, nat_tests) in
+    ap (λ b. record { mention = first; position = cond b position (position + 1) } ∷ map (raised_after at) (map (occurrence_at position) told)) here
+    ∙ ap (λ (os : List Occurrence). occurrence_at (position + 1) first ∷ os) (raised_after-moves at position told past)
+
+-- the occurrences of items after this position are one higher
+occurrences_after-moves : (grammar : Grammar) (at before : ℕ) (items : List Item) → at < before
+    → map (raised_after at) (occurrences_after before grammar items)
+    ≡ occurrences_after (before + 1) grammar items
+occurrences_after-moves grammar at before [] past = refl
+occurrences_after-moves grammar at before (item ∷ items) past =
+    let next = before + word_count (item ∷ []) in
+    let later : next + 1 ≡ before + 1 + word_count (item ∷ []) = omega arith in
+    map-append (raised_after at) (map (occurrence_at before) (mentions grammar item)) (occurrences_after next grammar items)
+    ∙ ap (λ (os : List Occurrence). os ++ map (raised_after at) (occurrences_after next grammar items))
+    (raised_after-moves at before (mentions grammar item) past)
+    ∙ ap (λ (os : List Occurrence). map (occurrence_at (before + 1)) (mentions grammar item) ++ os)
+    (occurrences_after-moves grammar at next items (omega arith) ∙ ap (λ n. occurrences_after n grammar items) later)
+
+-- With an item that spells one word more and mentions the same, the occurrences of later items are
+-- one higher.
+module _ (grammar : Grammar) (item other : Item) (back : List Item)
+    (same : mentions grammar other ≡ mentions grammar item)
+    (longer : word_count (other ∷ []) ≡ word_count (item ∷ []) + 1) where
+  -- where the item is the first
+  occurrences_after-here : (before : ℕ)
+      → map (raised_after before) (occurrences_after before grammar (item ∷ back))
+      ≡ occurrences_after before grammar (other ∷ back)
+  occurrences_after-here before =
+      let next = before + word_count (item ∷ []) in
+      let later : next + 1 ≡ before + word_count (other ∷ []) = omega arith in
+      map-append (raised_after before) (map (occurrence_at before) (mentions grammar item)) (occurrences_after next grammar back)
+      ∙ ap (λ (os : List Occurrence). os ++ map (raised_after before) (occurrences_after next grammar back))
+      (raised_after-stays before before (mentions grammar item) (omega arith))
+      ∙ ap (λ (os : List Occurrence). map (occurrence_at before) (mentions grammar item) ++ os)
+      (occurrences_after-moves grammar before next back (omega (arith, spells_word item [])) ∙ ap (λ n. occurrences_after n grammar back) later)
+      ∙ ap (λ (told : List Mention). map (occurrence_at before) told ++ occurrences_after (before + word_count (other ∷ [])) grammar back) (sym same)
+
+  -- where items stand before it
+  occurrences_after-one_higher : (front : List Item) (before : ℕ)
+      → map (raised_after (before + word_count front))
+      (occurrences_after before grammar (front ++ item ∷ back))
+      ≡ occurrences_after before grammar (front ++ other ∷ back)
+  occurrences_after-one_higher [] before = ap (λ n. map (raised_after n)
+      (occurrences_after before grammar (item ∷ back))) (add-zero before) ∙ occurrences_after-here before
+  occurrences_after-one_higher (first ∷ front) before =
+      let at = before + word_count (first ∷ front) in
+      let next = before + word_count (first ∷ []) in
+      let same_place : at ≡ next + word_count front = omega (arith, word_count-cons first front) in
+      map-append (raised_after at) (map (occurrence_at before) (mentions grammar first)) (occurrences_after next grammar (front ++ item ∷ back))
+      ∙ ap (λ (os : List Occurrence). os ++ map (raised_after at)
+      (occurrences_after next grammar (front ++ item ∷ back))) (raised_after-stays at before (mentions grammar first)
+      (omega arith))
+      ∙ ap (λ (os : List Occurrence). map (occurrence_at before) (mentions grammar first) ++ os)
+      (ap (λ n. map (raised_after n) (occurrences_after next grammar (front ++ item ∷ back))) same_place ∙ occurrences_after-one_higher front next)
+
+  -- in a whole line
+  pub positions_in-one_higher : (front : List Item) (tail : Tail)
+      → positions_in grammar (record { items = front ++ other ∷ back; tail = tail })
+      ≡ map (one_higher_after (word_count front))
+      (positions_in grammar (record { items = front ++ item ∷ back; tail = tail }))
+  positions_in-one_higher front tail =
+      ap (map (λ (o : Occurrence). o.position))
+      (sym (occurrences_after-one_higher front 0) ∙ ap (λ n. map (raised_after n)
+      (occurrences_after 0 grammar (front ++ item ∷ back))) (zero-add (word_count front)))
+      ∙ position-raised_after (word_count front) (occurrences_after 0 grammar (front ++ item ∷ back))
+
+-- the item of an occurrence, among items with so many words before them
+record IsOfItem (grammar : Grammar) (first : ℕ) (items : List Item)
+    (occurrence : Occurrence) : Type 0 where
+  before : List Item
+  item : Item
+  after : List Item
+  items_are : items ≡ before ++ item ∷ after
+  mentioned : Contains
+      (map (occurrence_at (first + word_count before)) (mentions grammar item)) occurrence
+
+-- an occurrence of the later items is one of all
+IsOfItem-later : (grammar : Grammar) (first : ℕ) (item : Item) (items : List Item)
+    (occurrence : Occurrence) → IsOfItem grammar (first + word_count (item ∷ [])) items occurrence
+    → IsOfItem grammar first (item ∷ items) occurrence
+IsOfItem-later grammar first item items occurrence found =
+    let place : first + word_count (item ∷ []) + word_count found.before ≡ first + word_count (item ∷ found.before) =
+    omega (arith, word_count-cons item found.before) in
+    record {
+      before = item ∷ found.before;
+      item = found.item;
+      after = found.after;
+      items_are = ap (λ (more : List Item). item ∷ more) found.items_are;
+      mentioned = subst (λ n. Contains (map (occurrence_at n) (mentions grammar found.item)) occurrence) place found.mentioned;
+    }
+
+-- each occurrence is of an item
+IsOfItem-from_contains : (grammar : Grammar) (first : ℕ) (items : List Item)
+    (occurrence : Occurrence) → Contains (occurrences_after first grammar items) occurrence
+    → IsOfItem grammar first items occurrence
+IsOfItem-from_contains grammar first [] occurrence held = absurd (omega (arith, held.1))
+IsOfItem-from_contains grammar first (item ∷ items) occurrence held =
+    elim (Contains-append_cases (map (occurrence_at first) (mentions grammar item))
+    (occurrences_after (first + word_count (item ∷ [])) grammar items) occurrence held) [
+      | inl here ↦ record {
+        before = [];
+        item = item;
+        after = items;
+        items_are = refl;
+        mentioned = subst (λ n. Contains (map (occurrence_at n) (mentions grammar item)) occurrence) (sym (add-zero first)) here;
+      }
+      | inr later ↦ IsOfItem-later grammar first item items occurrence
+          (IsOfItem-from_contains grammar (first + word_count (item ∷ [])) items occurrence later)
+    ]
+
+-- what is mentioned at a position has it
+position-mentioned : (position : ℕ) (told : List Mention) (occurrence : Occurrence)
+    → Contains (map (occurrence_at position) told) occurrence → occurrence.position ≡ position
+position-mentioned position [] occurrence held = absurd (omega (arith, held.1))
+position-mentioned position (first ∷ told) occurrence (zero, below, is) = ap (λ (o : Occurrence). o.position) (sym is)
+position-mentioned position (first ∷ told) occurrence (suc k, below, is) = position-mentioned position told occurrence (k, omega arith, is)
+
+-- the first word of an item is the same whatever follows it
+first_word-spelled : (item : Item) (more : List Text)
+    → slice_get (spelled item more) 0 ≡ slice_get (spelled item []) 0
+first_word-spelled (free word) more = refl
+first_word-spelled (long dashes name argument) more = refl
+first_word-spelled (cluster names end) more = refl
+
+-- the words of a line with an item in the middle
+spelled_all-middle : (front back : List Item) (item : Item) (more : List Text)
+    → spelled_all (front ++ item ∷ back) more
+    ≡ spelled_all front [] ++ spelled item (spelled_all back more)
+spelled_all-middle [] back item more = refl
+spelled_all-middle (first ∷ front) back item more =
+    ap (spelled first) (spelled_all-middle front back item more) ∙ spelled_all-append (first ∷ [])
+    (spelled_all front []) (spelled item (spelled_all back more))
+
+-- positions are indexes of words
+pub PositionsAreWords_lem : (grammar : Grammar) → PositionsAreWords grammar
+PositionsAreWords_lem grammar = record { of_occurrence = stands } where
+  stands : (reading : Reading) (words : List Text) (occurrence : Occurrence)
+      → IsReading grammar reading words → Contains (occurrences_of grammar reading) occurrence
+      → StandsInItem grammar reading words occurrence
+  stands reading words occurrence reads held =
+      let found = IsOfItem-from_contains grammar 0 reading.items occurrence held in
+      let mentioned : Contains (map (occurrence_at (word_count found.before)) (mentions grammar found.item)) occurrence =
+      subst (λ n. Contains (map (occurrence_at n) (mentions grammar found.item)) occurrence) (zero-add (word_count found.before)) found.mentioned in
+      let here : occurrence.position ≡ word_count found.before = position-mentioned (word_count found.before)
+      (mentions grammar found.item) occurrence mentioned in
+      let more = spelled_all found.after (tail_words reading.tail) in
+      let words_are : words ≡ spelled_all found.before [] ++ spelled found.item more =
+      sym reads.spells ∙ ap (λ (items : List Item). spelled_all items (tail_words reading.tail)) found.items_are
+      ∙ spelled_all-middle found.before found.after found.item (tail_words reading.tail) in
+      record {
+        before = found.before;
+        item = found.item;
+        after = found.after;
+        items_are = found.items_are;
+        mentioned = mentioned;
+        below = omega (
+          arith,
+          here,
+          ap length words_are,
+          length-append (spelled_all found.before [])
+              (spelled found.item more),
+          spells_word found.item more,
+        );
+        first_word = ap (slice_get words) here ∙ ap (λ (ws : List Text). slice_get ws (word_count found.before)) words_are
+            ∙ slice_get-append (spelled_all found.before []) (spelled found.item more) ∙ first_word-spelled found.item more;
+      }
+
+-- mentions at a position are below what the position is below
+below-mentioned : (count position : ℕ) (told : List Mention) → position < count
+    → AllByRecursion (λ o. o.position < count) (map (occurrence_at position) told)
+below-mentioned count position [] below = tt
+below-mentioned count position (first ∷ told) below = (below, below-mentioned count position told below)
+
+-- the occurrences of items are below the number of words
+below-occurrences_after : (grammar : Grammar) (count before : ℕ) (items : List Item)
+    → before + word_count items ≤ count
+    → AllByRecursion (λ o. o.position < count) (occurrences_after before grammar items)
+below-occurrences_after grammar count before [] within = tt
+below-occurrences_after grammar count before (item ∷ items) within =
+    let words = word_count-cons item items in
+    AllByRecursion-append (λ o. o.position < count) (map (occurrence_at before) (mentions grammar item))
+    (occurrences_after (before + word_count (item ∷ [])) grammar items)
+    (below-mentioned count before (mentions grammar item) (omega (arith, words, spells_word item [])))
+    (below-occurrences_after grammar count (before + word_count (item ∷ [])) items (omega (arith, words)))
+
+-- the occurrences of one group are, where the first is one of them or not
+below-kept : (count : ℕ) (here : Bool) (first : Occurrence) (later : List Occurrence)
+    → first.position < count
+    → AllByRecursion (λ (found : Found). found.position < count)
+    (map (λ (o : Occurrence). record { position = o.position; value = o.mention.value }) later)
+    → AllByRecursion (λ (found : Found). found.position < count)
+    (map (λ (o : Occurrence). record { position = o.position; value = o.mention.value })
+    (cond here (first ∷ later) later))
+below-kept count true first later below all = (below, all)
+below-kept count false first later below all = all
+
+-- the occurrences of one group are
+below-found_at : (count place : ℕ) (occurrences : List Occurrence)
+    → AllByRecursion (λ o. o.position < count) occurrences
+    → AllByRecursion (λ (found : Found). found.position < count) (found_at place occurrences)
+below-found_at count place [] all = tt
+below-found_at count place (first ∷ occurrences) all = below-kept count (first.mention.group == place) first _ all.0
+    (below-found_at count place occurrences all.1)
+
+-- the occurrences of a reading are
+below-occurrences_of : (grammar : Grammar) (reading : Reading) (words : List Text)
+    → IsReading grammar reading words
+    → AllByRecursion (λ o. o.position < length words) (occurrences_of grammar reading)
+below-occurrences_of grammar reading words reads =
+    below-occurrences_after grammar (length words) 0 reading.items
+    (omega (arith, ap length reads.spells, length-spelled_all reading.items (tail_words reading.tail)))
+
+-- positions are below the number of words, of the groups that matches of a reading hold
+pub HavePositionsBelow-matched : (grammar : Grammar) (reading : Reading) (words : List Text)
+    → IsReading grammar reading words → (place : ℕ) (knowns : List Known)
+    → HavePositionsBelow (length words) (matched place knowns (occurrences_of grammar reading))
+HavePositionsBelow-matched grammar reading words reads place [] = tt
+HavePositionsBelow-matched grammar reading words reads place (known ∷ knowns) = (
+  below-found_at (length words) place (occurrences_of grammar reading)
+      (below-occurrences_of grammar reading words reads),
+  HavePositionsBelow-matched grammar reading words reads
+      (place + 1) knowns,
+)

@@ -1,0 +1,227 @@
+-- Rows in one text: how the text grows, and that its lines are the rows again.
+use Rattle.std.proofs.Common.{◌≡◌, ◌==◌, ℕ, suc, ◌-◌, ◌<◌, ◌≤◌, Bool, true, false, cond, List, []}
+use Rattle.std.proofs.Common.{◌∷◌, ◌++◌, length, map, take, get_or, ⊎_elim, lit<, refl, ap, sym}
+use Rattle.std.proofs.Common.{◌∙◌, subst, append_assoc, append-nil, arith, length-append}
+use Rattle.std.specs.Prelude.{nat_lt, ◌||◌, filter, All, chars, encode_utf8, encode_utf8_all}
+use Rattle.std.specs.Char.{is_whitespace}
+use Rattle.std.specs.List.{AllZip, flat_map, slice_split, onto_first}
+use Rattle.std.specs.Str.{NonePass, NoCharPasses}
+use Rattle.std.specs.Str.Lines.{lines, lines_of_parts, strip_carriage_return}
+use Rattle.std.proofs.lemmas.Bool.{cases_lt}
+use Rattle.std.proofs.lemmas.Bool.Decides.{nat_tests}
+use Rattle.std.proofs.lemmas.List.{map-append, take_at, drop_at}
+use Rattle.std.proofs.lemmas.List.Concat.{flat_map-append}
+use Rattle.std.proofs.lemmas.List.Elements.{All-nil, All-cons, All-head, All-tail, All-append}
+use Rattle.std.proofs.lemmas.List.Elements.{All-map, All-take, All-drop, All-filter}
+use Rattle.std.proofs.lemmas.List.Elements.{All-from_get_or, filter_passes}
+use Rattle.std.proofs.lemmas.List.Splits.{slice_split_none, slice_split_at}
+use Rattle.std.proofs.lemmas.Str.{NoCharPasses-append, NoCharPasses-byte, encode_ascii}
+use Rattle.std.proofs.lemmas.Str.{length-le-encodes}
+use Rattle.getopts.specs.Wrap.{Run, text_of, IsTightBreaking, words_of, lines_of, IsDescriptionRows}
+use Rattle.getopts.specs.Wrap.{joined, continued, parting}
+
+-- ---- texts joined
+
+some_length : (n : ℕ) → nat_lt 0 (suc n) ≡ true
+some_length n = grind (arith, nat_tests)
+
+-- more texts go on from those before
+pub joined-append : (separator : List ℕ) (texts more : List (List ℕ))
+    → joined separator (texts ++ more)
+    ≡ joined separator texts ++ continued (nat_lt 0 (length texts)) separator more
+joined-append separator [] more = refl
+joined-append separator (text ∷ texts) more =
+    ap (λ (rest : List ℕ). text ++ rest)
+    (flat_map-append (λ (text : List ℕ). separator ++ text) texts more)
+    ∙ sym (append_assoc text (flat_map (λ (text : List ℕ). separator ++ text) texts) (flat_map (λ (text : List ℕ). separator ++ text) more))
+    ∙ ap (λ begun. joined separator (text ∷ texts) ++ continued begun separator more) (sym (some_length (length texts)))
+
+-- one text more
+continued-one : (begun : Bool) (separator text : List ℕ)
+    → continued begun separator (text ∷ []) ≡ parting begun separator ++ text
+continued-one true separator text = append-nil (separator ++ text)
+continued-one false separator text = append-nil text
+
+pub joined-push : (separator : List ℕ) (texts : List (List ℕ)) (text : List ℕ)
+    → joined separator (texts ++ text ∷ [])
+    ≡ joined separator texts ++ (parting (nat_lt 0 (length texts)) separator ++ text)
+joined-push separator texts text = joined-append separator texts (text ∷ [])
+    ∙ ap (λ (last : List ℕ). joined separator texts ++ last) (continued-one (nat_lt 0 (length texts)) separator text)
+
+-- the last text grows
+pub joined-longer : (separator : List ℕ) (texts : List (List ℕ)) (text more : List ℕ)
+    → joined separator (texts ++ (text ++ more) ∷ [])
+    ≡ joined separator (texts ++ text ∷ []) ++ more
+joined-longer separator texts text more = simp (joined-push, append_assoc) refl
+
+-- a text after the last one
+pub joined-next : (separator : List ℕ) (texts : List (List ℕ)) (text next : List ℕ)
+    → joined separator ((texts ++ text ∷ []) ++ next ∷ [])
+    ≡ (joined separator (texts ++ text ∷ []) ++ separator) ++ next
+joined-next separator texts text next =
+    let some : nat_lt 0 (length (texts ++ text ∷ [])) ≡ true = grind (arith, nat_tests, length-append) in
+    joined-push separator (texts ++ text ∷ []) next
+    ∙ ap (λ begun. joined separator (texts ++ text ∷ []) ++ (parting begun separator ++ next)) some
+    ∙ sym (append_assoc (joined separator (texts ++ text ∷ [])) separator next)
+
+-- texts after what parts them from those before
+pub continued-some : (begun : Bool) (separator : List ℕ) (texts : List (List ℕ)) → 0 < length texts
+    → parting begun separator ++ joined separator texts ≡ continued begun separator texts
+continued-some begun separator [] some = absurd (omega arith)
+continued-some true separator (text ∷ texts) some = sym (append_assoc separator text (flat_map (λ (text : List ℕ). separator ++ text) texts))
+continued-some false separator (text ∷ texts) some = refl
+
+-- ---- rows hold no line end
+
+-- whether the character ends a line, or may stand before its end
+abbrev ends_line : ℕ → Bool
+ends_line c = (c == 10) || (c == 13)
+
+-- a text that is one line: it isn't empty, and holds no line end
+IsLine : List ℕ → Type 0
+IsLine text = (0 < length text) × NoCharPasses ends_line text
+
+solid_character : (c : ℕ) → is_whitespace c ≡ false → ends_line c ≡ false
+solid_character c solid = grind (arith, nat_tests)
+
+-- characters without white space hold no line end
+solid_line : (cs : List ℕ) → NonePass is_whitespace cs → NonePass ends_line cs
+solid_line [] solid = tt
+solid_line (c ∷ cs) solid = (solid_character c solid.0, solid_line cs solid.1)
+
+-- the pieces between white space have none
+onto_first_solid : (c : ℕ) (pieces : List (List ℕ)) → is_whitespace c ≡ false
+    → All (NonePass is_whitespace) pieces → All (NonePass is_whitespace) (onto_first c pieces)
+onto_first_solid c [] solid all = All-cons (NonePass is_whitespace) (c ∷ []) [] (solid, tt) (All-nil (NonePass is_whitespace))
+onto_first_solid c (piece ∷ pieces) solid all = All-cons (NonePass is_whitespace)
+    (c ∷ piece) pieces (solid, All-head (NonePass is_whitespace) piece pieces all)
+    (All-tail (NonePass is_whitespace) piece pieces all)
+
+pieces_solid : (cs : List ℕ) → All (NonePass is_whitespace) (slice_split is_whitespace cs)
+pieces_solid [] = All-cons (NonePass is_whitespace) [] [] tt (All-nil (NonePass is_whitespace))
+pieces_solid (c ∷ cs) = by_answer (is_whitespace c) refl (pieces_solid cs)
+  where
+    by_answer : (answer : Bool) → is_whitespace c ≡ answer
+        → All (NonePass is_whitespace) (slice_split is_whitespace cs)
+        → All (NonePass is_whitespace)
+        (cond answer ([] ∷ slice_split is_whitespace cs)
+        (onto_first c (slice_split is_whitespace cs)))
+    by_answer true white rest = All-cons (NonePass is_whitespace) [] (slice_split is_whitespace cs) tt rest
+    by_answer false solid rest = onto_first_solid c (slice_split is_whitespace cs) solid rest
+
+-- a word is one line
+piece_line : (piece : List ℕ) → 0 < length piece → NonePass is_whitespace piece
+    → IsLine (encode_utf8_all piece)
+unfolding IsLine
+piece_line piece some solid = (omega (arith, length-le-encodes piece), (piece, refl, solid_line piece solid))
+
+some_from_test : (n : ℕ) → nat_lt 0 n ≡ true → 0 < n
+some_from_test n some = grind (arith, nat_tests)
+
+words_lines : (line : List ℕ) → All IsLine (words_of line)
+words_lines line =
+    let has_some = λ (piece : List ℕ). nat_lt 0 (length piece) in
+    let pieces = slice_split is_whitespace (chars line) in
+    let solid = All-filter has_some (NonePass is_whitespace) pieces (pieces_solid (chars line)) in
+    let some = filter_passes has_some pieces in
+    All-map IsLine encode_utf8_all (filter has_some pieces)
+    (λ k piece within. piece_line _ (some_from_test _ (some k piece within)) (solid k piece within))
+
+-- so is the text of a run
+run_line : (run : Run) → 0 < length run → All IsLine run → IsLine (text_of run)
+unfolding IsLine
+run_line [] begun all = absurd (omega arith)
+run_line (word ∷ []) begun all = All-head IsLine word [] all
+run_line (word ∷ next ∷ run) begun all =
+    let first = All-head IsLine word (next ∷ run) all in
+    let rest = run_line (next ∷ run) (omega arith) (All-tail IsLine word (next ∷ run) all) in
+    let space : NoCharPasses ends_line (32 ∷ []) = (32 ∷ [], append-nil (encode_utf8 32) ∙ encode_ascii 32 (lit< tt), (refl, tt)) in (
+      omega (arith, first.0, length-append word (32 ∷ text_of (next ∷ run))),
+      NoCharPasses-append ends_line word
+          (32 ∷ text_of (next ∷ run)) first.1 (NoCharPasses-append ends_line (32 ∷ []) (text_of (next ∷ run)) space rest.1),
+    )
+
+-- what holds of each word of some runs holds of the words of each
+all_before : {X : Type 0} (P : X → Type 0) (xs ys : List X) → All P (xs ++ ys) → All P xs
+all_before P xs ys all = subst (All P) (take_at xs ys _ refl) (All-take P (length xs) (xs ++ ys) all)
+
+all_after : {X : Type 0} (P : X → Type 0) (xs ys : List X) → All P (xs ++ ys) → All P ys
+all_after P xs ys all = subst (All P) (drop_at xs ys _ refl) (All-drop P (length xs) (xs ++ ys) all)
+
+runs_lines : (runs : List Run) → All (λ run. 0 < length run) runs
+    → All IsLine (flat_map (λ run. run) runs) → All IsLine (map text_of runs)
+runs_lines [] begun all = All-nil IsLine
+runs_lines (run ∷ runs) begun all =
+    All-cons IsLine (text_of run) (map text_of runs)
+    (run_line run (All-head (λ (run : Run). 0 < length run) run runs begun) (all_before IsLine run (flat_map (λ run. run) runs) all))
+    (runs_lines runs (All-tail (λ (run : Run). 0 < length run) run runs begun) (all_after IsLine run (flat_map (λ run. run) runs) all))
+
+-- each row of a description is one line
+breakings_lines : (limit : ℕ) (lines : List (List ℕ)) (breakings : List (List Run))
+    → AllZip (IsTightBreaking limit) (map words_of lines) breakings
+    → All IsLine (map text_of (flat_map (λ runs. runs) breakings))
+breakings_lines limit [] [] all = All-nil IsLine
+breakings_lines limit [] (runs ∷ breakings) all = absurd all
+breakings_lines limit (line ∷ lines) [] all = absurd all
+breakings_lines limit (line ∷ lines) (runs ∷ breakings) all =
+    rw (map-append text_of runs (flat_map (λ runs. runs) breakings))
+    (All-append IsLine (map text_of runs) (map text_of (flat_map (λ runs. runs) breakings))
+    (runs_lines runs all.0.fitting.nonempty (subst (All IsLine) (sym all.0.fitting.joined) (words_lines line)))
+    (breakings_lines limit lines breakings all.1))
+
+rows_lines : (limit : ℕ) (desc : List ℕ) (rows : List (List ℕ)) → IsDescriptionRows limit desc rows
+    → All IsLine rows
+rows_lines limit desc rows are_rows = subst (All IsLine) (sym are_rows.texts)
+    (breakings_lines limit (lines_of desc) are_rows.breakings are_rows.each_line)
+
+-- ---- the lines of rows in one text
+
+ascii_fails : (byte : ℕ) → (byte < 128 → ends_line byte ≡ false) → ends_line byte ≡ false
+ascii_fails byte low = ⊎_elim (λ (ascii : byte < 128). low ascii) (λ (high : 128 ≤ byte). grind (arith, nat_tests)) (cases_lt byte 128)
+
+-- no byte of a line ends a line
+no_line_end : (text : List ℕ) (i : ℕ) → IsLine text → i < length text
+    → ends_line (get_or text i 0) ≡ false
+unfolding IsLine
+no_line_end text i line within = ascii_fails (get_or text i 0) (λ low. NoCharPasses-byte ends_line text i line.1 within low)
+
+neither : (a b : Bool) → (a || b) ≡ false → (a ≡ false) × (b ≡ false)
+neither false false e = (refl, refl)
+neither false true e = cc
+neither true b e = cc
+
+no_carriage_return : (text : List ℕ) → IsLine text → strip_carriage_return text ≡ text
+unfolding IsLine
+no_carriage_return text line =
+    ap (λ answer. cond answer (take (length text - 1) text) text)
+    (neither _ _ (no_line_end text (length text - 1) line (let some = line.0 in omega arith))).1
+
+no_line_feed : (text : List ℕ) → IsLine text → All (λ byte. (byte == 10) ≡ false) text
+no_line_feed text line = All-from_get_or (λ (byte : ℕ). (byte == 10) ≡ false) text 0 (λ i within. (neither _ _ (no_line_end text i line within)).0)
+
+split_joined : (text : List ℕ) (texts : List (List ℕ)) → All IsLine (text ∷ texts)
+    → slice_split (λ byte. byte == 10) (joined (10 ∷ []) (text ∷ texts)) ≡ text ∷ texts
+split_joined text [] all = rw (append-nil text) (slice_split_none (λ byte. byte == 10) text (no_line_feed text (All-head IsLine text [] all)))
+split_joined text (next ∷ texts) all =
+    slice_split_at (λ byte. byte == 10) text 10 (joined (10 ∷ []) (next ∷ texts)) (no_line_feed text (All-head IsLine text (next ∷ texts) all)) refl
+    ∙ ap (λ (rest : List (List ℕ)). text ∷ rest) (split_joined next texts (All-tail IsLine text (next ∷ texts) all))
+
+parts_lines : (texts : List (List ℕ)) → All IsLine texts → lines_of_parts texts ≡ texts
+unfolding IsLine
+parts_lines [] all = refl
+parts_lines (text ∷ []) all = ap (λ answer. cond answer [] (text ∷ [])) (not_empty text (All-head IsLine text [] all))
+  where
+    not_empty : (text : List ℕ) → IsLine text → (length text == 0) ≡ false
+    not_empty text line = let some = line.0 in grind (arith, nat_tests)
+parts_lines (text ∷ next ∷ texts) all = ap (λ (first : List ℕ). first ∷ lines_of_parts (next ∷ texts))
+    (no_carriage_return text (All-head IsLine text (next ∷ texts) all)) ∙ ap (λ (rest : List (List ℕ)). text ∷ rest)
+    (parts_lines (next ∷ texts) (All-tail IsLine text (next ∷ texts) all))
+
+-- the lines of rows that are joined by line ends are the rows
+pub lines_joined : (limit : ℕ) (desc : List ℕ) (rows : List (List ℕ))
+    → IsDescriptionRows limit desc rows → lines (joined (10 ∷ []) rows) ≡ rows
+lines_joined limit desc rows are_rows = of_lines rows (rows_lines limit desc rows are_rows)
+  where
+    of_lines : (texts : List (List ℕ)) → All IsLine texts → lines (joined (10 ∷ []) texts) ≡ texts
+    of_lines [] all = refl
+    of_lines (text ∷ texts) all = ap lines_of_parts (split_joined text texts all) ∙ parts_lines (text ∷ texts) all

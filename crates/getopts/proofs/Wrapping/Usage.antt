@@ -1,0 +1,187 @@
+-- Groups one after the other, and what the rows of a usage text are.
+use Rattle.std.proofs.Common.{◌≡◌, ℕ, zero, suc, ◌+◌, ◌-◌, ◌<◌, ◌≤◌, Bool, true, false, not, ◌||◌}
+use Rattle.std.proofs.Common.{List, [], ◌∷◌, ◌++◌, Option, Some, None, length, take, drop, refl, ap}
+use Rattle.std.proofs.Common.{sym, ◌∙◌, subst, arith, codes, append_assoc}
+use Rattle.std.specs.Prelude.{Result, Ok, Err, OnOk, slice_get, nat_lt, if◌then◌else◌}
+use Rattle.std.specs.List.{AllZip}
+use Rattle.std.specs.Option.{option_map}
+use Rattle.std.proofs.lemmas.Bool.Decides.{nat_tests}
+use Rattle.std.proofs.lemmas.List.{take_all, take_more, drop_at}
+use Rattle.std.proofs.lemmas.List.Folds.{list_any-append}
+use Rattle.std.proofs.lemmas.Option.{slice_get_within, get_or_from_slice_get, slice_get-get_or}
+use Rattle.std.proofs.lemmas.Option.{none-some}
+use Rattle.getopts.specs.Held.Groups.{group_view}
+use Rattle.getopts.specs.Names.{Text, is_empty}
+use Rattle.getopts.specs.Options.{Group, Declared}
+use Rattle.getopts.specs.Only.{IsTheOnly}
+use Rattle.getopts.specs.Usage.{AddsTheOnly, any_short, spaces, head, next_row, padding, row_text}
+use Rattle.getopts.specs.Usage.{IsUsageRow, AreUsageRows, usage_text, IsUsageText}
+use Rattle.getopts.specs.Wrap.{width_of, IsDescriptionRows, joined, parting, AddsDescription}
+use Rattle.getopts.specs.declared.groups.Group.{Group as Borrowed}
+use Rattle.getopts.proofs.Lists.{all_zip_push}
+use Rattle.getopts.proofs.Wrapping.Lines.{rows_exactly}
+use Rattle.getopts.proofs.Wrapping.Texts.{joined-push}
+
+-- what holds anyway holds where the answer is `Ok`
+pub on_ok : {T E P : Type 0} (r : Result T E) → P → OnOk r P
+on_ok (Ok x) holds = holds
+on_ok (Err e) holds = tt
+
+-- ---- the only value
+
+-- what is made of the only value is the only value that is made so
+pub made_of_the_only : {X Y : Type 0} (P : X → Type 0) (make : X → Y) (x : X) (y : Y)
+    → IsTheOnly P x → y ≡ make x → IsTheOnly (λ (other : Y). (z : X) × P z × (other ≡ make z)) y
+made_of_the_only {X} P make x y only made = λ other. (
+  (λ found. found.2 ∙ ap make ((only found.0).0 found.1) ∙ sym made),
+  (λ same. (x, (only x).1 refl, same ∙ made)),
+)
+
+-- a list whose elements are each the only one is the only list
+pub each_is_the_only : {X Y : Type 0} (R : X → Y → Type 0) (xs : List X) (ys : List Y)
+    → AllZip (λ x y. IsTheOnly (R x) y) xs ys → IsTheOnly (AllZip R xs) ys
+each_is_the_only R [] [] all = λ other. (nothing other, λ same. subst (AllZip R []) (sym same) tt)
+  where
+    nothing : (other : List _) → AllZip R [] other → other ≡ []
+    nothing [] all = refl
+    nothing (z ∷ other) all = absurd all
+each_is_the_only R [] (y ∷ ys) all = absurd all
+each_is_the_only R (x ∷ xs) [] all = absurd all
+each_is_the_only {X} {Y} R (x ∷ xs) (y ∷ ys) all = λ other. (
+  same_as (each_is_the_only R xs ys all.1) other,
+  λ same. subst (AllZip R (x ∷ xs)) (sym same)
+      ((all.0 y).1 refl, (each_is_the_only R xs ys all.1 ys).1 refl),
+)
+  where
+    same_as : IsTheOnly (AllZip R xs) ys → (other : List Y) → AllZip R (x ∷ xs) other
+        → other ≡ y ∷ ys
+    same_as rest [] each = absurd each
+    same_as rest (z ∷ zs) each = let head = (all.0 z).0 each.0 in let tail = (rest zs).0 each.1 in cc
+
+-- ---- groups, one after the other
+
+-- one more group, where one was found at the next place
+pub group_more : (groups : List Group) (place : ℕ) (found : Option Borrowed) (group : Borrowed)
+    → option_map group_view found ≡ slice_get groups place → found ≡ Some group
+    → take (place + 1) groups ≡ take place groups ++ group_view group ∷ []
+group_more groups place found group view is =
+    let got : slice_get groups place ≡ Some (group_view group) = sym view ∙ ap (option_map group_view) is in
+    take_more groups place (group_view group) (slice_get_within groups place (group_view group) got)
+    ∙ ap (λ (last : Group). take place groups ++ last ∷ []) (get_or_from_slice_get groups place (group_view group) (group_view group) got)
+
+-- one was found at each place within the list
+pub group_missing : (groups : List Group) (place : ℕ) (found : Option Borrowed)
+    → place < length groups → option_map group_view found ≡ slice_get groups place
+    → ((group : Borrowed) → found ≡ Some group → ⊥) → ⊥
+group_missing groups place (Some group) within view missing = missing group refl
+group_missing [] place None within view missing = absurd (omega arith)
+group_missing (first ∷ groups) place None within view missing = none-some _ (view ∙ slice_get-get_or (first ∷ groups) place first within)
+
+-- whether any group has a short name, with one more group
+pub any_short_more : (groups : List Group) (place : ℕ) (found : Option Borrowed) (group : Borrowed)
+    → option_map group_view found ≡ slice_get groups place → found ≡ Some group
+    → (so_far now : Bool) → so_far ≡ any_short (take place groups)
+    → now ≡ (so_far || not (is_empty group.names.short.now))
+    → now ≡ any_short (take (place + 1) groups)
+any_short_more groups place found group view is so_far now so_far_is now_is =
+    now_is
+    ∙ ap (λ so_far. so_far || not (is_empty group.names.short.now)) so_far_is
+    ∙ ap (λ last. any_short (take place groups) || last) (or_false (not (is_empty group.names.short.now)))
+    ∙ sym (list_any-append (λ group. not (is_empty group.known.names.short)) (take place groups) (group_view group ∷ []))
+    ∙ ap any_short (sym (group_more groups place found group view is))
+  where
+    or_false : (b : Bool) → b ≡ (b || false)
+    or_false true = refl
+    or_false false = refl
+
+-- one more text after the texts of the groups before it
+pub text_more : (separator : Text) (texts : List Text) (place : ℕ)
+    (old so_far parted new text : Text) → length texts ≡ place
+    → so_far ≡ old ++ joined separator texts → parted ≡ so_far ++ parting (nat_lt 0 place) separator
+    → new ≡ parted ++ text → new ≡ old ++ joined separator (texts ++ text ∷ [])
+text_more separator texts place old so_far parted new text count so_far_is parted_is new_is =
+    new_is
+    ∙ ap (λ (parted : Text). parted ++ text) (parted_is
+    ∙ ap (λ (so_far : Text). so_far ++ parting (nat_lt 0 place) separator) so_far_is
+    ∙ ap (λ place. (old ++ joined separator texts) ++ parting (nat_lt 0 place) separator) (sym count))
+    ∙ simp append_assoc refl
+    ∙ ap (λ (added : Text). old ++ added) (sym (joined-push separator texts text))
+
+-- ---- padding
+
+drop-spaces : (m n total : ℕ) → total ≡ m + n → drop m (spaces total) ≡ spaces n
+drop-spaces zero n total e = ap spaces (omega arith)
+drop-spaces (suc m) n zero e = absurd (omega arith)
+drop-spaces (suc m) n (suc total) e = drop-spaces m n total (omega arith)
+
+-- the padding of a head within 24 columns is the end of the next row
+pub padding_narrow : (own : Text) (columns : ℕ) → columns ≡ width_of own → columns < 24
+    → drop (1 + columns) next_row ≡ padding own
+padding_narrow own columns is narrow =
+    let test : nat_lt (width_of own) 24 ≡ true = grind (arith, nat_tests) in
+    let past_line_end : 1 + columns ≡ suc columns = omega arith in
+    ap (λ skipped. drop skipped next_row) past_line_end
+    ∙ drop-spaces columns (24 - width_of own) 24 (omega arith)
+    ∙ ap (λ answer. if answer then spaces (24 - width_of own) else next_row) (sym test)
+
+-- ---- rows
+
+-- a row that is made of the only description rows is the only row
+pub row_added : (long_only among_shorts : Bool) (group : Group) (old headed padded new : Text)
+    → headed ≡ old ++ head long_only among_shorts group
+    → padded ≡ headed ++ padding (drop (length old) headed)
+    → AddsDescription 54 next_row group.description padded new
+    → AddsTheOnly (IsUsageRow long_only among_shorts group) old new
+row_added long_only among_shorts group old headed padded new headed_is padded_is adds =
+    let head = head long_only among_shorts group in
+    let own : drop (length old) headed ≡ head = ap (drop (length old)) headed_is ∙ drop_at old head _ refl in (
+      row_text head adds.0,
+      made_of_the_only (IsDescriptionRows 54 group.description) (row_text head) adds.0 _
+          (λ others. rows_exactly 54 group.description adds.0 others adds.1) refl,
+      adds.2
+          ∙ ap (λ (padded : Text). padded ++ joined next_row adds.0)
+          (padded_is ∙ ap (λ (own : Text). headed ++ padding own) own
+          ∙ ap (λ (headed : Text). headed ++ padding head) headed_is)
+          ∙ simp append_assoc refl,
+    )
+
+-- the only rows of the groups before a place, in order
+abbrev pub AreRowsBefore : Declared → ℕ → List Text → Type 0
+AreRowsBefore options place rows =
+    AllZip (λ group row. IsTheOnly (IsUsageRow options.long_only (any_short options.groups) group) row)
+    (take place options.groups) rows
+
+-- one more row
+pub rows_more : (options : Declared) (place : ℕ) (found : Option Borrowed) (group : Borrowed)
+    → option_map group_view found ≡ slice_get options.groups place → found ≡ Some group
+    → (long_only among_shorts : Bool) → long_only ≡ options.long_only
+    → among_shorts ≡ any_short options.groups → (rows : List Text) (row : Text)
+    → AreRowsBefore options place rows
+    → IsTheOnly (IsUsageRow long_only among_shorts (group_view group)) row
+    → AreRowsBefore options (place + 1) (rows ++ row ∷ [])
+rows_more options place found group view is long_only among_shorts long_only_is among_shorts_is rows row each only =
+    let Only : Group → Text → Type 0 = λ group row. IsTheOnly (IsUsageRow options.long_only (any_short options.groups) group) row in
+    rw (group_more options.groups place found group view is)
+    (all_zip_push Only (take place options.groups) rows (group_view group) row each (rw (long_only_is, among_shorts_is) at only))
+
+-- with the last one these are the only usage rows
+pub rows_all : (options : Declared) (place : ℕ) (rows : List Text) → length options.groups ≤ place
+    → AreRowsBefore options place rows → IsTheOnly (AreUsageRows options) rows
+rows_all options place rows all each =
+    let Row : Group → Text → Type 0 = IsUsageRow options.long_only (any_short options.groups) in
+    each_is_the_only Row options.groups rows
+    (subst (λ (groups : List Group). AllZip (λ group row. IsTheOnly (Row group) row) groups rows)
+    (take_all place options.groups all) each)
+
+-- the text has grown by the rows of the groups before a place, with a line end between each two
+pub record RowsInText (options : Declared) (place : ℕ) (old text : Text) : Type 0 where
+  pub rows : List Text
+  pub count : length rows ≡ place
+  pub each : AreRowsBefore options place rows
+  pub text_is : text ≡ old ++ joined (codes "\n") rows
+
+-- a text that is made of the only usage rows is the only usage text
+pub text_is_the_only : (options : Declared) (brief : Text) (rows : List Text) (text : Text)
+    → IsTheOnly (AreUsageRows options) rows → text ≡ usage_text brief rows
+    → IsTheOnly (IsUsageText options brief) text
+text_is_the_only options brief rows text only made = made_of_the_only (AreUsageRows options) (usage_text brief) rows text only made
