@@ -15,7 +15,7 @@ use Rattle.getopts.specs.CanonAnswers.{IsAcceptedWith, IsParseAnswer, IsCanonica
 use Rattle.getopts.specs.Refuted.Forms.{EachLineHasAnswers}
 use Rattle.getopts.specs.declared.groups.Occur.{Occur}
 use Rattle.getopts.specs.declared.groups.Occur.TheVariants.{Req, Optional, Multi}
-use Rattle.getopts.proofs.CanonLemmas.{HasUnwritable-content, HasCanonicalLine-says, Says-reading}
+use Rattle.getopts.proofs.CanonLemmas.{IsSound-reading, HasUnwritable-content, HasCanonicalLine-says, Says-reading}
 use Rattle.getopts.proofs.ParseLemmas.{named_here, only_reads, HasNoReading-fault}
 use Rattle.getopts.proofs.ScanReadings.{read_reading, read_fault}
 use Rattle.getopts.proofs.ScanTurns.{read}
@@ -159,7 +159,13 @@ module _ (options : Declared) (lawful : AreLawfullyNamed options.groups) (shorts
       line_of-is false other =
           let content = content_of (grammar_of options) reading in
           let is = is_plain-false options.groups content.mentions other in
-          record { content = content; accepted = accepted; not_plain = is; unwritable = HasUnwritable-content options content is }
+          record {
+            content = content;
+            accepted = accepted;
+            sound = IsSound-reading options reading words reads;
+            not_plain = is;
+            unwritable = HasUnwritable-content options content is;
+          }
 
     written-is : (fault : Option Fault) → HaveFault (matches_of options reading).groups fault → IsCanonicalAnswer options words (written options reading fault)
     written-is None kept = line_of-is kept (is_plain options.groups (content_of (grammar_of options) reading).mentions) refl

@@ -15,7 +15,7 @@ use Rattle.getopts.specs.Canon.{Content, IsCountKeeping, content_of, main_at, Ha
 use Rattle.getopts.specs.AcceptedLine.{IsAcceptedLine}
 use Rattle.getopts.specs.CanonAnswers.{IsAcceptedWith, IsWritten, IsUnwritable, IsParseAnswer, IsCanonicalAnswer, AnsweredLinesTell}
 use Rattle.getopts.specs.declared.line.AcceptedLine.{AcceptedLine}
-use Rattle.getopts.proofs.CanonLemmas.{HasCanonicalLine-says, HasUnwritable-content, CanonicalLinesTell-lawful}
+use Rattle.getopts.proofs.CanonLemmas.{IsSound-says, HasCanonicalLine-says, HasUnwritable-content, CanonicalLinesTell-lawful}
 use Rattle.getopts.proofs.OnlyLemmas.{meets}
 use Rattle.getopts.proofs.ParseLemmas.{only_reads, named_here, groups_are, IsAccepted-reading}
 use Rattle.getopts.proofs.ScanTurns.{IsNamed}
@@ -109,6 +109,7 @@ module _ (options : Declared) (words : List Text) (accepted : AcceptedLine) (is 
       record {
         content = line_content accepted.line;
         accepted = IsAcceptedWith-line;
+        sound = IsSound-says options words (line_content accepted.line) Says-line;
         not_plain = not_plain;
         unwritable = HasUnwritable-content options (line_content accepted.line) not_plain;
       }

@@ -29,10 +29,10 @@ pub use canon::equal_input_equal_answers;
 pub use fail::Fail;
 pub use groups::{HasArg, Occur, ParsingStyle};
 pub use matches::Matches;
-pub use names::{names_lawful, names_resolve};
+pub use names::{held_names_resolve, names_lawful, names_resolve};
 pub use occurrences::Occurrences;
 pub use options::Options;
-pub use theorem::one_reading_one_canonical_line;
+pub use theorem::{declared_options_keep_laws, one_reading_one_canonical_line};
 pub use usage::UsageRows;
 pub use words::are_texts;
 

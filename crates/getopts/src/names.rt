@@ -2,8 +2,10 @@
 
 ghost use Rattle.std.specs.Prelude.{◌≡◌, ◌↔◌, IsTrue};
 ghost use Rattle.getopts.specs.Names.{AreLawful, MainNameResolves, OneByteIsShort, EmptyResolvesNot};
+ghost use Rattle.getopts.specs.Accessors.{held_names};
 ghost use Rattle.getopts.specs.Options.{names_of};
 
+use crate::matches::Matches;
 use crate::options::Options;
 
 /// Whether an option group may have these two names.
@@ -30,6 +32,15 @@ pub fn names_resolve(options: &Options)
     ensures empty { EmptyResolvesNot (names_of options.now.groups) }
 {
     let _groups = options.groups();
+}
+
+/// The same three facts of the names that matches hold: a law to cite, which does nothing.
+pub fn held_names_resolve(matches: &Matches)
+    ensures main_name { MainNameResolves (held_names matches.now.groups) }
+    ensures one_byte { OneByteIsShort (held_names matches.now.groups) }
+    ensures empty { EmptyResolvesNot (held_names matches.now.groups) }
+{
+    matches.are_held_lawfully();
 }
 
 /// The two names of a group, borrowed. Either may be empty.

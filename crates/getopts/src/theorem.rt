@@ -2,7 +2,7 @@
 
 ghost use Rattle.getopts.specs.Canon.{IsSound, ReadsBackEverywhere, SaysNothingElse, IsItsOwn, IsOnlyContent};
 ghost use Rattle.getopts.specs.CanonAnswers.{EachContent, EachPlainContent, AnsweredLinesTell};
-ghost use Rattle.getopts.specs.Options.{grammar_of};
+ghost use Rattle.getopts.specs.Options.{Declared, MayBeDeclared, grammar_of};
 ghost use Rattle.getopts.specs.Parse.{KeepsReadingLaws};
 ghost use Rattle.getopts.specs.Theorem.{OneReading, AcceptedExactlyWhen, RefusedExactlyWhen, OneOfThree, OneReadingGivesAll, OneContentHoldsSame, CanonicalLinesTell};
 
@@ -48,3 +48,12 @@ pub fn one_reading_one_canonical_line(options: &Options)
 {
     let _groups = options.groups();
 }
+
+/// The laws of readings, and that words which say the same hold the same, of any options that may be
+/// declared, where none need be there: a law to cite, which does nothing.
+pub fn declared_options_keep_laws()
+    ensures reading_laws { (options : Declared) → MayBeDeclared options
+        → KeepsReadingLaws (grammar_of options) }
+    ensures holds_same { (options : Declared) → MayBeDeclared options
+        → OneContentHoldsSame options }
+{}

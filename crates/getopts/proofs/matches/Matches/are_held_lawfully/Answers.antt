@@ -1,0 +1,7 @@
+-- What matches keep of names holds of the groups that are seen.
+use Rattle.getopts.specs.Held.Matches.{occurrences_in}
+use Rattle.getopts.proofs.MatchesLemmas.{AreHeldLawfully-matched}
+use Rattle.getopts.proofs.matches.Matches.are_held_lawfully.Goals as goal
+
+pub returns : goal.returns
+returns c = rw (← c.self.view_is) (AreHeldLawfully-matched 0 c.self.inside.groups (occurrences_in c.self.inside) c.self.invariant.lawful)

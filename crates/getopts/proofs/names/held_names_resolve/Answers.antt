@@ -1,0 +1,16 @@
+-- The facts of resolution, of the groups that matches hold.
+use Rattle.getopts.specs.Accessors.{held_names}
+use Rattle.getopts.specs.Names.{IsLawfullyNamed}
+use Rattle.getopts.proofs.NamesLemmas.{AllByRecursion-map, resolution-main_name, OneByteIsShort-lawful, resolution-nil}
+use Rattle.getopts.proofs.names.held_names_resolve.Goals as goal
+
+pub returns : goal.returns
+returns c =
+    let groups = c.args.matches.now.groups in
+    let names = held_names groups in
+    let lawful = AllByRecursion-map IsLawfullyNamed (λ group. group.known.names) groups c.are_held_lawfully.ensures in
+    record {
+      main_name = λ name place held resolved at. resolution-main_name names name place held resolved at;
+      one_byte = OneByteIsShort-lawful names lawful;
+      empty = resolution-nil names lawful;
+    }
