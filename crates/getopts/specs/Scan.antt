@@ -237,8 +237,8 @@ pub record Mention : Type 0 where
   pub group : ℕ
   pub value : Option Text
 
--- what a name with this value mentions; a lawful item has no name that resolves to no group, so the 0
--- stands for none
+-- What a name with this value mentions. The options of a lawful item resolve, so the 0 is never
+-- taken.
 abbrev pub mention : Grammar → Text → Option Text → Mention
 mention grammar name value = record { group = unwrap_or (grammar.place_of name) 0; value = value }
 
