@@ -125,14 +125,19 @@ static void the_canonical_line_is_told(void) {
     expect(holds(&room, (size_t[]){ 3, 11, 2, 1 }, 4, "--output=ab--x") && tells(&room, 4, 14), "its words");
 }
 
+/* The line of all options, in so much room. */
+static uint32_t short_usage(size_t bytes, struct room *room) {
+    empty(room);
+    return getopts_c_short_usage(bytes_of(texts), sizeof texts - 1, lens, 4, &once, 1, bytes_of("copy"), 4, room->bytes,
+        bytes, &room->sizes);
+}
+
 static void the_short_usage_is_told(void) {
     struct room room;
-    empty(&room);
-    expect(getopts_c_short_usage(bytes_of(texts), sizeof texts - 1, lens, 4, &once, 1, bytes_of("copy"), 4, room.bytes,
-               21, &room.sizes)
-            == GETOPTS_OK,
-        "a short usage");
+    expect(short_usage(21, &room) == GETOPTS_OK, "a short usage");
     expect(holds(&room, NULL, 0, "Usage: copy [-o NAME]") && tells(&room, 0, 21), "its text, which fills the room");
+    expect(short_usage(20, &room) == GETOPTS_TOO_SMALL, "a byte too little for it");
+    expect(tells(&room, 0, 21) && room.bytes[0] == '.', "what a byte too little for it tells");
 }
 
 static void the_usage_is_told(void) {
@@ -150,15 +155,22 @@ static void the_usage_is_told(void) {
     expect(tells(&room, 0, sizeof text - 1) && room.bytes[0] == '.', "what a byte too little tells");
 }
 
+/* The rows of the usage text, in so much room. */
+static uint32_t usage_rows(size_t numbers, size_t bytes, struct room *room) {
+    empty(room);
+    return getopts_c_usage_rows(bytes_of(texts), sizeof texts - 1, lens, 4, &once, 1, false, room->numbers, numbers,
+        room->bytes, bytes, &room->sizes);
+}
+
 static void the_usage_rows_are_told(void) {
     struct room room;
-    empty(&room);
-    expect(getopts_c_usage_rows(bytes_of(texts), sizeof texts - 1, lens, 4, &once, 1, false, room.numbers, 3, room.bytes,
-               40, &room.sizes)
-            == GETOPTS_OK,
-        "usage rows");
+    expect(usage_rows(2, 38, &room) == GETOPTS_OK, "usage rows");
     expect(holds(&room, (size_t[]){ 1, 38 }, 2, "    -o, --output NAME   set the output") && tells(&room, 2, 38),
-        "the rows");
+        "the rows, which fill the rooms");
+    expect(usage_rows(1, 38, &room) == GETOPTS_TOO_SMALL && tells(&room, 2, 38), "a number too little for the rows");
+    expect(room.numbers[0] == 9 && room.bytes[0] == '.', "nothing is written where a number is too little");
+    expect(usage_rows(2, 37, &room) == GETOPTS_TOO_SMALL && tells(&room, 2, 38), "a byte too little for the rows");
+    expect(room.numbers[0] == 9 && room.bytes[0] == '.', "nothing is written where a byte is too little");
 }
 
 int main(void) {

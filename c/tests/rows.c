@@ -171,7 +171,7 @@ static bool declares(void) {
             declare(adding[nth].kind, count > 4 ? fields[4] : "");
             return true;
         }
-    if (strcmp(fields[0], "opt") == 0)
+    if (strcmp(fields[0], "opt") == 0 || strcmp(fields[0], "add_group") == 0)
         declare(kind_of(fields[5], fields[6]), fields[4]);
     else if (strcmp(fields[0], "style") == 0)
         modes = (modes & GETOPTS_LONG_ONLY) | (strcmp(fields[1], "stop") == 0 ? GETOPTS_STOP : 0);

@@ -3,12 +3,16 @@ use Rattle.std.specs.Prelude.{◌≡◌, ℕ, Bool, List, [], ◌∷◌, map, le
 use Rattle.std.specs.Prelude.{Some, None, Result, Ok, Err, slice_get, unwrap_or}
 use Rattle.std.specs.List.{AllByRecursion, filter_map}
 use Rattle.std.specs.Option.{option_and_then, option_map, option_map_or, option_or}
-use Rattle.getopts.specs.Names.{Text, IsLawfullyNamed, resolution}
+use Rattle.getopts.specs.Names.{Text, Names, IsLawfullyNamed, resolution}
 use Rattle.getopts.specs.Matches.{Found, MatchedGroup}
+
+-- the names of each group
+abbrev pub held_names : List MatchedGroup → List Names
+held_names groups = map (λ group. group.known.names) groups
 
 -- the place of the group that a name resolves to
 abbrev pub place_of : List MatchedGroup → Text → Option ℕ
-place_of groups name = resolution (map (λ group. group.known.names) groups) name
+place_of groups name = resolution (held_names groups) name
 
 -- a name is defined: it resolves to a group
 abbrev pub IsDefined : List MatchedGroup → Text → Type 0
@@ -38,6 +42,10 @@ is_present groups name = nat_lt 0 (length (found_of groups name))
 -- the positions of occurrences
 abbrev pub positions_of : List Found → List ℕ
 positions_of founds = map (λ found. found.position) founds
+
+-- the value of each occurrence, or that it has none
+abbrev pub each_value : List Found → List (Option Text)
+each_value founds = map (λ found. found.value) founds
 
 -- the values of the occurrences that have one
 abbrev pub values_of : List Found → List Text

@@ -7,8 +7,8 @@ use Rattle.getopts.specs.Scan.{Reading}
 use Rattle.getopts.specs.Fail.{Fault}
 use Rattle.getopts.specs.Matches.{Matched, matches_of, KeepsCounts}
 use Rattle.getopts.specs.Parse.{Reads, IsAccepted, IsRefused}
-use Rattle.getopts.specs.Canon.{Content, content_of, IsPlain, canonical_line, with_setting, Says}
-use Rattle.getopts.specs.Canon.{HasCanonicalLine, HasUnwritable}
+use Rattle.getopts.specs.Canon.{Content, content_of, IsPlain, IsSound, canonical_line, with_setting}
+use Rattle.getopts.specs.Canon.{Says, HasCanonicalLine, HasUnwritable}
 use Rattle.getopts.specs.declared.groups.ParsingStyle.{ParsingStyle}
 
 -- The words are accepted with this content: they have one reading, which keeps the counts, and the
@@ -29,10 +29,12 @@ pub record IsWritten (options : Declared) (words line : List Text) : Type 0 wher
   pub line_is : line ≡ canonical_line options.groups content
   pub laws : HasCanonicalLine options content
 
--- The words are accepted with a content that isn't plain: some mention of it can't be written.
+-- The words are accepted with a content that is sound and isn't plain: some mention of it can't be
+-- written.
 pub record IsUnwritable (options : Declared) (words : List Text) : Type 0 where
   pub content : Content
   pub accepted : IsAcceptedWith options words content
+  pub sound : IsSound options.groups content
   pub not_plain : ¬ (IsPlain options.groups content)
   pub unwritable : HasUnwritable options content
 

@@ -32,7 +32,8 @@ pub mod Same
 pub mod Wrap
 -- usage texts
 pub mod Usage
--- Cited by private clauses alone.
+-- Cited by private clauses, and by the views of what is held; public clauses cite of these alone
+-- `held_found` and `pair_view`, of `Held`.
 
 -- lists cut at places
 pub mod Pieces

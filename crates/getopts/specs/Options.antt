@@ -3,6 +3,7 @@ use Rattle.std.specs.Prelude.{◌≡◌, ℕ, Bool, List, [], ◌∷◌, ◌++�
 use Rattle.std.specs.Prelude.{slice_get}
 use Rattle.std.specs.List.{AllByRecursion}
 use Rattle.std.specs.Option.{option_and_then, option_map}
+use Rattle.std.specs.Str.{IsUtf8}
 use Rattle.getopts.specs.Names.{Text, Names, IsLawfullyNamed, resolution}
 use Rattle.getopts.specs.declared.groups.HasArg.{HasArg}
 use Rattle.getopts.specs.declared.groups.Occur.{Occur}
@@ -45,6 +46,11 @@ with_group options group = record options { groups = options.groups ++ group ∷
 -- each group is lawfully named
 abbrev pub AreLawfullyNamed : List Group → Type 0
 AreLawfullyNamed groups = AllByRecursion (λ group. IsLawfullyNamed group.known.names) groups
+
+-- options that may be declared: each group is lawfully named, and its short name is a text
+pub record MayBeDeclared (options : Declared) : Type 0 where
+  pub named : AreLawfullyNamed options.groups
+  pub shorts : AllByRecursion (λ group. IsUtf8 group.known.names.short) options.groups
 
 -- the names of each group
 abbrev pub names_of : List Group → List Names

@@ -237,7 +237,8 @@ pub record Mention : Type 0 where
   pub group : ℕ
   pub value : Option Text
 
--- what a name with this value mentions
+-- What a name with this value mentions. The options of a lawful item resolve, so the 0 is never
+-- taken.
 abbrev pub mention : Grammar → Text → Option Text → Mention
 mention grammar name value = record { group = unwrap_or (grammar.place_of name) 0; value = value }
 

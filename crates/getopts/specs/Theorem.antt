@@ -1,6 +1,6 @@
 -- The main theorem: what `parse` answers to which words, and when two canonical lines are equal.
-use Rattle.std.specs.Prelude.{◌≡◌, ◌↔◌, ◌⊎◌, List, length}
-use Rattle.getopts.specs.Accessors.{found_of, first_value, values_of}
+use Rattle.std.specs.Prelude.{◌≡◌, ◌↔◌, ◌⊎◌, List}
+use Rattle.getopts.specs.Accessors.{found_of, each_value}
 use Rattle.getopts.specs.Only.{IsTheOnly}
 use Rattle.getopts.specs.Names.{Text, AreTexts}
 use Rattle.getopts.specs.Options.{Declared, grammar_of}
@@ -63,15 +63,11 @@ OneReadingGivesAll options = (words : List Text) (reading : Reading)
     → IsCountKeeping options reading words
     → GivesAll options words reading
 
--- two matches hold the same but for positions: for each name as many occurrences with the same
--- values, and the same free words
+-- two matches hold the same but for positions: each occurrence of each name has the same value, or
+-- none in both, and the free words are the same
 pub record HoldSame (matches other : Matched) : Type 0 where
-  pub count : (name : Text)
-      → length (found_of other.groups name) ≡ length (found_of matches.groups name)
-  pub first : (name : Text)
-      → first_value (found_of other.groups name) ≡ first_value (found_of matches.groups name)
   pub values : (name : Text)
-      → values_of (found_of other.groups name) ≡ values_of (found_of matches.groups name)
+      → each_value (found_of other.groups name) ≡ each_value (found_of matches.groups name)
   pub free : other.free ≡ matches.free
 
 -- Words with the content of accepted words are accepted, with matches that hold the same.

@@ -51,6 +51,13 @@ impl Matches {
         }
     }
 
+    /// The groups that matches hold are lawfully named.
+    pub(crate) fn are_held_lawfully(&self)
+        ensures { AreHeldLawfully self.now.groups }
+    {
+        let _groups = &self.groups;
+    }
+
     /// The occurrences of the group that a name resolves to. Of an undefined name there are none.
     fn given_of(&self, name: &str) -> Occurrences<'_>
         ensures { result ≡ found_of self.now.groups name.now }

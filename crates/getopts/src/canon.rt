@@ -1,18 +1,16 @@
 //! The canonical line: what a line says, written again with main names alone.
 
-ghost use Rattle.std.specs.Prelude.{◌≡◌, List, map, IfOk, IfErr, IfSome, IfNone, not};
+ghost use Rattle.std.specs.Prelude.{◌≡◌, map, IfOk, IfErr, IfSome, IfNone, not};
 ghost use Rattle.std.specs.List.{list_all};
 ghost use Rattle.std.specs.Option.{option_copied};
 ghost use Rattle.std.specs.String.{string_bytes};
 ghost use Rattle.getopts.specs.Fail.{Tells};
-ghost use Rattle.getopts.specs.Names.{Text};
-ghost use Rattle.getopts.specs.Options.{Declared, knowns_of};
+ghost use Rattle.getopts.specs.Options.{knowns_of};
 ghost use Rattle.getopts.specs.Held.Accepted.{IsHeldLine};
 ghost use Rattle.getopts.specs.Names.{texts};
 ghost use Rattle.getopts.specs.Line.{line_content};
 ghost use Rattle.getopts.specs.Scan.{holds_equals, long_word, two};
 ghost use Rattle.getopts.specs.Canon.{main_at, canonical_line};
-ghost use Rattle.getopts.specs.CanonAnswers.{IsParseAnswer, IsCanonicalAnswer, HasOneAnswer};
 
 use crate::accepted::AcceptedLine;
 use crate::fail::Fail;
@@ -154,14 +152,3 @@ impl Options {
         }
     }
 }
-
-/// Equal input, equal answers: one set of options and one list of words have one answer of `parse`, and
-/// one of `canonical`. Want of memory, which may come in place of either, is no such answer.
-///
-/// This is a law to cite, which does nothing.
-pub fn equal_input_equal_answers()
-    ensures parse { (options : Declared) (words : List Text)
-        → HasOneAnswer (IsParseAnswer options words) }
-    ensures canonical { (options : Declared) (words : List Text)
-        → HasOneAnswer (IsCanonicalAnswer options words) }
-{}

@@ -9,6 +9,7 @@ mod counts;
 mod fail;
 mod groups;
 mod index;
+mod laws;
 mod line;
 mod matches;
 mod matches_eq;
@@ -21,19 +22,20 @@ mod row;
 mod scan;
 mod table;
 mod texts;
-mod theorem;
 mod usage;
 mod words;
 pub mod wrap;
 
-pub use canon::equal_input_equal_answers;
 pub use fail::Fail;
 pub use groups::{HasArg, Occur, ParsingStyle};
+pub use laws::{
+    declared_options_keep_laws, equal_input_equal_answers, held_names_resolve, names_resolve,
+    one_reading_one_canonical_line,
+};
 pub use matches::Matches;
-pub use names::{names_lawful, names_resolve};
+pub use names::names_lawful;
 pub use occurrences::Occurrences;
 pub use options::Options;
-pub use theorem::one_reading_one_canonical_line;
 pub use usage::UsageRows;
 pub use words::are_texts;
 

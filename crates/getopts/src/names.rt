@@ -1,10 +1,7 @@
-//! Names of options: which pairs are lawful, and how names resolve.
+//! Names of options: which pairs are lawful.
 
 ghost use Rattle.std.specs.Prelude.{◌≡◌, ◌↔◌, IsTrue};
-ghost use Rattle.getopts.specs.Names.{AreLawful, MainNameResolves, OneByteIsShort, EmptyResolvesNot};
-ghost use Rattle.getopts.specs.Options.{names_of};
-
-use crate::options::Options;
+ghost use Rattle.getopts.specs.Names.{AreLawful};
 
 /// Whether an option group may have these two names.
 ///
@@ -18,18 +15,6 @@ pub fn names_lawful(short: &str, long: &str) -> bool
     ensures { IsTrue result ↔ AreLawful short.now long.now }
 {
     short.len() <= 1 && long.len() != 1 && !(short.is_empty() && long.is_empty())
-}
-
-/// Three facts of how the names of options resolve: a law to cite, which does nothing.
-///
-/// The main name of a resolved group resolves to that same group. A name of one byte that resolves
-/// is a short name, and no long one. The empty name resolves to none.
-pub fn names_resolve(options: &Options)
-    ensures main_name { MainNameResolves (names_of options.now.groups) }
-    ensures one_byte { OneByteIsShort (names_of options.now.groups) }
-    ensures empty { EmptyResolvesNot (names_of options.now.groups) }
-{
-    let _groups = options.groups();
 }
 
 /// The two names of a group, borrowed. Either may be empty.

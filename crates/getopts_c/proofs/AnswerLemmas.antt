@@ -1,24 +1,24 @@
 -- What an answer is, from what its parts are.
-use Rattle.std.proofs.Common.{◌≡◌, ℕ, zero, suc, ◌+◌, List, [], ◌∷◌, ◌++◌, length, map, take, get_or, slice_get, ap, subst, sym, append_assoc, append-nil, ◌∙◌, inl, inr, arith}
+use Rattle.std.proofs.Common.{◌≡◌, ℕ, zero, suc, ◌+◌, List, [], ◌∷◌, ◌++◌, length, map, take, get_or, slice_get, refl, take_all, zero-le, ap, subst, sym, append_assoc, append-nil, ◌∙◌, inl, inr, arith}
 use Rattle.std.proofs.lemmas.Grind.{flat_map-append}
 use Rattle.std.proofs.lemmas.List.{length-map}
 use Rattle.std.specs.List.{flat_map, cons_option}
 use Rattle.std.specs.Option.{option_map}
-use Rattle.std.specs.Prelude.{◌<◌, ◌⊎◌, IfNone, IfSome, ⊤, Result, Ok, Err, IfOk, OnOk, IsOkAnd, Option, Some, None, MatchOption, IsSomeAnd}
+use Rattle.std.specs.Prelude.{◌≢◌, ◌<◌, ◌≤◌, ◌⊎◌, IfNone, IfSome, ⊤, Result, Ok, Err, IfOk, IfErr, OnOk, IsOk, IsOkAnd, IsErrOf, Option, Some, None, MatchOption, IsSomeAnd}
 use Rattle.std.specs.Borrow.{Bor}
 use Rattle.getopts.specs.Fail.{Fault, argument_missing, unrecognized_option, option_missing, option_duplicated, unexpected_argument}
 use Rattle.getopts.specs.Names.{texts}
 use Rattle.getopts.specs.Accessors.{found_in, place_of}
 use Rattle.getopts.specs.Held.Occurrences.{held_found}
 use Rattle.getopts.specs.Matches.{Found, Matched, MatchedGroup}
-use Rattle.getopts.proofs.Held.Occurrences.{founds-more}
 use Rattle.getopts.specs.Names.{Text}
 use Rattle.getopts.specs.Options.{Group, Declared}
 use Rattle.getopts.specs.Told.{AreGroupsOf}
 use Rattle.getopts.specs.Parse.{IsAccepted, IsRefused}
 use Rattle.getopts.specs.CanonAnswers.{IsWritten as IsCanonicalLine, IsUnwritable}
 use Rattle.getopts_c.specs.Request.{concatenated}
-use Rattle.getopts_c.specs.Answer.{HasSize, HasSizes, IsLineOf, written, unwritable, unaccepted, text_numbers}
+use Rattle.getopts_c.specs.Answer.{FillsFront, IsLineOf, written, unwritable, unaccepted, text_numbers}
+use Rattle.getopts_c.specs.Reply.{Rooms, IsReply, byte_rooms}
 use Rattle.getopts.specs.Same.{fault_name}
 use Rattle.getopts_c.specs.Answer.{IsAnswer, accepted, refused, all_names, four_names, fault_status, matches_bytes, matches_numbers, optional_number, place_number}
 
@@ -44,12 +44,6 @@ pub told_fault : (P Q : Fault → Type 0) (R : Type 0) (fault : Option Fault) �
 told_fault P Q R None told shown follows = absurd shown
 told_fault P Q R (Some fault) told shown follows = follows fault told shown
 
--- what follows from two facts of an answer, where there is one
-pub both : {T E : Type 0} (P Q : T → Type 0) (R : Type 0) (answer : Result T E) → IsOkAnd answer P → IfOk answer Q
-    → ((t : T) → P t → Q t → R) → R
-both P Q R (Ok t) is known follows = follows t is known
-both P Q R (Err e) is known follows = absurd is
-
 -- what follows from three facts of an answer
 pub of_three : {T E : Type 0} (P Q R S : T → Type 0) (answer : Result T E) → IfOk answer P → IfOk answer Q → IfOk answer R
     → ((t : T) → P t → Q t → R t → S t) → IfOk answer S
@@ -71,12 +65,22 @@ two_added groups old mid new (a ∷ b ∷ group) d short long is short_is long_i
     second ∙ ap (λ xs. xs ++ optional_number long ∷ []) first ∙ append_assoc old (optional_number short ∷ []) (optional_number long ∷ [])
     ∙ ap (λ place. old ++ optional_number place ∷ optional_number long ∷ []) short_is ∙ ap (λ place. old ++ place_number groups a.now ∷ optional_number place ∷ []) long_is
 
+-- a front with one element more
+take_more : {X : Type 0} (xs : List X) (i : ℕ) → take (i + 1) xs ≡ take i xs ++ cons_option (slice_get xs i) []
+take_more {X} [] i =
+    let none : (n : ℕ) → take {A = X} n [] ≡ [] = λ n. take_all n [] zero-le in
+    none (i + 1) ∙ sym (ap (λ (xs : List X). xs ++ []) (none i))
+take_more (x ∷ xs) zero = refl
+take_more (x ∷ xs) (suc i) =
+    let later : suc i + 1 ≡ suc (i + 1) = omega arith in
+    ap (λ n. take n (x ∷ xs)) later ∙ ap (λ more. x ∷ more) (take_more xs i)
+
 module _ {A : Type 0} (f : Found → List A) (founds : List Found) (i : ℕ) (next : Option (ℕ × Option (Bor Text))) (is : option_map held_found next ≡ slice_get founds i)
     (initial old new : List A) (before : old ≡ initial ++ flat_map f (take i founds)) where
   -- the front with the next occurrence, if there is one
   front_more : initial ++ flat_map f (take (i + 1) founds) ≡ old ++ flat_map f (cons_option (option_map held_found next) [])
   front_more =
-      ap (λ front. initial ++ flat_map f front) (founds-more founds i next is)
+      ap (λ front. initial ++ flat_map f front) (take_more founds i ∙ ap (λ o. take i founds ++ cons_option o []) (sym is))
       ∙ ap (λ xs. initial ++ xs) (flat_map-append f (take i founds) (cons_option (option_map held_found next) []))
       ∙ sym (append_assoc initial (flat_map f (take i founds)) (flat_map f (cons_option (option_map held_found next) [])))
       ∙ ap (λ xs. xs ++ flat_map f (cons_option (option_map held_found next) [])) (sym before)
@@ -166,32 +170,107 @@ line_status options line status numbers bytes (written canonical is) = omega ari
 line_status options line status numbers bytes (unwritable is) = omega arith
 line_status options line status numbers bytes (unaccepted fault is) = fault_status_below fault
 
--- an answer that is handed out by its sizes alone
-pub sized : {T E : Type 0} (Answers : ℕ → List ℕ → Text → Type 0) (status : T → ℕ) (numbers : T → List ℕ) (bytes : T → Text)
-    (answer : Result T E) (numbers_size bytes_size : ℕ)
-    → IsOkAnd answer (λ t. (numbers_size ≡ length (numbers t)) × (bytes_size ≡ length (bytes t)))
-    → IfOk answer (λ t. Answers (status t) (numbers t) (bytes t))
-    → HasSizes Answers numbers_size bytes_size
-sized Answers status numbers bytes (Ok t) numbers_size bytes_size sizes is =
-    (status t, numbers t, bytes t, is, sizes.0, sizes.1)
-sized Answers status numbers bytes (Err e) numbers_size bytes_size sizes is = absurd sizes
+-- What is handed out of an answer, if there is one, is the reply to its request.
+module _ {T E : Type 0} (status_of : T → ℕ) (numbers_of : T → List ℕ) (bytes_of : T → Text) (refusal : E)
+    (SaysOptions SaysTexts : Type 0) (IsSuchAnswer : ℕ → List ℕ → Text → Type 0) (status : ℕ) (old new : Rooms) where
+  -- sizes that are told are those of the answer
+  abbrev pub AreItsSizes : T → Type 0
+  AreItsSizes t = (new.sizes.numbers ≡ length (numbers_of t)) × (new.sizes.bytes ≡ length (bytes_of t))
 
--- a text that is handed out by its size alone
-pub text_sized : {T E : Type 0} (IsSuchText : Text → Type 0) (numbers : T → List ℕ) (bytes : T → Text)
-    (answer : Result T E) (numbers_size bytes_size : ℕ)
-    → IsOkAnd answer (λ t. (numbers_size ≡ length (numbers t)) × (bytes_size ≡ length (bytes t)))
-    → IfOk answer (λ t. IsSuchText (bytes t))
-    → HasSize IsSuchText bytes_size
-text_sized IsSuchText numbers bytes (Ok t) numbers_size bytes_size sizes is = (bytes t, is, sizes.1)
-text_sized IsSuchText numbers bytes (Err e) numbers_size bytes_size sizes is = absurd sizes
+  -- what is written is the answer
+  abbrev pub IsWhatIsWritten : T → Type 0
+  IsWhatIsWritten t = (status ≡ status_of t) × FillsFront (numbers_of t) new.numbers new.sizes.numbers × FillsFront (bytes_of t) new.bytes new.sizes.bytes
 
--- where an answer has no numbers, too little room is too little room for bytes
-pub bytes_alone : {T E : Type 0} (numbers : T → List ℕ) (bytes : T → Text) (answer : Result T E) (numbers_room numbers_size bytes_room bytes_size : ℕ)
-    → (numbers_room < numbers_size) ⊎ (bytes_room < bytes_size)
-    → IsOkAnd answer (λ t. (numbers_size ≡ length (numbers t)) × (bytes_size ≡ length (bytes t)))
-    → IfOk answer (λ t. numbers t ≡ [])
-    → bytes_room < bytes_size
-bytes_alone numbers bytes (Ok t) numbers_room numbers_size bytes_room bytes_size (inl few) sizes none =
-    absurd (let size : numbers_size ≡ 0 = sizes.0 ∙ ap length none in omega arith)
-bytes_alone numbers bytes (Ok t) numbers_room numbers_size bytes_room bytes_size (inr few) sizes none = few
-bytes_alone numbers bytes (Err e) numbers_room numbers_size bytes_room bytes_size small sizes none = absurd sizes
+  -- what the request says, where there is no answer
+  abbrev pub SaysNotBoth : E → Type 0
+  SaysNotBoth error = error ≡ refusal → (¬ SaysOptions) ⊎ (¬ SaysTexts)
+
+  pub IsReply-handed_out : (answer : Result T E)
+      → status ≤ 8
+      → (5 < status → (new.numbers ≡ old.numbers) × (new.bytes ≡ old.bytes))
+      → (5 < status → status < 8 → new.sizes ≡ old.sizes)
+      → (status < 6 → (new.sizes.numbers ≤ length old.numbers) × (new.sizes.bytes ≤ length old.bytes))
+      → (status < 6 → IsOkAnd answer IsWhatIsWritten)
+      → (status ≡ 8 → (length old.numbers < new.sizes.numbers) ⊎ (length old.bytes < new.sizes.bytes))
+      → (status ≡ 8 → IsOkAnd answer AreItsSizes)
+      → (status ≢ 6 → status ≢ 7 → IsOk answer) → (status ≡ 7 → IsErrOf answer refusal)
+      → IfOk answer (λ t. IsSuchAnswer (status_of t) (numbers_of t) (bytes_of t))
+      → OnOk answer (SaysOptions × SaysTexts) → IfErr answer SaysNotBoth
+      → IsReply SaysOptions SaysTexts IsSuchAnswer status old new
+  IsReply-handed_out (Ok t) known untouched untold within filled small told lawful bad is says says_not = record {
+    known = known;
+    within = within;
+    answered = λ done. let f = filled done in rw (f.0, f.1.front, f.2.front) is;
+    untouched = untouched;
+    untold = untold;
+    lawful = λ _ _. says;
+    bad = λ seven. let no = bad seven in cc;
+    small = small;
+    sizes_told = λ eight. (status_of t, numbers_of t, bytes_of t, is, (told eight).0, (told eight).1);
+  }
+  IsReply-handed_out (Err e) known untouched untold within filled small told lawful bad is says says_not = record {
+    known = known;
+    within = within;
+    answered = λ done. absurd (filled done);
+    untouched = untouched;
+    untold = untold;
+    lawful = λ not_six not_seven. let no = lawful not_six not_seven in cc;
+    bad = λ seven. says_not (let is_bad = bad seven in cc);
+    small = small;
+    sizes_told = λ eight. absurd (told eight);
+  }
+
+-- Where the answer has no numbers, that is the reply to a caller who has rooms for bytes alone.
+module _ {T E : Type 0} (status_of : T → ℕ) (numbers_of : T → List ℕ) (bytes_of : T → Text) (refusal : E)
+    (SaysOptions SaysTexts : Type 0) (IsSuchAnswer : ℕ → List ℕ → Text → Type 0) (status : ℕ) (old new : Rooms) where
+  -- what is written is the answer, of which these numbers are there
+  abbrev IsWrittenTo : List ℕ → T → Type 0
+  IsWrittenTo room t = (status ≡ status_of t) × FillsFront (numbers_of t) room new.sizes.numbers × FillsFront (bytes_of t) new.bytes new.sizes.bytes
+
+  abbrev HaveSizes : T → Type 0
+  HaveSizes t = (new.sizes.numbers ≡ length (numbers_of t)) × (new.sizes.bytes ≡ length (bytes_of t))
+
+  no_numbers : (answer : Result T E) → IsOkAnd answer HaveSizes → IfOk answer (λ t. numbers_of t ≡ []) → new.sizes.numbers ≡ 0
+  no_numbers (Ok t) sizes none = sizes.0 ∙ ap length none
+  no_numbers (Err e) sizes none = absurd sizes
+
+  sizes_filled : (answer : Result T E) → IsOkAnd answer (IsWrittenTo new.numbers) → IsOkAnd answer HaveSizes
+  sizes_filled (Ok t) filled = (filled.1.size_is, filled.2.size_is)
+  sizes_filled (Err e) filled = absurd filled
+
+  fills_none : (answer : Result T E) → IsOkAnd answer (IsWrittenTo new.numbers) → IfOk answer (λ t. numbers_of t ≡ []) → IsOkAnd answer (IsWrittenTo [])
+  fills_none (Ok t) filled none =
+      let zero_is : new.sizes.numbers ≡ 0 = filled.1.size_is ∙ ap length none in
+      (filled.0, record { size_is = filled.1.size_is; front = ap (λ n. take n []) zero_is ∙ sym none }, filled.2)
+  fills_none (Err e) filled none = absurd filled
+
+  few_bytes : new.sizes.numbers ≡ 0 → (length old.numbers < new.sizes.numbers) ⊎ (length old.bytes < new.sizes.bytes) → length old.bytes < new.sizes.bytes
+  few_bytes none (inl few) = absurd (omega (arith, none, few))
+  few_bytes none (inr few) = few
+
+  pub IsReply-bytes : (answer : Result T E)
+      → status ≤ 8
+      → (5 < status → (new.numbers ≡ old.numbers) × (new.bytes ≡ old.bytes))
+      → (5 < status → status < 8 → new.sizes ≡ old.sizes)
+      → (status < 6 → (new.sizes.numbers ≤ length old.numbers) × (new.sizes.bytes ≤ length old.bytes))
+      → (status < 6 → IsOkAnd answer (IsWrittenTo new.numbers))
+      → (status ≡ 8 → (length old.numbers < new.sizes.numbers) ⊎ (length old.bytes < new.sizes.bytes))
+      → (status ≡ 8 → IsOkAnd answer HaveSizes)
+      → (status ≢ 6 → status ≢ 7 → IsOk answer) → (status ≡ 7 → IsErrOf answer refusal)
+      → IfOk answer (λ t. numbers_of t ≡ [])
+      → IfOk answer (λ t. IsSuchAnswer (status_of t) (numbers_of t) (bytes_of t))
+      → OnOk answer (SaysOptions × SaysTexts) → IfErr answer (λ error. error ≡ refusal → (¬ SaysOptions) ⊎ (¬ SaysTexts))
+      → IsReply SaysOptions SaysTexts IsSuchAnswer status (byte_rooms old.bytes old.sizes) (byte_rooms new.bytes new.sizes)
+  IsReply-bytes answer known untouched untold within filled small told lawful bad none is says says_not =
+      IsReply-handed_out status_of numbers_of bytes_of refusal SaysOptions SaysTexts IsSuchAnswer status
+      (byte_rooms old.bytes old.sizes) (byte_rooms new.bytes new.sizes) answer
+      known (λ big. (refl, (untouched big).1)) untold
+      (λ done. (let zero_is = no_numbers answer (sizes_filled answer (filled done)) none in rw zero_is (omega arith), (within done).1))
+      (λ done. fills_none answer (filled done) none)
+      (λ eight. inr (few_bytes (no_numbers answer (told eight) none) (small eight)))
+      told lawful bad is says says_not
+
+-- two facts of an answer, where there is one
+pub both_hold : {T E : Type 0} (P Q : T → Type 0) (answer : Result T E) → IfOk answer P → IfOk answer Q → IfOk answer (λ t. P t × Q t)
+both_hold P Q (Ok t) is also = (is, also)
+both_hold P Q (Err e) is also = tt

@@ -152,10 +152,6 @@ HasSizes Answers numbers_size bytes_size =
     (status : ℕ) × (numbers : List ℕ) × (bytes : Text) × Answers status numbers bytes
     × (numbers_size ≡ length numbers) × (bytes_size ≡ length bytes)
 
--- some such text has so many bytes
-abbrev pub HasSize : (Text → Type 0) → ℕ → Type 0
-HasSize IsSuchText size = (text : Text) × IsSuchText text × (size ≡ length text)
-
 -- Two matches tell the same: each of these names resolves alike, the groups have the same
 -- occurrences, and the free words and the trailing start are the same.
 pub record TellAlike (names : List Text) (matches others : Matched) : Type 0 where

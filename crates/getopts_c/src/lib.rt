@@ -4,21 +4,22 @@
 //! lawful is what the bytes say; 8 where there was too little room.
 #![tactic(auto)]
 
-ghost use Rattle.std.specs.Prelude.{◌≡◌, ◌≢◌, ◌<◌, ◌≤◌, ◌⊎◌, ℕ, Bool, false, List, []};
-ghost use Rattle.std.specs.Prelude.{length, take};
+ghost use Rattle.std.specs.Prelude.{◌≡◌, ◌≢◌, ⊤, ℕ, Bool, false, List, []};
 ghost use Rattle.std.specs.Str.{IsUtf8};
 ghost use Rattle.getopts.specs.CanonAnswers.{HasOneAnswer};
 ghost use Rattle.getopts.specs.Fail.{Fault};
 ghost use Rattle.getopts.specs.Matches.{Matched};
 ghost use Rattle.getopts.specs.Names.{Text};
 ghost use Rattle.getopts_c.specs.Request.{IsCut, IsRequest, SayOptions, SayTexts, concatenated};
-ghost use Rattle.getopts_c.specs.Answer.{HasSize, HasSizes, IsAnswered, IsCanonicalOf, IsRowsOf};
+ghost use Rattle.getopts_c.specs.Answer.{IsAnswered, IsCanonicalOf, IsRowsOf};
 ghost use Rattle.getopts_c.specs.Answer.{IsShortUsageOf, IsUsageOf, TellAlike};
+ghost use Rattle.getopts_c.specs.Reply.{IsReply, IsFine, IsFineText, rooms, byte_rooms};
 ghost use Rattle.getopts.specs.Same.{fault_name};
 ghost use Rattle.getopts_c.specs.Answer.{fault_status, matches_bytes, matches_numbers};
 ghost use Rattle.getopts_c.specs.Answer.{text_numbers};
 
 mod answer;
+mod refuted;
 mod request;
 
 use crate::answer::{Answer, Sizes, answer_to, line_of, rows_of, short_usage_of, usage_of};
@@ -44,23 +45,12 @@ pub extern "C" fn getopts_c_parse(
     bytes: &mut [u8],
     sizes: &mut Sizes,
 ) -> u32
-    ensures known { result ≤ 8 }
-    ensures untouched { 5 < result →
-        (numbers.new ≡ numbers.old) × (bytes.new ≡ bytes.old) }
-    ensures untold { 5 < result → result < 8 → sizes.new ≡ sizes.old }
-    ensures within { result < 6 → (sizes.new.numbers ≤ length numbers.old)
-        × (sizes.new.bytes ≤ length bytes.old) }
-    ensures small { result ≡ 8 →
-        (length numbers.old < sizes.new.numbers) ⊎ (length bytes.old < sizes.new.bytes) }
-    ensures sizes_told { result ≡ 8 → HasSizes (IsAnswered texts.now lens.now kinds.now
-        stop long_only words.now word_lens.now) sizes.new.numbers sizes.new.bytes }
-    ensures lawful { result ≢ 6 → result ≢ 7 → SayOptions texts.now lens.now kinds.now
-        stop long_only × SayTexts words.now word_lens.now }
-    ensures bad { result ≡ 7 → (¬ (SayOptions texts.now lens.now kinds.now stop long_only))
-        ⊎ (¬ (SayTexts words.now word_lens.now)) }
-    ensures answered { result < 6 → IsAnswered texts.now lens.now kinds.now stop long_only
-        words.now word_lens.now
-        result (take sizes.new.numbers numbers.new) (take sizes.new.bytes bytes.new) }
+    ensures { IsReply
+        (SayOptions texts.now lens.now kinds.now stop long_only)
+        (SayTexts words.now word_lens.now)
+        (IsAnswered texts.now lens.now kinds.now stop long_only words.now word_lens.now)
+        result (rooms numbers.old bytes.old sizes.old)
+        (rooms numbers.new bytes.new sizes.new) }
 {
     let request = Request {
         texts,
@@ -88,22 +78,12 @@ pub extern "C" fn getopts_c_usage(
     bytes: &mut [u8],
     sizes: &mut Sizes,
 ) -> u32
-    ensures known { result ≤ 8 }
-    ensures untouched { 5 < result → bytes.new ≡ bytes.old }
-    ensures untold { 5 < result → result < 8 → sizes.new ≡ sizes.old }
-    ensures within { result < 6 → sizes.new.bytes ≤ length bytes.old }
-    ensures fine { result < 6 → result ≡ 0 }
-    ensures no_numbers { result < 6 → sizes.new.numbers ≡ 0 }
-    ensures no_numbers_told { result ≡ 8 → sizes.new.numbers ≡ 0 }
-    ensures small { result ≡ 8 → length bytes.old < sizes.new.bytes }
-    ensures sizes_told { result ≡ 8 → HasSize (IsUsageOf texts.now lens.now kinds.now
-        long_only brief.now) sizes.new.bytes }
-    ensures lawful { result ≢ 6 → result ≢ 7 → SayOptions texts.now lens.now kinds.now
-        false long_only × IsUtf8 brief.now }
-    ensures bad { result ≡ 7 → (¬ (SayOptions texts.now lens.now kinds.now false long_only))
-        ⊎ (¬ (IsUtf8 brief.now)) }
-    ensures usage { result < 6 → IsUsageOf texts.now lens.now kinds.now long_only brief.now
-        (take sizes.new.bytes bytes.new) }
+    ensures { IsReply
+        (SayOptions texts.now lens.now kinds.now false long_only)
+        (IsUtf8 brief.now)
+        (IsFineText (IsUsageOf texts.now lens.now kinds.now long_only brief.now))
+        result (byte_rooms bytes.old sizes.old)
+        (byte_rooms bytes.new sizes.new) }
 {
     let request = Request {
         texts,
@@ -126,22 +106,12 @@ pub extern "C" fn getopts_c_short_usage(
     bytes: &mut [u8],
     sizes: &mut Sizes,
 ) -> u32
-    ensures known { result ≤ 8 }
-    ensures untouched { 5 < result → bytes.new ≡ bytes.old }
-    ensures untold { 5 < result → result < 8 → sizes.new ≡ sizes.old }
-    ensures within { result < 6 → sizes.new.bytes ≤ length bytes.old }
-    ensures fine { result < 6 → result ≡ 0 }
-    ensures no_numbers { result < 6 → sizes.new.numbers ≡ 0 }
-    ensures no_numbers_told { result ≡ 8 → sizes.new.numbers ≡ 0 }
-    ensures small { result ≡ 8 → length bytes.old < sizes.new.bytes }
-    ensures sizes_told { result ≡ 8 → HasSize (IsShortUsageOf texts.now lens.now kinds.now
-        program.now) sizes.new.bytes }
-    ensures lawful { result ≢ 6 → result ≢ 7 → SayOptions texts.now lens.now kinds.now
-        false false × IsUtf8 program.now }
-    ensures bad { result ≡ 7 → (¬ (SayOptions texts.now lens.now kinds.now false false))
-        ⊎ (¬ (IsUtf8 program.now)) }
-    ensures usage { result < 6 → IsShortUsageOf texts.now lens.now kinds.now program.now
-        (take sizes.new.bytes bytes.new) }
+    ensures { IsReply
+        (SayOptions texts.now lens.now kinds.now false false)
+        (IsUtf8 program.now)
+        (IsFineText (IsShortUsageOf texts.now lens.now kinds.now program.now))
+        result (byte_rooms bytes.old sizes.old)
+        (byte_rooms bytes.new sizes.new) }
 {
     let request = Request {
         texts,
@@ -170,22 +140,12 @@ pub extern "C" fn getopts_c_usage_rows(
     bytes: &mut [u8],
     sizes: &mut Sizes,
 ) -> u32
-    ensures known { result ≤ 8 }
-    ensures untouched { 5 < result →
-        (numbers.new ≡ numbers.old) × (bytes.new ≡ bytes.old) }
-    ensures untold { 5 < result → result < 8 → sizes.new ≡ sizes.old }
-    ensures within { result < 6 → (sizes.new.numbers ≤ length numbers.old)
-        × (sizes.new.bytes ≤ length bytes.old) }
-    ensures fine { result < 6 → result ≡ 0 }
-    ensures small { result ≡ 8 →
-        (length numbers.old < sizes.new.numbers) ⊎ (length bytes.old < sizes.new.bytes) }
-    ensures sizes_told { result ≡ 8 → HasSizes (λ _. IsRowsOf texts.now lens.now kinds.now
-        long_only) sizes.new.numbers sizes.new.bytes }
-    ensures lawful { result ≢ 6 → result ≢ 7 → SayOptions texts.now lens.now kinds.now
-        false long_only }
-    ensures bad { result ≡ 7 → ¬ (SayOptions texts.now lens.now kinds.now false long_only) }
-    ensures rows { result < 6 → IsRowsOf texts.now lens.now kinds.now long_only
-        (take sizes.new.numbers numbers.new) (take sizes.new.bytes bytes.new) }
+    ensures { IsReply
+        (SayOptions texts.now lens.now kinds.now false long_only)
+        (⊤)
+        (IsFine (IsRowsOf texts.now lens.now kinds.now long_only))
+        result (rooms numbers.old bytes.old sizes.old)
+        (rooms numbers.new bytes.new sizes.new) }
 {
     let request = Request {
         texts,
@@ -213,23 +173,12 @@ pub extern "C" fn getopts_c_canonical(
     bytes: &mut [u8],
     sizes: &mut Sizes,
 ) -> u32
-    ensures known { result ≤ 8 }
-    ensures untouched { 5 < result →
-        (numbers.new ≡ numbers.old) × (bytes.new ≡ bytes.old) }
-    ensures untold { 5 < result → result < 8 → sizes.new ≡ sizes.old }
-    ensures within { result < 6 → (sizes.new.numbers ≤ length numbers.old)
-        × (sizes.new.bytes ≤ length bytes.old) }
-    ensures small { result ≡ 8 →
-        (length numbers.old < sizes.new.numbers) ⊎ (length bytes.old < sizes.new.bytes) }
-    ensures sizes_told { result ≡ 8 → HasSizes (IsCanonicalOf texts.now lens.now kinds.now
-        stop long_only words.now word_lens.now) sizes.new.numbers sizes.new.bytes }
-    ensures lawful { result ≢ 6 → result ≢ 7 → SayOptions texts.now lens.now kinds.now
-        stop long_only × SayTexts words.now word_lens.now }
-    ensures bad { result ≡ 7 → (¬ (SayOptions texts.now lens.now kinds.now stop long_only))
-        ⊎ (¬ (SayTexts words.now word_lens.now)) }
-    ensures answered { result < 6 → IsCanonicalOf texts.now lens.now kinds.now stop long_only
-        words.now word_lens.now
-        result (take sizes.new.numbers numbers.new) (take sizes.new.bytes bytes.new) }
+    ensures { IsReply
+        (SayOptions texts.now lens.now kinds.now stop long_only)
+        (SayTexts words.now word_lens.now)
+        (IsCanonicalOf texts.now lens.now kinds.now stop long_only words.now word_lens.now)
+        result (rooms numbers.old bytes.old sizes.old)
+        (rooms numbers.new bytes.new sizes.new) }
 {
     let request = Request {
         texts,

@@ -9,8 +9,8 @@
 //!
 //! - `case NAME`: no groups, the style `floating`, the mode `ordinary`, nothing read, nothing kept
 //! - `style floating` or `style stop`; `mode ordinary` or `mode long-only`
-//! - `opt SHORT LONG DESC HINT KIND OCCUR`: KIND is `yes`, `no` or `maybe`, and OCCUR is `req`,
-//!   `optional` or `multi`
+//! - `opt SHORT LONG DESC HINT KIND OCCUR`, and so `add_group`: KIND is `yes`, `no` or `maybe`, and
+//!   OCCUR is `req`, `optional` or `multi`
 //! - `optflag SHORT LONG DESC`, and so `optflagmulti`
 //! - `optflagopt SHORT LONG DESC HINT`, and so `optmulti`, `optopt` and `reqopt`
 //! - `keep`: keeps a copy of the options and of what the last `words` gave

@@ -262,7 +262,14 @@ impl Session {
 fn declares(word: &str) -> bool {
     matches!(
         word,
-        "opt" | "optflag" | "optflagmulti" | "optflagopt" | "optmulti" | "optopt" | "reqopt"
+        "add_group"
+            | "opt"
+            | "optflag"
+            | "optflagmulti"
+            | "optflagopt"
+            | "optmulti"
+            | "optopt"
+            | "reqopt"
     )
 }
 
@@ -278,10 +285,30 @@ fn declare(options: &mut Options, word: &str, fields: &[String]) -> Result<(), T
     match others {
         [] => add_flag(options, word, short, long, desc),
         [hint] => add_hinted(options, word, short, long, desc, hint.as_str()),
-        [hint, kind, occur] if word == "opt" => {
+        [hint, kind, occur] => {
             let (kind, occur) = (kind_of(kind.as_str())?, occur_of(occur.as_str())?);
-            added(options.opt(short, long, desc, hint.as_str(), kind, occur))
+            add_of_kinds(options, word, short, long, desc, hint.as_str(), kind, occur)
         }
+        _ => Err(WRONG_FIELDS),
+    }
+}
+
+/// Adds a group of these kinds.
+fn add_of_kinds(
+    options: &mut Options,
+    word: &str,
+    short: &str,
+    long: &str,
+    desc: &str,
+    hint: &str,
+    kind: HasArg,
+    occur: Occur,
+) -> Result<(), Trouble>
+    requires { AreLawful short.now long.now }
+{
+    match word {
+        "opt" => added(options.opt(short, long, desc, hint, kind, occur)),
+        "add_group" => Ok(options.add_group(short, long, desc, hint, kind, occur)?),
         _ => Err(WRONG_FIELDS),
     }
 }

@@ -6,7 +6,8 @@ use getopts::{HasArg, Occur, Options, ParsingStyle, names_lawful};
 use std::alloc::{AllocError, Global};
 
 /// The names of the calls.
-pub const CALLS: [&str; 7] = [
+pub const CALLS: [&str; 8] = [
+    "add_group",
     "opt",
     "optflag",
     "optflagmulti",
@@ -62,6 +63,9 @@ fn with_groups(alloc: Global, groups: usize) -> Result<Options, AllocError> {
 fn add(options: &mut Options, call: &str) -> Result<(), AllocError> {
     let desc = "is the new one";
     let is_added = match call {
+        "add_group" => options
+            .add_group("n", "new", desc, "NAME", HasArg::Maybe, Occur::Multi)
+            .is_ok(),
         "opt" => options
             .opt("n", "new", desc, "NAME", HasArg::Maybe, Occur::Multi)
             .is_ok(),

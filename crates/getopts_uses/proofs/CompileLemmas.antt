@@ -4,6 +4,7 @@ use Rattle.getopts.specs.Options.{grammar_of}
 use Rattle.getopts.specs.Scan.{Item, two}
 use Rattle.getopts.specs.ScanLaws.{AreHigherAfter, AreLowerAfter, MayStandFor, LongAttachedOrSeparate, ShortAttachedOrSeparate}
 use Rattle.getopts.specs.Theorem.{OneContentHoldsSame}
+use Rattle.getopts.proofs.MainTheorem.Callers.{each_value-first, each_value-values}
 use Rattle.getopts_uses.specs.Compile.{compile_options, GivesTheSameJob, OutputsMayBeAttached}
 
 module _ (holds_same : OneContentHoldsSame compile_options) where
@@ -15,9 +16,9 @@ module _ (holds_same : OneContentHoldsSame compile_options) where
       record {
         matches = _;
         accepted = held.0;
-        input = held.1.first (codes "input") ∙ is.input;
-        outputs = is.outputs ∙ sym (held.1.values (codes "output"));
-        folders = is.folders ∙ sym (held.1.values (codes "L"));
+        input = each_value-first _ _ (held.1.values (codes "input")) ∙ is.input;
+        outputs = is.outputs ∙ sym (each_value-values _ _ (held.1.values (codes "output")));
+        folders = is.folders ∙ sym (each_value-values _ _ (held.1.values (codes "L")));
       }
 
   pub OutputsMayBeAttached_lem : LongAttachedOrSeparate (grammar_of compile_options) → ShortAttachedOrSeparate (grammar_of compile_options) → OutputsMayBeAttached

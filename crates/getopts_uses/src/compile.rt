@@ -1,13 +1,13 @@
 //! A compiler driver: a required input, several outputs, and search folders in order.
 
-ghost use Rattle.std.specs.Prelude.{◌≡◌, IfOk, IfErr, OnOk};
+ghost use Rattle.std.specs.Prelude.{◌≡◌, IfOk, IfErr};
 ghost use Rattle.getopts.specs.Fail.{Tells};
 ghost use Rattle.getopts.specs.Names.{texts};
 ghost use Rattle.getopts.specs.Parse.{IsRefused};
 ghost use Rattle.getopts_uses.specs.Compile.{compile_options, IsJobOf, OutputsMayBeAttached};
 
 use crate::line::read;
-use getopts::{Fail, Options, one_reading_one_canonical_line};
+use getopts::{Fail, Options, declared_options_keep_laws};
 use std::alloc::{AllocError, Global};
 
 /// What the driver does.
@@ -30,15 +30,22 @@ fn options(alloc: Global) -> Result<Options, AllocError>
     Ok(options)
 }
 
+/// An output's file is attached to its name or separate, and the job is the same: a law to cite.
+fn outputs_may_be_attached()
+    ensures { OutputsMayBeAttached }
+{
+    declared_options_keep_laws();
+}
+
 /// The job of a line. An output's file is attached to its name or separate, and the job is the same.
 pub fn read_job(alloc: Global, words: &[&str]) -> Result<Job, Fail>
     ensures job { IfOk result (IsJobOf (texts words.now)) }
     ensures refused { IfErr result (λ fail.
         Tells fail (IsRefused compile_options (texts words.now))) }
-    ensures outputs { OnOk result OutputsMayBeAttached }
+    ensures outputs { OutputsMayBeAttached }
 {
+    outputs_may_be_attached();
     let options = options(alloc)?;
-    one_reading_one_canonical_line(&options);
     let matches = read(alloc, &options, words)?;
     Ok(Job {
         input: matches.opt_str(alloc, "input")?.unwrap(),

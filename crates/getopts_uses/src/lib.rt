@@ -6,14 +6,16 @@ mod compile;
 mod line;
 mod lists;
 mod output;
+mod plugin;
 mod required;
 mod search;
 mod subcommand;
 
 pub use cache::key_of;
 pub use compile::{Job, read_job};
-pub use lists::{any_given, asks_only, count_of, level_of};
+pub use lists::{any_given, asks_only, count_of, level_of, place_named};
 pub use output::{output_of, writes_out};
+pub use plugin::add_flag;
 pub use required::{input_count, input_itself, input_of, verbose_count};
 pub use search::{Refusal, Settings, help_rows, help_text, read_settings};
 pub use subcommand::{Command, read_command};

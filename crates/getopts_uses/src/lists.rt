@@ -1,14 +1,14 @@
 //! Names that come at run time, and lists of them.
 
-ghost use Rattle.std.specs.Prelude.{◌≡◌, ◌↔◌, [], ◌∷◌, length, codes, IfOk, IfSome, IsSome, IsTrue};
+ghost use Rattle.std.specs.Prelude.{◌≡◌, ◌↔◌, [], ◌∷◌, None, length, codes, IfOk, IfSome, IsSome, IsTrue};
 ghost use Rattle.std.specs.List.{list_any};
-ghost use Rattle.getopts.specs.Accessors.{IsDefined, AreDefined, found_of, is_present};
+ghost use Rattle.getopts.specs.Accessors.{IsDefined, AreDefined, place_of, found_of, is_present};
 ghost use Rattle.getopts.specs.Names.{texts};
 ghost use Rattle.getopts.specs.Options.{Declares};
 ghost use Rattle.getopts_uses.specs.Lists.{IsLevelOf};
 
 use crate::line::read;
-use getopts::{Matches, Options};
+use getopts::{Matches, Options, held_names_resolve};
 use std::alloc::Global;
 
 /// How often an option was given, if the name is one of the options.
@@ -22,6 +22,15 @@ pub fn count_of(matches: &Matches, name: &str) -> Option<usize>
     } else {
         None
     }
+}
+
+/// The place of the option that a line of a list names. An empty line names none.
+pub fn place_named(matches: &Matches, line: &str) -> Option<usize>
+    ensures place { result ≡ place_of matches.now.groups line.now }
+    ensures empty { line.now ≡ [] → result ≡ None }
+{
+    held_names_resolve(matches);
+    matches.opt_place(line)
 }
 
 /// How much is said.

@@ -1,7 +1,9 @@
 //! Real lines, and what they give.
 
 use getopts::{Fail as LineFail, Options};
-use getopts_uses::{help_rows, help_text, key_of, read_command, read_job, read_settings};
+use getopts_uses::{
+    add_flag, help_rows, help_text, key_of, place_named, read_command, read_job, read_settings,
+};
 use std::alloc::{AllocError, Global};
 use std::test::Fail;
 
@@ -113,5 +115,22 @@ fn lines_that_say_the_same_have_one_key(rt: HostRuntime) -> Result<(), Fail> {
         key
     );
     assert_ne!(rt; key_of(alloc, &options, &["-ofile", "-v", "x"])?, key);
+    Ok(())
+}
+
+#[test]
+fn a_flag_of_a_plugin_is_added_whole_or_not_at_all(rt: HostRuntime) -> Result<(), Fail> {
+    let alloc = rt.alloc();
+    let mut options = wrapped(alloc)?;
+    let before = options.clone()?;
+    assert!(rt; !add_flag(&mut options, "p", "a name of one byte"));
+    assert!(rt; !add_flag(&mut options, "", "no name"));
+    assert!(rt; options == before);
+    assert!(rt; add_flag(&mut options, "plugin", "run the plugin"));
+    let matches = options.parse(alloc, ["--plugin", "-v"].iter().copied())?;
+    assert_eq!(rt; place_named(&matches, "plugin"), Some(2));
+    assert_eq!(rt; place_named(&matches, "v"), Some(0));
+    assert_eq!(rt; place_named(&matches, "p"), None);
+    assert_eq!(rt; place_named(&matches, ""), None);
     Ok(())
 }

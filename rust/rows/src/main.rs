@@ -76,7 +76,7 @@ impl Session {
             ["mode", mode] => {
                 options.long_only(mode == "long-only");
             }
-            ["opt", short, long, desc, hint, kind, occur] => {
+            ["opt" | "add_group", short, long, desc, hint, kind, occur] => {
                 let kind = match kind {
                     "yes" => HasArg::Yes,
                     "no" => HasArg::No,

@@ -22,6 +22,7 @@ use Rattle.getopts.specs.CanonAnswers.{IsAcceptedWith, IsWritten, IsUnwritable, 
 use Rattle.getopts.specs.CanonAnswers.{IsCanonicalAnswer, AnsweredLinesTell}
 use Rattle.getopts.specs.declared.accepted.AcceptedLine.{AcceptedLine}
 use Rattle.getopts.proofs.Canonical.Lines.{is_plain-true, is_plain-false, HasCanonicalLine-says}
+use Rattle.getopts.proofs.Canonical.Lines.{IsSound-says}
 use Rattle.getopts.proofs.Canonical.Lines.{HasUnwritable-content, CanonicalLinesTell-lawful}
 use Rattle.getopts.proofs.Parsing.Only.{meets}
 use Rattle.getopts.proofs.Parsing.Parsed.{only_reads, named_here, groups_are, IsAccepted-reading}
@@ -123,6 +124,7 @@ module _ (options : Declared) (words : List Text) (accepted : AcceptedLine)
       record {
         content = line_content accepted.line;
         accepted = IsAcceptedWith-line;
+        sound = IsSound-says options words (line_content accepted.line) Says-line;
         not_plain = not_plain;
         unwritable = HasUnwritable-content options (line_content accepted.line) not_plain;
       }

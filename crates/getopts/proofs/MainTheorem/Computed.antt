@@ -19,7 +19,7 @@ use Rattle.getopts.specs.declared.groups.Occur.{Occur}
 use Rattle.getopts.specs.declared.groups.Occur.TheVariants.{Req, Optional, Multi}
 use Rattle.getopts.proofs.Canonical.Lines.{is_plain, is_plain-true, is_plain-false}
 use Rattle.getopts.proofs.Canonical.Lines.{HasUnwritable-content, HasCanonicalLine-says}
-use Rattle.getopts.proofs.Canonical.Lines.{Says-reading}
+use Rattle.getopts.proofs.Canonical.Lines.{Says-reading, IsSound-reading}
 use Rattle.getopts.proofs.Parsing.Parsed.{named_here, only_reads, HasNoReading-fault}
 use Rattle.getopts.proofs.Reading.Readings.{read_reading, read_fault}
 use Rattle.getopts.proofs.Reading.Turns.{read}
@@ -161,7 +161,13 @@ module _ (options : Declared) (lawful : AreLawfullyNamed options.groups)
       line_of-is false other =
           let content = content_of (grammar_of options) reading in
           let is = is_plain-false options.groups content.mentions other in
-          record { content = content; accepted = accepted; not_plain = is; unwritable = HasUnwritable-content options content is }
+          record {
+            content = content;
+            accepted = accepted;
+            sound = IsSound-reading options reading words reads;
+            not_plain = is;
+            unwritable = HasUnwritable-content options content is;
+          }
 
     written-is : (fault : Option Fault) → HaveFault (matches_of options reading).groups fault
         → IsCanonicalAnswer options words (written options reading fault)

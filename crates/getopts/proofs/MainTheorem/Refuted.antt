@@ -68,7 +68,7 @@ plain_lawful names plain =
 abbrev pub are_plain : List Group → Bool
 are_plain groups = list_all (λ group. are_plain_names group.known.names) groups
 
-lawful_groups : (groups : List Group) → are_plain groups ≡ true
+pub lawful_groups : (groups : List Group) → are_plain groups ≡ true
     → AreLawfullyNamed groups × AllByRecursion (λ group. IsUtf8 group.known.names.short) groups
 lawful_groups [] plain = (tt, tt)
 lawful_groups (group ∷ groups) plain =

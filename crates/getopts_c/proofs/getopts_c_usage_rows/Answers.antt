@@ -1,15 +1,26 @@
-use Rattle.std.proofs.Common.{◌≡◌, ◌∙◌, string_bytes}
+use Rattle.std.proofs.Common.{◌≡◌, false, string_bytes, inl}
+use Rattle.std.proofs.lemmas.Result.{IfErr-weaker}
+use Rattle.std.specs.Prelude.{⊤, ◌⊎◌}
 use Rattle.getopts_c.specs.Answer.{IsRowsOf}
-use Rattle.getopts_c.proofs.AnswerLemmas.{both, sized}
+use Rattle.getopts_c.specs.Reply.{IsFine, rooms}
+use Rattle.getopts_c.specs.Request.{SayOptions}
+use Rattle.getopts_c.specs.declared.request.Refusal.TheVariants.{Bad}
+use Rattle.getopts_c.proofs.AnswerLemmas.{IsReply-handed_out, both_hold, on_ok_so}
 use Rattle.getopts_c.proofs.getopts_c_usage_rows.Goals as goal
 
-pub returns-clause-sizes_told : goal.returns-clause-sizes_told
-returns-clause-sizes_told c = λ small.
+pub returns : goal.returns
+returns c =
     let args = c.args in
-    sized (λ _. IsRowsOf args.texts.now args.lens.now args.kinds.now args.long_only)
-    (λ answer. answer.status) (λ answer. answer.body.numbers.items) (λ answer. string_bytes answer.body.bytes)
-    c.rows_of.result c.written.new.sizes.numbers c.written.new.sizes.bytes
-    (c.written.ensures.sizes_told small) c.rows_of.ensures.rows
-
-pub returns-clause-fine : goal.returns-clause-fine
-returns-clause-fine c = λ done. both _ _ (c.written.result ≡ 0) c.rows_of.result (c.written.ensures.written done) c.rows_of.ensures.fine (λ answer is fine. is.0 ∙ fine)
+    let out = c.written in
+    let is = c.rows_of.ensures in
+    let answer = c.rows_of.result in
+    let AreSuch = IsRowsOf args.texts.now args.lens.now args.kinds.now args.long_only in
+    let Says = SayOptions args.texts.now args.lens.now args.kinds.now false args.long_only in
+    IsReply-handed_out (λ answer. answer.status) (λ answer. answer.body.numbers.items) (λ answer. string_bytes answer.body.bytes) Bad
+    Says ⊤ (IsFine AreSuch)
+    out.result (rooms args.numbers.now args.bytes.now args.sizes.now) (rooms out.new.numbers out.new.bytes out.new.sizes) answer
+    out.ensures.known out.ensures.untouched out.ensures.untold out.ensures.within out.ensures.written out.ensures.small out.ensures.sizes_told
+    out.ensures.lawful out.ensures.bad
+    (both_hold (λ answer. answer.status ≡ 0) (λ answer. AreSuch answer.body.numbers.items (string_bytes answer.body.bytes)) answer is.fine is.rows)
+    (on_ok_so answer is.lawful (λ says. (says, tt)))
+    (IfErr-weaker answer (λ refusal. refusal ≡ Bad → ¬ Says) (λ refusal. refusal ≡ Bad → (¬ Says) ⊎ (¬ ⊤)) (λ refusal no bad. inl (no bad)) is.bad)

@@ -1,15 +1,15 @@
--- The facts of resolution, of lawfully named groups.
+-- The facts of resolution, of the groups that matches hold.
+use Rattle.getopts.specs.Accessors.{held_names}
 use Rattle.getopts.specs.Names.{IsLawfullyNamed}
 use Rattle.getopts.proofs.Lists.{AllByRecursion-map}
 use Rattle.getopts.proofs.Lookup.Names.{resolution-main_name, OneByteIsShort-lawful, resolution-nil}
-use Rattle.getopts.specs.Options.{names_of}
-use Rattle.getopts.proofs.names.names_resolve.Goals as goal
+use Rattle.getopts.proofs.laws.held_names_resolve.Goals as goal
 
 pub returns : goal.returns
 returns c =
-    let groups = c.args.options.now.groups in
-    let names = names_of groups in
-    let lawful = AllByRecursion-map IsLawfullyNamed (λ group. group.known.names) groups c.groups-groups.ensures.lawful in
+    let groups = c.args.matches.now.groups in
+    let names = held_names groups in
+    let lawful = AllByRecursion-map IsLawfullyNamed (λ group. group.known.names) groups c.are_held_lawfully.ensures in
     record {
       main_name = λ name place held resolved at. resolution-main_name names name place held resolved at;
       one_byte = OneByteIsShort-lawful names lawful;

@@ -7,7 +7,7 @@ use Rattle.getopts.proofs.MainTheorem.Theorem.{RefusedExactlyWhen-options, OneOf
 use Rattle.getopts.proofs.MainTheorem.Theorem.{OneReadingGivesAll-options}
 use Rattle.getopts.proofs.MainTheorem.Theorem.{CanonicalLinesTell-options}
 use Rattle.getopts.proofs.MainTheorem.Theorem.{AnsweredLinesTell-options, HasCanonicalLine-options}
-use Rattle.getopts.proofs.theorem.one_reading_one_canonical_line.Goals as goal
+use Rattle.getopts.proofs.laws.one_reading_one_canonical_line.Goals as goal
 
 pub returns : goal.returns
 returns c =

@@ -1,11 +1,16 @@
-//! The main theorem, as a law to cite.
+//! Laws to cite: the main theorem, and what else holds of all options, words and matches. They do nothing.
 
 ghost use Rattle.getopts.specs.Canon.{IsSound, ReadsBackEverywhere, SaysNothingElse, IsItsOwn, IsOnlyContent};
 ghost use Rattle.getopts.specs.CanonAnswers.{EachContent, EachPlainContent, AnsweredLinesTell};
-ghost use Rattle.getopts.specs.Options.{grammar_of};
+ghost use Rattle.std.specs.Prelude.{List};
+ghost use Rattle.getopts.specs.Accessors.{held_names};
+ghost use Rattle.getopts.specs.CanonAnswers.{IsParseAnswer, IsCanonicalAnswer, HasOneAnswer};
+ghost use Rattle.getopts.specs.Names.{Text, MainNameResolves, OneByteIsShort, EmptyResolvesNot};
+ghost use Rattle.getopts.specs.Options.{Declared, MayBeDeclared, names_of, grammar_of};
 ghost use Rattle.getopts.specs.Parse.{KeepsReadingLaws};
 ghost use Rattle.getopts.specs.Theorem.{OneReading, AcceptedExactlyWhen, RefusedExactlyWhen, OneOfThree, OneReadingGivesAll, OneContentHoldsSame, CanonicalLinesTell};
 
+use crate::matches::Matches;
 use crate::options::Options;
 
 /// The main theorem: memory refusals aside, `parse` answers `Ok` exactly when the words have a
@@ -48,3 +53,44 @@ pub fn one_reading_one_canonical_line(options: &Options)
 {
     let _groups = options.groups();
 }
+
+/// The laws of readings, and that words which say the same hold the same, of any options that may be
+/// declared, where none need be there: a law to cite, which does nothing.
+pub fn declared_options_keep_laws()
+    ensures reading_laws { (options : Declared) → MayBeDeclared options
+        → KeepsReadingLaws (grammar_of options) }
+    ensures holds_same { (options : Declared) → MayBeDeclared options
+        → OneContentHoldsSame options }
+{}
+
+/// Three facts of how the names of options resolve: a law to cite, which does nothing.
+///
+/// The main name of a resolved group resolves to that same group. A name of one byte that resolves
+/// is a short name, and no long one. The empty name resolves to none.
+pub fn names_resolve(options: &Options)
+    ensures main_name { MainNameResolves (names_of options.now.groups) }
+    ensures one_byte { OneByteIsShort (names_of options.now.groups) }
+    ensures empty { EmptyResolvesNot (names_of options.now.groups) }
+{
+    let _groups = options.groups();
+}
+
+/// The same three facts of the names that matches hold: a law to cite, which does nothing.
+pub fn held_names_resolve(matches: &Matches)
+    ensures main_name { MainNameResolves (held_names matches.now.groups) }
+    ensures one_byte { OneByteIsShort (held_names matches.now.groups) }
+    ensures empty { EmptyResolvesNot (held_names matches.now.groups) }
+{
+    matches.are_held_lawfully();
+}
+
+/// Equal input, equal answers: one set of options and one list of words have one answer of `parse`, and
+/// one of `canonical`. Want of memory, which may come in place of either, is no such answer.
+///
+/// This is a law to cite, which does nothing.
+pub fn equal_input_equal_answers()
+    ensures parse { (options : Declared) (words : List Text)
+        → HasOneAnswer (IsParseAnswer options words) }
+    ensures canonical { (options : Declared) (words : List Text)
+        → HasOneAnswer (IsCanonicalAnswer options words) }
+{}

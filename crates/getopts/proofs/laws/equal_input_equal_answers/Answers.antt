@@ -1,6 +1,6 @@
 -- Readings, counts and faults are the only ones of their words.
 use Rattle.getopts.proofs.Canonical.Answered.{only_parse_answer, only_canonical_answer}
-use Rattle.getopts.proofs.canon.equal_input_equal_answers.Goals as goal
+use Rattle.getopts.proofs.laws.equal_input_equal_answers.Goals as goal
 
 pub returns-clause-parse : goal.returns-clause-parse
 returns-clause-parse c options words = only_parse_answer options words
