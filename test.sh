@@ -63,6 +63,7 @@ if [ -n "$quick" ]; then
         echo "skipped: refused memory, whose programs the whole test builds"
     fi
     part "code on the pages for callers" bash docs/quotes.sh
+    part "modules that use each other" bash docs/modules.sh
     echo "Nothing was proved: 'bash test.sh' proves everything."
 else
     begin again
@@ -71,6 +72,7 @@ else
         part "refused memory" bash refused/run.sh &&
         part "C and Rust" bash rust/test.sh --quick "$@" &&
         part "code on the pages for callers" bash docs/quotes.sh &&
+        part "modules that use each other" bash docs/modules.sh &&
         part "the archive from the proved source, and edits over it" ended 20
 fi
 if [ -n "$failed" ]; then

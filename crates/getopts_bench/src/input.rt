@@ -4,7 +4,7 @@ ghost use Rattle.std.specs.Prelude.{◌<◌, IfOk};
 ghost use Rattle.std.specs.String.{string_bytes, string_len};
 ghost use Rattle.getopts.specs.Names.{AreLawful};
 
-use crate::job::Job;
+use crate::job::{Job, Line};
 use getopts::Options;
 use std::alloc::{AllocError, Global};
 
@@ -18,17 +18,6 @@ const MEMORY_ROUNDS: usize = 25_000;
 const MANY: usize = 200;
 /// The options and the words of the matches that are compared.
 const THOUSAND: usize = 1000;
-
-/// A line of words, with the options that read it.
-#[derive(Clone, Copy)]
-pub enum Line {
-    /// 5 options, 3 words.
-    Small,
-    /// 5 options, 1,000 words.
-    Long,
-    /// 200 options, 400 words.
-    Many,
-}
 
 /// Whether an option takes an argument.
 #[derive(Clone, Copy)]

@@ -1,10 +1,20 @@
 //! The jobs by their names.
 
-use crate::input::Line;
 use std::str::FromStr;
 
 /// How many options `defined` has where no number is given.
 const DEFINED: usize = 4000;
+
+/// A line of words, with the options that read it.
+#[derive(Clone, Copy)]
+pub enum Line {
+    /// 5 options, 3 words.
+    Small,
+    /// 5 options, 1,000 words.
+    Long,
+    /// 200 options, 400 words.
+    Many,
+}
 
 /// What a turn does.
 #[derive(Clone, Copy)]

@@ -6,7 +6,6 @@ ghost use Rattle.getopts.specs.Names.{texts};
 ghost use Rattle.getopts.specs.Parse.{IsRefused};
 ghost use Rattle.getopts_uses.specs.Compile.{compile_options, IsJobOf, OutputsMayBeAttached};
 
-use crate::line::read;
 use getopts::{Fail, Options, declared_options_keep_laws};
 use std::alloc::{AllocError, Global};
 
@@ -46,7 +45,7 @@ pub fn read_job(alloc: Global, words: &[&str]) -> Result<Job, Fail>
 {
     outputs_may_be_attached();
     let options = options(alloc)?;
-    let matches = read(alloc, &options, words)?;
+    let matches = options.parse_words(alloc, words)?;
     Ok(Job {
         input: matches.opt_str(alloc, "input")?.unwrap(),
         outputs: matches.opt_strs(alloc, "output")?,

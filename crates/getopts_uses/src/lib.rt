@@ -3,7 +3,6 @@
 
 mod cache;
 mod compile;
-mod line;
 mod lists;
 mod output;
 mod plugin;

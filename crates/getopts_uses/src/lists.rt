@@ -7,7 +7,6 @@ ghost use Rattle.getopts.specs.Names.{texts};
 ghost use Rattle.getopts.specs.Options.{Declares};
 ghost use Rattle.getopts_uses.specs.Lists.{IsLevelOf};
 
-use crate::line::read;
 use getopts::{Matches, Options, held_names_resolve};
 use std::alloc::Global;
 
@@ -46,7 +45,7 @@ pub fn level_of(alloc: Global, options: &Options, words: &[&str]) -> anyhow::Res
     requires { Declares options.now (codes "verbose") }
     ensures { IfOk result (IsLevelOf options.now (texts words.now)) }
 {
-    let matches = read(alloc, options, words)?;
+    let matches = options.parse_words(alloc, words)?;
     Ok(level(&matches))
 }
 

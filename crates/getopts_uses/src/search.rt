@@ -5,7 +5,6 @@ ghost use Rattle.getopts.specs.Names.{texts};
 ghost use Rattle.getopts_uses.specs.declared.search.Refusal.TheVariants.{Line, Number, OutOfMemory};
 ghost use Rattle.getopts_uses.specs.Search.{search_options, AreSettingsOf, IsRefusalOf, IsSearchHelp, AreSearchRows};
 
-use crate::line::read;
 use getopts::{Fail, Options};
 use std::alloc::{AllocError, AllocFailed, Global};
 use std::num::ParseIntError;
@@ -82,7 +81,7 @@ pub fn read_settings(alloc: Global, words: &[&str]) -> Result<Settings, Refusal>
     ensures refused { IfErr result (IsRefusalOf (texts words.now)) }
 {
     let options = options(alloc)?;
-    let matches = read(alloc, &options, words)?;
+    let matches = options.parse_words(alloc, words)?;
     Ok(Settings {
         ignore_case: matches.opt_present("ignore-case"),
         max_count: matches.opt_get("max-count")?,

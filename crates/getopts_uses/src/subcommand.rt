@@ -7,7 +7,6 @@ ghost use Rattle.getopts.specs.Names.{texts};
 ghost use Rattle.getopts.specs.Parse.{IsRefused};
 ghost use Rattle.getopts_uses.specs.Command.{command_options, IsCommandOf, NamesNone};
 
-use crate::line::read;
 use getopts::{Fail, Options, ParsingStyle};
 use std::alloc::{AllocError, Global};
 
@@ -49,7 +48,7 @@ pub fn read_command(alloc: Global, words: &[&str]) -> Result<Option<Command>, Fa
         Tells fail (IsRefused command_options (texts words.now))) }
 {
     let options = options(alloc)?;
-    let matches = read(alloc, &options, words)?;
+    let matches = options.parse_words(alloc, words)?;
     match matches.free.split_first() {
         Some((name, rest)) => Ok(Some(Command {
             quiet: matches.opt_present("quiet"),
