@@ -74,7 +74,8 @@ module _ (options : Declared) (words : List Text) (accepted : AcceptedLine)
     trailing_start = accepted.line.trailing_start;
   })
   IsAccepted-line = IsAccepted-reading options is.lawful is.shorts words is.reads.reading is.reads.reads
-      accepted.line.found is.reads.occurrences (map string_bytes accepted.line.free.items) accepted.line.trailing_start is.keeps is.reads.free is.reads.trailing
+      accepted.line.found is.reads.occurrences (map string_bytes accepted.line.free.items)
+      accepted.line.trailing_start is.keeps is.reads.free is.reads.trailing
 
   -- the words are accepted with what the line says
   pub IsAcceptedWith-line : IsAcceptedWith options words (line_content accepted.line)

@@ -1,12 +1,15 @@
 -- What matches hold, by the groups and the one list that the code has.
-use Rattle.std.proofs.Common.{◌≡◌, ℕ, suc, zero, ◌+◌, ◌<◌, ◌≤◌, true, false, List, [], ◌∷◌, map, length, Option, Some, None, unwrap_or, slice_get, refl, ap, sym, ◌∙◌, subst, inl, inr, arith, zero-add}
+use Rattle.std.proofs.Common.{◌≡◌, ℕ, suc, zero, ◌+◌, ◌<◌, ◌≤◌, true, false, List, [], ◌∷◌, map}
+use Rattle.std.proofs.Common.{length, Option, Some, None, unwrap_or, slice_get, refl, ap, sym, ◌∙◌}
+use Rattle.std.proofs.Common.{subst, inl, inr, arith, zero-add}
 use Rattle.std.specs.Cmp.Lexicographic.{pointwise}
 use Rattle.std.specs.List.{AllByRecursion, filter_map, cons_option}
 use Rattle.std.specs.Option.{option_map, option_map_or}
 use Rattle.std.specs.String.{string_bytes}
 use Rattle.std.specs.declared.string.String.{String}
 use Rattle.std.specs.declared.alloc.Global.{Global}
-use Rattle.std.proofs.lemmas.Bool.{true≢false, cases_lt, and_cases, and_left, and_right, and_parts, and_from}
+use Rattle.std.proofs.lemmas.Bool.{true≢false, cases_lt, and_cases, and_left, and_right, and_parts}
+use Rattle.std.proofs.lemmas.Bool.{and_from}
 use Rattle.std.proofs.lemmas.List.{length-map}
 use Rattle.std.proofs.lemmas.List.Elements.{recursion_from_All}
 use Rattle.std.proofs.lemmas.Option.{slice_get_past}
@@ -23,34 +26,44 @@ use Rattle.getopts.specs.Held.Groups.{HaveLawfulNames}
 use Rattle.getopts.specs.Held.Occurrences.{found_part, pair_view}
 use Rattle.getopts.specs.Held.Accepted.{index_of}
 use Rattle.getopts.proofs.Parsing.Counts.{length-matched}
-use Rattle.getopts.proofs.Held.Index.{filter_map-places_of, places_of-within, slice_get-places_by_group, length-places_by_group}
+use Rattle.getopts.proofs.Held.Index.{filter_map-places_of, places_of-within}
+use Rattle.getopts.proofs.Held.Index.{slice_get-places_by_group, length-places_by_group}
 use Rattle.getopts.proofs.Held.Pairs.{names_in-name_texts}
 
 -- the names of the groups that matches hold
-names-matched : (first : ℕ) (knowns : List Known) (occurrences : List Occurrence) → map (λ (group : MatchedGroup). group.known.names) (matched first knowns occurrences) ≡ map (λ (known : Known). known.names) knowns
+names-matched : (first : ℕ) (knowns : List Known) (occurrences : List Occurrence)
+    → map (λ (group : MatchedGroup). group.known.names) (matched first knowns occurrences)
+    ≡ map (λ (known : Known). known.names) knowns
 names-matched first [] occurrences = refl
 names-matched first (known ∷ knowns) occurrences = ap (λ (more : List Names). known.names ∷ more) (names-matched (first + 1) knowns occurrences)
 
 -- what is known of the groups that matches hold
-pub knowns-matched : (first : ℕ) (knowns : List Known) (occurrences : List Occurrence) → map (λ (group : MatchedGroup). group.known) (matched first knowns occurrences) ≡ knowns
+pub knowns-matched : (first : ℕ) (knowns : List Known) (occurrences : List Occurrence)
+    → map (λ (group : MatchedGroup). group.known) (matched first knowns occurrences) ≡ knowns
 knowns-matched first [] occurrences = refl
 knowns-matched first (known ∷ knowns) occurrences = ap (λ (more : List Known). known ∷ more) (knowns-matched (first + 1) knowns occurrences)
 
 -- the occurrences of the group at a place
-found-matched : (first : ℕ) (knowns : List Known) (occurrences : List Occurrence) (i : ℕ) → i < length knowns → found_in (matched first knowns occurrences) (Some i) ≡ found_at (first + i) occurrences
+found-matched : (first : ℕ) (knowns : List Known) (occurrences : List Occurrence) (i : ℕ)
+    → i < length knowns
+    → found_in (matched first knowns occurrences) (Some i) ≡ found_at (first + i) occurrences
 found-matched first [] occurrences i within = absurd (omega arith)
 found-matched first (known ∷ knowns) occurrences zero within = ap (λ (n : ℕ). found_at n occurrences) (omega arith)
 found-matched first (known ∷ knowns) occurrences (suc i) within =
-    found-matched (first + 1) knowns occurrences i (omega arith) ∙ ap (λ (n : ℕ). found_at n occurrences) (omega arith)
+    found-matched (first + 1) knowns occurrences i (omega arith)
+    ∙ ap (λ (n : ℕ). found_at n occurrences) (omega arith)
 
 -- lawfully named groups are held so
-pub AreHeldLawfully-matched : (first : ℕ) (knowns : List Known) (occurrences : List Occurrence) → HaveLawfulNames knowns → AreHeldLawfully (matched first knowns occurrences)
+pub AreHeldLawfully-matched : (first : ℕ) (knowns : List Known) (occurrences : List Occurrence)
+    → HaveLawfulNames knowns → AreHeldLawfully (matched first knowns occurrences)
 AreHeldLawfully-matched first [] occurrences lawful = tt
 AreHeldLawfully-matched first (known ∷ knowns) occurrences lawful = (lawful.0, AreHeldLawfully-matched (first + 1) knowns occurrences lawful.1)
 
 -- a name resolves among the groups that matches hold as among the texts of their names
-pub place_of-matched : (knowns : List Known) (occurrences : List Occurrence) (name : Text) → resolution (names_in (name_texts knowns)) name ≡ place_of (matched 0 knowns occurrences) name
-place_of-matched knowns occurrences name = ap (λ (groups : List Names). resolution groups name) (names_in-name_texts knowns ∙ sym (names-matched 0 knowns occurrences))
+pub place_of-matched : (knowns : List Known) (occurrences : List Occurrence) (name : Text)
+    → resolution (names_in (name_texts knowns)) name ≡ place_of (matched 0 knowns occurrences) name
+place_of-matched knowns occurrences name = ap (λ (groups : List Names). resolution groups name)
+    (names_in-name_texts knowns ∙ sym (names-matched 0 knowns occurrences))
 
 module _ (knowns : List Known) (occurrences : List Occurrence) (place : ℕ) where
   -- where the occurrences of the group at this place stand
@@ -58,15 +71,20 @@ module _ (knowns : List Known) (occurrences : List Occurrence) (place : ℕ) whe
   held_places = unwrap_or (slice_get (index_of knowns occurrences) place) []
 
   -- of a group that is there, those of its number
-  places-there : place < length knowns → held_places ≡ places_of place (map (λ (o : Occurrence). o.mention.group) occurrences)
+  places-there : place < length knowns
+      → held_places ≡ places_of place (map (λ (o : Occurrence). o.mention.group) occurrences)
   places-there there =
-      ap (λ (o : Option (List ℕ)). unwrap_or o []) (slice_get-places_by_group (length knowns) place (map (λ (o : Occurrence). o.mention.group) occurrences) there)
+      ap (λ (o : Option (List ℕ)). unwrap_or o [])
+      (slice_get-places_by_group (length knowns) place
+      (map (λ (o : Occurrence). o.mention.group) occurrences) there)
 
   -- of any other, none
   places-past : length knowns ≤ place → held_places ≡ []
   places-past past =
       let groups = map (λ (o : Occurrence). o.mention.group) occurrences in
-      ap (λ (o : Option (List ℕ)). unwrap_or o []) (slice_get_past (index_of knowns occurrences) place (omega (arith, length-places_by_group (length knowns) groups)))
+      ap (λ (o : Option (List ℕ)). unwrap_or o [])
+      (slice_get_past (index_of knowns occurrences) place
+      (omega (arith, length-places_by_group (length knowns) groups)))
 
   -- they stand among the occurrences
   pub held_places-within : AllByRecursion (λ p. p < length occurrences) held_places
@@ -80,36 +98,51 @@ module _ (knowns : List Known) (occurrences : List Occurrence) (place : ℕ) whe
   ]
 
   -- they are the occurrences of that group
-  pub held_places-found : map found_part (filter_map (λ p. slice_get occurrences p) held_places) ≡ found_in (matched 0 knowns occurrences) (Some place)
+  pub held_places-found : map found_part (filter_map (λ p. slice_get occurrences p) held_places)
+      ≡ found_in (matched 0 knowns occurrences) (Some place)
   held_places-found = elim (cases_lt place (length knowns)) [
     | inl there ↦
-        ap (λ (ps : List ℕ). map found_part (filter_map (λ p. slice_get occurrences p) ps)) (places-there there)
+        ap (λ (ps : List ℕ). map found_part (filter_map (λ p. slice_get occurrences p) ps))
+        (places-there there)
         ∙ ap (map found_part) (filter_map-places_of (λ (o : Occurrence). o.mention.group) place occurrences)
         ∙ ap (λ n. found_at n occurrences) (sym (zero-add place))
         ∙ sym (found-matched 0 knowns occurrences place there)
     | inr past ↦
-        ap (λ (ps : List ℕ). map found_part (filter_map (λ p. slice_get occurrences p) ps)) (places-past past)
+        ap (λ (ps : List ℕ). map found_part (filter_map (λ p. slice_get occurrences p) ps))
+        (places-past past)
         ∙ sym (ap (λ (o : Option MatchedGroup). option_map_or (λ (group : MatchedGroup). group.found) o [])
         (slice_get_past (matched 0 knowns occurrences) place (omega (arith, length-matched 0 knowns occurrences))))
   ]
 
 -- values are the texts of the pairs
-texts_of_pairs : (founds : List Found) → map (λ (pair : ℕ × Text). pair.1) (pairs_of founds) ≡ values_of founds
+texts_of_pairs : (founds : List Found)
+    → map (λ (pair : ℕ × Text). pair.1) (pairs_of founds) ≡ values_of founds
 texts_of_pairs [] = refl
 texts_of_pairs (found ∷ founds) = of_value found.value (texts_of_pairs founds) where
-  of_value : (value : Option Text) → map (λ (pair : ℕ × Text). pair.1) (pairs_of founds) ≡ values_of founds → map (λ (pair : ℕ × Text). pair.1) (cons_option (option_map (λ (text : Text). (found.position, text)) value) (pairs_of founds)) ≡ cons_option value (values_of founds)
+  of_value : (value : Option Text)
+      → map (λ (pair : ℕ × Text). pair.1) (pairs_of founds) ≡ values_of founds
+      → map (λ (pair : ℕ × Text). pair.1)
+      (cons_option (option_map (λ (text : Text). (found.position, text)) value) (pairs_of founds))
+      ≡ cons_option value (values_of founds)
   of_value None same = same
   of_value (Some text) same = ap (λ (more : List Text). text ∷ more) same
 
 -- the same, as the code holds pairs
-pub texts_of_held_pairs : (pairs : List (ℕ × String Global)) (founds : List Found) → map pair_view pairs ≡ pairs_of founds → map (λ (pair : ℕ × String Global). string_bytes pair.1) pairs ≡ values_of founds
+pub texts_of_held_pairs : (pairs : List (ℕ × String Global)) (founds : List Found)
+    → map pair_view pairs ≡ pairs_of founds
+    → map (λ (pair : ℕ × String Global). string_bytes pair.1) pairs ≡ values_of founds
 texts_of_held_pairs pairs founds same = views pairs ∙ ap (map (λ (pair : ℕ × Text). pair.1)) same ∙ texts_of_pairs founds where
-  views : (ps : List (ℕ × String Global)) → map (λ (pair : ℕ × String Global). string_bytes pair.1) ps ≡ map (λ (pair : ℕ × Text). pair.1) (map pair_view ps)
+  views : (ps : List (ℕ × String Global))
+      → map (λ (pair : ℕ × String Global). string_bytes pair.1) ps
+      ≡ map (λ (pair : ℕ × Text). pair.1) (map pair_view ps)
   views [] = refl
   views (pair ∷ ps) = ap (λ (more : List Text). string_bytes pair.1 ∷ more) (views ps)
 
 -- groups with their occurrences are not the same where what is known of them isn't
-pub differ_known : (groups others : List MatchedGroup) → pointwise same_known (map (λ (group : MatchedGroup). group.known) groups) (map (λ (group : MatchedGroup). group.known) others) ≡ false → pointwise same_matched_group groups others ≡ false
+pub differ_known : (groups others : List MatchedGroup)
+    → pointwise same_known (map (λ (group : MatchedGroup). group.known) groups)
+    (map (λ (group : MatchedGroup). group.known) others) ≡ false
+    → pointwise same_matched_group groups others ≡ false
 differ_known [] [] differ = absurd (true≢false differ)
 differ_known [] (b ∷ others) differ = refl
 differ_known (a ∷ groups) [] differ = refl
@@ -119,7 +152,9 @@ differ_known (a ∷ groups) (b ∷ others) differ = elim (and_cases (same_known 
 ]
 
 -- nor where the occurrences at some place aren't
-pub differ_found : (groups others : List MatchedGroup) (i : ℕ) → pointwise same_found (found_in groups (Some i)) (found_in others (Some i)) ≡ false → pointwise same_matched_group groups others ≡ false
+pub differ_found : (groups others : List MatchedGroup) (i : ℕ)
+    → pointwise same_found (found_in groups (Some i)) (found_in others (Some i)) ≡ false
+    → pointwise same_matched_group groups others ≡ false
 differ_found [] [] i differ = absurd (true≢false differ)
 differ_found [] (b ∷ others) i differ = refl
 differ_found (a ∷ groups) [] i differ = refl
@@ -127,8 +162,12 @@ differ_found (a ∷ groups) (b ∷ others) zero differ = and_left _ _ (and_right
 differ_found (a ∷ groups) (b ∷ others) (suc i) differ = and_right (same_matched_group a b) _ (differ_found groups others i differ)
 
 -- else they are the same
-pub same_found_everywhere : (groups others : List MatchedGroup) → pointwise same_known (map (λ (group : MatchedGroup). group.known) groups) (map (λ (group : MatchedGroup). group.known) others) ≡ true
-    → ((i : ℕ) → i < length groups → pointwise same_found (found_in groups (Some i)) (found_in others (Some i)) ≡ true) → pointwise same_matched_group groups others ≡ true
+pub same_found_everywhere : (groups others : List MatchedGroup)
+    → pointwise same_known (map (λ (group : MatchedGroup). group.known) groups)
+    (map (λ (group : MatchedGroup). group.known) others) ≡ true
+    → ((i : ℕ) → i < length groups
+    → pointwise same_found (found_in groups (Some i)) (found_in others (Some i))
+    ≡ true) → pointwise same_matched_group groups others ≡ true
 same_found_everywhere [] [] known found = refl
 same_found_everywhere [] (b ∷ others) known found = known
 same_found_everywhere (a ∷ groups) [] known found = known

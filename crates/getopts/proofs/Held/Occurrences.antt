@@ -1,5 +1,7 @@
 -- The occurrences of a group, by the places where they stand.
-use Rattle.std.proofs.Common.{◌≡◌, ◌<◌, ◌≤◌, ◌+◌, ℕ, zero, suc, ◌==◌, ◌&&◌, Bool, true, false, List, [], ◌∷◌, ◌++◌, map, length, take, slice_get, Option, Bor, Some, None, refl, ap, sym, ◌∙◌, arith, zero-le}
+use Rattle.std.proofs.Common.{◌≡◌, ◌<◌, ◌≤◌, ◌+◌, ℕ, zero, suc, ◌==◌, ◌&&◌, Bool, true, false, List}
+use Rattle.std.proofs.Common.{[], ◌∷◌, ◌++◌, map, length, take, slice_get, Option, Bor, Some, None}
+use Rattle.std.proofs.Common.{refl, ap, sym, ◌∙◌, arith, zero-le}
 use Rattle.std.specs.List.{AllByRecursion, filter_map, cons_option}
 use Rattle.std.specs.Cmp.Lexicographic.{pointwise}
 use Rattle.std.specs.Option.{option_copied, option_eq, option_map}
@@ -21,25 +23,34 @@ element (x ∷ xs) zero within = (x, refl)
 element (x ∷ xs) (suc i) within = element xs i (omega arith)
 
 -- as many elements as places
-length-at_places : {X : Type 0} (xs : List X) (places : List ℕ) → AllByRecursion (λ place. place < length xs) places → length (filter_map (λ place. slice_get xs place) places) ≡ length places
+length-at_places : {X : Type 0} (xs : List X) (places : List ℕ)
+    → AllByRecursion (λ place. place < length xs) places
+    → length (filter_map (λ place. slice_get xs place) places) ≡ length places
 length-at_places xs [] all = refl
 length-at_places {X} xs (p ∷ places) all =
-    ap (λ (o : Option X). length (cons_option o (filter_map (λ place. slice_get xs place) places))) ((element xs p all.0).1)
+    ap (λ (o : Option X). length (cons_option o (filter_map (λ place. slice_get xs place) places)))
+    ((element xs p all.0).1)
     ∙ ap suc (length-at_places xs places all.1)
 
 -- the element at one of the places
-slice_get-at_places : {X : Type 0} (xs : List X) (places : List ℕ) (i place : ℕ) → AllByRecursion (λ place. place < length xs) places → slice_get places i ≡ Some place
+slice_get-at_places : {X : Type 0} (xs : List X) (places : List ℕ) (i place : ℕ)
+    → AllByRecursion (λ place. place < length xs) places → slice_get places i ≡ Some place
     → slice_get (filter_map (λ place. slice_get xs place) places) i ≡ slice_get xs place
 slice_get-at_places xs [] i place all at = cc at
 slice_get-at_places {X} xs (p ∷ places) zero place all at =
     let same : p ≡ place = cc in
-    ap (λ (o : Option X). slice_get (cons_option o (filter_map (λ place. slice_get xs place) places)) 0) ((element xs p all.0).1)
+    ap (λ (o : Option X). slice_get
+    (cons_option o (filter_map (λ place. slice_get xs place) places))
+    0) ((element xs p all.0).1)
     ∙ sym ((element xs p all.0).1) ∙ ap (λ (n : ℕ). slice_get xs n) same
 slice_get-at_places {X} xs (p ∷ places) (suc i) place all at =
-    ap (λ (o : Option X). slice_get (cons_option o (filter_map (λ place. slice_get xs place) places)) (suc i)) ((element xs p all.0).1)
+    ap (λ (o : Option X). slice_get
+    (cons_option o (filter_map (λ place. slice_get xs place) places))
+    (suc i)) ((element xs p all.0).1)
     ∙ slice_get-at_places xs places i place all.1 at
 
-module _ (occurrences : List Occurrence) (places : List ℕ) (all : AllByRecursion (λ place. place < length occurrences) places) where
+module _ (occurrences : List Occurrence) (places : List ℕ)
+    (all : AllByRecursion (λ place. place < length occurrences) places) where
   -- the occurrences at these places
   abbrev founds : List Found
   founds = map found_part (filter_map (λ place. slice_get occurrences place) places)
@@ -53,13 +64,15 @@ module _ (occurrences : List Occurrence) (places : List ℕ) (all : AllByRecursi
   founds-past i past = slice_get_past founds i (omega (arith, length-founds))
 
   -- the occurrence at one of the places
-  pub founds-at : (i place : ℕ) → slice_get places i ≡ Some place → slice_get founds i ≡ option_map found_part (slice_get occurrences place)
+  pub founds-at : (i place : ℕ) → slice_get places i ≡ Some place
+      → slice_get founds i ≡ option_map found_part (slice_get occurrences place)
   founds-at i place at =
       slice_get-map found_part (filter_map (λ place. slice_get occurrences place) places) i
       ∙ ap (λ (o : Option Occurrence). option_map found_part o) (slice_get-at_places occurrences places i place all at)
 
 -- one more element of a front, if there is one
-take-more : {X : Type 0} (xs : List X) (i : ℕ) → take (i + 1) xs ≡ take i xs ++ cons_option (slice_get xs i) []
+take-more : {X : Type 0} (xs : List X) (i : ℕ)
+    → take (i + 1) xs ≡ take i xs ++ cons_option (slice_get xs i) []
 take-more {X} [] i =
     let none : (n : ℕ) → take {A = X} n [] ≡ [] = λ n. take_all n [] zero-le in
     none (i + 1) ∙ sym (ap (λ (xs : List X). xs ++ []) (none i))
@@ -68,26 +81,34 @@ take-more (x ∷ xs) (suc i) =
     let later : suc i + 1 ≡ suc (i + 1) = omega arith in
     ap (λ n. take n (x ∷ xs)) later ∙ ap (λ more. x ∷ more) (take-more xs i)
 
-module _ (founds : List Found) (i : ℕ) (next : Option (ℕ × Option (Bor Text))) (is : option_map held_found next ≡ slice_get founds i) where
+module _ (founds : List Found) (i : ℕ) (next : Option (ℕ × Option (Bor Text)))
+    (is : option_map held_found next ≡ slice_get founds i) where
   -- one more occurrence of a front, as it is read
-  pub founds-more : take (i + 1) founds ≡ take i founds ++ cons_option (option_map held_found next) []
+  pub founds-more : take (i + 1) founds
+      ≡ take i founds ++ cons_option (option_map held_found next) []
   founds-more = take-more founds i ∙ ap (λ (o : Option Found). take i founds ++ cons_option o []) (sym is)
 
   -- its position
-  pub positions-more : positions_of (take (i + 1) founds) ≡ positions_of (take i founds) ++ positions_of (cons_option (option_map held_found next) [])
-  positions-more = ap positions_of founds-more ∙ map-append (λ (found : Found). found.position) (take i founds) (cons_option (option_map held_found next) [])
+  pub positions-more : positions_of (take (i + 1) founds)
+      ≡ positions_of (take i founds) ++ positions_of (cons_option (option_map held_found next) [])
+  positions-more = ap positions_of founds-more ∙ map-append (λ (found : Found). found.position) (take i founds)
+      (cons_option (option_map held_found next) [])
 
   -- its value
-  pub values-more : values_of (take (i + 1) founds) ≡ values_of (take i founds) ++ values_of (cons_option (option_map held_found next) [])
-  values-more = ap values_of founds-more ∙ filter_map-append (λ (found : Found). found.value) (take i founds) (cons_option (option_map held_found next) [])
+  pub values-more : values_of (take (i + 1) founds)
+      ≡ values_of (take i founds) ++ values_of (cons_option (option_map held_found next) [])
+  values-more = ap values_of founds-more ∙ filter_map-append (λ (found : Found). found.value) (take i founds)
+      (cons_option (option_map held_found next) [])
 
   -- its position and value
-  pub pairs-more : pairs_of (take (i + 1) founds) ≡ pairs_of (take i founds) ++ pairs_of (cons_option (option_map held_found next) [])
+  pub pairs-more : pairs_of (take (i + 1) founds)
+      ≡ pairs_of (take i founds) ++ pairs_of (cons_option (option_map held_found next) [])
   pairs-more = ap pairs_of founds-more ∙ filter_map-append pair_of (take i founds) (cons_option (option_map held_found next) [])
 
 module _ {X : Type 0} (E : X → X → Bool) where
   -- lists that differ at a place differ
-  pointwise-differ : (xs ys : List X) (i : ℕ) → option_eq E (slice_get xs i) (slice_get ys i) ≡ false → pointwise E xs ys ≡ false
+  pointwise-differ : (xs ys : List X) (i : ℕ)
+      → option_eq E (slice_get xs i) (slice_get ys i) ≡ false → pointwise E xs ys ≡ false
   pointwise-differ [] [] i differ = differ
   pointwise-differ [] (y ∷ ys) i differ = refl
   pointwise-differ (x ∷ xs) [] i differ = refl
@@ -95,7 +116,9 @@ module _ {X : Type 0} (E : X → X → Bool) where
   pointwise-differ (x ∷ xs) (y ∷ ys) (suc i) differ = and_right (E x y) (pointwise E xs ys) (pointwise-differ xs ys i differ)
 
   -- fronts that are the same, with one more element that is
-  pointwise-take_more : (xs ys : List X) (i : ℕ) → pointwise E (take i xs) (take i ys) ≡ true → option_eq E (slice_get xs i) (slice_get ys i) ≡ true → pointwise E (take (i + 1) xs) (take (i + 1) ys) ≡ true
+  pointwise-take_more : (xs ys : List X) (i : ℕ) → pointwise E (take i xs) (take i ys) ≡ true
+      → option_eq E (slice_get xs i) (slice_get ys i) ≡ true
+      → pointwise E (take (i + 1) xs) (take (i + 1) ys) ≡ true
   pointwise-take_more [] [] i same here = let none : length {A = X} [] ≤ i + 1 = omega arith in rw (take_all (i + 1) [] none)
   pointwise-take_more [] (y ∷ ys) zero same here = absurd (false≢true here)
   pointwise-take_more [] (y ∷ ys) (suc i) same here = absurd (false≢true same)
@@ -112,18 +135,23 @@ abbrev pub same_read : Option (ℕ × Option (Bor Text)) → Option (ℕ × Opti
 same_read = option_eq (λ a b. a.0 == b.0 && option_eq (λ text other. pointwise ◌==◌ text.now other.now) a.1 b.1)
 
 -- this is how occurrences are compared
-same_read-found : (a b : Option (ℕ × Option (Bor Text))) → option_eq same_found (option_map held_found a) (option_map held_found b) ≡ same_read a b
+same_read-found : (a b : Option (ℕ × Option (Bor Text)))
+    → option_eq same_found (option_map held_found a) (option_map held_found b) ≡ same_read a b
 same_read-found None None = refl
 same_read-found None (Some b) = refl
 same_read-found (Some a) None = refl
 same_read-found (Some a) (Some b) = ap (λ (same : Bool). a.0 == b.0 && same) (values a.1 b.1) where
-  values : (v w : Option (Bor Text)) → option_eq (pointwise ◌==◌) (option_copied v) (option_copied w) ≡ option_eq (λ text other. pointwise ◌==◌ text.now other.now) v w
+  values : (v w : Option (Bor Text))
+      → option_eq (pointwise ◌==◌) (option_copied v) (option_copied w)
+      ≡ option_eq (λ text other. pointwise ◌==◌ text.now other.now) v w
   values None None = refl
   values None (Some w) = refl
   values (Some v) None = refl
   values (Some v) (Some w) = refl
 
-module _ (founds others : List Found) (i : ℕ) (a b : Option (ℕ × Option (Bor Text))) (is : option_map held_found a ≡ slice_get founds i) (other_is : option_map held_found b ≡ slice_get others i) where
+module _ (founds others : List Found) (i : ℕ) (a b : Option (ℕ × Option (Bor Text)))
+    (is : option_map held_found a ≡ slice_get founds i)
+    (other_is : option_map held_found b ≡ slice_get others i) where
   here : option_eq same_found (slice_get founds i) (slice_get others i) ≡ same_read a b
   here = (λ j. option_eq same_found (sym is j) (sym other_is j)) ∙ same_read-found a b
 
@@ -132,5 +160,7 @@ module _ (founds others : List Found) (i : ℕ) (a b : Option (ℕ × Option (Bo
   founds-differ differ = pointwise-differ same_found founds others i (here ∙ differ)
 
   -- one more occurrence that is read as the same
-  pub founds-same : same_read a b ≡ true → pointwise same_found (take i founds) (take i others) ≡ true → pointwise same_found (take (i + 1) founds) (take (i + 1) others) ≡ true
+  pub founds-same : same_read a b ≡ true
+      → pointwise same_found (take i founds) (take i others) ≡ true
+      → pointwise same_found (take (i + 1) founds) (take (i + 1) others) ≡ true
   founds-same same before = pointwise-take_more same_found founds others i before (here ∙ same)

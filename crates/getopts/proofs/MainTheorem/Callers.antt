@@ -1,5 +1,7 @@
 -- Lemmas for callers.
-use Rattle.std.proofs.Common.{◌≡◌, ◌==◌, ℕ, zero, suc, ◌+◌, Bool, true, false, cond, List, [], ◌∷◌, map, length, Option, Some, None, Result, Ok, Err, refl, ap, sym, subst, ◌∙◌}
+use Rattle.std.proofs.Common.{◌≡◌, ◌==◌, ℕ, zero, suc, ◌+◌, Bool, true, false, cond, List, [], ◌∷◌}
+use Rattle.std.proofs.Common.{map, length, Option, Some, None, Result, Ok, Err, refl, ap, sym}
+use Rattle.std.proofs.Common.{subst, ◌∙◌}
 use Rattle.std.specs.List.{filter, filter_map, cons_option}
 use Rattle.std.proofs.lemmas.List.{length-map}
 use Rattle.getopts.specs.Names.{Text, resolution}
@@ -8,7 +10,8 @@ use Rattle.getopts.specs.Scan.{Reading, Mention, Occurrence, occurrences_of, fre
 use Rattle.getopts.specs.ScanLaws.{mentions_of}
 use Rattle.getopts.specs.Canon.{Content}
 use Rattle.getopts.specs.Matches.{Found, Matched, found_at, matched, matches_of, KeepsCounts}
-use Rattle.getopts.specs.Accessors.{IsReadAs, place_of, found_in, found_of, each_value, first_value, values_of}
+use Rattle.getopts.specs.Accessors.{IsReadAs, place_of, found_in, found_of, each_value, first_value}
+use Rattle.getopts.specs.Accessors.{values_of}
 use Rattle.getopts.specs.Theorem.{AcceptedExactlyWhen, HoldSame, OneContentHoldsSame}
 use Rattle.getopts.proofs.Canonical.Lines.{KeepsCounts-mentions}
 use Rattle.getopts.proofs.Held.Matches.{knowns-matched}
@@ -16,15 +19,18 @@ use Rattle.getopts.proofs.MainTheorem.Refuted.{are_plain, lawful_groups}
 use Rattle.getopts.proofs.Parsing.Told.{place_of-groups}
 
 -- what a value is read as by one reading, it is read as by another that asks for less
-pub IsReadAs-weaker : {T E : Type 0} (P Q : Text → Result T E → Type 0) → ((text : Text) (answer : Result T E) → P text answer → Q text answer)
-    → (value : Option Text) (answer : Result (Option T) E) → IsReadAs P value answer → IsReadAs Q value answer
+pub IsReadAs-weaker : {T E : Type 0} (P Q : Text → Result T E → Type 0)
+    → ((text : Text) (answer : Result T E) → P text answer → Q text answer)
+    → (value : Option Text) (answer : Result (Option T) E) → IsReadAs P value answer
+    → IsReadAs Q value answer
 IsReadAs-weaker P Q follows None answer read = read
 IsReadAs-weaker P Q follows (Some text) (Ok None) read = read
 IsReadAs-weaker P Q follows (Some text) (Ok (Some value)) read = follows text (Ok value) read
 IsReadAs-weaker P Q follows (Some text) (Err error) read = follows text (Err error) read
 
 -- options that are written out may be declared where this test of their names says so
-pub MayBeDeclared-plain : (options : Declared) → are_plain options.groups ≡ true → MayBeDeclared options
+pub MayBeDeclared-plain : (options : Declared) → are_plain options.groups ≡ true
+    → MayBeDeclared options
 MayBeDeclared-plain options plain = let lawful = lawful_groups options.groups plain in record { named = lawful.0; shorts = lawful.1 }
 
 -- ---- lines that say the same
@@ -33,39 +39,61 @@ MayBeDeclared-plain options plain = let lawful = lawful_groups options.groups pl
 abbrev values_at : ℕ → List Mention → List (Option Text)
 values_at place ms = map (λ (m : Mention). m.value) (filter (λ (m : Mention). m.group == place) ms)
 
-values-found_at : (place : ℕ) (os : List Occurrence) → each_value (found_at place os) ≡ values_at place (map (λ (o : Occurrence). o.mention) os)
+values-found_at : (place : ℕ) (os : List Occurrence)
+    → each_value (found_at place os) ≡ values_at place (map (λ (o : Occurrence). o.mention) os)
 values-found_at place [] = refl
 values-found_at place (o ∷ os) = here (o.mention.group == place) (values-found_at place os) where
-  here : (is : Bool) → each_value (found_at place os) ≡ values_at place (map (λ (o : Occurrence). o.mention) os)
-      → each_value (map (λ (o : Occurrence). record { position = o.position; value = o.mention.value }) (cond is (o ∷ filter (λ (o : Occurrence). o.mention.group == place) os) (filter (λ (o : Occurrence). o.mention.group == place) os)))
-      ≡ map (λ (m : Mention). m.value) (cond is (o.mention ∷ filter (λ (m : Mention). m.group == place) (map (λ (o : Occurrence). o.mention) os)) (filter (λ (m : Mention). m.group == place) (map (λ (o : Occurrence). o.mention) os)))
+  here : (is : Bool)
+      → each_value (found_at place os) ≡ values_at place (map (λ (o : Occurrence). o.mention) os)
+      → each_value
+      (map (λ (o : Occurrence). record { position = o.position; value = o.mention.value })
+      (cond is (o ∷ filter (λ (o : Occurrence). o.mention.group == place) os)
+      (filter (λ (o : Occurrence). o.mention.group == place)
+      os))) ≡ map (λ (m : Mention). m.value) (cond is (o.mention ∷ filter (λ (m : Mention). m.group
+      == place) (map
+      (λ (o : Occurrence). o.mention) os)) (filter (λ (m : Mention). m.group == place) (map
+      (λ (o : Occurrence). o.mention) os)))
   here true others = ap (λ (more : List (Option Text)). o.mention.value ∷ more) others
   here false others = others
 
-values-found_in : (knowns : List Known) (first i : ℕ) (old new : List Occurrence) → map (λ (o : Occurrence). o.mention) new ≡ map (λ (o : Occurrence). o.mention) old
-    → each_value (found_in (matched first knowns new) (Some i)) ≡ each_value (found_in (matched first knowns old) (Some i))
+values-found_in : (knowns : List Known) (first i : ℕ) (old new : List Occurrence)
+    → map (λ (o : Occurrence). o.mention) new ≡ map (λ (o : Occurrence). o.mention) old
+    → each_value (found_in (matched first knowns new) (Some i))
+    ≡ each_value (found_in (matched first knowns old) (Some i))
 values-found_in [] first i old new same = refl
 values-found_in (known ∷ knowns) first zero old new same = values-found_at first new ∙ ap (values_at first) same ∙ sym (values-found_at first old)
 values-found_in (known ∷ knowns) first (suc i) old new same = values-found_in knowns (first + 1) i old new same
 
 -- readings that mention the same have the same values of each name
-values-found_of : (options : Declared) (old new : Reading) → mentions_of (grammar_of options) new ≡ mentions_of (grammar_of options) old
-    → (name : Text) → each_value (found_of (matches_of options new).groups name) ≡ each_value (found_of (matches_of options old).groups name)
+values-found_of : (options : Declared) (old new : Reading)
+    → mentions_of (grammar_of options) new ≡ mentions_of (grammar_of options) old → (name : Text)
+    → each_value (found_of (matches_of options new).groups name)
+    ≡ each_value (found_of (matches_of options old).groups name)
 values-found_of options old new same name =
-    ap (λ (place : Option ℕ). each_value (found_in (matches_of options new).groups place)) (resolves new)
+    ap (λ (place : Option ℕ). each_value (found_in (matches_of options new).groups place))
+    (resolves new)
     ∙ here (resolution (names_of options.groups) name)
     ∙ ap (λ (place : Option ℕ). each_value (found_in (matches_of options old).groups place)) (sym (resolves old)) where
-      resolves : (reading : Reading) → place_of (matches_of options reading).groups name ≡ resolution (names_of options.groups) name
-      resolves reading = sym (place_of-groups options (matches_of options reading).groups (knowns-matched 0 (knowns_of options.groups) (occurrences_of (grammar_of options) reading)) name)
+      resolves : (reading : Reading)
+          → place_of (matches_of options reading).groups name
+          ≡ resolution (names_of options.groups) name
+      resolves reading = sym (place_of-groups options (matches_of options reading).groups
+          (knowns-matched 0 (knowns_of options.groups) (occurrences_of (grammar_of options) reading)) name)
 
-      here : (place : Option ℕ) → each_value (found_in (matches_of options new).groups place) ≡ each_value (found_in (matches_of options old).groups place)
+      here : (place : Option ℕ)
+          → each_value (found_in (matches_of options new).groups place)
+          ≡ each_value (found_in (matches_of options old).groups place)
       here None = refl
-      here (Some i) = values-found_in (knowns_of options.groups) 0 i (occurrences_of (grammar_of options) old) (occurrences_of (grammar_of options) new) same
+      here (Some i) = values-found_in (knowns_of options.groups) 0 i (occurrences_of (grammar_of options) old)
+          (occurrences_of (grammar_of options) new) same
 
--- occurrences with the same values, or none, are as many, have the same first value and the same values
-pub each_value-count : (founds others : List Found) → each_value founds ≡ each_value others → length founds ≡ length others
+-- occurrences with the same values, or none, are as many, have the same first value and the same
+-- values
+pub each_value-count : (founds others : List Found) → each_value founds ≡ each_value others
+    → length founds ≡ length others
 each_value-count founds others same =
-    sym (length-map founds (λ (found : Found). found.value)) ∙ ap length same ∙ length-map others (λ (found : Found). found.value)
+    sym (length-map founds (λ (found : Found). found.value)) ∙ ap length same
+    ∙ length-map others (λ (found : Found). found.value)
 
 first_of_values : List (Option Text) → Option Text
 first_of_values [] = None
@@ -76,34 +104,42 @@ unfolding first_of_values
 first_value-each [] = refl
 first_value-each (found ∷ founds) = refl
 
-pub each_value-first : (founds others : List Found) → each_value founds ≡ each_value others → first_value founds ≡ first_value others
+pub each_value-first : (founds others : List Found) → each_value founds ≡ each_value others
+    → first_value founds ≡ first_value others
 each_value-first founds others same = first_value-each founds ∙ ap first_of_values same ∙ sym (first_value-each others)
 
-values_of-each : (founds : List Found) → values_of founds ≡ filter_map (λ (value : Option Text). value) (each_value founds)
+values_of-each : (founds : List Found)
+    → values_of founds ≡ filter_map (λ (value : Option Text). value) (each_value founds)
 values_of-each [] = refl
 values_of-each (found ∷ founds) = ap (cons_option found.value) (values_of-each founds)
 
-pub each_value-values : (founds others : List Found) → each_value founds ≡ each_value others → values_of founds ≡ values_of others
+pub each_value-values : (founds others : List Found) → each_value founds ≡ each_value others
+    → values_of founds ≡ values_of others
 each_value-values founds others same =
     values_of-each founds ∙ ap (filter_map (λ (value : Option Text). value)) same ∙ sym (values_of-each others)
 
 -- readings with one content give matches that hold the same but for positions
-HoldSame-content : (options : Declared) (old new : Reading) → mentions_of (grammar_of options) new ≡ mentions_of (grammar_of options) old
+HoldSame-content : (options : Declared) (old new : Reading)
+    → mentions_of (grammar_of options) new ≡ mentions_of (grammar_of options) old
     → free_words new ≡ free_words old → HoldSame (matches_of options old) (matches_of options new)
 HoldSame-content options old new same free = record { values = values-found_of options old new same; free = free }
 
 -- words with the content of accepted words are accepted, with matches that hold the same
-pub OneContentHoldsSame_lem : (options : Declared) → AcceptedExactlyWhen options → OneContentHoldsSame options
+pub OneContentHoldsSame_lem : (options : Declared) → AcceptedExactlyWhen options
+    → OneContentHoldsSame options
 OneContentHoldsSame_lem options accepted_when words others old new matches accepted reads reads_new same =
     let grammar = grammar_of options in
     let told : mentions_of grammar new ≡ mentions_of grammar old = ap (λ (content : Content). content.mentions) same in
     let free : free_words new ≡ free_words old = ap (λ (content : Content). content.free) same in
     let is : old ≡ accepted.reading = (accepted.only old).0 reads in
-    let kept : KeepsCounts (matches_of options old).groups = subst (λ (reading : Reading). KeepsCounts (matches_of options reading).groups) (sym is) accepted.counts in
+    let kept : KeepsCounts (matches_of options old).groups =
+    subst (λ (reading : Reading). KeepsCounts (matches_of options reading).groups) (sym is) accepted.counts in
     let matches_are : matches_of options old ≡ matches = ap (matches_of options) is ∙ sym accepted.matches_are in
-    let keeps : KeepsCounts (matches_of options new).groups = KeepsCounts-mentions (knowns_of options.groups) grammar grammar old new (sym told) kept in (
+    let keeps : KeepsCounts (matches_of options new).groups = KeepsCounts-mentions
+    (knowns_of options.groups) grammar grammar old new (sym told) kept in (
       (accepted_when others (matches_of options new)).1 (new, record { reads = reads_new; keeps = keeps }, refl),
-      subst (λ (those : Matched). HoldSame those (matches_of options new)) matches_are (HoldSame-content options old new told free),
+      subst (λ (those : Matched). HoldSame those (matches_of options new)) matches_are
+          (HoldSame-content options old new told free),
     )
 
 -- ---- occurrences by what they mention and where

@@ -1,12 +1,16 @@
 -- The counts of groups, one after the other.
-use Rattle.std.proofs.Common.{◌≡◌, ◌==◌, ◌&&◌, ◌<◌, ◌+◌, ℕ, zero, suc, Bool, true, false, cond, List, [], ◌∷◌, ◌++◌, length, map, take, drop, slice_get, unwrap_or, Option, Some, None, option_map, ◌≤◌, zero-le, refl, ap, ◌∙◌, sym, subst, inl, inr, arith, add-zero, zero-add}
+use Rattle.std.proofs.Common.{◌≡◌, ◌==◌, ◌&&◌, ◌<◌, ◌+◌, ℕ, zero, suc, Bool, true, false, cond}
+use Rattle.std.proofs.Common.{List, [], ◌∷◌, ◌++◌, length, map, take, drop, slice_get, unwrap_or}
+use Rattle.std.proofs.Common.{Option, Some, None, option_map, ◌≤◌, zero-le, refl, ap, ◌∙◌, sym}
+use Rattle.std.proofs.Common.{subst, inl, inr, arith, add-zero, zero-add}
 use Rattle.std.specs.List.{filter, list_all}
 use Rattle.std.proofs.lemmas.Bool.{and_from, cases_eq, eq-eqb, ne_eqb}
 use Rattle.std.proofs.lemmas.List.{length-map, take-append-drop}
 use Rattle.getopts.specs.Options.{Known}
 use Rattle.getopts.specs.Fail.{Fault}
 use Rattle.getopts.specs.Scan.{Occurrence}
-use Rattle.getopts.specs.Matches.{Found, MatchedGroup, found_at, matched, KeepsCount, KeepsCounts, FitsCount, broken_count, IsCountFault}
+use Rattle.getopts.specs.Matches.{Found, MatchedGroup, found_at, matched, KeepsCount, KeepsCounts}
+use Rattle.getopts.specs.Matches.{FitsCount, broken_count, IsCountFault}
 use Rattle.getopts.specs.Names.{Text}
 use Rattle.getopts.specs.Held.Accepted.{index_of}
 use Rattle.getopts.specs.Held.Found.{given_view}
@@ -20,12 +24,14 @@ abbrev pub matched_at : ℕ → Known → List Occurrence → MatchedGroup
 matched_at place known occurrences = record { known = known; found = found_at place occurrences }
 
 -- the matched groups from a place on
-pub matched-from : (first : ℕ) (knowns : List Known) (occurrences : List Occurrence) (i : ℕ) (known : Known) → slice_get knowns i ≡ Some known →
+pub matched-from : (first : ℕ) (knowns : List Known) (occurrences : List Occurrence) (i : ℕ)
+    (known : Known) → slice_get knowns i ≡ Some known →
     drop i (matched first knowns occurrences) ≡ matched_at (first + i) known occurrences ∷ drop (i + 1) (matched first knowns occurrences)
 matched-from first [] occurrences i known there = cc there
 matched-from first (k ∷ knowns) occurrences zero known there =
     let same : k ≡ known = cc in
-    ap (λ n. matched_at n k occurrences ∷ matched (first + 1) knowns occurrences) (sym (add-zero first)) ∙ ap (λ x. matched_at (first + 0) x occurrences ∷ matched (first + 1) knowns occurrences) same
+    ap (λ n. matched_at n k occurrences ∷ matched (first + 1) knowns occurrences) (sym (add-zero first))
+    ∙ ap (λ x. matched_at (first + 0) x occurrences ∷ matched (first + 1) knowns occurrences) same
 matched-from first (k ∷ knowns) occurrences (suc i) known there =
     let place : first + 1 + i ≡ first + suc i = omega arith in
     let later : suc i + 1 ≡ suc (i + 1) = omega arith in
@@ -35,7 +41,8 @@ matched-from first (k ∷ knowns) occurrences (suc i) known there =
     ∙ ap (λ n. matched_at (first + suc i) known occurrences ∷ drop n whole) (sym later)
 
 -- one more element of a front
-pub take-from : {X : Type 0} (xs ys : List X) (x : X) (i : ℕ) → drop i xs ≡ x ∷ ys → take (i + 1) xs ≡ take i xs ++ x ∷ []
+pub take-from : {X : Type 0} (xs ys : List X) (x : X) (i : ℕ) → drop i xs ≡ x ∷ ys
+    → take (i + 1) xs ≡ take i xs ++ x ∷ []
 take-from [] ys x zero e = cc e
 take-from [] ys x (suc i) e = cc e
 take-from (first ∷ xs) ys x zero e = let same : first ≡ x = cc in ap (λ y. y ∷ []) same
@@ -44,37 +51,52 @@ take-from (first ∷ xs) ys x (suc i) e =
     ap (λ n. take n (first ∷ xs)) later ∙ ap (λ zs. first ∷ zs) (take-from xs ys x i e)
 
 -- a filter of what a map gives
-filter-map : {X Y : Type 0} (f : X → Y) (p : Y → Bool) (xs : List X) → filter p (map f xs) ≡ map f (filter (λ x. p (f x)) xs)
+filter-map : {X Y : Type 0} (f : X → Y) (p : Y → Bool) (xs : List X)
+    → filter p (map f xs) ≡ map f (filter (λ x. p (f x)) xs)
 filter-map f p [] = refl
-filter-map {X} {Y} f p (x ∷ xs) = elim (p (f x)) as (λ b. cond b (f x ∷ filter p (map f xs)) (filter p (map f xs)) ≡ map f (cond b (x ∷ filter (λ x. p (f x)) xs) (filter (λ x. p (f x)) xs)))
+filter-map {X} {Y} f p (x ∷ xs) = elim (p (f x)) as (λ b. cond b (f x ∷ filter p (map f xs))
+    (filter p (map f xs)) ≡ map f (cond b (x ∷ filter (λ x. p (f x)) xs) (filter (λ x. p (f x)) xs)))
     [ true ↦ ap (λ ys. f x ∷ ys) (filter-map f p xs) | false ↦ filter-map f p xs ]
 
 -- how many occurrences of a group there are, by the index
-pub length-found_at : (knowns : List Known) (occurrences : List Occurrence) (i : ℕ) → i < length knowns → length (unwrap_or (slice_get (index_of knowns occurrences) i) []) ≡ length (found_at i occurrences)
+pub length-found_at : (knowns : List Known) (occurrences : List Occurrence) (i : ℕ)
+    → i < length knowns
+    → length (unwrap_or (slice_get (index_of knowns occurrences) i) [])
+    ≡ length (found_at i occurrences)
 length-found_at knowns occurrences i within =
     let founds : length (found_at i occurrences) ≡ length (filter (λ (o : Occurrence). o.mention.group == i) occurrences) = simp length-map in
-    ap (λ (o : Option (List ℕ)). length (unwrap_or o [])) (slice_get-places_by_group (length knowns) i (map (λ (o : Occurrence). o.mention.group) occurrences) within)
+    ap (λ (o : Option (List ℕ)). length (unwrap_or o []))
+    (slice_get-places_by_group (length knowns) i
+    (map (λ (o : Occurrence). o.mention.group) occurrences) within)
     ∙ length-places_of (λ (o : Occurrence). o.mention.group) i occurrences ∙ sym founds
 
 -- as many matched groups as known ones
-pub length-matched : (first : ℕ) (knowns : List Known) (occurrences : List Occurrence) → length (matched first knowns occurrences) ≡ length knowns
+pub length-matched : (first : ℕ) (knowns : List Known) (occurrences : List Occurrence)
+    → length (matched first knowns occurrences) ≡ length knowns
 length-matched first [] occurrences = refl
 length-matched first (known ∷ knowns) occurrences = ap suc (length-matched (first + 1) knowns occurrences)
 
-module _ (knowns : List Known) (occurrences : List Occurrence) (i : ℕ) (known : Known) (there : slice_get knowns i ≡ Some known) (kept : KeepsCounts (take i (matched 0 knowns occurrences)))
-    (count : ℕ) (counted : count ≡ length (found_at i occurrences)) where
-  here : drop i (matched 0 knowns occurrences) ≡ matched_at i known occurrences ∷ drop (i + 1) (matched 0 knowns occurrences)
+module _ (knowns : List Known) (occurrences : List Occurrence) (i : ℕ) (known : Known)
+    (there : slice_get knowns i ≡ Some known)
+    (kept : KeepsCounts (take i (matched 0 knowns occurrences))) (count : ℕ)
+    (counted : count ≡ length (found_at i occurrences)) where
+  here : drop i (matched 0 knowns occurrences)
+      ≡ matched_at i known occurrences ∷ drop (i + 1) (matched 0 knowns occurrences)
   here = simp zero-add at (matched-from 0 knowns occurrences i known there)
 
   -- the groups up to a place and the one there keep their counts
-  pub KeepsCounts-more : FitsCount known.occurrence count → KeepsCounts (take (i + 1) (matched 0 knowns occurrences))
+  pub KeepsCounts-more : FitsCount known.occurrence count
+      → KeepsCounts (take (i + 1) (matched 0 knowns occurrences))
   KeepsCounts-more fits =
       let whole = matched 0 knowns occurrences in
       subst KeepsCounts (sym (take-from whole (drop (i + 1) whole) (matched_at i known occurrences) i here))
-      (AllByRecursion-append KeepsCount (take i whole) (matched_at i known occurrences ∷ []) kept ((subst (FitsCount known.occurrence) counted fits), tt))
+      (AllByRecursion-append KeepsCount (take i whole) (matched_at i known occurrences ∷ []) kept
+      ((subst (FitsCount known.occurrence) counted fits), tt))
 
   -- the group there breaks its count
-  pub IsCountFault-at : (fault : Fault) → ¬ (FitsCount known.occurrence count) → fault ≡ broken_count (matched_at i known occurrences) → IsCountFault (matched 0 knowns occurrences) fault
+  pub IsCountFault-at : (fault : Fault) → ¬ (FitsCount known.occurrence count)
+      → fault ≡ broken_count (matched_at i known occurrences)
+      → IsCountFault (matched 0 knowns occurrences) fault
   IsCountFault-at fault broken fault_is =
       let whole = matched 0 knowns occurrences in
       record {
@@ -94,36 +116,48 @@ none_past (x ∷ xs) zero none = cc none
 none_past (x ∷ xs) (suc i) none = omega (arith, none_past xs i none)
 
 -- the group at a place, by how often it may come
-pub known-there : (knowns : List Known) (i : ℕ) (occur : Occur) → Some occur ≡ option_map (λ (known : Known). known.occurrence) (slice_get knowns i)
+pub known-there : (knowns : List Known) (i : ℕ) (occur : Occur)
+    → Some occur ≡ option_map (λ (known : Known). known.occurrence) (slice_get knowns i)
     → (known : Known) × (slice_get knowns i ≡ Some known) × (known.occurrence ≡ occur)
 known-there [] i occur there = cc there
 known-there (known ∷ knowns) zero occur there = (known, refl, sym (cc there))
 known-there (known ∷ knowns) (suc i) occur there = known-there knowns i occur there
 
 -- where no group is at a place, the list ends before it
-pub none_known : (knowns : List Known) (i : ℕ) → None ≡ option_map (λ (known : Known). known.occurrence) (slice_get knowns i) → length knowns ≤ i
+pub none_known : (knowns : List Known) (i : ℕ)
+    → None ≡ option_map (λ (known : Known). known.occurrence) (slice_get knowns i)
+    → length knowns ≤ i
 none_known [] i none = zero-le
 none_known (known ∷ knowns) zero none = cc none
 none_known (known ∷ knowns) (suc i) none = omega (arith, none_known knowns i none)
 
 -- the groups of occurrences, whatever their values
-pub groups-given : (values : List Text) (given : List Given) → map (λ (g : Given). g.group) given ≡ map (λ (o : Occurrence). o.mention.group) (map (given_view values) given)
+pub groups-given : (values : List Text) (given : List Given)
+    → map (λ (g : Given). g.group) given
+    ≡ map (λ (o : Occurrence). o.mention.group) (map (given_view values) given)
 groups-given values [] = refl
 groups-given values (g ∷ given) = ap (λ (more : List ℕ). g.group ∷ more) (groups-given values given)
 
 -- a test of groups that passes for each group with occurrences passes for each occurrence
-pub list_all-by_group : (p : ℕ → Bool) (occurrences : List Occurrence) → ((group : ℕ) → 0 < length (found_at group occurrences) → p group ≡ true)
+pub list_all-by_group : (p : ℕ → Bool) (occurrences : List Occurrence)
+    → ((group : ℕ) → 0 < length (found_at group occurrences) → p group ≡ true)
     → list_all (λ o. p o.mention.group) occurrences ≡ true
 list_all-by_group p [] each = refl
 list_all-by_group p (o ∷ occurrences) each =
-    let founds : ℕ → Bool → List Found = λ group b. map (λ (o : Occurrence). record { position = o.position; value = o.mention.value }) (cond b (o ∷ filter (λ (o : Occurrence). o.mention.group == group) occurrences) (filter (λ (o : Occurrence). o.mention.group == group) occurrences)) in
+    let founds : ℕ → Bool → List Found = λ group b. map
+    (λ (o : Occurrence). record { position = o.position; value = o.mention.value })
+    (cond b (o ∷ filter (λ (o : Occurrence). o.mention.group == group) occurrences)
+    (filter (λ (o : Occurrence). o.mention.group == group) occurrences)) in
     let same : (o.mention.group == o.mention.group) ≡ true = eq-eqb o.mention.group o.mention.group refl in
     let here : 0 < length (found_at o.mention.group (o ∷ occurrences)) = rw same (omega arith) in
     and_from (p o.mention.group) (list_all (λ o. p o.mention.group) occurrences) (each o.mention.group here)
-    (list_all-by_group p occurrences (λ group some. each group (elim (o.mention.group == group) as (λ b. 0 < length (founds group b)) [ true ↦ omega arith | false ↦ some ])))
+    (list_all-by_group p occurrences
+    (λ group some. each group
+    (elim (o.mention.group == group) as (λ b. 0 < length (founds group b)) [ true ↦ omega arith | false ↦ some ])))
 
 -- a test that fails for a group with occurrences fails for one of them
-pub list_all-fails_by_group : (p : ℕ → Bool) (group : ℕ) (occurrences : List Occurrence) → p group ≡ false → 0 < length (found_at group occurrences)
+pub list_all-fails_by_group : (p : ℕ → Bool) (group : ℕ) (occurrences : List Occurrence)
+    → p group ≡ false → 0 < length (found_at group occurrences)
     → list_all (λ o. p o.mention.group) occurrences ≡ false
 list_all-fails_by_group p group [] fails some = absurd (omega arith)
 list_all-fails_by_group p group (o ∷ occurrences) fails some = elim (cases_eq o.mention.group group) [

@@ -6,45 +6,61 @@ use Rattle.getopts.specs.Only.{IsTheOnly}
 use Rattle.getopts.specs.Names.{Text, AreTexts}
 use Rattle.getopts.specs.Options.{Declared, AreLawfullyNamed, knowns_of, grammar_of}
 use Rattle.getopts.specs.Fail.{Fault}
-use Rattle.getopts.specs.Scan.{Reading, IsReading, IsScanFault, Occurrence, occurrences_of, free_words, trailing_start}
+use Rattle.getopts.specs.Scan.{Reading, IsReading, IsScanFault, Occurrence, occurrences_of}
+use Rattle.getopts.specs.Scan.{free_words, trailing_start}
 use Rattle.getopts.specs.Matches.{Matched, matched, matches_of, KeepsCounts, IsCountFault}
 use Rattle.getopts.specs.ScanLaws.{HavePositionsInOrder, HavePositionsBelow}
 use Rattle.getopts.specs.Parse.{Reads, IsAccepted, BreaksCounts, HasNoReading, KeepsReadingLaws}
 use Rattle.getopts.proofs.Lookup.Names.{named_grammar}
 use Rattle.getopts.proofs.Parsing.Only.{IsTheOnly-from, meets}
-use Rattle.getopts.proofs.Reading.Laws.{LongAttachedOrSeparate_lem, ShortAttachedOrSeparate_lem, ClusterSplits_lem, OneDashOrTwo_lem, LinesCompose_lem, TrailingStartIsAfterStop_lem, FreeWordsAreSubsequence_lem, HavePositionsInOrder-matched}
+use Rattle.getopts.proofs.Reading.Laws.{LongAttachedOrSeparate_lem, ShortAttachedOrSeparate_lem}
+use Rattle.getopts.proofs.Reading.Laws.{ClusterSplits_lem, OneDashOrTwo_lem, LinesCompose_lem}
+use Rattle.getopts.proofs.Reading.Laws.{TrailingStartIsAfterStop_lem, FreeWordsAreSubsequence_lem}
+use Rattle.getopts.proofs.Reading.Laws.{HavePositionsInOrder-matched}
 use Rattle.getopts.proofs.Reading.Positions.{PositionsAreWords_lem, HavePositionsBelow-matched}
 use Rattle.getopts.proofs.Reading.Readings.{only_reading, only_fault, no_reading}
 use Rattle.getopts.proofs.Reading.Turns.{IsNamed}
 
-module _ (options : Declared) (lawful : AreLawfullyNamed options.groups) (shorts : AllByRecursion (λ group. IsUtf8 group.known.names.short) options.groups) where
+module _ (options : Declared) (lawful : AreLawfullyNamed options.groups)
+    (shorts : AllByRecursion (λ group. IsUtf8 group.known.names.short) options.groups) where
   -- the grammar is one of names
   pub named_here : IsNamed (grammar_of options)
   named_here = named_grammar options lawful shorts
 
   module _ (words : List Text) where
     -- a reading is the only one
-    pub only_reads : (reading : Reading) → Reads options words reading → IsTheOnly (Reads options words) reading
+    pub only_reads : (reading : Reading) → Reads options words reading
+        → IsTheOnly (Reads options words) reading
     only_reads reading reads = IsTheOnly-from (Reads options words) reading reads
         (λ other other_reads. only_reading (grammar_of options) named_here words other reading other_reads reads)
 
     -- a scan fault leaves no reading and no other fault
-    pub HasNoReading-fault : AreTexts words → (fault : Fault) → IsScanFault (grammar_of options) words fault → HasNoReading options words fault
+    pub HasNoReading-fault : AreTexts words → (fault : Fault)
+        → IsScanFault (grammar_of options) words fault → HasNoReading options words fault
     HasNoReading-fault texts fault fault_is = record {
       only = IsTheOnly-from (IsScanFault (grammar_of options) words) fault fault_is
           (λ other is. only_fault (grammar_of options) named_here words other fault texts is fault_is);
       no_reading = λ reading reads. no_reading (grammar_of options) named_here words fault reading texts fault_is reads;
     }
 
-    module _ (reading : Reading) (reads : IsReading (grammar_of options) reading words) (occurrences : List Occurrence)
+    module _ (reading : Reading) (reads : IsReading (grammar_of options) reading words)
+        (occurrences : List Occurrence)
         (occurrences_are : occurrences ≡ occurrences_of (grammar_of options) reading) where
       -- the matched groups of the reading
-      pub groups_are : matched 0 (knowns_of options.groups) occurrences ≡ (matches_of options reading).groups
+      pub groups_are : matched 0 (knowns_of options.groups) occurrences
+          ≡ (matches_of options reading).groups
       groups_are = ap (matched 0 (knowns_of options.groups)) occurrences_are
 
       -- a reading that keeps the counts is accepted
-      pub IsAccepted-reading : (frees : List Text) (trailing : Option ℕ) → KeepsCounts (matched 0 (knowns_of options.groups) occurrences) → frees ≡ free_words reading → trailing ≡ trailing_start reading
-          → IsAccepted options words (record { groups = matched 0 (knowns_of options.groups) occurrences; free = frees; trailing_start = trailing })
+      pub IsAccepted-reading : (frees : List Text) (trailing : Option ℕ)
+          → KeepsCounts (matched 0 (knowns_of options.groups) occurrences)
+          → frees ≡ free_words reading → trailing ≡ trailing_start reading
+          → IsAccepted options words
+          (record {
+            groups = matched 0 (knowns_of options.groups) occurrences;
+            free = frees;
+            trailing_start = trailing;
+          })
       IsAccepted-reading frees trailing kept free_are trailing_is = record {
         reading = reading;
         only = only_reads reading reads;
@@ -53,7 +69,9 @@ module _ (options : Declared) (lawful : AreLawfullyNamed options.groups) (shorts
       }
 
       -- a reading that doesn't has a count fault
-      pub BreaksCounts-reading : (fault : Fault) → IsCountFault (matched 0 (knowns_of options.groups) occurrences) fault → BreaksCounts options words fault
+      pub BreaksCounts-reading : (fault : Fault)
+          → IsCountFault (matched 0 (knowns_of options.groups) occurrences) fault
+          → BreaksCounts options words fault
       BreaksCounts-reading fault breaks = record {
         reading = reading;
         only = only_reads reading reads;
@@ -67,20 +85,30 @@ module _ (options : Declared) (lawful : AreLawfullyNamed options.groups) (shorts
     short_argument = ShortAttachedOrSeparate_lem (grammar_of options);
     cluster = ClusterSplits_lem (grammar_of options);
     dashes = OneDashOrTwo_lem (grammar_of options);
-    lines = LinesCompose_lem (grammar_of options) (λ reading other words reads other_reads. only_reading (grammar_of options) named_here words reading other reads other_reads);
+    lines = LinesCompose_lem (grammar_of options)
+        (λ reading other words reads other_reads. only_reading (grammar_of options) named_here words reading other
+        reads other_reads);
     trailing = TrailingStartIsAfterStop_lem (grammar_of options);
     frees = FreeWordsAreSubsequence_lem (grammar_of options);
     positions = PositionsAreWords_lem (grammar_of options);
   }
 
 -- accepted matches keep the counts, and their positions are in order
-pub counts-accepted : (options : Declared) (words : List Text) (matches : Matched) → IsAccepted options words matches → KeepsCounts matches.groups × HavePositionsInOrder matches.groups
+pub counts-accepted : (options : Declared) (words : List Text) (matches : Matched)
+    → IsAccepted options words matches
+    → KeepsCounts matches.groups × HavePositionsInOrder matches.groups
 counts-accepted options words matches accepted =
-    let groups : (matches_of options accepted.reading).groups ≡ matches.groups = ap (λ (m : Matched). m.groups) (sym accepted.matches_are) in
-    (subst KeepsCounts groups accepted.counts, subst HavePositionsInOrder groups (HavePositionsInOrder-matched (grammar_of options) accepted.reading 0 (knowns_of options.groups)))
+    let groups : (matches_of options accepted.reading).groups ≡ matches.groups = ap (λ (m : Matched). m.groups) (sym accepted.matches_are) in (
+      subst KeepsCounts groups accepted.counts,
+      subst HavePositionsInOrder groups
+          (HavePositionsInOrder-matched (grammar_of options) accepted.reading 0 (knowns_of options.groups)),
+    )
 
 -- the positions of accepted matches are below the number of words
-pub positions_below-accepted : (options : Declared) (words : List Text) (matches : Matched) → IsAccepted options words matches → HavePositionsBelow (length words) matches.groups
+pub positions_below-accepted : (options : Declared) (words : List Text) (matches : Matched)
+    → IsAccepted options words matches → HavePositionsBelow (length words) matches.groups
 positions_below-accepted options words matches accepted =
     let groups : (matches_of options accepted.reading).groups ≡ matches.groups = ap (λ (m : Matched). m.groups) (sym accepted.matches_are) in
-    subst (HavePositionsBelow (length words)) groups (HavePositionsBelow-matched (grammar_of options) accepted.reading words (meets (Reads options words) accepted.reading accepted.only) 0 (knowns_of options.groups))
+    subst (HavePositionsBelow (length words)) groups (HavePositionsBelow-matched
+    (grammar_of options) accepted.reading words (meets (Reads options words) accepted.reading accepted.only) 0
+    (knowns_of options.groups))

@@ -100,7 +100,8 @@ module _ (options : Declared) (groups : List MatchedGroup) (are : AreGroupsOf op
         let fits = at_place (λ known found. FitsCount known.occurrence (length found))
         (knowns_of options.groups) groups are keeps place known.0 known.1 in
         let once : FitsCount Req (length (found_in groups (Some place))) =
-        subst (λ (occurrence : Occur). FitsCount occurrence (length (found_in groups (Some place)))) known.2 fits in
+        subst (λ (occurrence : Occur). FitsCount occurrence (length (found_in groups (Some place))))
+        known.2 fits in
         ap (λ (at : Option ℕ). length (found_in groups at))
         (sym (place_of-groups options groups are name) ∙ resolves) ∙ once
 

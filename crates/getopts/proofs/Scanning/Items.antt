@@ -59,19 +59,23 @@ ReadsItem-attached grammar word text name (Some argument) kind place after posit
     ReadsItem-long grammar word text name (attached argument) kind place after position 0 form text_is cut_once kind_is place_is fits zero-le refl
 
 -- the same, once its occurrence was added
-pub AddsItem-long : (grammar : Grammar) (word text name : Text) (argument : Argument) (kind : HasArg) (place : ℕ) (after : List Text) (position used : ℕ) (old new : List Occurrence) →
+pub AddsItem-long : (grammar : Grammar) (word text name : Text) (argument : Argument)
+    (kind : HasArg) (place : ℕ) (after : List Text) (position used : ℕ) (old new : List Occurrence)
+    →
     IsInLongForm grammar word text → text ≡ name ++ with_equals (attached_argument argument) → holds_equals name ≡ false →
     grammar.kind_of name ≡ Some kind → grammar.place_of name ≡ Some place → FitsLong kind argument →
     used ≤ length after → after ≡ argument_words argument (drop used after) →
     new ≡ old ++ record { mention = record { group = place; value = value_of argument }; position = position } ∷ [] →
     AddsItem grammar word after position used old new
-AddsItem-long grammar word text name argument kind place after position used old new form text_is cut_once kind_is place_is fits within after_is added = record {
-  occurrences = record { mention = record { group = place; value = value_of argument }; position = position } ∷ [];
-  reads = ReadsItem-long grammar word text name argument kind place after position used form text_is cut_once kind_is place_is fits within after_is;
-  added = added;
-}
+AddsItem-long grammar word text name argument kind place after position used old new form text_is cut_once kind_is
+    place_is fits within after_is added = record {
+      occurrences = record { mention = record { group = place; value = value_of argument }; position = position } ∷ [];
+      reads = ReadsItem-long grammar word text name argument kind place after position used form text_is cut_once kind_is place_is fits within after_is;
+      added = added;
+    }
 
-pub AddsItem-attached : (grammar : Grammar) (word text name : Text) (value : Option Text) (kind : HasArg) (place : ℕ) (after : List Text) (position : ℕ) (old new : List Occurrence) →
+pub AddsItem-attached : (grammar : Grammar) (word text name : Text) (value : Option Text)
+    (kind : HasArg) (place : ℕ) (after : List Text) (position : ℕ) (old new : List Occurrence) →
     IsInLongForm grammar word text → text ≡ name ++ with_equals value → holds_equals name ≡ false →
     grammar.kind_of name ≡ Some kind → grammar.place_of name ≡ Some place → FitsLong kind (attached_or_none value) →
     new ≡ old ++ record { mention = record { group = place; value = value }; position = position } ∷ [] →

@@ -190,7 +190,8 @@ module _ (grammar : Grammar) (words : List (Bor Text)) (at : ℕ) (occurrences :
       → grammar.style ≡ FloatingFrees → new_frees ≡ frees ++ (get_or words at d).now ∷ []
       → ReadSoFar grammar (texts words) (at + 1) occurrences new_frees
   ReadSoFar-free new_frees plain floating pushed =
-      subst (λ (next : ℕ). ReadSoFar grammar (texts words) next occurrences new_frees) (add-zero (at + 1))
+      subst (λ (next : ℕ). ReadSoFar grammar (texts words) next occurrences new_frees)
+      (add-zero (at + 1))
       (ReadSoFar-item grammar (texts words) at occurrences frees before (get_or words at d).now
       (texts (drop (at + 1) words)) (free (get_or words at d).now) 0 occurrences new_frees
       (texts_from words d at within) zero-le

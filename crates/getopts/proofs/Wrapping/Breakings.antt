@@ -106,7 +106,8 @@ room-inside : (limit : ℕ) (front run : Run) (word : Word) (back : Run) → 0 <
     → FitsIn limit (front ++ (run ++ word ∷ back)) → has_room limit run word ≡ true
 room-inside limit front run word back has_word fits =
     let regrouped : FitsIn limit (front ++ ((run ++ word ∷ []) ++ back)) =
-    subst (λ (inner : Run). FitsIn limit (front ++ inner)) (sym (append_assoc run (word ∷ []) back)) fits in
+    subst (λ (inner : Run). FitsIn limit (front ++ inner))
+    (sym (append_assoc run (word ∷ []) back)) fits in
     room_where_fits limit run word has_word (FitsIn-inside limit front (run ++ word ∷ []) back
     (omega (arith, length-append run (word ∷ []))) regrouped)
 

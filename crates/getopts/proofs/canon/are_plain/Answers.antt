@@ -1,5 +1,6 @@
 -- Each group that has an occurrence is tested, up to one that fails.
-use Rattle.std.proofs.Common.{◌≡◌, ◌<◌, ◌≤◌, ℕ, List, [], true, not, length, slice_get, unwrap_or, sym, ap, ◌∙◌, inl, inr, arith, below_more}
+use Rattle.std.proofs.Common.{◌≡◌, ◌<◌, ◌≤◌, ℕ, List, [], true, not, length, slice_get, unwrap_or}
+use Rattle.std.proofs.Common.{sym, ap, ◌∙◌, inl, inr, arith, below_more}
 use Rattle.std.proofs.lemmas.Bool.{cases_lt}
 use Rattle.std.proofs.lemmas.List.{length-map}
 use Rattle.std.proofs.lemmas.Option.{slice_get_past}
@@ -10,27 +11,41 @@ use Rattle.getopts.specs.Matches.{found_at}
 use Rattle.getopts.specs.Scan.{Occurrence, holds_equals}
 use Rattle.getopts.specs.Held.Accepted.{index_of}
 use Rattle.getopts.specs.Canon.{main_at}
-use Rattle.getopts.proofs.Parsing.Counts.{length-found_at, list_all-by_group, list_all-fails_by_group}
+use Rattle.getopts.proofs.Parsing.Counts.{length-found_at, list_all-by_group}
+use Rattle.getopts.proofs.Parsing.Counts.{list_all-fails_by_group}
 use Rattle.getopts.proofs.canon.are_plain.Goals as goal
-use Rattle.getopts.proofs.canon.are_plain.Goals.{else-count-gt0-via-then-count-gt0+else-holds_equals, else-count-gt0-via-else-count-gt0}
+use Rattle.getopts.proofs.canon.are_plain.Goals.{else-count-gt0-via-then-count-gt0+else-holds_equals}
+use Rattle.getopts.proofs.canon.are_plain.Goals.{else-count-gt0-via-else-count-gt0}
 
 -- the count is that of the group's occurrences
-counted : (groups : List Group) (found : List Occurrence) (index : List (List ℕ)) (place count : ℕ) → index ≡ index_of (knowns_of groups) found → place < length groups
+counted : (groups : List Group) (found : List Occurrence) (index : List (List ℕ)) (place count : ℕ)
+    → index ≡ index_of (knowns_of groups) found → place < length groups
     → count ≡ length (unwrap_or (slice_get index place) []) → count ≡ length (found_at place found)
 counted groups found index place count is within asked =
     asked ∙ ap (λ (index : List (List ℕ)). length (unwrap_or (slice_get index place) [])) is
     ∙ length-found_at (knowns_of groups) found place (omega (arith, length-map groups (λ (group : Group). group.known)))
 
 -- past the last group the main name is empty
-plain_past : (groups : List Group) (place : ℕ) → length groups ≤ place → not (holds_equals (main_at groups place)) ≡ true
-plain_past groups place past = ap (λ o. not (holds_equals (option_map_or (λ (group : Group). main_name group.known.names) o []))) (slice_get_past groups place past)
+plain_past : (groups : List Group) (place : ℕ) → length groups ≤ place
+    → not (holds_equals (main_at groups place)) ≡ true
+plain_past groups place past =
+    ap (λ o. not (holds_equals (option_map_or (λ (group : Group). main_name group.known.names) o [])))
+    (slice_get_past groups place past)
 
 pub returns-then-holds_equals : goal.returns-then-holds_equals
 returns-then-holds_equals c =
     let groups = c.args.options.now.groups in
-    let holds : holds_equals (main_at groups c.loop-place.place) ≡ true = sym (c.holds_equals.ensures ∙ ap holds_equals c.main.ensures) ∙ c.if-holds_equals.true in
-    let some : 0 < length (found_at c.loop-place.place c.args.accepted.now.line.found) = omega (arith, counted groups c.args.accepted.now.line.found c.args.accepted.now.index c.loop-place.place c.count.result c.requires.index (omega arith) c.count.ensures, c.if-count-gt0.true) in
-    sym (list_all-fails_by_group (λ group. not (holds_equals (main_at groups group))) c.loop-place.place c.args.accepted.now.line.found (ap not holds) some)
+    let holds : holds_equals (main_at groups c.loop-place.place) ≡ true =
+    sym (c.holds_equals.ensures ∙ ap holds_equals c.main.ensures) ∙ c.if-holds_equals.true in
+    let some : 0 < length (found_at c.loop-place.place c.args.accepted.now.line.found) =
+    omega (
+      arith,
+      counted groups c.args.accepted.now.line.found c.args.accepted.now.index c.loop-place.place
+          c.count.result c.requires.index (omega arith) c.count.ensures,
+      c.if-count-gt0.true,
+    ) in
+    sym (list_all-fails_by_group (λ group. not (holds_equals (main_at groups group))) c.loop-place.place
+    c.args.accepted.now.line.found (ap not holds) some)
 
 pub loop-place-preserved : goal.loop-place-preserved
 loop-place-preserved c =
@@ -40,7 +55,8 @@ loop-place-preserved c =
     let counted = counted groups found c.args.accepted.now.index place c.count.result c.requires.index (omega arith) c.count.ensures in
     let passes : ℕ → Type 0 = λ group. 0 < length (found_at group found) → not (holds_equals (main_at groups group)) ≡ true in
     let last : passes place = elim c.else-count-gt0.branch [
-      | else-count-gt0-via-then-count-gt0+else-holds_equals w ↦ λ some. ap not (sym (w.holds_equals.ensures ∙ ap holds_equals w.main.ensures) ∙ w.if-holds_equals.false)
+      | else-count-gt0-via-then-count-gt0+else-holds_equals w ↦ λ some. ap not
+          (sym (w.holds_equals.ensures ∙ ap holds_equals w.main.ensures) ∙ w.if-holds_equals.false)
       | else-count-gt0-via-else-count-gt0 w ↦ λ some. absurd (omega (arith, counted, some, w.if-count-gt0.false))
     ] in
     below_more passes place c.loop-place.invariant last

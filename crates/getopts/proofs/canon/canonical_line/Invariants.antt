@@ -12,4 +12,5 @@ invariant-loop-place l =
 -- the words so far are those of the occurrences, the stop, and the free words so far
 abbrev pub invariant-loop-word : goal.invariant-loop-word
 invariant-loop-word l =
-    map string_bytes l.words.items ≡ map (canonical_word l.options.groups) (map (λ (o : Occurrence). o.mention) l.found) ++ stop_word ∷ map string_bytes l.yielded
+    map string_bytes l.words.items ≡ map (canonical_word l.options.groups)
+    (map (λ (o : Occurrence). o.mention) l.found) ++ stop_word ∷ map string_bytes l.yielded

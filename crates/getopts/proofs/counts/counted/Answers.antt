@@ -1,20 +1,25 @@
 -- Each group in order keeps its count, or is the first to break it.
-use Rattle.std.proofs.Common.{◌≡◌, List, [], ℕ, slice_get, unwrap_or, length, sym, ap, ◌∙◌, subst, arith}
+use Rattle.std.proofs.Common.{◌≡◌, List, [], ℕ, slice_get, unwrap_or, length, sym, ap, ◌∙◌, subst}
+use Rattle.std.proofs.Common.{arith}
 use Rattle.std.specs.Option.{option_map_or}
 use Rattle.std.proofs.lemmas.List.{take_all}
 use Rattle.getopts.specs.Names.{Text, main_name}
 use Rattle.getopts.specs.Options.{Known}
 use Rattle.getopts.specs.Matches.{matched, found_at, count_fault, FitsCount, IsCountFault}
 use Rattle.getopts.specs.declared.groups.Occur.{Occur}
-use Rattle.getopts.proofs.Parsing.Counts.{KeepsCounts-more, IsCountFault-at, length-found_at, length-matched, known-there, none_known}
+use Rattle.getopts.proofs.Parsing.Counts.{KeepsCounts-more, IsCountFault-at, length-found_at}
+use Rattle.getopts.proofs.Parsing.Counts.{length-matched, known-there, none_known}
 use Rattle.getopts.proofs.Parsing.Faults.{Tells-weaker}
 use Rattle.getopts.proofs.counts.counted.Goals as goal
 use Rattle.getopts.proofs.counts.counted.Goals.{in-Some+else-not-fits_count, in_default}
 
 pub returns-clause-ok : goal.returns-clause-ok
 returns-clause-ok c =
-    let whole = matched 0 c.args.groups.now c.args.found.now in
-    (c.in_ok-index.ensures, rw (sym (take_all c.loop-place.place whole (omega (arith, length-matched 0 c.args.groups.now c.args.found.now)))) c.loop-place.invariant)
+    let whole = matched 0 c.args.groups.now c.args.found.now in (
+      c.in_ok-index.ensures,
+      rw (sym (take_all c.loop-place.place whole (omega (arith, length-matched 0 c.args.groups.now c.args.found.now))))
+          c.loop-place.invariant,
+    )
 
 pub loop-place-preserved : goal.loop-place-preserved
 loop-place-preserved c =
@@ -22,7 +27,9 @@ loop-place-preserved c =
       | in-Some+else-not-fits_count w ↦
           let there = known-there c.args.groups.now c.loop-place.place w.in-Some.occur w.in-Some.ensures in
           let counted : w.count-count.result ≡ length (found_at c.loop-place.place c.args.found.now) =
-          w.count-count.ensures ∙ ap (λ (ix : List (List ℕ)). length (unwrap_or (slice_get ix c.loop-place.place) [])) c.in_ok-index.ensures ∙ length-found_at c.args.groups.now c.args.found.now c.loop-place.place (omega arith) in
+          w.count-count.ensures ∙ ap (λ (ix : List (List ℕ)). length (unwrap_or (slice_get ix c.loop-place.place) []))
+          c.in_ok-index.ensures ∙ length-found_at c.args.groups.now c.args.found.now c.loop-place.place
+          (omega arith) in
           let fits : FitsCount w.in-Some.occur w.count-count.result = w.fits_count.ensures.0 w.if-not-fits_count.false in
           KeepsCounts-more c.args.groups.now c.args.found.now c.loop-place.place there.0 there.1 c.loop-place.invariant w.count-count.result counted
           (subst (λ (occur : Occur). FitsCount occur w.count-count.result) (sym there.2) fits)
@@ -34,10 +41,17 @@ returns-then-not-fits_count-clause-err c =
     let there = known-there c.args.groups.now c.loop-place.place c.in-Some.occur c.in-Some.ensures in
     let count = c.count-count.result in
     let counted : count ≡ length (found_at c.loop-place.place c.args.found.now) =
-    c.count-count.ensures ∙ ap (λ (ix : List (List ℕ)). length (unwrap_or (slice_get ix c.loop-place.place) [])) c.in_ok-index.ensures ∙ length-found_at c.args.groups.now c.args.found.now c.loop-place.place (omega arith) in
+    c.count-count.ensures ∙ ap (λ (ix : List (List ℕ)). length (unwrap_or (slice_get ix c.loop-place.place) []))
+    c.in_ok-index.ensures ∙ length-found_at c.args.groups.now c.args.found.now c.loop-place.place (omega arith) in
     let main : c.main.result.now ≡ main_name there.0.names =
     c.main.ensures ∙ ap (λ group. option_map_or (λ (known : Known). main_name known.names) group []) there.1 in
-    let broken : ¬ (FitsCount there.0.occurrence count) = λ fits. absurd (cc (c.fits_count.ensures.1 (subst (λ (occur : Occur). FitsCount occur count) there.2 fits), c.if-not-fits_count.true)) in
-    Tells-weaker c.broken_count.result (λ fault. fault ≡ count_fault c.main.result.now count) (IsCountFault (matched 0 c.args.groups.now c.args.found.now)) c.broken_count.ensures
-    (λ fault told. IsCountFault-at c.args.groups.now c.args.found.now c.loop-place.place there.0 there.1 c.loop-place.invariant count counted fault broken
+    let broken : ¬ (FitsCount there.0.occurrence count) =
+    λ fits. absurd (cc (
+      c.fits_count.ensures.1 (subst (λ (occur : Occur). FitsCount occur count) there.2 fits),
+      c.if-not-fits_count.true,
+    )) in
+    Tells-weaker c.broken_count.result (λ fault. fault ≡ count_fault c.main.result.now count)
+    (IsCountFault (matched 0 c.args.groups.now c.args.found.now)) c.broken_count.ensures
+    (λ fault told. IsCountFault-at c.args.groups.now c.args.found.now c.loop-place.place there.0 there.1
+    c.loop-place.invariant count counted fault broken
     (told ∙ ap (λ (text : Text). count_fault text count) main ∙ ap (count_fault (main_name there.0.names)) counted))

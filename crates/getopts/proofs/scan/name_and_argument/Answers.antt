@@ -16,7 +16,8 @@ range_from-requires c =
 
 pub returns-then-bytes-at-eq61-clause-name : goal.returns-then-bytes-at-eq61-clause-name
 returns-then-bytes-at-eq61-clause-name c =
-    let name : c.range.result.now ≡ take c.loop-at.at c.args.text.now = c.range.ensures.value ∙ ap (λ n. take n c.args.text.now) (sub-zero c.loop-at.at) in
+    let name : c.range.result.now ≡ take c.loop-at.at c.args.text.now = c.range.ensures.value
+    ∙ ap (λ n. take n c.args.text.now) (sub-zero c.loop-at.at) in
     rw name (holds_equals-none (take c.loop-at.at c.args.text.now) (λ k within here.
     let most = length-take c.loop-at.at c.args.text.now in
     let below : k < c.loop-at.at = omega arith in

@@ -4,7 +4,8 @@ use Rattle.getopts.proofs.Held.Matches.{held_places, held_places-within, held_pl
 use Rattle.getopts.proofs.matches.Matches.occurrences_at.Goals as goal
 use Rattle.getopts.proofs.matches.Matches.occurrences_at.Goals.{After-places}
 
-places_are : (c : After-places) → c.places.result.now ≡ held_places c.self.inside.groups c.self.inside.found c.args.place
+places_are : (c : After-places)
+    → c.places.result.now ≡ held_places c.self.inside.groups c.self.inside.found c.args.place
 places_are c = c.places.ensures ∙ ap (λ (index : List (List ℕ)). unwrap_or (slice_get index c.args.place) []) c.self.invariant.index
 
 pub invariant_of-result : goal.invariant_of-result

@@ -5,4 +5,7 @@ use Rattle.getopts.proofs.Held.Matches.{texts_of_held_pairs}
 use Rattle.getopts.proofs.matches.Matches.opt_strs_pos.Goals as goal
 
 pub returns-clause-texts : goal.returns-clause-texts
-returns-clause-texts c = rw (← c.given_of.ensures) (IfOk-weaker _ _ _ (λ (pairs : Vec (ℕ × String Global) Global) same. texts_of_held_pairs pairs.items c.given_of.result same) c.pairs.ensures)
+returns-clause-texts c = rw (← c.given_of.ensures)
+    (IfOk-weaker _ _ _
+    (λ (pairs : Vec (ℕ × String Global) Global) same. texts_of_held_pairs pairs.items c.given_of.result same)
+    c.pairs.ensures)

@@ -23,4 +23,11 @@ returns c =
     let groups : c.in_ok-clone-2.field-0 ≡ c.self.inside.groups = c.in_ok-clone-2.ensures.cases in
     let found : c.in_ok-clone-4.field-0 ≡ c.self.inside.found = c.in_ok-clone-4.ensures.cases in
     let free = map-alike string_bytes c.self.inside.free.items c.in_ok-clone.field-0.items c.in_ok-clone.ensures.cases.0 in
-    record { same = (λ i. record { groups = matched 0 (groups i) (found i); free = free i; trailing_start = c.self.inside.trailing_start }) ∙ c.self.view_is }
+    record {
+      same =
+          (λ i. record {
+            groups = matched 0 (groups i) (found i);
+            free = free i;
+            trailing_start = c.self.inside.trailing_start;
+          }) ∙ c.self.view_is;
+    }

@@ -7,18 +7,22 @@ use Rattle.getopts.proofs.Held.Occurrences.{founds-past, founds-at}
 use Rattle.getopts.proofs.occurrences.Occurrences.get.Goals as goal
 
 pub returns-in_err-get : goal.returns-in_err-get
-returns-in_err-get c = rw (← c.self.view_is, c.from_residual.ensures) (sym (founds-past c.self.inside.found.now c.self.inside.places.now c.self.invariant c.args.nth c.in_err-get.ensures.lookup.3))
+returns-in_err-get c = rw (← c.self.view_is, c.from_residual.ensures)
+    (sym (founds-past c.self.inside.found.now c.self.inside.places.now c.self.invariant c.args.nth
+    c.in_err-get.ensures.lookup.3))
 
 pub returns-in_err-occurrence : goal.returns-in_err-occurrence
 returns-in_err-occurrence c =
     let place = c.in_ok-get.field-0.now in
     let at = slice_get-read c.self.inside.places.now c.args.nth place c.in_ok-get.ensures.lookup.3.0 c.in_ok-get.ensures.lookup.3.1 in
     rw (← c.self.view_is, c.from_residual-in_err-occurrence.ensures)
-    (ap (option_map found_part) c.in_err-occurrence.ensures ∙ sym (founds-at c.self.inside.found.now c.self.inside.places.now c.self.invariant c.args.nth place at))
+    (ap (option_map found_part) c.in_err-occurrence.ensures
+    ∙ sym (founds-at c.self.inside.found.now c.self.inside.places.now c.self.invariant c.args.nth place at))
 
 pub returns : goal.returns
 returns c =
     let place = c.in_ok-get.field-0.now in
     let at = slice_get-read c.self.inside.places.now c.args.nth place c.in_ok-get.ensures.lookup.3.0 c.in_ok-get.ensures.lookup.3.1 in
     rw (← c.self.view_is)
-    (ap (option_map found_part) c.in_ok-occurrence.ensures ∙ sym (founds-at c.self.inside.found.now c.self.inside.places.now c.self.invariant c.args.nth place at))
+    (ap (option_map found_part) c.in_ok-occurrence.ensures
+    ∙ sym (founds-at c.self.inside.found.now c.self.inside.places.now c.self.invariant c.args.nth place at))

@@ -19,10 +19,17 @@ returns-clause-written g c =
     let words = c.deref.ensures.value ∙ run.3 in
     IfOk-weaker c.canonical_words.result
     (λ answer. IfSome answer (λ line. IsWritten c.args.self.now (texts c.deref.result.now) (map string_bytes line.items)))
-    (λ answer. IfSome answer (λ line. WholeRun g.I.Iterator.next_gives c.args.args (λ run. IsWritten c.args.self.now (texts run.items) (map string_bytes line.items))))
+    (λ answer. IfSome answer (λ line. WholeRun g.I.Iterator.next_gives c.args.args
+    (λ run. IsWritten c.args.self.now (texts run.items) (map string_bytes line.items))))
     (λ answer. IfSome-weaker answer (λ line. IsWritten c.args.self.now (texts c.deref.result.now) (map string_bytes line.items))
     (λ line. WholeRun g.I.Iterator.next_gives c.args.args (λ run. IsWritten c.args.self.now (texts run.items) (map string_bytes line.items)))
-    (λ line written. (run.0, run.1, run.2, subst (λ (ws : List (Bor Text)). IsWritten c.args.self.now (texts ws) (map string_bytes line.items)) words written)))
+    (λ line written. (
+      run.0,
+      run.1,
+      run.2,
+      subst (λ (ws : List (Bor Text)). IsWritten c.args.self.now (texts ws)
+          (map string_bytes line.items)) words written,
+    )))
     c.canonical_words.ensures.written
 
 pub returns-clause-unwritable : goal.returns-clause-unwritable
@@ -43,6 +50,8 @@ returns-clause-refused g c =
     let words = c.deref.ensures.value ∙ run.3 in
     IfErr-weaker c.canonical_words.result (λ (fail : Fail). Tells fail (IsRefused c.args.self.now (texts c.deref.result.now)))
     (λ (fail : Fail). Tells fail (λ fault. WholeRun g.I.Iterator.next_gives c.args.args (λ run. IsRefused c.args.self.now (texts run.items) fault)))
-    (λ fail told. Tells-weaker fail (IsRefused c.args.self.now (texts c.deref.result.now)) (λ (fault : Fault). WholeRun g.I.Iterator.next_gives c.args.args (λ run. IsRefused c.args.self.now (texts run.items) fault)) told
+    (λ fail told. Tells-weaker fail (IsRefused c.args.self.now (texts c.deref.result.now))
+    (λ (fault : Fault). WholeRun g.I.Iterator.next_gives c.args.args
+    (λ run. IsRefused c.args.self.now (texts run.items) fault)) told
     (λ fault refused. (run.0, run.1, run.2, subst (λ (ws : List (Bor Text)). IsRefused c.args.self.now (texts ws) fault) words refused)))
     c.canonical_words.ensures.refused

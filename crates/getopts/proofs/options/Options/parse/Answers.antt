@@ -27,7 +27,9 @@ returns-clause-refused g c =
     let words = c.deref.ensures.value ∙ run.3 in
     IfErr-weaker c.parse_words.result (λ (fail : Fail). Tells fail (IsRefused c.args.self.now (texts c.deref.result.now)))
     (λ (fail : Fail). Tells fail (λ fault. WholeRun g.I.Iterator.next_gives c.args.args (λ run. IsRefused c.args.self.now (texts run.items) fault)))
-    (λ fail told. Tells-weaker fail (IsRefused c.args.self.now (texts c.deref.result.now)) (λ (fault : Fault). WholeRun g.I.Iterator.next_gives c.args.args (λ run. IsRefused c.args.self.now (texts run.items) fault)) told
+    (λ fail told. Tells-weaker fail (IsRefused c.args.self.now (texts c.deref.result.now))
+    (λ (fault : Fault). WholeRun g.I.Iterator.next_gives c.args.args
+    (λ run. IsRefused c.args.self.now (texts run.items) fault)) told
     (λ fault refused. (run.0, run.1, run.2, subst (λ (ws : List (Bor Text)). IsRefused c.args.self.now (texts ws) fault) words refused)))
     c.parse_words.ensures.refused
 

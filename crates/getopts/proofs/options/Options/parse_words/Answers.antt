@@ -6,14 +6,18 @@ use Rattle.getopts.specs.ScanLaws.{HavePositionsBelow}
 use Rattle.getopts.proofs.Canonical.Answered.{IsAccepted-line}
 use Rattle.getopts.proofs.Parsing.Parsed.{counts-accepted, positions_below-accepted, keeps_laws}
 use Rattle.getopts.proofs.Scanning.Loop.{length-texts}
-use Rattle.getopts.proofs.Parsing.Told.{AreGroupsOf-accepted, HaveValuesByKind-accepted, HaveLastWordsFree-accepted}
-use Rattle.getopts.proofs.Parsing.Told.{DefineDeclared-groups, HoldRequiredOnce-groups, HoldNeededValues-groups}
+use Rattle.getopts.proofs.Parsing.Told.{AreGroupsOf-accepted, HaveValuesByKind-accepted}
+use Rattle.getopts.proofs.Parsing.Told.{HaveLastWordsFree-accepted}
+use Rattle.getopts.proofs.Parsing.Told.{DefineDeclared-groups, HoldRequiredOnce-groups}
+use Rattle.getopts.proofs.Parsing.Told.{HoldNeededValues-groups}
 use Rattle.getopts.proofs.options.Options.parse_words.Goals as goal
 
 pub returns-clause-accepted : goal.returns-clause-accepted
 returns-clause-accepted c =
     let groups : c.in_ok-groups.groups ≡ knowns_of c.args.self.now.groups = c.in_ok-groups.ensures.cases ∙ c.groups.ensures.groups in
-    rw (c.of_line.ensures, groups) (IsAccepted-line c.args.self.now (texts c.args.words.now) c.in_ok-accepted.accepted c.in_ok-accepted.ensures.accepted)
+    rw (c.of_line.ensures, groups)
+    (IsAccepted-line c.args.self.now (texts c.args.words.now) c.in_ok-accepted.accepted
+    c.in_ok-accepted.ensures.accepted)
 
 pub returns-clause-counts_kept : goal.returns-clause-counts_kept
 returns-clause-counts_kept c = (counts-accepted c.args.self.now (texts c.args.words.now) c.of_line.result (returns-clause-accepted c)).0

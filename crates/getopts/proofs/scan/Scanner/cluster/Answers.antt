@@ -7,7 +7,8 @@ use Rattle.getopts.specs.Scan.{IsFaultAt}
 use Rattle.getopts.proofs.Parsing.Faults.{Tells-one}
 use Rattle.getopts.specs.Names.{texts}
 use Rattle.getopts.specs.Line.{scanner_grammar}
-use Rattle.getopts.proofs.Scanning.Clusters.{FlagsRead-none, FlagsRead-more, AddsItem-flags, AddsItem-ends, IsFaultAt-unknown}
+use Rattle.getopts.proofs.Scanning.Clusters.{FlagsRead-none, FlagsRead-more, AddsItem-flags}
+use Rattle.getopts.proofs.Scanning.Clusters.{AddsItem-ends, IsFaultAt-unknown}
 use Rattle.getopts.proofs.scan.Scanner.cluster.Goals as goal
 
 pub names-init : goal.names-init
@@ -16,8 +17,10 @@ names-init c = FlagsRead-none (scanner_grammar c.args.self.now) c.args.position 
 pub returns-in-None-clause-err : goal.returns-in-None-clause-err
 returns-in-None-clause-err c = λ word form.
     let first = c.first_character-name.ensures in
-    Tells-one c.unrecognized_option.result (unrecognized_option c.first_character-name.result.now) (IsFaultAt (scanner_grammar c.args.self.now) word (texts c.args.after.now)) c.unrecognized_option.ensures
-    (IsFaultAt-unknown (scanner_grammar c.args.self.now) c.args.position c.args.text.now word (texts c.args.after.now) form c.names.at _ _ (omega arith) c.names.invariant
+    Tells-one c.unrecognized_option.result (unrecognized_option c.first_character-name.result.now)
+    (IsFaultAt (scanner_grammar c.args.self.now) word (texts c.args.after.now)) c.unrecognized_option.ensures
+    (IsFaultAt-unknown (scanner_grammar c.args.self.now) c.args.position c.args.text.now word
+    (texts c.args.after.now) form c.names.at _ _ (omega arith) c.names.invariant
     first.0 c.first_character-name.result.now first.1 c.in-None.ensures.option first.2 first.3 (sym c.range_from.ensures.value ∙ first.4))
 
 pub range-name-requires-clause-end_boundary : goal.range-name-requires-clause-end_boundary
@@ -31,16 +34,19 @@ returns-in-Some-clause-ok c = λ word form.
     let rest = c.range_from-in-Some.ensures.value in
     let ends = c.in_ok-value-in-Some.ensures.ok in
     let named = c.in-Some.ensures.option in
-    AddsItem-ends (scanner_grammar c.args.self.now) c.args.position c.args.text.now word (texts c.args.after.now) form c.names.at _ _ (omega arith) c.names.invariant
+    AddsItem-ends (scanner_grammar c.args.self.now) c.args.position c.args.text.now word
+    (texts c.args.after.now) form c.names.at _ _ (omega arith) c.names.invariant
     c.in-Some.group c.in-Some.hasarg (option_copied c.in_ok-value-in-Some.value) c.in_ok-value-in-Some.used _ named.0 named.1 (rw rest at ends)
     c.in_ok-push-in-Some.ensures
 
 pub names-preserved : goal.names-preserved
 names-preserved c =
     let named = c.in-Some-default-No.ensures.option in
-    FlagsRead-more (scanner_grammar c.args.self.now) c.args.position c.args.text.now c.names.at c.in-Some-default-No.group _ _ _ c.utf8.text (omega arith) c.in-Some-default-No.ensures.ascii c.names.invariant
+    FlagsRead-more (scanner_grammar c.args.self.now) c.args.position c.args.text.now c.names.at
+    c.in-Some-default-No.group _ _ _ c.utf8.text (omega arith) c.in-Some-default-No.ensures.ascii c.names.invariant
     named.0 (rw c.in-Some-default-No.field-0-1-is at named.1) c.in_ok-push-in-Some-default-No.ensures
 
 pub returns-clause-ok : goal.returns-clause-ok
 returns-clause-ok c = λ word form.
-    AddsItem-flags (scanner_grammar c.args.self.now) c.args.position c.args.text.now word (texts c.args.after.now) form c.names.at _ _ (omega arith) c.names.invariant
+    AddsItem-flags (scanner_grammar c.args.self.now) c.args.position c.args.text.now word
+    (texts c.args.after.now) form c.names.at _ _ (omega arith) c.names.invariant

@@ -14,7 +14,8 @@ range-requires-clause-end_boundary c =
 
 pub returns-then-is_ascii-clause-option : goal.returns-then-is_ascii-clause-option
 returns-then-is_ascii-clause-option c =
-    let name : c.range.result.now ≡ slice_index c.args.text.now c.args.at ∷ [] = c.range.ensures.value ∙ slice_range-one c.args.text.now c.args.at c.requires.within in
+    let name : c.range.result.now ≡ slice_index c.args.text.now c.args.at ∷ [] = c.range.ensures.value
+    ∙ slice_range-one c.args.text.now c.args.at c.requires.within in
     rw name at c.option.ensures
 
 pub returns-else-is_ascii : goal.returns-else-is_ascii
@@ -22,6 +23,7 @@ returns-else-is_ascii c =
     let tested : is_ascii (slice_index c.as_bytes.result.now c.args.at) ≡ false = cc in
     let wide : is_ascii (slice_index c.args.text.now c.args.at) ≡ false = rw c.as_bytes.ensures.value at tested in
     record {
-      option = wide_unknown c.args.self.now.options.now c.requires.lawful.lawful c.requires.lawful.shorts (slice_index c.args.text.now c.args.at) (wide_above (slice_index c.args.text.now c.args.at) wide);
+      option = wide_unknown c.args.self.now.options.now c.requires.lawful.lawful c.requires.lawful.shorts
+          (slice_index c.args.text.now c.args.at) (wide_above (slice_index c.args.text.now c.args.at) wide);
       ascii = tt;
     }

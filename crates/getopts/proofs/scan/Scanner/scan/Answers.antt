@@ -1,14 +1,19 @@
 -- Each turn reads one more item, and each end is that of a reading or a fault.
-use Rattle.std.proofs.Common.{◌≡◌, ◌+◌, ◌++◌, List, drop, take, ◌-◌, eqb, length, map, length-drop, refl, sym, ap, ◌∙◌, arith, rules}
+use Rattle.std.proofs.Common.{◌≡◌, ◌+◌, ◌++◌, List, drop, take, ◌-◌, eqb, length, map, length-drop}
+use Rattle.std.proofs.Common.{refl, sym, ap, ◌∙◌, arith, rules}
 use Rattle.std.specs.String.{string_bytes}
 use Rattle.std.proofs.lemmas.List.{append-nil, drop_all, length-map}
 use Rattle.std.proofs.lemmas.Result.{err_from_is_err_and}
-use Rattle.getopts.specs.Scan.{line_end, stop, rest, free_items, trailing_after, is_dashed, IsScanFault}
+use Rattle.getopts.specs.Scan.{line_end, stop, rest, free_items, trailing_after, is_dashed}
+use Rattle.getopts.specs.Scan.{IsScanFault}
 use Rattle.getopts.specs.declared.groups.ParsingStyle.TheVariants.{FloatingFrees, StopAtFirstFree}
 use Rattle.getopts.specs.Names.{Text, texts}
 use Rattle.getopts.specs.Line.{scanner_grammar}
 use Rattle.getopts.proofs.Parsing.Faults.{Tells-weaker}
-use Rattle.getopts.proofs.Scanning.Loop.{ReadSoFar-none, ReadSoFar-free, ReadSoFar-added, IsReading-tail, IsReading-rest, IsReading-stop, IsScanFault-word, texts-drop, length-texts, trailing_after-stop}
+use Rattle.getopts.proofs.Scanning.Loop.{ReadSoFar-none, ReadSoFar-free, ReadSoFar-added}
+use Rattle.getopts.proofs.Scanning.Loop.{IsReading-tail, IsReading-rest, IsReading-stop}
+use Rattle.getopts.proofs.Scanning.Loop.{IsScanFault-word, texts-drop, length-texts}
+use Rattle.getopts.proofs.Scanning.Loop.{trailing_after-stop}
 use Rattle.getopts.proofs.Lists.{take-drop}
 use Rattle.getopts.proofs.Reading.Texts.{is_dashed-text}
 use Rattle.getopts.proofs.scan.Scanner.scan.Goals as goal
@@ -26,7 +31,9 @@ returns-clause-ok c =
     let before = c.items.invariant.read in
     record {
       reading = record { items = before.items; tail = line_end };
-      reads = IsReading-tail (scanner_grammar c.args.self.now) (texts c.args.words.now) c.items.at _ _ before line_end tt (sym (drop_all c.items.at (texts c.args.words.now) (omega (arith, length-texts c.args.words.now))));
+      reads = IsReading-tail (scanner_grammar c.args.self.now)
+          (texts c.args.words.now) c.items.at _ _ before line_end tt
+          (sym (drop_all c.items.at (texts c.args.words.now) (omega (arith, length-texts c.args.words.now))));
       occurrences = before.occurrences_are;
       free = before.free_are ∙ sym (append-nil _);
       trailing = c.items.invariant.trailing;
@@ -41,7 +48,8 @@ returns-then-stops-clause-ok c =
       reads = IsReading-rest (scanner_grammar c.args.self.now) c.args.words.now c.items.at _ _ before _ (omega arith) c.in-Free.ensures stops;
       occurrences = before.occurrences_are;
       free = c.in_ok-push_copies-in-Free.ensures
-          ∙ ap (λ (ws : List Text). map string_bytes c.items.line.free.items ++ ws) (ap texts (take-drop c.args.words.now c.items.at) ∙ texts-drop c.args.words.now c.items.at)
+          ∙ ap (λ (ws : List Text). map string_bytes c.items.line.free.items ++ ws)
+          (ap texts (take-drop c.args.words.now c.items.at) ∙ texts-drop c.args.words.now c.items.at)
           ∙ ap (λ (ws : List Text). ws ++ drop c.items.at (texts c.args.words.now)) before.free_are;
       trailing = c.items.invariant.trailing;
     }
@@ -58,10 +66,13 @@ returns-in-Stop-clause-ok c =
           ∙ ap (λ (ws : List Text). map string_bytes c.items.line.free.items ++ ws) (ap texts after)
           ∙ ap (λ (ws : List Text). ws ++ texts (drop (c.items.at + 1) c.args.words.now)) before.free_are;
       trailing =
-          let size : length (texts (drop (c.items.at + 1) c.args.words.now)) ≡ length (take (length c.args.words.now - (c.items.at + 1)) (drop (c.items.at + 1) c.args.words.now)) =
+          let size : length (texts (drop (c.items.at + 1) c.args.words.now)) ≡ length
+          (take (length c.args.words.now - (c.items.at + 1)) (drop (c.items.at + 1) c.args.words.now)) =
           length-texts (drop (c.items.at + 1) c.args.words.now) ∙ ap length (sym after) in
-          let empty : c.is_empty.result ≡ eqb (length (texts (drop (c.items.at + 1) c.args.words.now))) 0 = c.is_empty.ensures ∙ ap (λ n. eqb n 0) (sym size) in
-          let start : c.len.result ≡ length (free_items before.items) = c.len.ensures ∙ c.items.line.free.ok.0 ∙ sym (length-map c.items.line.free.items string_bytes) ∙ ap length before.free_are in
+          let empty : c.is_empty.result ≡ eqb (length (texts (drop (c.items.at + 1) c.args.words.now))) 0 =
+          c.is_empty.ensures ∙ ap (λ n. eqb n 0) (sym size) in
+          let start : c.len.result ≡ length (free_items before.items) = c.len.ensures ∙ c.items.line.free.ok.0
+          ∙ sym (length-map c.items.line.free.items string_bytes) ∙ ap length before.free_are in
           c.then_some-line.ensures ∙ trailing_after-stop c.len.result (texts (drop (c.items.at + 1) c.args.words.now)) c.is_empty.result empty
           ∙ ap (λ n. trailing_after n (stop (texts (drop (c.items.at + 1) c.args.words.now)))) start;
     }
@@ -95,13 +106,15 @@ pub items-preserved-in_ok-push_copy-in-Free : goal.items-preserved-in_ok-push_co
 items-preserved-in_ok-push_copy-in-Free c =
     let floating : c.args.self.now.options.now.style ≡ FloatingFrees = search rules in
     record {
-      read = ReadSoFar-free (scanner_grammar c.args.self.now) c.args.words.now c.items.at _ _ c.items.invariant.read _ (omega arith) _ c.in-Free.ensures floating c.in_ok-push_copy-in-Free.ensures;
+      read = ReadSoFar-free (scanner_grammar c.args.self.now) c.args.words.now c.items.at _ _ c.items.invariant.read _
+          (omega arith) _ c.in-Free.ensures floating c.in_ok-push_copy-in-Free.ensures;
       trailing = c.items.invariant.trailing;
     }
 
 pub items-preserved-in_ok-long-in-Long : goal.items-preserved-in_ok-long-in-Long
 items-preserved-in_ok-long-in-Long c = record {
-  read = ReadSoFar-added (scanner_grammar c.args.self.now) c.args.words.now c.items.at _ _ c.items.invariant.read _ (omega arith) _ c.in_ok-long-in-Long.field-0 _
+  read = ReadSoFar-added (scanner_grammar c.args.self.now) c.args.words.now c.items.at _ _ c.items.invariant.read _
+      (omega arith) _ c.in_ok-long-in-Long.field-0 _
       refl c.in-Long.ensures.dashed (rw (take-drop c.args.words.now (c.items.at + 1)) at c.in_ok-long-in-Long.ensures.ok _ c.in-Long.ensures);
   trailing = c.items.invariant.trailing;
 }
@@ -110,7 +123,9 @@ pub items-preserved : goal.items-preserved
 items-preserved c =
     let form = c.in-Cluster.ensures in
     record {
-      read = ReadSoFar-added (scanner_grammar c.args.self.now) c.args.words.now c.items.at _ _ c.items.invariant.read _ (omega arith) _ c.in_ok-at-in-Cluster.field-0 _
-          refl (ap is_dashed form.word_is ∙ is_dashed-text c.in-Cluster.text.now form.filled) (rw (take-drop c.args.words.now (c.items.at + 1)) at c.in_ok-at-in-Cluster.ensures.ok _ form);
+      read = ReadSoFar-added (scanner_grammar c.args.self.now) c.args.words.now c.items.at _ _ c.items.invariant.read
+          _ (omega arith) _ c.in_ok-at-in-Cluster.field-0 _
+          refl (ap is_dashed form.word_is ∙ is_dashed-text c.in-Cluster.text.now form.filled)
+          (rw (take-drop c.args.words.now (c.items.at + 1)) at c.in_ok-at-in-Cluster.ensures.ok _ form);
       trailing = c.items.invariant.trailing;
     }

@@ -8,7 +8,8 @@ use Rattle.getopts.proofs.scan.Scanner.scan.Given as goal
 
 abbrev pub invariant-items : goal.invariant-items
 invariant-items l = record {
-  read : ReadSoFar (scanner_grammar l.self) (texts l.words) l.at l.line.found (map string_bytes l.line.free.items);
+  read : ReadSoFar (scanner_grammar l.self) (texts l.words) l.at l.line.found
+      (map string_bytes l.line.free.items);
   trailing : l.line.trailing_start ≡ None;
 }
 
