@@ -1,5 +1,5 @@
 #!/usr/bin/env bash
-# Runs the built programs where memory is refused, and where words or the output are not to be had.
+# Runs the built programs where memory is refused. What else a system may do to the program is system/run.py's.
 #
 # Of each row of getopts_refused, and of the program's own lines, the first request for memory is refused,
 # then the second, and so on until a run ends with none refused: once that one request alone, and once
@@ -110,32 +110,6 @@ for words in "--output=x.txt --verbose in.txt" "-vvLd -La -Lb -c auto -o x.txt f
     read -r -a line <<<"$words"
     answer=$("$show" "${line[@]}")
     both_ways "getopts_show $words" 0 "$answer status $?" " status 3" "$show" "${line[@]}"
-done
-
-# ends WHAT STATUS TEXT: what a run ended with, and what it wrote, against what it has to.
-ends() {
-    local why=
-    [ "$status" = "$2" ] || why="status $status, and not $2"
-    [ "$said" = "$3" ] || why="$why wrote: $said"
-    pass_or_fail "$1" "$why"
-}
-
-part "words that are no text, and outputs that take nothing"
-# Words that are no UTF-8, and a name of the program that is none.
-for word in $'\xff' $'-o\xc3' $'--\xed\xa0\x80'; do
-    said=$("$show" -v "$word" x 2>&1); status=$?
-    ends "a word that is no text" 3 ""
-done
-said=$(exec -a $'\xff' "$show" --nope 2>&1); status=$?
-ends "a name of the program that is no text" 2 "getopts_show: Unrecognized option: 'nope'"
-
-# Outputs that take nothing.
-for words in "-v x" --help --nope; do
-    read -r -a line <<<"$words"
-    said=$("$show" "${line[@]}" 2>&1 >&-); status=$?
-    ends "$words with a closed output" 4 ""
-    said=$("$show" "${line[@]}" 2>&1 >/dev/full); status=$?
-    ends "$words with a full output" 4 ""
 done
 
 part ""
