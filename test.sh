@@ -63,6 +63,7 @@ if [ -n "$quick" ]; then
     else
         echo "skipped: refused memory, and the program and the system: the whole test builds their programs"
     fi
+    part "recorded cases by the rules" python3 beside/rules.py --try
     part "code on the pages for callers" bash docs/quotes.sh
     echo "Nothing was proved: 'bash test.sh' proves everything."
 else
@@ -71,6 +72,7 @@ else
     part "proofs, tests and programs of all crates" rt ci &&
         part "refused memory" bash refused/run.sh &&
         part "the program and the system" python3 system/run.py &&
+        part "recorded cases by the rules" python3 beside/rules.py &&
         part "C and Rust" bash rust/test.sh --quick "$@" &&
         part "code on the pages for callers" bash docs/quotes.sh &&
         part "the archive from the proved source, and edits over it" ended 20
