@@ -59,9 +59,11 @@ if [ -n "$quick" ]; then
     part "C and Rust" ended 40
     if [ -x crates/getopts_refused/out/getopts_refused ] && [ -x crates/getopts_show/out/getopts_show ]; then
         part "refused memory" bash refused/run.sh
+        part "the program and the system" python3 system/run.py
     else
-        echo "skipped: refused memory, whose programs the whole test builds"
+        echo "skipped: refused memory, and the program and the system: the whole test builds their programs"
     fi
+    part "recorded cases by the rules" python3 beside/rules.py --try
     part "code on the pages for callers" bash docs/quotes.sh
     part "modules that use each other" bash docs/modules.sh
     echo "Nothing was proved: 'bash test.sh' proves everything."
@@ -70,6 +72,8 @@ else
     # Each part stands on what the one before built.
     part "proofs, tests and programs of all crates" rt ci &&
         part "refused memory" bash refused/run.sh &&
+        part "the program and the system" python3 system/run.py &&
+        part "recorded cases by the rules" python3 beside/rules.py &&
         part "C and Rust" bash rust/test.sh --quick "$@" &&
         part "code on the pages for callers" bash docs/quotes.sh &&
         part "modules that use each other" bash docs/modules.sh &&

@@ -1,5 +1,5 @@
 #!/usr/bin/env bash
-# Runs the built programs where memory is refused, and where words or the output are not to be had.
+# Runs the built programs where memory is refused. What else a system may do to the program is system/run.py's.
 #
 # Of each row of getopts_refused, and of the program's own lines, the first request for memory is refused,
 # then the second, and so on until a run ends with none refused: once that one request alone, and once
@@ -29,7 +29,9 @@ room=$(mktemp -d)
 trap 'rm -rf "$room"' EXIT
 rows=$PWD/crates/getopts_refused/out/getopts_refused
 show=$PWD/crates/getopts_show/out/getopts_show
-most=10000 passed=0 failed=0 calls=0 runs=0 swallowed=0
+passed=0 failed=0 calls=0
+# shellcheck source=refused/loop.sh
+. refused/loop.sh
 
 command -v rt >/dev/null || lacks "there is no rt on the path"
 for program in "$rows" "$show"; do
@@ -53,47 +55,13 @@ pass_or_fail() {
     fi
 }
 
-# in_turn ON MARKS ANSWER REFUSAL PROGRAM WORDS..: refuses the requests of a program in turn, each alone
-# (ON is 0) or with all after it (1). ANSWER and REFUSAL are what it writes, and its status.
-in_turn() {
-    local on=$1 marks=$2 answer=$3 refusal=$4 at said told refused met
-    shift 4
-    for ((at = 1; at <= most; at++)); do
-        said=$(REFUSE_AT=$at REFUSE_ON=$on REFUSE_MARKS=$marks LD_PRELOAD=$room/refuse.so "$@" 2>"$room/told")
-        said="$said status $?"
-        told=
-        read -r told <"$room/told"
-        read -r _ refused _ met <<<"$told"
-        if [ "$told" != "refused $refused marks $met" ] || [ "$met" != $((2 * marks)) ]; then
-            echo "request $at: it did not run as it should: ${told:-nothing told}, $said"
-            return
-        fi
-        if [ "$refused" = 0 ]; then
-            [ "$said" = "$answer" ] || echo "with no request refused: $said"
-            return
-        fi
-        runs=$((runs + 1))
-        if [ "$said" = "$answer" ]; then
-            swallowed=$((swallowed + 1))
-            echo "request $at was refused, and that was swallowed"
-            return
-        elif [ "$said" != "$refusal" ]; then
-            echo "request $at was refused: $said"
-            return
-        fi
-    done
-    echo "it made more than $most requests"
-}
-
-# both_ways WHAT MARKS ANSWER REFUSAL PROGRAM WORDS..
-both_ways() {
-    local what=$1 on
+# refuses WHAT MARKS ANSWER REFUSAL PROGRAM WORDS..: counts a call whose requests are refused in turn.
+refuses() {
+    local what=$1
     shift
     calls=$((calls + 1))
-    for on in 0 1; do
-        in_turn "$on" "$@" >"$room/why"
-        pass_or_fail "$what ($([ $on = 0 ] && echo alone || echo "with all after it"))" "$(cat "$room/why")"
-    done
+    in_turn "$room/refuse.so" "$@" >"$room/why"
+    pass_or_fail "$what" "$(cat "$room/why")"
 }
 
 part "refusing each request of each call"
@@ -101,41 +69,15 @@ part "refusing each request of each call"
 mapfile -t all < <("$rows")
 for row in "${all[@]}"; do
     read -r call on <<<"$row"
-    both_ways "$row" 1 "answer status 0" "refused status 0" "$rows" "$call" "$on"
+    refuses "$row" 1 $'answer\nstatus 0' $'refused\nstatus 0' "$rows" "$call" "$on"
 done
 
 part "refusing each request of the program's own lines"
 # The program's own words: accepted ones, its help, and a fault.
 for words in "--output=x.txt --verbose in.txt" "-vvLd -La -Lb -c auto -o x.txt f g" "-v --help" "--nope"; do
     read -r -a line <<<"$words"
-    answer=$("$show" "${line[@]}")
-    both_ways "getopts_show $words" 0 "$answer status $?" " status 3" "$show" "${line[@]}"
-done
-
-# ends WHAT STATUS TEXT: what a run ended with, and what it wrote, against what it has to.
-ends() {
-    local why=
-    [ "$status" = "$2" ] || why="status $status, and not $2"
-    [ "$said" = "$3" ] || why="$why wrote: $said"
-    pass_or_fail "$1" "$why"
-}
-
-part "words that are no text, and outputs that take nothing"
-# Words that are no UTF-8, and a name of the program that is none.
-for word in $'\xff' $'-o\xc3' $'--\xed\xa0\x80'; do
-    said=$("$show" -v "$word" x 2>&1); status=$?
-    ends "a word that is no text" 3 ""
-done
-said=$(exec -a $'\xff' "$show" --nope 2>&1); status=$?
-ends "a name of the program that is no text" 2 "getopts_show: Unrecognized option: 'nope'"
-
-# Outputs that take nothing.
-for words in "-v x" --help --nope; do
-    read -r -a line <<<"$words"
-    said=$("$show" "${line[@]}" 2>&1 >&-); status=$?
-    ends "$words with a closed output" 4 ""
-    said=$("$show" "${line[@]}" 2>&1 >/dev/full); status=$?
-    ends "$words with a full output" 4 ""
+    answer=$("$show" "${line[@]}"; echo "status $?")
+    refuses "getopts_show $words" 0 "$answer" "status 3" "$show" "${line[@]}"
 done
 
 part ""

@@ -21,6 +21,8 @@ crate=${1:+$(cd "$1" && pwd)}
 read -r -a flags <<<"${CARGO_FLAGS:-}"
 # shellcheck source=c/checks.sh
 . "$top/c/checks.sh"
+# shellcheck source=refused/loop.sh
+. "$top/refused/loop.sh"
 export CARGO_TARGET_DIR=$room/target
 here=$top/rust/getopts
 archive=$here/native/libgetopts_c.a
@@ -46,26 +48,15 @@ same_as_show() {
 # refused PROGRAM STATUS MARKS: where a request for memory is refused, alone or with all after it, a
 # program writes nothing and ends with this status. With MARKS 1 the requests between its marks count.
 refused() {
-    local line words wanted said on at runs=0
+    local line words wanted why= runs=0
     for line in "${lines[@]:1:3}"; do
         read -r -a words <<<"$line"
         wanted=$("$1" "${words[@]}"; echo "status $?")
-        for on in 0 1; do
-            for ((at = 1; ; at++)); do
-                said=$(REFUSE_AT=$at REFUSE_ON=$on REFUSE_MARKS=$3 LD_PRELOAD=$room/refuse.so "$1" \
-                    "${words[@]}" 2>"$room/told"; echo "status $?")
-                # A run with none refused is the last one.
-                [ "$said" = "$wanted" ] && grep -q '^refused 0 ' "$room/told" && break
-                if [ "$said" != "status $2" ] || [ "$at" -gt 2000 ]; then
-                    echo "'$line', request $at: $said"
-                    return 1
-                fi
-                runs=$((runs + 1))
-            done
-        done
+        in_turn "$room/refuse.so" "$3" "$wanted" "status $2" "$1" "${words[@]}" >"$room/why"
+        [ -s "$room/why" ] && why=yes && sed "s/^/'$line', /" "$room/why"
     done
     echo "$runs runs"
-    [ "$runs" -gt 0 ]
+    [ -z "$why" ] && [ "$runs" -gt 0 ]
 }
 
 # The archive, and whether it is the one that the proved source gives.

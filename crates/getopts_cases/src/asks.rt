@@ -47,9 +47,12 @@ pub fn ask(
         ("wrap", [limit, desc]) => wrapped(alloc, limit.as_str(), desc.as_str(), answer),
         ("short", [program]) => short_usage(alloc, options, program.as_str(), answer),
         ("usage", [brief]) => usage(alloc, options, brief.as_str(), answer),
-        ("rows", []) => usage_rows(alloc, options, answer),
+        ("rows", []) => formatted_rows(alloc, options, answer),
+        ("usage_rows", []) => usage_rows(alloc, options, answer),
         ("canonical", words) => canonical(alloc, options, words, answer),
-        ("short" | "usage" | "rows" | "lawful" | "wrap" | "same", _) => Err(WRONG_FIELDS),
+        ("short" | "usage" | "rows" | "usage_rows" | "lawful" | "wrap" | "same", _) => {
+            Err(WRONG_FIELDS)
+        }
         _ => Err(Trouble::Flawed(Flaw::UnknownWord)),
     }
 }
@@ -88,7 +91,7 @@ fn usage(
 }
 
 /// Answers what a closure that counts the usage rows made of them, and the rows that it was given.
-fn usage_rows(alloc: Global, options: &Options, answer: &mut Answer) -> Result<(), Trouble> {
+fn formatted_rows(alloc: Global, options: &Options, answer: &mut Answer) -> Result<(), Trouble> {
     let mut given = Vec::new(alloc);
     let made = options.usage_with_format(alloc, |rows| {
         given = rows.collect(alloc)?;
@@ -97,6 +100,11 @@ fn usage_rows(alloc: Global, options: &Options, answer: &mut Answer) -> Result<(
     })?;
     answer.text(made.as_str())?;
     answer.texts(&given)
+}
+
+/// Answers the usage rows.
+fn usage_rows(alloc: Global, options: &Options, answer: &mut Answer) -> Result<(), Trouble> {
+    answer.texts(&options.usage_rows(alloc)?)
 }
 
 /// Answers the canonical line of words.

@@ -37,6 +37,7 @@
 //! - `short PROGRAM` and `usage BRIEF`: by the text
 //! - `rows`: by what the closure of `usage_with_format` answered, which counts its rows, then by
 //!   the rows
+//! - `usage_rows`: by the rows
 //! - `wrap LIMIT DESC`: by the rows of `each_split_within`
 //! - `canonical WORD..`: by `canonical line WORD..`, `canonical none`, or `canonical refused FAULT
 //!   NAME TEXT`
