@@ -23,20 +23,20 @@ use Rattle.getopts.specs.Same.{fault_name}
 use Rattle.getopts_c.specs.Answer.{IsAnswer, accepted, refused, all_names, four_names, fault_status, matches_bytes, matches_numbers, optional_number, place_number}
 
 -- the answer to accepted words
-pub accepted_answer : (options : Declared) (words items : List (Bor Text)) (names : List Text) (matches : Matched) (status : ℕ) (numbers : List ℕ) (bytes : Text)
-    → all_names options.groups ≡ names → items ≡ words → IsAccepted options (texts items) matches
+pub accepted_answer : (options : Declared) (words : List (Bor Text)) (names : List Text) (matches : Matched) (status : ℕ) (numbers : List ℕ) (bytes : Text)
+    → all_names options.groups ≡ names → IsAccepted options (texts words) matches
     → (status ≡ 0) × (numbers ≡ matches_numbers names matches) × (bytes ≡ matches_bytes matches)
     → IsAnswer options (texts words) status numbers bytes
-accepted_answer options words items names matches status numbers bytes names_are items_are is are =
-    rw (are.0, are.1, are.2, ← names_are, ← items_are) (accepted matches is)
+accepted_answer options words names matches status numbers bytes names_are is are =
+    rw (are.0, are.1, are.2, ← names_are) (accepted matches is)
 
 -- the answer to refused words
-pub refused_answer : (options : Declared) (words items : List (Bor Text)) (fault : Fault) (status : ℕ) (numbers : List ℕ) (bytes : Text)
-    → items ≡ words → IsRefused options (texts items) fault
+pub refused_answer : (options : Declared) (words : List (Bor Text)) (fault : Fault) (status : ℕ) (numbers : List ℕ) (bytes : Text)
+    → IsRefused options (texts words) fault
     → (status ≡ fault_status fault) × (numbers ≡ length (fault_name fault) ∷ []) × (bytes ≡ fault_name fault)
     → IsAnswer options (texts words) status numbers bytes
-refused_answer options words items fault status numbers bytes items_are is are =
-    rw (are.0, are.1, are.2, ← items_are) (refused fault is)
+refused_answer options words fault status numbers bytes is are =
+    rw (are.0, are.1, are.2) (refused fault is)
 
 -- what follows from what a refusal tells of a fault, where it tells one
 pub told_fault : (P Q : Fault → Type 0) (R : Type 0) (fault : Option Fault) → MatchOption fault ⊤ P → IsSomeAnd fault Q
@@ -123,29 +123,29 @@ as_many_groups options groups are =
     sym (length-map groups (λ (group : MatchedGroup). group.known)) ∙ ap length are ∙ length-map options.groups (λ (group : Group). group.known)
 
 -- the canonical line of words that have one
-pub written_line : (options : Declared) (words items : List (Bor Text)) (line : List Text)
+pub written_line : (options : Declared) (words : List (Bor Text)) (line : List Text)
     (status : ℕ) (numbers : List ℕ) (bytes : Text)
-    → items ≡ words → IsCanonicalLine options (texts items) line
+    → IsCanonicalLine options (texts words) line
     → status ≡ 0 → numbers ≡ text_numbers line → bytes ≡ concatenated line
     → IsLineOf options (texts words) status numbers bytes
-written_line options words items line status numbers bytes items_are is status_is numbers_are bytes_are =
-    rw (status_is, numbers_are, bytes_are, ← items_are) (written line is)
+written_line options words line status numbers bytes is status_is numbers_are bytes_are =
+    rw (status_is, numbers_are, bytes_are) (written line is)
 
 -- the answer where words have no canonical line
-pub no_line : (options : Declared) (words items : List (Bor Text)) (numbers : List ℕ) (bytes : Text)
-    → items ≡ words → IsUnwritable options (texts items) → numbers ≡ [] → bytes ≡ []
+pub no_line : (options : Declared) (words : List (Bor Text)) (numbers : List ℕ) (bytes : Text)
+    → IsUnwritable options (texts words) → numbers ≡ [] → bytes ≡ []
     → IsLineOf options (texts words) 0 numbers bytes
-no_line options words items numbers bytes items_are is numbers_are bytes_are =
-    rw (numbers_are, bytes_are, ← items_are) (unwritable is)
+no_line options words numbers bytes is numbers_are bytes_are =
+    rw (numbers_are, bytes_are) (unwritable is)
 
 -- the answer where refused words have no canonical line
-pub refused_line : (options : Declared) (words items : List (Bor Text)) (fault : Fault)
+pub refused_line : (options : Declared) (words : List (Bor Text)) (fault : Fault)
     (status : ℕ) (numbers : List ℕ) (bytes : Text)
-    → items ≡ words → IsRefused options (texts items) fault
+    → IsRefused options (texts words) fault
     → (status ≡ fault_status fault) × (numbers ≡ length (fault_name fault) ∷ []) × (bytes ≡ fault_name fault)
     → IsLineOf options (texts words) status numbers bytes
-refused_line options words items fault status numbers bytes items_are is are =
-    rw (are.0, are.1, are.2, ← items_are) (unaccepted fault is)
+refused_line options words fault status numbers bytes is are =
+    rw (are.0, are.1, are.2) (unaccepted fault is)
 
 -- what holds of an answer that is there holds of it
 pub if_some : {T : Type 0} (P : T → Type 0) (answer : Option T) (t : T) → answer ≡ Some t → IfSome answer P → P t

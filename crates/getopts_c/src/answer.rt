@@ -320,7 +320,7 @@ fn answer_by(
     ensures { IfOk result (λ answer. IsAnswer options.now (texts words.now)
         answer.status answer.body.numbers.items (string_bytes answer.body.bytes)) }
 {
-    match options.parse(alloc, words.iter().copied()) {
+    match options.parse_words(alloc, words) {
         Ok(matches) => accepted(alloc, &matches, groups, bytes),
         Err(fail) => refused(alloc, &fail),
     }
@@ -502,7 +502,7 @@ fn line_by(alloc: Global, options: &Options, words: &[&str]) -> Result<Answer, A
     ensures { IfOk result (λ answer. IsLineOf options.now (texts words.now)
         answer.status answer.body.numbers.items (string_bytes answer.body.bytes)) }
 {
-    match options.canonical(alloc, words.iter().copied()) {
+    match options.canonical_words(alloc, words) {
         Ok(Some(line)) => of_texts(alloc, &line),
         Ok(None) => Ok(Answer {
             status: 0,

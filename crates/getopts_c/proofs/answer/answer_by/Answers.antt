@@ -1,4 +1,4 @@
-use Rattle.std.proofs.Common.{◌≡◌, ◌∙◌, ◌∷◌, [], ap, length, map, string_bytes, sym}
+use Rattle.std.proofs.Common.{◌≡◌, ◌∙◌, ◌∷◌, [], length, map, string_bytes, sym}
 use Rattle.std.proofs.lemmas.Result.{IfOk-weaker}
 use Rattle.std.specs.List.{flat_map}
 use Rattle.getopts.specs.Fail.{Fault, fault_of}
@@ -14,14 +14,11 @@ accepted-requires c = c.requires.count ∙ sym (as_many_groups c.args.options.no
 pub returns-in-Ok : goal.returns-in-Ok
 returns-in-Ok c =
     let told = c.in-Ok.ensures.accepted in
-    let source = c.copied.ensures.runs told.0 (told.0).seen told.1 in
-    let words_are = source.2.2 ∙ (c.iter.ensures.runs source.0 (source.0).seen).4 (source.2.0 ∙ told.2)
-    ∙ ap (λ iter. iter.rest.now) source.1 ∙ c.iter.ensures.rest in
     let names = flat_map four_names (map texts c.args.groups.now) in
     IfOk-weaker c.accepted.result _
     (λ answer. IsAnswer c.args.options.now (texts c.args.words.now) answer.status answer.body.numbers.items (string_bytes answer.body.bytes))
-    (λ answer are. accepted_answer c.args.options.now c.args.words.now (told.0).items names c.in-Ok.matches answer.status answer.body.numbers.items
-    (string_bytes answer.body.bytes) c.requires.names words_are told.3 are)
+    (λ answer are. accepted_answer c.args.options.now c.args.words.now names c.in-Ok.matches answer.status answer.body.numbers.items
+    (string_bytes answer.body.bytes) c.requires.names told are)
     c.accepted.ensures
 
 pub returns-in-Err : goal.returns-in-Err
@@ -33,9 +30,6 @@ returns-in-Err c =
     (IsAnswer c.args.options.now (texts c.args.words.now) answer.status answer.body.numbers.items (string_bytes answer.body.bytes))
     (fault_of c.in-Err.fail) c.in-Err.ensures.refused shown
     (λ fault told are.
-    let source = c.copied.ensures.runs told.0 (told.0).seen told.1 in
-    let words_are = source.2.2 ∙ (c.iter.ensures.runs source.0 (source.0).seen).4 (source.2.0 ∙ told.2)
-    ∙ ap (λ iter. iter.rest.now) source.1 ∙ c.iter.ensures.rest in
-    refused_answer c.args.options.now c.args.words.now (told.0).items fault answer.status answer.body.numbers.items
-    (string_bytes answer.body.bytes) words_are told.3 are))
+    refused_answer c.args.options.now c.args.words.now fault answer.status answer.body.numbers.items
+    (string_bytes answer.body.bytes) told are))
     c.refused.ensures

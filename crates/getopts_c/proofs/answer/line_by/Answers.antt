@@ -11,27 +11,21 @@ use Rattle.getopts_c.proofs.answer.line_by.Goals as goal
 pub returns-in-Ok-Some : goal.returns-in-Ok-Some
 returns-in-Ok-Some c =
     let told = if_some _ c.in-Ok-Some.field-0 c.in-Ok-Some.line c.in-Ok-Some.field-0-is c.in-Ok-Some.ensures.written in
-    let source = c.copied.ensures.runs told.0 (told.0).seen told.1 in
-    let words_are = source.2.2 ∙ (c.iter.ensures.runs source.0 (source.0).seen).4 (source.2.0 ∙ told.2)
-    ∙ ap (λ iter. iter.rest.now) source.1 ∙ c.iter.ensures.rest in
     let line = map string_bytes c.in-Ok-Some.line.items in
     let slice = ap (map string_bytes) c.deref.ensures.value in
     let are = c.of_texts.ensures in
     of_three _ _ _
     (λ answer. IsLineOf c.args.options.now (texts c.args.words.now) answer.status answer.body.numbers.items (string_bytes answer.body.bytes))
     c.of_texts.result are.status are.numbers are.bytes
-    (λ answer status_is numbers_are bytes_are. written_line c.args.options.now c.args.words.now (told.0).items line
+    (λ answer status_is numbers_are bytes_are. written_line c.args.options.now c.args.words.now line
     answer.status answer.body.numbers.items (string_bytes answer.body.bytes)
-    words_are told.3 status_is (numbers_are ∙ ap text_numbers slice) (bytes_are ∙ ap concatenated slice))
+    told status_is (numbers_are ∙ ap text_numbers slice) (bytes_are ∙ ap concatenated slice))
 
 pub returns-in-Ok-None : goal.returns-in-Ok-None
 returns-in-Ok-None c =
     let told = if_none c.in-Ok-None.field-0 c.in-Ok-None.field-0-is c.in-Ok-None.ensures.unwritable in
-    let source = c.copied.ensures.runs told.0 (told.0).seen told.1 in
-    let words_are = source.2.2 ∙ (c.iter.ensures.runs source.0 (source.0).seen).4 (source.2.0 ∙ told.2)
-    ∙ ap (λ iter. iter.rest.now) source.1 ∙ c.iter.ensures.rest in
-    no_line c.args.options.now c.args.words.now (told.0).items c.new.result.numbers.items
-    (string_bytes c.new.result.bytes) words_are told.3 c.new.ensures.numbers c.new.ensures.bytes
+    no_line c.args.options.now c.args.words.now c.new.result.numbers.items
+    (string_bytes c.new.result.bytes) told c.new.ensures.numbers c.new.ensures.bytes
 
 pub returns-in-Err : goal.returns-in-Err
 returns-in-Err c =
@@ -44,9 +38,6 @@ returns-in-Err c =
     (IsLineOf c.args.options.now (texts c.args.words.now) answer.status answer.body.numbers.items (string_bytes answer.body.bytes))
     (fault_of c.in-Err.fail) c.in-Err.ensures.refused shown
     (λ fault told are.
-    let source = c.copied.ensures.runs told.0 (told.0).seen told.1 in
-    let words_are = source.2.2 ∙ (c.iter.ensures.runs source.0 (source.0).seen).4 (source.2.0 ∙ told.2)
-    ∙ ap (λ iter. iter.rest.now) source.1 ∙ c.iter.ensures.rest in
-    refused_line c.args.options.now c.args.words.now (told.0).items fault answer.status answer.body.numbers.items
-    (string_bytes answer.body.bytes) words_are told.3 are))
+    refused_line c.args.options.now c.args.words.now fault answer.status answer.body.numbers.items
+    (string_bytes answer.body.bytes) told are))
     c.refused.ensures
