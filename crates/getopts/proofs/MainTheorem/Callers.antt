@@ -1,9 +1,8 @@
 -- Lemmas for callers.
 use Rattle.std.proofs.Common.{◌≡◌, ◌==◌, ℕ, zero, suc, ◌+◌, Bool, true, false, cond, List, [], ◌∷◌}
-use Rattle.std.proofs.Common.{map, length, Option, Some, None, Result, Ok, Err, refl, ap, sym}
+use Rattle.std.proofs.Common.{map, Option, Some, None, Result, Ok, Err, refl, ap, sym}
 use Rattle.std.proofs.Common.{subst, ◌∙◌}
 use Rattle.std.specs.List.{filter, filter_map, cons_option}
-use Rattle.std.proofs.lemmas.List.{length-map}
 use Rattle.getopts.specs.Names.{Text, resolution}
 use Rattle.getopts.specs.Options.{Known, Declared, MayBeDeclared, names_of, knowns_of, grammar_of}
 use Rattle.getopts.specs.Scan.{Reading, Mention, Occurrence, occurrences_of, free_words}
@@ -86,14 +85,6 @@ values-found_of options old new same name =
       here None = refl
       here (Some i) = values-found_in (knowns_of options.groups) 0 i (occurrences_of (grammar_of options) old)
           (occurrences_of (grammar_of options) new) same
-
--- occurrences with the same values, or none, are as many, have the same first value and the same
--- values
-pub each_value-count : (founds others : List Found) → each_value founds ≡ each_value others
-    → length founds ≡ length others
-each_value-count founds others same =
-    sym (length-map founds (λ (found : Found). found.value)) ∙ ap length same
-    ∙ length-map others (λ (found : Found). found.value)
 
 first_of_values : List (Option Text) → Option Text
 first_of_values [] = None

@@ -50,14 +50,6 @@ take-from (first ∷ xs) ys x (suc i) e =
     let later : suc i + 1 ≡ suc (i + 1) = omega arith in
     ap (λ n. take n (first ∷ xs)) later ∙ ap (λ zs. first ∷ zs) (take-from xs ys x i e)
 
--- a filter of what a map gives
-filter-map : {X Y : Type 0} (f : X → Y) (p : Y → Bool) (xs : List X)
-    → filter p (map f xs) ≡ map f (filter (λ x. p (f x)) xs)
-filter-map f p [] = refl
-filter-map {X} {Y} f p (x ∷ xs) = elim (p (f x)) as (λ b. cond b (f x ∷ filter p (map f xs))
-    (filter p (map f xs)) ≡ map f (cond b (x ∷ filter (λ x. p (f x)) xs) (filter (λ x. p (f x)) xs)))
-    [ true ↦ ap (λ ys. f x ∷ ys) (filter-map f p xs) | false ↦ filter-map f p xs ]
-
 -- how many occurrences of a group there are, by the index
 pub length-found_at : (knowns : List Known) (occurrences : List Occurrence) (i : ℕ)
     → i < length knowns

@@ -9,20 +9,8 @@ use Rattle.std.proofs.lemmas.Bool.Decides.{Decides-eqb, nat_tests}
 use Rattle.getopts.specs.declared.groups.HasArg.{HasArg}
 use Rattle.getopts.specs.declared.groups.HasArg.TheVariants.{Yes, No, Maybe}
 use Rattle.getopts.specs.Names.{Text}
-use Rattle.getopts.specs.Scan.{dash, equals_sign, is_dashed, begins_with_dash, holds_equals}
-use Rattle.getopts.specs.Scan.{attached, FitsEnd, one, IsShortForm}
-use Rattle.getopts.specs.Options.{Grammar}
-use Rattle.getopts.specs.Line.{IsInLongForm}
-use Rattle.getopts.proofs.Reading.Texts.{is_dashed-text}
-
--- a word that doesn't begin with `-` isn't dashed
-pub is_dashed-other : (word : Text) → ((rest : Text) → word ≢ dash ∷ rest) → is_dashed word ≡ false
-is_dashed-other [] h = refl
-is_dashed-other (c ∷ []) h = refl
-is_dashed-other (c ∷ d ∷ more) h = other (eqb c dash) (λ e. h (d ∷ more) (ap (λ x. x ∷ d ∷ more) ((Decides-eqb c dash).0 e))) where
-  other : (b : Bool) → b ≢ true → b ≡ false
-  other true no_dash = absurd (no_dash refl)
-  other false no_dash = refl
+use Rattle.getopts.specs.Scan.{equals_sign, holds_equals}
+use Rattle.getopts.specs.Scan.{attached, FitsEnd}
 
 -- a text with no byte `=` doesn't hold it
 pub holds_equals-none : (text : Text) → ((i : ℕ) → i < length text → get_or text i 0 ≢ equals_sign)
@@ -64,33 +52,3 @@ ascii_below byte h = grind (arith, nat_tests)
 
 pub wide_above : (byte : ℕ) → is_ascii byte ≡ false → 128 ≤ byte
 wide_above byte h = grind (arith, nat_tests)
-
--- a text that is no dash and a rest doesn't begin with one
-pub begins_with_dash-other : (text : Text) → ((more : Text) → text ≢ dash ∷ more)
-    → begins_with_dash text ≡ false
-begins_with_dash-other [] h = refl
-begins_with_dash-other (c ∷ text) h = other (eqb c dash) (λ e. h text (ap (λ x. x ∷ text) ((Decides-eqb c dash).0 e))) where
-  other : (b : Bool) → b ≢ true → b ≡ false
-  other true no_dash = absurd (no_dash refl)
-  other false no_dash = refl
-
--- in long-only mode one dash and a text that doesn't begin with one are a word in long form
-pub IsInLongForm-one : (grammar : Grammar) (text : Text) → grammar.long_only ≡ true → text ≢ []
-    → ((more : Text) → text ≢ dash ∷ more) → IsInLongForm grammar (dash ∷ text) text
-IsInLongForm-one grammar text long_only filled other = record {
-  dashes = one;
-  before = (long_only, begins_with_dash-other text other);
-  word_is = refl;
-  dashed = is_dashed-text text filled;
-  no_stop = λ e. other [] (cc);
-}
-
--- in ordinary mode they are a word in short form
-pub IsShortForm-text : (grammar : Grammar) (text : Text) → grammar.long_only ≡ false → text ≢ []
-    → ((more : Text) → text ≢ dash ∷ more) → IsShortForm grammar (dash ∷ text) text
-IsShortForm-text grammar text ordinary filled other = record {
-  ordinary = ordinary;
-  word_is = refl;
-  filled = filled;
-  second = begins_with_dash-other text other;
-}
