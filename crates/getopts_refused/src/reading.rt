@@ -1,4 +1,4 @@
-//! `parse` and `canonical`.
+//! `parse` and `canonical`, and the same of a list that is lent.
 
 use crate::marks::{begin, end};
 use crate::rows::{Answer, became};
@@ -20,6 +20,17 @@ const LINE: &[&str] = &[
     "--",
     "-v",
 ];
+
+/// How the words of a line are given.
+#[derive(Clone, Copy)]
+pub enum Given {
+    /// By an iterator that tells how many they are.
+    Counted,
+    /// By an iterator that doesn't.
+    Uncounted,
+    /// As a list.
+    Lent,
+}
 
 /// Options of all kinds. Where the last one is given, a line has no canonical line.
 pub fn options_of(alloc: Global) -> Result<Options, AllocError> {
@@ -53,44 +64,44 @@ pub fn accepted(alloc: Global) -> getopts::Result {
     options.parse(alloc, LINE.iter().copied())
 }
 
-/// What became of `parse` of this line, by an iterator that tells how many words it has, or doesn't.
-pub fn parse(alloc: Global, line: &str, tells: bool) -> Result<&'static str, AllocError> {
+/// What became of `parse` of this line.
+pub fn parse(alloc: Global, line: &str, given: Given) -> Result<&'static str, AllocError> {
     let options = options_of(alloc)?;
     let before = options.clone()?;
-    let answer = parses_alike(alloc, &options, words_of(line), tells);
+    let answer = parses_alike(alloc, &options, words_of(line), given);
     Ok(became(answer, options == before))
 }
 
-/// What became of `canonical` of this line, by an iterator of either kind.
-pub fn canonical(alloc: Global, line: &str, tells: bool) -> Result<&'static str, AllocError> {
+/// What became of `canonical` of this line.
+pub fn canonical(alloc: Global, line: &str, given: Given) -> Result<&'static str, AllocError> {
     let options = options_of(alloc)?;
     let before = options.clone()?;
-    let answer = writes_alike(alloc, &options, words_of(line), tells);
+    let answer = writes_alike(alloc, &options, words_of(line), given);
     Ok(became(answer, options == before))
 }
 
-fn parses_alike(alloc: Global, options: &Options, words: &[&str], tells: bool) -> Answer {
-    let expected = parsed(alloc, options, words, tells);
+fn parses_alike(alloc: Global, options: &Options, words: &[&str], given: Given) -> Answer {
+    let expected = parsed(alloc, options, words, given);
     begin(alloc)?;
-    let answer = parsed(alloc, options, words, tells);
+    let answer = parsed(alloc, options, words, given);
     end(alloc)?;
     are_alike(&answer, &expected)
 }
 
-fn writes_alike(alloc: Global, options: &Options, words: &[&str], tells: bool) -> Answer {
-    let expected = written(alloc, options, words, tells);
+fn writes_alike(alloc: Global, options: &Options, words: &[&str], given: Given) -> Answer {
+    let expected = written(alloc, options, words, given);
     begin(alloc)?;
-    let answer = written(alloc, options, words, tells);
+    let answer = written(alloc, options, words, given);
     end(alloc)?;
     are_alike(&answer, &expected)
 }
 
 /// Parses words.
-fn parsed(alloc: Global, options: &Options, words: &[&str], tells: bool) -> getopts::Result {
-    if tells {
-        options.parse(alloc, words.iter().copied())
-    } else {
-        options.parse(alloc, words.iter().copied().filter(|_| true))
+fn parsed(alloc: Global, options: &Options, words: &[&str], given: Given) -> getopts::Result {
+    match given {
+        Given::Counted => options.parse(alloc, words.iter().copied()),
+        Given::Uncounted => options.parse(alloc, words.iter().copied().filter(|_| true)),
+        Given::Lent => options.parse_words(alloc, words),
     }
 }
 
@@ -99,12 +110,12 @@ fn written(
     alloc: Global,
     options: &Options,
     words: &[&str],
-    tells: bool,
+    given: Given,
 ) -> Result<Option<Vec<String>>, Fail> {
-    if tells {
-        options.canonical(alloc, words.iter().copied())
-    } else {
-        options.canonical(alloc, words.iter().copied().filter(|_| true))
+    match given {
+        Given::Counted => options.canonical(alloc, words.iter().copied()),
+        Given::Uncounted => options.canonical(alloc, words.iter().copied().filter(|_| true)),
+        Given::Lent => options.canonical_words(alloc, words),
     }
 }
 

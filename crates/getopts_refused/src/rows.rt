@@ -1,5 +1,6 @@
 //! The rows, and what becomes of a row's call.
 
+use crate::reading::Given;
 use crate::{accessors, adding, clones, reading, texts};
 use std::alloc::{AllocError, Global};
 
@@ -8,7 +9,7 @@ use std::alloc::{AllocError, Global};
 pub type Answer = Result<bool, AllocError>;
 
 /// The rows but for those of the calls that add a group: what is called, and on what.
-pub const ROWS: [(&str, &str); 35] = [
+pub const ROWS: [(&str, &str); 38] = [
     ("clone", "options"),
     ("clone", "matches"),
     ("clone", "argument_missing"),
@@ -23,6 +24,8 @@ pub const ROWS: [(&str, &str); 35] = [
     ("parse", "option_duplicated"),
     ("parse", "unexpected_argument"),
     ("parse_by_filter", "accepted"),
+    ("parse_words", "accepted"),
+    ("parse_words", "unrecognized_option"),
     ("canonical", "accepted"),
     ("canonical", "unwritable"),
     ("canonical", "argument_missing"),
@@ -31,6 +34,7 @@ pub const ROWS: [(&str, &str); 35] = [
     ("canonical", "option_duplicated"),
     ("canonical", "unexpected_argument"),
     ("canonical_by_filter", "accepted"),
+    ("canonical_words", "accepted"),
     ("opt_positions", "L"),
     ("opt_strs", "L"),
     ("opt_strs_pos", "L"),
@@ -52,10 +56,12 @@ pub const ROWS: [(&str, &str); 35] = [
 pub fn outcome(alloc: Global, call: &str, on: &str) -> Result<&'static str, AllocError> {
     match call {
         "clone" => clones::outcome(alloc, on),
-        "parse" => reading::parse(alloc, on, true),
-        "parse_by_filter" => reading::parse(alloc, on, false),
-        "canonical" => reading::canonical(alloc, on, true),
-        "canonical_by_filter" => reading::canonical(alloc, on, false),
+        "parse" => reading::parse(alloc, on, Given::Counted),
+        "parse_by_filter" => reading::parse(alloc, on, Given::Uncounted),
+        "parse_words" => reading::parse(alloc, on, Given::Lent),
+        "canonical" => reading::canonical(alloc, on, Given::Counted),
+        "canonical_by_filter" => reading::canonical(alloc, on, Given::Uncounted),
+        "canonical_words" => reading::canonical(alloc, on, Given::Lent),
         "each_split_within" | "short_usage" | "usage" | "usage_rows" | "usage_with_format" =>
             texts::outcome(alloc, call),
         _ if call.starts_with("opts_") || call.starts_with("opt_") => accessors::outcome(
