@@ -2,9 +2,9 @@
 
 ghost use Rattle.getopts.specs.Accessors.{IsDefined};
 
+use crate::answer::{Answer, became};
 use crate::marks::{begin, end};
 use crate::reading::accepted;
-use crate::rows::{Answer, became};
 use getopts::Matches;
 use std::alloc::{AllocError, Global};
 

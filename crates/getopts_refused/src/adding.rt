@@ -1,7 +1,7 @@
 //! The calls that add a group.
 
+use crate::answer::{Answer, became};
 use crate::marks::{begin, end};
-use crate::rows::{Answer, became};
 use getopts::{HasArg, Occur, Options, ParsingStyle, names_lawful};
 use std::alloc::{AllocError, Global};
 

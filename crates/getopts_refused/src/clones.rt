@@ -1,8 +1,8 @@
 //! The clones.
 
+use crate::answer::{Answer, became};
 use crate::marks::{begin, end};
 use crate::reading::{accepted, options_of, words_of};
-use crate::rows::{Answer, became};
 use std::alloc::{AllocError, Global};
 
 /// What became of the clone of options, of matches, or of the fault of a line.

@@ -7,6 +7,7 @@
 
 mod accessors;
 mod adding;
+mod answer;
 mod clones;
 mod marks;
 mod reading;

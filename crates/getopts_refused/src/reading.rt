@@ -1,7 +1,7 @@
 //! `parse` and `canonical`, and the same of a list that is lent.
 
+use crate::answer::{Answer, became};
 use crate::marks::{begin, end};
-use crate::rows::{Answer, became};
 use getopts::{Fail, Options};
 use std::alloc::{AllocError, Global};
 

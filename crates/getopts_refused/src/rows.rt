@@ -1,12 +1,8 @@
 //! The rows, and what becomes of a row's call.
 
-use crate::reading::Given;
-use crate::{accessors, adding, clones, reading, texts};
+use crate::reading::{self, Given};
+use crate::{accessors, adding, clones, texts};
 use std::alloc::{AllocError, Global};
-
-/// What a call answered: whether that was what it answers where no memory is refused, or want of
-/// memory.
-pub type Answer = Result<bool, AllocError>;
 
 /// The rows but for those of the calls that add a group: what is called, and on what.
 pub const ROWS: [(&str, &str); 38] = [
@@ -68,15 +64,5 @@ pub fn outcome(alloc: Global, call: &str, on: &str) -> Result<&'static str, Allo
             alloc, call, on,
         ),
         _ => adding::outcome(alloc, call, on),
-    }
-}
-
-/// What became of a call that gave this answer, where all that it borrowed is as it was or isn't.
-pub fn became(answer: Answer, unchanged: bool) -> &'static str {
-    match answer {
-        Ok(true) => "answer",
-        Ok(false) => "another answer",
-        Err(_) if unchanged => "refused",
-        Err(_) => "changed",
     }
 }

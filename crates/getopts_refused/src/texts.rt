@@ -1,7 +1,7 @@
 //! Descriptions in rows, and usage texts.
 
+use crate::answer::{Answer, became};
 use crate::marks::{begin, end};
-use crate::rows::{Answer, became};
 use getopts::Options;
 use getopts::wrap::each_split_within;
 use std::alloc::{AllocError, Global};
