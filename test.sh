@@ -66,6 +66,7 @@ if [ -n "$quick" ]; then
     part "recorded cases by the rules" python3 beside/rules.py --try
     part "code on the pages for callers" bash docs/quotes.sh
     part "modules that use each other" bash docs/modules.sh
+    part "definitions that GRAMMAR names" bash docs/names.sh
     echo "Nothing was proved: 'bash test.sh' proves everything."
 else
     begin again
@@ -77,6 +78,7 @@ else
         part "C and Rust" bash rust/test.sh --quick "$@" &&
         part "code on the pages for callers" bash docs/quotes.sh &&
         part "modules that use each other" bash docs/modules.sh &&
+        part "definitions that GRAMMAR names" bash docs/names.sh &&
         part "the archive from the proved source, and edits over it" ended 20
 fi
 if [ -n "$failed" ]; then

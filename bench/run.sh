@@ -45,29 +45,31 @@ out=$(cd "$1" && pwd)
 # The jobs, each with the two numbers of turns that are compared. Where a turn takes no memory, it is as
 # long from the first on.
 jobs='small 100 300
-declare-small 100 300
 read-small 100 300
-accessors-small 100 300
 canonical-small 100 300
 long 5 15
-declare-long 100 300
 read-long 5 15
-accessors-long 5 15
 canonical-long 5 15
 many 5 15
-declare-many 5 15
 read-many 5 15
-accessors-many 5 15
 canonical-many 5 15
 equal 0 1
 usage 100 300
 defined-4000 0 1'
 
-peers='getopts lexopt pico-args clap'
+peers='getopts rust/getopts lexopt pico-args clap'
 
-part "building the peers' program"
+part "building the peers' program, and once more over rust/getopts"
 "$here/peers/build.sh" "$out/peers" "${@:2}"
-theirs=$out/peers/target/release/peers
+"$here/peers/build.sh" "$out/over_ours" "$here/../rust/getopts"
+# The program that has a peer, and the peer's name there.
+program_of() {
+    if [ "$1" = rust/getopts ]; then
+        theirs=$out/over_ours/target/release/peers name=getopts
+    else
+        theirs=$out/peers/target/release/peers name=$1
+    fi
+}
 
 if [ -z "${OURS:-}" ]; then
     part 'proving and building getopts_bench, some minutes where nothing is kept'
@@ -97,23 +99,24 @@ measured() {
 # A star where a peer's sum of one turn isn't that of this library.
 star() {
     local sum
-    if sum=$("$theirs" "$1" "$2" 1 2> /dev/null) && [ "$sum" != "$("$OURS" "$2" 1)" ]; then
+    if sum=$("$theirs" "$name" "$1" 1 2> /dev/null) && [ "$sum" != "$("$OURS" "$1" 1)" ]; then
         echo '*'
     fi
 }
 
 # A row of a table: the job, this library, and each peer.
 row() {
-    local script=$1 job=$2 a=$3 b=$4 peer
+    local script=$1 job=$2 a=$3 b=$4 peer theirs name
     printf '%-16s %14s' "$job" "$(measured "$script" "$a" "$b" "$OURS" "$job")"
     for peer in $peers; do
-        printf ' %14s' "$(measured "$script" "$a" "$b" "$theirs" "$peer" "$job")$(star "$peer" "$job")"
+        program_of "$peer"
+        printf ' %14s' "$(measured "$script" "$a" "$b" "$theirs" "$name" "$job")$(star "$job")"
     done
     echo
 }
 
 head() {
-    printf '%-16s %14s %14s %14s %14s %14s\n' job 'this library' 'Rust crate' lexopt pico-args clap
+    printf '%-16s %14s %14s %14s %14s %14s %14s\n' job 'this library' 'Rust crate' rust/getopts lexopt pico-args clap
 }
 
 part 'counting instructions'

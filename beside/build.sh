@@ -4,6 +4,7 @@
 #   CRATE      a folder with the Rust crate getopts; empty: the public registry's 0.2.24
 #   REGISTRY   a folder that stands for the public registry, as Debian's packages librust-*-dev make
 #              one; empty: the public registry itself
+# CARGO_FLAGS are handed to cargo.
 set -euo pipefail
 here=$(cd "$(dirname "$0")" && pwd)
 work=$1 crate=$2 registry=$3
@@ -14,10 +15,10 @@ config=$work/twin/.cargo/config.toml
 if [ -n "$crate" ]; then
     printf '[patch.crates-io]\ngetopts = { path = "%s" }\n' "$(cd "$crate" && pwd)" >> "$config"
 fi
-offline=()
+read -r -a flags <<<"${CARGO_FLAGS:-}"
 if [ -n "$registry" ]; then
     printf '[source.crates-io]\nreplace-with = "folder"\n[source.folder]\ndirectory = "%s"\n' "$registry" >> "$config"
-    offline=(--offline)
+    flags+=(--offline)
 fi
-(cd "$work/twin" && cargo build --release --quiet --jobs 2 "${offline[@]}" >&2)
+(cd "$work/twin" && cargo build --release --quiet --jobs 2 "${flags[@]}" >&2)
 echo "$work/twin/target/release/twin"

@@ -9,8 +9,9 @@
  *
  * - A pointer and its length are those of an array. With length 0 the pointer may be NULL.
  * - The rooms and the sizes overlap neither each other nor anything that is read. Where they do, nothing is
- *   promised. What is only read may overlap.
- * - A bool is 0 or 1, as C makes it. Of other bytes that come by a wrong declaration nothing is promised.
+ *   promised of the answer; as tried, nothing else is written. What is only read may overlap.
+ * - A bool is 0 or 1, as C makes it. Of other bytes, which come by a wrong declaration, nothing is promised; as
+ *   tried, the lowest bit counts.
  *
  * A request says one set of options and one line at most, and an answer is read back one way: its numbers
  * tell where each part of it ends. */

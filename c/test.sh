@@ -36,6 +36,8 @@ all_of() {
             says "${file#"$top/crates/"} ($with)" "$room/rows" "$file"
         done < <(row_files)
     fi
+    check "what a caller owes ($with)" "${build[@]}" "$here/tests/owed.c" "$archive" -o "$room/owed" &&
+        says "what a caller owes, kept and broken ($with)" "$room/owed"
     file=$here/tests/exports_refused.c
     check "exports ($with)" "${build[@]}" "$here/tests/exports.c" "$here/heap.c" "$archive" -o "$room/exports" &&
         says "the exports on rows ($with)" "$room/exports"

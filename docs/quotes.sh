@@ -3,8 +3,9 @@
 # usage: docs/quotes.sh
 #
 # Each block of Rattle or of definitions is cut at its empty lines and at lines of dots; imports are passed
-# over. Each piece has to stand, line for line, in a file of crates/, whatever its indentation. The last line
-# is 'N passed, M failed'.
+# over. Each piece has to stand, line for line, in a file of crates/, whatever its indentation. The list of
+# contracts of CALLING.md names all public functions of the library, and no others, each with names of clauses that
+# stand in its sources. The last line is 'N passed, M failed'.
 set -euo pipefail
 cd "$(dirname "$0")/.."
 python3 - README.md CALLING.md crates/getopts/README.md <<'PY'
@@ -18,7 +19,7 @@ def lines_of(text):
 
 
 files = {}
-for name in glob.glob("crates/*/src/*.rt") + glob.glob("crates/*/specs/**/*.antt", recursive=True):
+for name in glob.glob("crates/*/src/*.rt") + glob.glob("crates/*/[ps]*/**/*.antt", recursive=True):
     with open(name, encoding="utf-8") as file:
         files[name] = "\n" + "\n".join(lines_of(file.read())) + "\n"
 
@@ -35,6 +36,21 @@ for page in sys.argv[1:]:
             else:
                 failed += 1
                 print(f"FAILED: {page}: no file has\n{piece}\n")
+
+# The list of contracts.
+source = "".join(files[name] for name in files if name.startswith("crates/getopts/src/"))
+with open("CALLING.md", encoding="utf-8") as file:
+    told = file.read().partition("\n## Contracts\n")[2]
+public = set(re.findall(r"\npub fn (\w+)", source))
+wrong = [f"CALLING.md: {name} isn't told" for name in sorted(public) if not re.search(rf"\b{name}\b", told)]
+for name in re.findall(r"(?:fn |, )(?:\w+::)?(\w+)(?:<[^>]*>)?\(", told):
+    if name not in public:
+        wrong.append(f"CALLING.md: there is no public function {name}")
+for names in re.findall(r"ensures (\w+(?:, \w+)*):", told):
+    wrong += [f"CALLING.md: there is no clause {it}" for it in names.split(", ") if f"ensures {it} {{" not in source]
+print("".join(f"FAILED: {line}\n" for line in wrong), end="")
+failed += len(wrong)
+passed += not wrong
 print(f"{passed} passed, {failed} failed")
 sys.exit(failed > 0)
 PY

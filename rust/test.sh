@@ -143,8 +143,8 @@ fi
 # Its form.
 formatted() {
     local folder
-    for folder in getopts rows compare; do
-        (cd "$top/rust/$folder" && cargo fmt --check) || return 1
+    for folder in rust/getopts beside/twin; do
+        (cd "$top/$folder" && cargo fmt --check) || return 1
     done
 }
 if cargo fmt --version >/dev/null 2>&1; then
@@ -153,10 +153,7 @@ else
     skip "cargo fmt: it isn't there"
 fi
 if cargo clippy --version >/dev/null 2>&1; then
-    linted() {
-        in_crate clippy "${flags[@]}" --all-targets --all-features -- -D warnings &&
-            (cd "$top/rust/rows" && cargo clippy "${flags[@]}" -- -D warnings)
-    }
+    linted() { in_crate clippy "${flags[@]}" --all-targets --all-features -- -D warnings; }
     check "cargo clippy" linted
 else
     skip "cargo clippy: it isn't there"
@@ -173,17 +170,29 @@ packaged() {
 }
 check "cargo package" packaged
 
-# Rows: recorded ones with their answers beside them, files that have both, and what the C side read.
-readable() { (cd "$top/rust/rows" && cargo build "${flags[@]}" --release); }
-if check "the reader of rows" readable; then
-    rows=$room/target/release/rows
-    says "recorded rows (the drop-in)" "$rows" "$top"/crates/getopts_replay/{stdin,stdout}
+# twin NAME CRATE FLAG..: builds the twin of beside over the crate in a folder.
+twin() {
+    (unset CARGO_TARGET_DIR && CARGO_FLAGS="${*:3}" "$top/beside/build.sh" "$room/$1" "$2" '')
+}
+ours=$room/ours/twin/target/release/twin
+theirs=$room/theirs/twin/target/release/twin
+
+# Rows: recorded ones, files with answers beside them, and what the C side read.
+recorded() {
+    local of=$top/crates/getopts_replay
+    "$ours" answer <"$of/stdin" | cmp - "$of/stdout" && echo "$(wc -l <"$of/stdout") lines, none differs"
+}
+twin_linted() { (cd "$room/ours/twin" && cargo clippy --offline "${with[@]}" -- -D warnings); }
+with=(--features canonical,getopts/canonical)
+if check "the twin over the crate here" twin ours "$here" --offline "${with[@]}"; then
+    ! cargo clippy --version >/dev/null 2>&1 || check "cargo clippy of the twin" twin_linted
+    says "recorded rows (the drop-in)" recorded
     while read -r file; do
-        says "${file#"$top/crates/"} (the drop-in)" "$rows" "$file"
+        says "${file#"$top/crates/"} (the drop-in)" "$ours" check "$file"
     done < <(row_files)
     if [ -f "$room/requests/lawful.rows" ]; then
-        says "the random requests (the drop-in)" "$rows" "$room/requests/lawful.rows"
-        says "those with a zero byte (the drop-in)" "$rows" "$room/requests/zeros.rows"
+        says "the random requests (the drop-in)" "$ours" check "$room/requests/lawful.rows"
+        says "those with a zero byte (the drop-in)" "$ours" check "$room/requests/zeros.rows"
     else
         skip "the random requests: there is no C compiler"
     fi
@@ -286,25 +295,24 @@ elsewhere() {
 check "the build script on Linux" [ "$(elsewhere linux)" = 0 ]
 check "the build script elsewhere" [ "$(elsewhere windows)" = 1 ]
 
-# The crate here and that crate, side by side.
-cp -r "$top/rust/getopts" "$top/rust/compare" "$room"
-rm -rf "$room"/{getopts,compare}/{target,Cargo.lock}
-if [ -n "$crate" ]; then
-    cp -r "$crate" "$room/theirs"
-    sed -i '0,/^name = .*/s//name = "theirs"/' "$room/theirs/Cargo.toml"
-    sed -i 's|^theirs = .*|theirs = { path = "../theirs" }|' "$room/compare/Cargo.toml"
-fi
-compare() { (cd "$room/compare" && cargo "$@"); }
-if compare fetch "${flags[@]}" >"$room/said" 2>&1; then
-    check "the comparer" compare build "${flags[@]}" --release
-    check "20,000 random lines" "$room/target/release/compare" 20000 && tail -n 1 "$room/said"
+# The twin over that crate, on the same cases.
+# alike COUNT: whether the two answer so many cases of a seed alike.
+alike() {
+    "$theirs" generate 1 "$1" >"$room/cases" && "$theirs" answer <"$room/cases" >"$room/of_theirs" &&
+        "$ours" answer <"$room/cases" >"$room/of_ours" && "$theirs" compare "$room"/{cases,of_ours,of_theirs}
+}
+same_panics() { diff <("$theirs" panics) <("$ours" panics); }
+differ() { ! alike 2000; }
+if twin theirs "$crate" "${flags[@]}" >"$room/said" 2>&1; then
+    says "20,000 cases of the twin" alike 20000
+    check "the texts of panics" same_panics
     # A planted difference is told.
-    sed -i 's|Some(value.unwrap_or(def).to_string())|Some(def.to_string())|' \
-        "$room/getopts/src/matches.rs"
-    check "the comparer with a planted difference" compare build "${flags[@]}" --release
-    check "a planted difference is told" bash -c "! '$room/target/release/compare' 2000"
+    cp -r "$here" "$room/planted"
+    sed -i 's|Some(value.unwrap_or(def).to_string())|Some(def.to_string())|' "$room/planted/src/matches.rs"
+    check "the twin over a planted difference" twin ours "$room/planted" --offline
+    check "a planted difference is told" differ
 else
-    skip "20,000 random lines: the crate getopts 0.2.24 is not to be had"
+    skip "20,000 cases of the twin: the crate getopts 0.2.24 is not to be had"
 fi
 
 # That crate's tests of its public calls, where they are at hand.

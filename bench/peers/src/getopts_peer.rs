@@ -12,19 +12,12 @@ pub fn run(job: &str, times: usize) -> Option<usize> {
     if let Some(count) = job.strip_prefix("defined-") {
         return Some(defined(count.parse().ok()?, times));
     }
-    if let Some(line) = job.strip_prefix("declare-") {
-        return Some(declare(&Input::of(line)?, times));
-    }
     if let Some(line) = job.strip_prefix("read-") {
         return Some(read(&Input::of(line)?, times));
-    }
-    if let Some(line) = job.strip_prefix("accessors-") {
-        return Some(accessors(&Input::of(line)?, times));
     }
     match job {
         "equal" => Some(equal(times)),
         "usage" => Some(usage(times)),
-        "defined" => Some(defined(4000, times)),
         "memory" => Some(read(&Input::of_memory(), times)),
         _ => Some(whole(&Input::of(job)?, times)),
     }
@@ -37,21 +30,9 @@ fn whole(input: &Input, times: usize) -> usize {
     })
 }
 
-fn declare(input: &Input, times: usize) -> usize {
-    turns(times, || {
-        black_box(declared(&input.options));
-        input.options.len()
-    })
-}
-
 fn read(input: &Input, times: usize) -> usize {
     let options = declared(&input.options);
     turns(times, || matches_of(&options, &input.words).free.len())
-}
-
-fn accessors(input: &Input, times: usize) -> usize {
-    let matches = matches_of(&declared(&input.options), &input.words);
-    turns(times, || taken(&matches, &input.options))
 }
 
 fn equal(times: usize) -> usize {

@@ -2,9 +2,9 @@
 //!
 //! usage: peers PEER JOB TIMES
 //!
-//! PEER is `getopts` (the Rust crate), `lexopt`, `pico-args` or `clap`. The jobs are those of
-//! `getopts_bench`: `small`, `long` and `many` of each peer, and of the Rust crate the parts too, but
-//! for `canonical`, which it has not. The status is 2 where the peer doesn't do the job.
+//! PEER is `getopts` (the Rust crate, or what stands in for it), `lexopt`, `pico-args` or `clap`. The jobs are
+//! those of `getopts_bench`: `small`, `long` and `many` of each peer, and of `getopts` the others too, but for
+//! `canonical`, which the crate has not. The status is 2 where the peer doesn't do the job.
 
 mod clap_peer;
 mod getopts_peer;

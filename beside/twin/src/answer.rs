@@ -75,7 +75,7 @@ impl Session {
                     other => panic!("no mode {other}"),
                 });
             }
-            "opt" => {
+            "opt" | "add_group" => {
                 options.opt(f(0), f(1), f(2), f(3), kind_of(f(4)), occur_of(f(5)));
             }
             "optflag" => {
@@ -97,6 +97,7 @@ impl Session {
                 options.reqopt(f(0), f(1), f(2), f(3));
             }
             "words" => return self.read_words(fields),
+            "clear" => return self.clear(),
             "same" => return self.same(f(0)),
             _ => return self.ask(asked),
         }
@@ -104,28 +105,31 @@ impl Session {
     }
 
     fn read_words(&mut self, words: &[String]) -> String {
-        let read = self.side.options.parse(words);
-        let answer = match &read {
-            Ok(matches) => {
+        self.side.read = Some(self.side.options.parse(words));
+        self.told()
+    }
+
+    /// Empties the free words.
+    fn clear(&mut self) -> String {
+        if let Some(Ok(matches)) = &mut self.side.read {
+            matches.free.clear();
+        }
+        self.told()
+    }
+
+    /// What the last words gave.
+    fn told(&self) -> String {
+        match &self.side.read {
+            Some(Ok(matches)) => {
                 let start = match matches.free_trailing_start() {
                     Some(start) => start.to_string(),
                     None => "-".to_string(),
                 };
                 line_of(vec!["accepted".to_string(), start], matches.free.clone())
             }
-            Err(fail) => {
-                let (variant, name) = match fail {
-                    Fail::ArgumentMissing(name) => ("ArgumentMissing", name),
-                    Fail::UnrecognizedOption(name) => ("UnrecognizedOption", name),
-                    Fail::OptionMissing(name) => ("OptionMissing", name),
-                    Fail::OptionDuplicated(name) => ("OptionDuplicated", name),
-                    Fail::UnexpectedArgument(name) => ("UnexpectedArgument", name),
-                };
-                line(&["refused", variant, name, &fail.to_string()])
-            }
-        };
-        self.side.read = Some(read);
-        answer
+            Some(Err(fail)) => line_of(vec!["refused".to_string()], fault(fail)),
+            None => line(&["clear", "nothing"]),
+        }
     }
 
     fn same(&self, what: &str) -> String {
@@ -143,6 +147,8 @@ impl Session {
         let options = &self.side.options;
         match (asked.word(), asked.fields()) {
             ("lawful", [short, long]) => line(&["lawful", &names_lawful(short, long).to_string()]),
+            #[cfg(feature = "canonical")]
+            ("canonical", words) => canonical(options, words),
             ("short", [program]) => line(&["short", &options.short_usage(program)]),
             ("usage", [brief]) => line(&["usage", &options.usage(brief)]),
             ("rows", []) => {
@@ -161,6 +167,28 @@ impl Session {
     }
 }
 
+#[cfg(feature = "canonical")]
+fn canonical(options: &Options, words: &[String]) -> String {
+    let head = |word: &str| vec!["canonical".to_string(), word.to_string()];
+    match options.canonical(words) {
+        Ok(Some(words)) => line_of(head("line"), words),
+        Ok(None) => line_of(head("none"), []),
+        Err(fail) => line_of(head("refused"), fault(&fail)),
+    }
+}
+
+/// A fault, its name and its text.
+fn fault(fail: &Fail) -> [String; 3] {
+    let (variant, name) = match fail {
+        Fail::ArgumentMissing(name) => ("ArgumentMissing", name),
+        Fail::UnrecognizedOption(name) => ("UnrecognizedOption", name),
+        Fail::OptionMissing(name) => ("OptionMissing", name),
+        Fail::OptionDuplicated(name) => ("OptionDuplicated", name),
+        Fail::UnexpectedArgument(name) => ("UnexpectedArgument", name),
+    };
+    [variant.to_string(), name.clone(), fail.to_string()]
+}
+
 /// What a line asks of matches.
 fn ask_of_matches(matches: &Matches, asked: &Line) -> String {
     if asked.word() == "any" {
@@ -168,10 +196,24 @@ fn ask_of_matches(matches: &Matches, asked: &Line) -> String {
     }
     let name = asked.fields()[0].as_str();
     let head = vec![asked.word().to_string(), name.to_string()];
-    if !matches.opt_defined(name) {
+    let defined = matches.opt_defined(name);
+    if asked.word() == "opt_defined" {
+        return line_of(head, [defined.to_string()]);
+    }
+    if !defined {
         return line_of(head, ["undefined".to_string()]);
     }
     match (asked.word(), &asked.fields()[1..]) {
+        ("opt_present", []) => line_of(head, [matches.opt_present(name).to_string()]),
+        ("opt_count", []) => line_of(head, [matches.opt_count(name).to_string()]),
+        ("opt_str", []) => line_of(head, [optional(matches.opt_str(name))]),
+        ("opt_strs", []) => line_of(head, matches.opt_strs(name)),
+        ("opt_strs_pos", []) => line_of(head, pairs(matches, name)),
+        ("opt_positions", []) => line_of(head, positions(matches, name)),
+        ("opt_default", [default]) => {
+            let value = optional(matches.opt_default(name, default));
+            line_of(head, [default.clone(), value])
+        }
         ("option", [default]) => {
             let present = if matches.opt_present(name) {
                 "present"
@@ -190,13 +232,8 @@ fn ask_of_matches(matches: &Matches, asked: &Line) -> String {
                 + &line_of(vec!["pairs".to_string()], texts)
         }
         ("positions", []) => {
-            let positions = matches
-                .opt_positions(name)
-                .into_iter()
-                .map(|place| place.to_string());
-            let pairs = matches.opt_strs_pos(name).into_iter();
-            let pairs = pairs.flat_map(|(place, text)| [place.to_string(), text]);
-            line_of(head, positions) + &line_of(vec!["pairs".to_string()], pairs)
+            line_of(head, positions(matches, name))
+                + &line_of(vec!["pairs".to_string()], pairs(matches, name))
         }
         ("number", [default]) => {
             let default: i64 = default.parse().expect("a number");
@@ -234,6 +271,18 @@ fn ask_of_matches(matches: &Matches, asked: &Line) -> String {
     }
 }
 
+fn positions(matches: &Matches, name: &str) -> Vec<String> {
+    let positions = matches.opt_positions(name).into_iter();
+    positions.map(|place| place.to_string()).collect()
+}
+
+/// The positions and texts of values.
+fn pairs(matches: &Matches, name: &str) -> Vec<String> {
+    let pairs = matches.opt_strs_pos(name).into_iter();
+    let fields = pairs.flat_map(|(place, text)| [place.to_string(), text]);
+    fields.collect()
+}
+
 /// What a line asks of several names at once. Those calls that panic on an undefined name are made where
 /// all names are defined.
 fn any(matches: &Matches, names: &[String]) -> String {
@@ -249,19 +298,21 @@ fn any(matches: &Matches, names: &[String]) -> String {
     line_of(head, all)
 }
 
+/// The calls that add a group.
+pub const ADDING: [fn(&mut Options, &str, &str); 7] = [
+    |options, short, long| _ = options.opt(short, long, "", "", HasArg::No, Occur::Multi),
+    |options, short, long| _ = options.optflag(short, long, ""),
+    |options, short, long| _ = options.optflagmulti(short, long, ""),
+    |options, short, long| _ = options.optflagopt(short, long, "", ""),
+    |options, short, long| _ = options.optmulti(short, long, "", ""),
+    |options, short, long| _ = options.optopt(short, long, "", ""),
+    |options, short, long| _ = options.reqopt(short, long, "", ""),
+];
+
 /// Whether the Rust takes these names: nothing panics where one of its calls adds them and words are
 /// read. The calls agree.
 fn names_lawful(short: &str, long: &str) -> bool {
-    let adding: [fn(&mut Options, &str, &str); 7] = [
-        |options, short, long| _ = options.opt(short, long, "", "", HasArg::No, Occur::Multi),
-        |options, short, long| _ = options.optflag(short, long, ""),
-        |options, short, long| _ = options.optflagmulti(short, long, ""),
-        |options, short, long| _ = options.optflagopt(short, long, "", ""),
-        |options, short, long| _ = options.optmulti(short, long, "", ""),
-        |options, short, long| _ = options.optopt(short, long, "", ""),
-        |options, short, long| _ = options.reqopt(short, long, "", ""),
-    ];
-    let taken = adding.map(|add| {
+    let taken = ADDING.map(|add| {
         let names = (short.to_string(), long.to_string());
         catch_unwind(move || {
             let mut options = Options::new();

@@ -243,7 +243,7 @@ fn text(random: &mut Random, number: usize) -> Making {
         }
         if !group.long.is_empty() && random.one_in(4) {
             let letters = 8 + random.below(14);
-            group.long = std::iter::repeat("n").take(letters).collect();
+            group.long = "n".repeat(letters);
         }
     }
     making.declare(&declared);

@@ -86,9 +86,8 @@ fn item(declared: &Declared, words: &[String], kinds: &mut BTreeSet<String>) -> 
         }
         return takes && next.is_some();
     }
-    let mut letters = word.char_indices().skip(1).peekable();
     let mut place = 0;
-    while let Some((start, letter)) = letters.next() {
+    for (start, letter) in word.char_indices().skip(1) {
         place += 1;
         let at = if place == 1 { "first" } else { "later" };
         let found = if letter.is_ascii() {

@@ -2,11 +2,13 @@
 //! cases, chooses those that are recorded, and compares answers.
 
 mod answer;
+mod check;
 mod compare;
 mod form;
 mod generate;
 mod kinds;
 mod options;
+mod panics;
 mod random;
 mod record;
 mod tables;
@@ -18,7 +20,9 @@ use std::process::ExitCode;
 const USE: &str = "twin generate SEED COUNT     prints the cases of a seed
 twin answer                  answers the cases on its standard input
 twin choose SEED COUNT LEAST of so many cases of a seed prints at least LEAST that show all pairs of kinds
-twin compare CASES OURS THEIRS  compares two files of answers to a file of cases; status 1 where they differ";
+twin compare CASES OURS THEIRS  compares two files of answers to a file of cases; status 1 where they differ
+twin check ROWS              answers rows that have their answers beside them; status 1 where one differs
+twin panics                  prints what each call says that panics";
 
 fn number(word: Option<&String>) -> u64 {
     word.and_then(|word| word.parse().ok())
@@ -58,6 +62,16 @@ fn main() -> ExitCode {
             let text = |at: usize| std::fs::read_to_string(&words[at]).expect("a file");
             if compare::compare(&text(1), &text(2), &text(3)) > 0 {
                 return ExitCode::FAILURE;
+            }
+        }
+        Some("check") => {
+            if !check::check(&std::fs::read_to_string(&words[1]).expect("a file")) {
+                return ExitCode::FAILURE;
+            }
+        }
+        Some("panics") => {
+            for line in panics::lines() {
+                writeln!(out, "{line}").expect("a write");
             }
         }
         _ => {

@@ -184,9 +184,9 @@ fn near_a_row(random: &mut Random) -> String {
             let letters = (1 + random.below(14)).min(left);
             let wide = letters / 2;
             match random.below(4) {
-                0 if letters % 2 == 0 => text.extend(std::iter::repeat('日').take(wide)),
-                1 => text.extend(std::iter::repeat("e\u{301}").take(letters)),
-                _ => text.extend(std::iter::repeat('x').take(letters)),
+                0 if letters == 2 * wide => text.push_str(&"日".repeat(wide)),
+                1 => text.push_str(&"e\u{301}".repeat(letters)),
+                _ => text.push_str(&"x".repeat(letters)),
             }
             left -= letters;
             if left > 1 {

@@ -75,7 +75,8 @@ first_value_among groups [] = None
 first_value_among groups (name ∷ names) =
     option_or (first_value (found_of groups name)) (first_value_among groups names)
 
--- What a value is read as: where there is one, what this reading gives for it; else nothing.
+-- What a value is read as: where there is one, what this reading gives for it, and never nothing;
+-- else nothing.
 abbrev pub IsReadAs : {T E : Type 0} → (Text → Result T E → Type 0)
     → Option Text → Result (Option T) E → Type 0
 IsReadAs gives None answer = answer ≡ Ok None

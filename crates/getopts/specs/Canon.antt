@@ -1,16 +1,18 @@
 -- The canonical line: what a line says, written again with main names alone; what such a line
 -- tells, and where there is none.
-use Rattle.std.specs.Prelude.{◌≡◌, ◌↔◌, ⊤, ℕ, Bool, false, List, [], ◌∷◌, ◌++◌, map, Option, Some}
-use Rattle.std.specs.Prelude.{None, slice_get}
+use Rattle.std.specs.Prelude.{◌≡◌, ◌≢◌, ◌↔◌, ⊤, ℕ, Bool, false, List, [], ◌∷◌, ◌++◌, map, Option}
+use Rattle.std.specs.Prelude.{Some, None, slice_get}
 use Rattle.std.specs.List.{AllByRecursion, Contains}
 use Rattle.std.specs.Option.{option_map_or}
+use Rattle.getopts.specs.Only.{IsTheOnly}
 use Rattle.getopts.specs.Names.{Text, main_name, resolution}
 use Rattle.getopts.specs.Options.{Group, Declared, names_of, Grammar, grammar_of}
 use Rattle.getopts.specs.Scan.{holds_equals, stop_word, Argument, none, attached, two, Item, long}
-use Rattle.getopts.specs.Scan.{long_word, spelled, IsLawfulItem, stop, Reading, IsReading, Mention}
-use Rattle.getopts.specs.Scan.{mentions, free_words}
+use Rattle.getopts.specs.Scan.{long_word, item_words, IsLawfulItem, stop, Reading, IsReading}
+use Rattle.getopts.specs.Scan.{Mention, mentions, free_words}
 use Rattle.getopts.specs.ScanLaws.{mentions_of}
 use Rattle.getopts.specs.Matches.{matches_of, KeepsCounts}
+use Rattle.getopts.specs.Parse.{Reads}
 use Rattle.getopts.specs.declared.groups.HasArg.{HasArg}
 use Rattle.getopts.specs.declared.groups.HasArg.TheVariants.{Yes, No, Maybe}
 use Rattle.getopts.specs.declared.groups.ParsingStyle.{ParsingStyle}
@@ -91,14 +93,20 @@ pub record IsCountKeeping (options : Declared) (reading : Reading) (words : List
   pub reads : IsReading (grammar_of options) reading words
   pub keeps : KeepsCounts (matches_of options reading).groups
 
--- A line says a content: in some style and mode it has a reading with this content that keeps the
--- counts.
+-- The words are accepted with this content: they have one reading, which keeps the counts, and the
+-- content is what it says.
+pub record IsAcceptedWith (options : Declared) (words : List Text) (content : Content)
+    : Type 0 where
+  pub reading : Reading
+  pub only : IsTheOnly (Reads options words) reading
+  pub counts : KeepsCounts (matches_of options reading).groups
+  pub content_is : content ≡ content_of (grammar_of options) reading
+
+-- A line says a content: in some style and mode it is accepted with it.
 pub record Says (options : Declared) (words : List Text) (content : Content) : Type 0 where
   pub style : ParsingStyle
   pub long_only : Bool
-  pub reading : Reading
-  pub reads : IsCountKeeping (with_setting options style long_only) reading words
-  pub content_is : content ≡ content_of (grammar_of (with_setting options style long_only)) reading
+  pub accepted : IsAcceptedWith (with_setting options style long_only) words content
 
 -- The canonical line of a content reads back: its canonical reading keeps the counts and has that
 -- content.
@@ -107,47 +115,30 @@ pub record ReadsBack (options : Declared) (content : Content) : Type 0 where
       (canonical_line options.groups content)
   pub same : content_of (grammar_of options) (canonical_reading options.groups content) ≡ content
 
--- the canonical line reads back in both styles and both modes
-abbrev pub ReadsBackEverywhere : Declared → Content → Type 0
-ReadsBackEverywhere options content = (style : ParsingStyle) (long_only : Bool)
-    → ReadsBack (with_setting options style long_only) content
-
--- in both styles and both modes the canonical line of a content says that content alone
-abbrev pub SaysNothingElse : Declared → Content → Type 0
-SaysNothingElse options content = (other : Content)
-    → Says options (canonical_line options.groups content) other
-    → other ≡ content
-
--- A canonical line is its own: in both styles and both modes, the canonical line of what it says is
--- that line.
-abbrev pub IsItsOwn : Declared → Content → Type 0
-IsItsOwn options content = (other : Content)
-    → Says options (canonical_line options.groups content) other
-    → canonical_line options.groups other ≡ canonical_line options.groups content
-
--- a sound and plain content of these groups has this content's canonical line exactly if it is this
--- content
-abbrev pub IsOnlyContent : List Group → Content → Type 0
-IsOnlyContent groups content = (other : Content) → IsSound groups other → IsPlain groups other
-    → (canonical_line groups other ≡ canonical_line groups content) ↔ (other ≡ content)
-
--- the laws of the canonical line of a content that is plain and that some line says
+-- The laws of the canonical line of a content that is plain and that some line says. In both styles
+-- and both modes it reads back, it says that content alone, and the canonical line of what it says
+-- is that line; and of sound and plain contents it is that of this one only.
 pub record HasCanonicalLine (options : Declared) (content : Content) : Type 0 where
   pub sound : IsSound options.groups content
-  pub reads_back : ReadsBackEverywhere options content
-  pub says_nothing_else : SaysNothingElse options content
-  pub its_own : IsItsOwn options content
-  pub only : IsOnlyContent options.groups content
+  pub reads_back : (style : ParsingStyle) (long_only : Bool)
+      → ReadsBack (with_setting options style long_only) content
+  pub says_nothing_else : (other : Content)
+      → Says options (canonical_line options.groups content) other
+      → other ≡ content
+  pub its_own : (other : Content)
+      → Says options (canonical_line options.groups content) other
+      → canonical_line options.groups other ≡ canonical_line options.groups content
+  pub only : (other : Content) → IsSound options.groups other → IsPlain options.groups other
+      → (canonical_line options.groups other ≡ canonical_line options.groups content)
+      ↔ (other ≡ content)
 
--- in neither style and neither mode does the canonical word of this mention begin a lawful item
--- with just this mention
+-- in neither style and neither mode is the canonical word of this mention the first word of a
+-- lawful item with just this mention
 abbrev pub HasNoItem : Declared → Mention → Type 0
-HasNoItem options m = (style : ParsingStyle) (long_only : Bool)
-    (item : Item) (after others : List Text)
+HasNoItem options m = (style : ParsingStyle) (long_only : Bool) (item : Item)
     → IsLawfulItem (grammar_of (with_setting options style long_only)) item
     → mentions (grammar_of (with_setting options style long_only)) item ≡ m ∷ []
-    → spelled item after ≡ canonical_word options.groups m ∷ others
-    → ⊥
+    → slice_get (item_words item) 0 ≢ Some (canonical_word options.groups m)
 
 -- some mention of a content can't be written by its canonical word
 pub record HasUnwritable (options : Declared) (content : Content) : Type 0 where

@@ -3,5 +3,6 @@ pub mod Groups
 pub mod Options
 pub mod Found
 pub mod Accepted
+pub mod Matched
 pub mod Occurrences
 pub mod Matches

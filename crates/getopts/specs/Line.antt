@@ -78,7 +78,7 @@ pub record IsEnding (kind : HasArg) (rest : Text) (after : List Text) (value : O
   pub value_is : value ≡ value_of argument
   pub rest_is : rest ≡ unwrap_or (attached_argument argument) []
   pub within : used ≤ length after
-  pub after_is : after ≡ argument_words argument (drop used after)
+  pub after_is : after ≡ argument_words argument ++ drop used after
   pub followed : argument ≡ none → EndsOrIsDashed (drop used after)
 
 -- The words have a reading with what the line holds.

@@ -92,27 +92,27 @@ abbrev pub end_text : End → Text
 end_text flags = []
 end_text (ends_in option argument) = option ∷ unwrap_or (attached_argument argument) []
 
--- a separate argument is the next word: the words that an argument adds before those that follow
-abbrev pub argument_words : Argument → List Text → List Text
-argument_words (separate word) more = word ∷ more
-argument_words argument more = more
+-- a separate argument is a word of its own
+abbrev pub argument_words : Argument → List Text
+argument_words (separate word) = word ∷ []
+argument_words argument = []
 
--- the words that an end adds before those that follow
-abbrev pub end_words : End → List Text → List Text
-end_words flags more = more
-end_words (ends_in option argument) more = argument_words argument more
+-- the words of an end after the cluster's word
+abbrev pub end_words : End → List Text
+end_words flags = []
+end_words (ends_in option argument) = argument_words argument
 
--- the words that an item spells, before those that follow
-abbrev pub spelled : Item → List Text → List Text
-spelled (free word) more = word ∷ more
-spelled (long dashes name argument) more =
-    long_word dashes name (attached_argument argument) ∷ argument_words argument more
-spelled (cluster names end) more = (dash ∷ (names ++ end_text end)) ∷ end_words end more
+-- the words that an item spells
+abbrev pub item_words : Item → List Text
+item_words (free word) = word ∷ []
+item_words (long dashes name argument) =
+    long_word dashes name (attached_argument argument) ∷ argument_words argument
+item_words (cluster names end) = (dash ∷ (names ++ end_text end)) ∷ end_words end
 
 -- the words that items spell one after the other, before those that follow
 abbrev pub spelled_all : List Item → List Text → List Text
 spelled_all [] more = more
-spelled_all (item ∷ items) more = spelled item (spelled_all items more)
+spelled_all (item ∷ items) more = item_words item ++ spelled_all items more
 
 -- which dashes may stand before a name: two; in long-only mode one too, where the name begins with
 -- no dash
@@ -228,7 +228,7 @@ pub record IsReading (grammar : Grammar) (reading : Reading) (words : List Text)
 -- a line begins with this item, and these words follow it
 pub record BeginsWith (grammar : Grammar) (words : List Text) (item : Item) (more : List Text)
     : Type 0 where
-  pub spells : words ≡ spelled item more
+  pub spells : words ≡ item_words item ++ more
   pub lawful : IsLawfulItem grammar item
   pub followed : is_bare item ≡ true → EndsOrIsDashed more
 

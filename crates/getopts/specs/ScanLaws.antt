@@ -7,11 +7,11 @@ use Rattle.std.specs.List.Sorted.{IsNonDecreasingBy}
 use Rattle.getopts.specs.Names.{Text}
 use Rattle.getopts.specs.Options.{Grammar}
 use Rattle.getopts.specs.Scan.{begins_with_dash, Argument, attached, separate, Dashes, End, flags}
-use Rattle.getopts.specs.Scan.{ends_in, Item, long, cluster, end_text, spelled, spelled_all}
+use Rattle.getopts.specs.Scan.{ends_in, Item, long, cluster, end_text, item_words, spelled_all}
 use Rattle.getopts.specs.Scan.{is_bare, Tail, line_end, stop, tail_words, Reading, IsReading}
 use Rattle.getopts.specs.Scan.{Mention, mentions, Occurrence, occurrence_at, word_count}
 use Rattle.getopts.specs.Scan.{occurrences_of, free_words, trailing_start}
-use Rattle.getopts.specs.Matches.{Found, MatchedGroup}
+use Rattle.getopts.specs.Matches.{MatchedGroup}
 use Rattle.getopts.specs.declared.groups.HasArg.TheVariants.{Yes}
 
 -- what a reading mentions, in the order of the line: its occurrences without their positions
@@ -30,26 +30,13 @@ reading_of front middle back tail = record { items = front ++ (middle ++ back); 
 abbrev pub positions_in : Grammar → Reading → List ℕ
 positions_in grammar reading = map (λ o. o.position) (occurrences_of grammar reading)
 
--- How the positions of a new reading may differ from those of the old one, where an item at this
--- position was replaced. They are the same.
-abbrev pub AreSame : ℕ → List ℕ → List ℕ → Type 0
-AreSame position old new = new ≡ old
-
--- they may be any
-abbrev pub AreAny : ℕ → List ℕ → List ℕ → Type 0
-AreAny position old new = ⊤
-
 -- the position, or the next where it stands after this one
 abbrev pub one_higher_after : ℕ → ℕ → ℕ
 one_higher_after position other = if nat_le other position then other else other + 1
 
--- those after the item are one higher
+-- of the positions of two readings, those after this one are one higher in the second
 abbrev pub AreHigherAfter : ℕ → List ℕ → List ℕ → Type 0
 AreHigherAfter position old new = new ≡ map (one_higher_after position) old
-
--- those after the item are one lower: one higher, they are the old ones
-abbrev pub AreLowerAfter : ℕ → List ℕ → List ℕ → Type 0
-AreLowerAfter position old new = old ≡ map (one_higher_after position) new
 
 -- The new reading is one of the words that it spells, it has the old one's mentions, free words and
 -- trailing start, and its positions are to the old one's as `Alike` says.
@@ -63,39 +50,35 @@ pub record ReadsAlike (grammar : Grammar) (Alike : List ℕ → List ℕ → Typ
 
 -- wherever the item stands in a reading of a line, the reading with the others in its place is
 -- alike, where `Alike` may ask for the item's position
-abbrev pub MayStandFor : Grammar → (ℕ → List ℕ → List ℕ → Type 0)
-    → List Item → Item → Type 0
-MayStandFor grammar Alike others item = (front back : List Item) (tail : Tail) (words : List Text)
+abbrev pub Respells : Grammar → Item → List Item → (ℕ → List ℕ → List ℕ → Type 0) → Type 0
+Respells grammar item others Alike = (front back : List Item) (tail : Tail) (words : List Text)
     → IsReading grammar (reading_of front (item ∷ []) back tail) words
     → ReadsAlike grammar (Alike (word_count front))
     (reading_of front (item ∷ []) back tail) (reading_of front others back tail)
 
+-- either item may stand for the other, but that positions of later items are one higher with the
+-- longer
+pub record AreOneWordApart (grammar : Grammar) (shorter longer : Item) : Type 0 where
+  pub to_longer : Respells grammar shorter (longer ∷ []) AreHigherAfter
+  pub to_shorter : Respells grammar longer (shorter ∷ [])
+      (λ position old new. AreHigherAfter position new old)
+
 -- A long argument attached or separate: `--name=argument` and `--name`, `argument` read alike,
 -- where the name's kind is Yes, but that positions of later items are one higher with the latter.
 pub record LongAttachedOrSeparate (grammar : Grammar) : Type 0 where
-  pub to_separate : (dashes : Dashes) (name argument : Text)
+  pub either : (dashes : Dashes) (name argument : Text)
       → grammar.kind_of name ≡ Some Yes
-      → MayStandFor grammar AreHigherAfter
-      (long dashes name (separate argument) ∷ []) (long dashes name (attached argument))
-  pub to_attached : (dashes : Dashes) (name argument : Text)
-      → grammar.kind_of name ≡ Some Yes
-      → MayStandFor grammar AreLowerAfter
-      (long dashes name (attached argument) ∷ []) (long dashes name (separate argument))
+      → AreOneWordApart grammar
+      (long dashes name (attached argument)) (long dashes name (separate argument))
 
 -- A short argument attached or separate: `-xargument` and `-x`, `argument` read alike, also after
 -- flags, where the kind of `x` is Yes and the argument isn't empty, but that positions of later
 -- items are one higher with the latter.
 pub record ShortAttachedOrSeparate (grammar : Grammar) : Type 0 where
-  pub to_separate : (names : List ℕ) (option : ℕ) (argument : Text)
-      → grammar.kind_of (option ∷ []) ≡ Some Yes
-      → MayStandFor grammar AreHigherAfter
-      (cluster names (ends_in option (separate argument)) ∷ [])
-      (cluster names (ends_in option (attached argument)))
-  pub to_attached : (names : List ℕ) (option : ℕ) (argument : Text)
+  pub either : (names : List ℕ) (option : ℕ) (argument : Text)
       → grammar.kind_of (option ∷ []) ≡ Some Yes
       → argument ≢ []
-      → MayStandFor grammar AreLowerAfter
-      (cluster names (ends_in option (attached argument)) ∷ [])
+      → AreOneWordApart grammar (cluster names (ends_in option (attached argument)))
       (cluster names (ends_in option (separate argument)))
 
 -- A cluster splits: `-xs` and `-x`, `-s` read alike but for positions, where `x` is a flag and `s`
@@ -104,16 +87,17 @@ pub record ClusterSplits (grammar : Grammar) : Type 0 where
   pub after_flag : (flag : ℕ) (names : List ℕ) (end : End)
       → names ++ end_text end ≢ []
       → begins_with_dash (names ++ end_text end) ≡ false
-      → MayStandFor grammar AreAny
-      (cluster (flag ∷ []) flags ∷ cluster names end ∷ []) (cluster (flag ∷ names) end)
+      → Respells grammar (cluster (flag ∷ names) end)
+      (cluster (flag ∷ []) flags ∷ cluster names end ∷ []) (λ position old new. ⊤)
 
--- One dash or two: in long-only mode `-name` and `--name` read alike, where the name doesn't begin
--- with `-`.
+-- One dash or two: in long-only mode `-name` and `--name` read alike, positions too, where the name
+-- doesn't begin with `-`.
 pub record OneDashOrTwo (grammar : Grammar) : Type 0 where
   pub other_dashes : (dashes other : Dashes) (name : Text) (argument : Argument)
       → grammar.long_only ≡ true
       → begins_with_dash name ≡ false
-      → MayStandFor grammar AreSame (long other name argument ∷ []) (long dashes name argument)
+      → Respells grammar (long dashes name argument) (long other name argument ∷ [])
+      (λ position old new. new ≡ old)
 
 -- whether the last item is a bare cluster
 abbrev pub is_last_bare : List Item → Bool
@@ -172,13 +156,10 @@ pub record FreeWordsAreSubsequence (grammar : Grammar) : Type 0 where
       → IsReading grammar reading words
       → IsSubsequence (free_words reading) words
 
--- the positions of a group's occurrences never decrease
-abbrev pub NeverDecrease : List Found → Type 0
-NeverDecrease founds = IsNonDecreasingBy (λ found. found.position) founds
-
--- each group that matches hold has its positions in order
+-- the positions of each group that matches hold never decrease
 abbrev pub HavePositionsInOrder : List MatchedGroup → Type 0
-HavePositionsInOrder groups = AllByRecursion (λ group. NeverDecrease group.found) groups
+HavePositionsInOrder groups =
+    AllByRecursion (λ group. IsNonDecreasingBy (λ found. found.position) group.found) groups
 
 -- An occurrence stands in an item: it is one of the item's mentions, and its position is the number
 -- of words that the items before spell; the word there is the item's first.
@@ -190,8 +171,7 @@ pub record StandsInItem (grammar : Grammar) (reading : Reading) (words : List Te
   pub items_are : reading.items ≡ before ++ item ∷ after
   pub mentioned :
       Contains (map (occurrence_at (word_count before)) (mentions grammar item)) occurrence
-  pub below : occurrence.position < length words
-  pub first_word : slice_get words occurrence.position ≡ slice_get (spelled item []) 0
+  pub first_word : slice_get words occurrence.position ≡ slice_get (item_words item) 0
 
 -- Positions are indexes of words: each occurrence of a reading stands in an item, at its first
 -- word.

@@ -3,18 +3,14 @@ use Rattle.std.specs.Prelude.{◌≡◌, ◌<◌, List, length, map, Some, IsSom
 use Rattle.std.specs.List.{AllByRecursion}
 use Rattle.getopts.specs.Names.{Text}
 use Rattle.getopts.specs.Options.{Declared, Declares, knowns_of, kind_of, occurrence_of}
-use Rattle.getopts.specs.Matches.{Found, MatchedGroup}
+use Rattle.getopts.specs.Matches.{Matched, MatchedGroup}
+use Rattle.getopts.specs.Parse.{IsAccepted}
 use Rattle.getopts.specs.Accessors.{IsDefined, found_of, first_value}
 use Rattle.getopts.specs.Canon.{FitsKind}
-use Rattle.getopts.specs.ScanLaws.{EndIn}
-use Rattle.getopts.specs.declared.groups.HasArg.{HasArg}
+use Rattle.getopts.specs.ScanLaws.{HavePositionsBelow, EndIn}
 use Rattle.getopts.specs.declared.groups.HasArg.TheVariants.{Yes}
 use Rattle.getopts.specs.declared.groups.Occur.TheVariants.{Req}
 use Rattle.getopts.specs.declared.groups.ParsingStyle.TheVariants.{StopAtFirstFree}
-
--- each occurrence has a value, or none, as this kind of argument wants
-abbrev pub HaveValuesFor : HasArg → List Found → Type 0
-HaveValuesFor kind founds = AllByRecursion (λ found. FitsKind kind found.value) founds
 
 -- the groups that matches hold are those of the options, in names and kinds
 abbrev pub AreGroupsOf : Declared → List MatchedGroup → Type 0
@@ -23,7 +19,8 @@ AreGroupsOf options groups = map (λ group. group.known) groups ≡ knowns_of op
 -- the occurrences of each group have values as its kind wants
 abbrev pub HaveValuesByKind : List MatchedGroup → Type 0
 HaveValuesByKind groups =
-    AllByRecursion (λ group. HaveValuesFor group.known.kind group.found) groups
+    AllByRecursion (λ group. AllByRecursion (λ found. FitsKind group.known.kind found.value)
+    group.found) groups
 
 -- each name that the options declare is defined
 abbrev pub DefineDeclared : Declared → List MatchedGroup → Type 0
@@ -42,3 +39,10 @@ HoldNeededValues options groups = (name : Text) → kind_of options.groups name 
 -- under `StopAtFirstFree` the free words are the last words of the line
 abbrev pub HaveLastWordsFree : Declared → List Text → List Text → Type 0
 HaveLastWordsFree options words free = options.style ≡ StopAtFirstFree → EndIn words free
+
+-- The options accept the words with these matches, whose positions are indexes of words; and under
+-- `StopAtFirstFree` the words end in the free words.
+pub record Accepts (options : Declared) (words : List Text) (matches : Matched) : Type 0 where
+  pub accepted : IsAccepted options words matches
+  pub positions_below : HavePositionsBelow (length words) matches.groups
+  pub free_last : HaveLastWordsFree options words matches.free

@@ -50,9 +50,9 @@ pub(crate) fn counted(alloc: Global, groups: &Groups, found: &Found) -> Result<I
 {
     let index = index_of(alloc, groups, found)?;
     for place in 0..groups.len() {
-        if let Some(occur) = groups.occur(place) {
+        if let Some(kinds) = groups.kinds_at(place) {
             let count = index.count(place);
-            if !fits_count(occur, count) {
+            if !fits_count(kinds.occur, count) {
                 return Err(broken_count(alloc, groups.main(place), count));
             }
         }

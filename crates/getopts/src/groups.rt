@@ -78,11 +78,9 @@ pub(crate) struct Known<'g> {
 /// A group with its texts for usage, borrowed.
 #[derive(Clone, Copy)]
 pub(crate) struct Group<'g> {
-    pub names: Names<'g>,
+    pub known: Known<'g>,
     pub hint: &'g str,
     pub desc: &'g str,
-    pub hasarg: HasArg,
-    pub occur: Occur,
 }
 
 /// What reading asks of groups: the names of each, the short one first, and its kinds.
@@ -112,7 +110,7 @@ impl Model for Groups {
 }
 
 impl Groups {
-    ghost use Rattle.getopts.specs.Held.Groups.{known_view, known_with};
+    ghost use Rattle.getopts.specs.Held.Groups.{kinds_of, known_view, known_with};
 
     /// No groups. Takes no memory.
     pub(crate) fn new(alloc: Global) -> Groups
@@ -137,19 +135,11 @@ impl Groups {
         &self.names
     }
 
-    /// The kind of argument of the group at a place.
-    pub(crate) fn hasarg(&self, place: usize) -> Option<HasArg>
-        ensures { result ≡ option_map (λ known. known.kind) (slice_get self.now place) }
+    /// The kinds of the group at a place.
+    pub(crate) fn kinds_at(&self, place: usize) -> Option<Kinds>
+        ensures { result ≡ option_map kinds_of (slice_get self.now place) }
     {
-        Some(self.kinds.get(place)?.hasarg)
-    }
-
-    /// How often the group at a place may come.
-    pub(crate) fn occur(&self, place: usize) -> Option<Occur>
-        ensures { result
-            ≡ option_map (λ known. known.occurrence) (slice_get self.now place) }
-    {
-        Some(self.kinds.get(place)?.occur)
+        Some(*self.kinds.get(place)?)
     }
 
     /// The main name of the group at a place. Past the last group it is empty.

@@ -1,8 +1,8 @@
 //! Laws to cite: the main theorem, and what else holds of all options, words and matches. They do nothing.
 
-ghost use Rattle.getopts.specs.Canon.{IsSound, ReadsBackEverywhere, SaysNothingElse, IsItsOwn, IsOnlyContent};
-ghost use Rattle.getopts.specs.CanonAnswers.{EachContent, EachPlainContent, AnsweredLinesTell};
-ghost use Rattle.std.specs.Prelude.{List};
+ghost use Rattle.getopts.specs.Canon.{Content, Says, IsSound, IsPlain, HasCanonicalLine, with_setting};
+ghost use Rattle.getopts.specs.declared.groups.ParsingStyle.{ParsingStyle};
+ghost use Rattle.std.specs.Prelude.{List, Bool};
 ghost use Rattle.getopts.specs.Accessors.{held_names};
 ghost use Rattle.getopts.specs.CanonAnswers.{IsParseAnswer, IsCanonicalAnswer, HasOneAnswer};
 ghost use Rattle.getopts.specs.Names.{Text, MainNameResolves, OneByteIsShort, EmptyResolvesNot};
@@ -22,9 +22,12 @@ use crate::options::Options;
 /// Occurrences are the same where they are of the same options, in the same order, with the same
 /// values; their positions may differ. This is a law to cite, which does nothing.
 pub fn one_reading_one_canonical_line(options: &Options)
-    // Words have one reading at most; they are accepted exactly when it is there and keeps the
-    // counts, and else refused with the first fault: of three cases one holds, and no two.
+    // Words have one reading at most, in each style and each mode. They are accepted exactly when it is
+    // there and keeps the counts, and else refused with the first fault: of three cases one holds, and
+    // no two.
     ensures one_reading { OneReading options.now }
+    ensures one_reading_in_each { (style : ParsingStyle) (long_only : Bool)
+        → OneReading (with_setting options.now style long_only) }
     ensures accepted { AcceptedExactlyWhen options.now }
     ensures refused { RefusedExactlyWhen options.now }
     ensures one_of_three { OneOfThree options.now }
@@ -35,21 +38,19 @@ pub fn one_reading_one_canonical_line(options: &Options)
     // Words that say the same give matches that are the same but for positions.
     ensures holds_same { OneContentHoldsSame options.now }
 
-    // Canonical lines are equal exactly if they say the same: of contents, and of answers.
+    // Canonical lines are equal exactly if they say the same. Each reads back in both styles and both
+    // modes, says nothing else, is its own, and is that of no other content.
     ensures canonical_lines_tell { CanonicalLinesTell options.now }
-    ensures answered_lines_tell { AnsweredLinesTell options.now }
-
-    // A canonical line reads back in both styles and both modes, says nothing else, and is its own.
-    ensures reads_back { EachPlainContent options.now (ReadsBackEverywhere options.now) }
-    ensures says_nothing_else { EachPlainContent options.now (SaysNothingElse options.now) }
-    ensures its_own { EachPlainContent options.now (IsItsOwn options.now) }
-    ensures only_content { EachPlainContent options.now (IsOnlyContent options.now.groups) }
+    ensures canonical_lines { (words : List Text) (content : Content)
+        → Says options.now words content → IsPlain options.now.groups content
+        → HasCanonicalLine options.now content }
 
     // Other spellings of a line, lines one after the other, and where free words and occurrences stand.
     ensures reading_laws { KeepsReadingLaws (grammar_of options.now) }
 
     // Each option that a line mentions is what its own main name stands for.
-    ensures sound { EachContent options.now (IsSound options.now.groups) }
+    ensures sound { (words : List Text) (content : Content)
+        → Says options.now words content → IsSound options.now.groups content }
 {
     let _groups = options.groups();
 }

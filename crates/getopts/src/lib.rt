@@ -11,6 +11,7 @@ mod groups;
 mod index;
 mod laws;
 mod line;
+mod matched;
 mod matches;
 mod matches_eq;
 mod names;

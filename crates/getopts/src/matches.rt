@@ -7,9 +7,8 @@ ghost use Rattle.getopts.specs.Held.Accepted.{IsHeldLine};
 
 use crate::accepted::AcceptedLine;
 use crate::groups::Groups;
-use crate::index::Index;
-use crate::line::Found;
-use crate::table::Table;
+use crate::line::Line;
+use crate::matched::MatchedGroups;
 use std::alloc::AllocError;
 use std::marker::Model;
 
@@ -19,22 +18,17 @@ pub struct Matches {
     /// The free words, in the order of the line. They are the caller's to change: no call that asks
     /// for an option, and not `free_trailing_start` either, reads them.
     pub free: Vec<String>,
-    pub(crate) groups: Groups,
-    pub(crate) table: Table,
-    pub(crate) found: Found,
-    pub(crate) index: Index,
+    pub(crate) groups: MatchedGroups,
     pub(crate) trailing_start: Option<usize>,
 }
 
 impl Model for Matches {
     ghost use Rattle.getopts.specs.Matches.{Matched};
-    ghost use Rattle.getopts.specs.Held.Matches.{KeepsMatches, matches_view};
+    ghost use Rattle.getopts.specs.Held.Matches.{matches_view};
 
     ghost Value = { Matched };
 
     ghost view = { matches_view };
-
-    ghost invariant = { KeepsMatches };
 }
 
 impl Matches {
@@ -48,13 +42,15 @@ impl Matches {
         } }
     {
         let AcceptedLine { table, line, index } = accepted;
+        let Line {
+            found,
+            free,
+            trailing_start,
+        } = line;
         Matches {
-            free: line.free,
-            groups,
-            table,
-            found: line.found,
-            index,
-            trailing_start: line.trailing_start,
+            free,
+            groups: MatchedGroups::of(groups, table, found, index),
+            trailing_start,
         }
     }
 }
@@ -70,9 +66,6 @@ impl Clone for Matches {
         Ok(Matches {
             free: self.free.clone()?,
             groups: self.groups.clone()?,
-            table: self.table.clone()?,
-            found: self.found.clone()?,
-            index: self.index.clone()?,
             trailing_start: self.trailing_start,
         })
     }

@@ -16,28 +16,6 @@ fn same_words(words: &[String], others: &[String]) -> bool
     words == others
 }
 
-impl Matches {
-    ghost use Rattle.getopts.specs.Same.{same_matched_group};
-
-    /// Whether the groups are the same, with their occurrences.
-    fn same_groups(&self, other: &Matches) -> bool
-        ensures { result ≡ pointwise same_matched_group self.now.groups other.now.groups }
-    {
-        if self.groups != other.groups {
-            return false;
-        }
-        for place in 0..self.groups.len() {
-            if !self
-                .occurrences_at(place)
-                .same(&other.occurrences_at(place))
-            {
-                return false;
-            }
-        }
-        true
-    }
-}
-
 impl PartialEq for Matches {
     ghost use Rattle.getopts.specs.Same.{same_matches};
 
@@ -55,7 +33,7 @@ impl PartialEq for Matches {
         ensures answer { result ≡ same_matches self.now other.now }
         ensures same { IsTrue result ↔ (self.now ≡ other.now) }
     {
-        self.same_groups(other)
+        self.groups.same(&other.groups)
             && same_words(&self.free, &other.free)
             && self.trailing_start == other.trailing_start
     }

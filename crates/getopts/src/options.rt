@@ -130,7 +130,7 @@ impl Options {
 // What the other modules read of options.
 impl Options {
     ghost use Rattle.getopts.specs.Canon.{main_at};
-    ghost use Rattle.getopts.specs.Held.Groups.{HaveTextsForShorts, group_view};
+    ghost use Rattle.getopts.specs.Held.Groups.{HaveTextsForShorts, group_view, kinds_of};
     ghost use Rattle.getopts.specs.Same.{same_group};
 
     /// Whether all six parts of each group in order are the same.
@@ -168,12 +168,12 @@ impl Options {
         self.groups.names()
     }
 
-    /// The kind of argument of the group at a place.
-    pub(crate) fn hasarg(&self, place: usize) -> Option<HasArg>
+    /// The kinds of the group at a place.
+    pub(crate) fn kinds_at(&self, place: usize) -> Option<Kinds>
         ensures { result
-            ≡ option_map (λ group. group.known.kind) (slice_get self.now.groups place) }
+            ≡ option_map (λ group. kinds_of group.known) (slice_get self.now.groups place) }
     {
-        self.groups.hasarg(place)
+        self.groups.kinds_at(place)
     }
 
     /// How many groups there are.
@@ -189,13 +189,7 @@ impl Options {
     {
         let known = self.groups.get(place)?;
         let (hint, desc) = self.help.pair(place)?;
-        Some(Group {
-            names: known.names,
-            hint,
-            desc,
-            hasarg: known.kinds.hasarg,
-            occur: known.kinds.occur,
-        })
+        Some(Group { known, hint, desc })
     }
 
     /// The main name of the group at a place. Past the last group it is empty.

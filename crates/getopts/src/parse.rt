@@ -17,7 +17,7 @@ impl Options {
     ghost use Rattle.getopts.specs.Options.{grammar_of};
     ghost use Rattle.getopts.specs.ScanLaws.{LongAttachedOrSeparate, ShortAttachedOrSeparate, ClusterSplits, OneDashOrTwo, LinesCompose, TrailingStartIsAfterStop, FreeWordsAreSubsequence, PositionsAreWords, HavePositionsInOrder, HavePositionsBelow};
     ghost use Rattle.getopts.specs.Parse.{IsAccepted, IsRefused, KeepsReadingLaws};
-    ghost use Rattle.getopts.specs.Told.{AreGroupsOf, HaveValuesByKind, DefineDeclared, HoldRequiredOnce, HoldNeededValues, HaveLastWordsFree};
+    ghost use Rattle.getopts.specs.Told.{AreGroupsOf, HaveValuesByKind, DefineDeclared, HoldRequiredOnce, HoldNeededValues, HaveLastWordsFree, Accepts};
 
     /// Reads the words of a line, without the program's own name.
     ///
@@ -43,7 +43,7 @@ impl Options {
         requires can { I.can_next args }
         requires ends { IsFinite (I.remaining args) }
         ensures accepted { IfOk result (λ matches. WholeRun I.next_gives args
-            (λ run. IsAccepted self.now (texts run.items) matches)) }
+            (λ run. Accepts self.now (texts run.items) matches)) }
         ensures refused { IfErr result (λ fail. Tells fail (λ fault. WholeRun I.next_gives args
             (λ run. IsRefused self.now (texts run.items) fault))) }
 
@@ -59,8 +59,6 @@ impl Options {
         ensures needed { IfOk result (λ matches. HoldNeededValues self.now matches.groups) }
 
         // A position is the index of a word, the first one of the item that the occurrence stands in.
-        ensures positions_below { IfOk result (λ matches. WholeRun I.next_gives args
-            (λ run. HavePositionsBelow (length run.items) matches.groups)) }
         ensures positions_are_words { OnOk result (PositionsAreWords (grammar_of self.now)) }
 
         // Other spellings of an accepted line, and lines one after the other, by these options.
@@ -73,8 +71,6 @@ impl Options {
         // Where free words stand.
         ensures trailing_start { OnOk result (TrailingStartIsAfterStop (grammar_of self.now)) }
         ensures free_words { OnOk result (FreeWordsAreSubsequence (grammar_of self.now)) }
-        ensures free_last { IfOk result (λ matches. WholeRun I.next_gives args
-            (λ run. HaveLastWordsFree self.now (texts run.items) matches.free)) }
     {
         let words = words_from(alloc, args)?;
         self.parse_words(alloc, &words)

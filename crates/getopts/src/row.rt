@@ -5,7 +5,7 @@ ghost use Rattle.getopts.specs.Usage.{AddsTheOnly, IsUsageRow, argument_part, he
 ghost use Rattle.getopts.specs.Usage.{padding, short_part};
 ghost use Rattle.getopts.specs.Wrap.{width_of};
 
-use crate::groups::{Group, HasArg};
+use crate::groups::{Group, HasArg, Known};
 use crate::names::Names;
 use crate::wrap::push_description;
 use std::alloc::AllocError;
@@ -50,9 +50,10 @@ fn push_head(text: &mut String, layout: Layout, group: Group<'_>) -> Result<(), 
         ++ head layout.long_only layout.any_short (group_view group.entry)) }
 {
     text.push_str("    ")?;
-    push_short(text, layout, group.names)?;
-    push_long(text, layout, group.names.long)?;
-    push_argument(text, group.hasarg, group.hint)
+    let Known { names, kinds } = group.known;
+    push_short(text, layout, names)?;
+    push_long(text, layout, names.long)?;
+    push_argument(text, kinds.hasarg, group.hint)
 }
 
 /// Adds the short name with its dash, or what stands in its place.

@@ -155,7 +155,7 @@ impl<'o> Scanner<'o> {
             × (grammar.kind_of name.now ≡ Some option.1)) }
     {
         let place = self.table.resolve(self.options.names(), name)?;
-        Some((place, self.options.hasarg(place)?))
+        Some((place, self.options.kinds_at(place)?.hasarg))
     }
 
     /// Reads an item in long form, by its text after the dashes and the words after its first. Adds

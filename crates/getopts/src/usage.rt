@@ -8,7 +8,7 @@ ghost use Rattle.getopts.specs.Usage.{AddsRows, AreUsageRows, IsUsageText, any_s
 ghost use Rattle.getopts.specs.Usage.{option_name, option_text, short_usage_text};
 ghost use Rattle.getopts.specs.Wrap.{joined};
 
-use crate::groups::{Group, HasArg, Occur};
+use crate::groups::{Group, HasArg, Known, Occur};
 use crate::names::Names;
 use crate::options::Options;
 use crate::row::{Layout, push_argument, push_row};
@@ -203,10 +203,11 @@ impl Options {
         ensures long_only { result.long_only ≡ self.now.long_only }
         ensures any_short { result.any_short ≡ any_short self.now.groups }
     {
+        let groups = self.groups();
         let mut any_short = false;
-        for place in 0..self.group_count() {
-            if let Some(group) = self.group(place) {
-                any_short |= !group.names.short.is_empty();
+        for place in 0..groups.len() {
+            if let Some(known) = groups.get(place) {
+                any_short |= !known.names.short.is_empty();
             }
         }
         Layout {
@@ -227,17 +228,18 @@ fn push_option(text: &mut String, group: Group<'_>) -> Result<(), AllocError>
     ensures { OnOk result (string_bytes text.new ≡ string_bytes text.old
         ++ option_text (group_view group.entry)) }
 {
-    let (before, after) = match group.occur {
+    let Known { names, kinds } = group.known;
+    let (before, after) = match kinds.occur {
         Occur::Req => ("", ""),
         Occur::Optional => ("[", "]"),
         Occur::Multi => ("[", "].."),
     };
     text.push_str(before)?;
-    push_name(text, group.names)?;
-    if group.hasarg != HasArg::No {
+    push_name(text, names)?;
+    if kinds.hasarg != HasArg::No {
         text.push(' ')?;
     }
-    push_argument(text, group.hasarg, group.hint)?;
+    push_argument(text, kinds.hasarg, group.hint)?;
     text.push_str(after)
 }
 

@@ -77,11 +77,7 @@ pub struct Input {
 /// What a job declares and reads.
 pub fn input_of(alloc: Global, job: Job) -> Result<Input, AllocError> {
     match job {
-        Job::Whole(line)
-        | Job::Declare(line)
-        | Job::Read(line)
-        | Job::Accessors(line)
-        | Job::Canonical(line) => line_input(alloc, line),
+        Job::Whole(line) | Job::Read(line) | Job::Canonical(line) => line_input(alloc, line),
         Job::Equal => thousand_input(alloc),
         Job::Usage => Input::with_room(alloc, 0, 0),
         Job::Defined(count) => numbered_input(alloc, count),

@@ -2,9 +2,6 @@
 
 use std::str::FromStr;
 
-/// How many options `defined` has where no number is given.
-const DEFINED: usize = 4000;
-
 /// A line of words, with the options that read it.
 #[derive(Clone, Copy)]
 pub enum Line {
@@ -21,12 +18,8 @@ pub enum Line {
 pub enum Job {
     /// Declares, reads, and takes each count and value.
     Whole(Line),
-    /// Declares the options.
-    Declare(Line),
     /// Reads the words.
     Read(Line),
-    /// Takes each count and value, copied.
-    Accessors(Line),
     /// Writes the canonical line.
     Canonical(Line),
     /// Compares two matches that are equal.
@@ -59,7 +52,6 @@ fn whole_job(name: &str) -> Result<Job, UnknownJob> {
     match name {
         "equal" => Ok(Job::Equal),
         "usage" => Ok(Job::Usage),
-        "defined" => Ok(Job::Defined(DEFINED)),
         "memory" => Ok(Job::Memory),
         _ => Ok(Job::Whole(name.parse()?)),
     }
@@ -68,9 +60,7 @@ fn whole_job(name: &str) -> Result<Job, UnknownJob> {
 /// The job of a part and what it is of.
 fn part_of(part: &str, of: &str) -> Result<Job, UnknownJob> {
     match part {
-        "declare" => Ok(Job::Declare(of.parse()?)),
         "read" => Ok(Job::Read(of.parse()?)),
-        "accessors" => Ok(Job::Accessors(of.parse()?)),
         "canonical" => Ok(Job::Canonical(of.parse()?)),
         "defined" => Ok(Job::Defined(of.parse().map_err(|_| UnknownJob)?)),
         _ => Err(UnknownJob),

@@ -8,15 +8,13 @@
 //!   400 words. A turn declares the options, reads the words, and takes the count and the values
 //!   of each option, which are lent, and the free words. It adds up the counts and the lengths of
 //!   the texts.
-//! - `declare-LINE`, `read-LINE` and `accessors-LINE` are the parts of that turn. What comes
-//!   before the part is done once, before the turns. A turn adds the number of options or of free
-//!   words, or what the accessors that copy values give.
+//! - `read-LINE` is a part of that turn, with the options declared once, before the turns. A turn adds the
+//!   number of free words.
 //! - `canonical-LINE` writes the canonical line. A turn adds the lengths of its words.
 //! - `equal` compares the matches of a thousand `-ab` and of a thousand `-ba` by 1,000 options. A
 //!   turn adds 1 where they are equal.
 //! - `usage` writes the usage text of 5 options. A turn adds its length.
-//! - `defined-N`, or `defined` for 4,000, asks for each name of N options whether it is defined.
-//!   A turn adds how many are.
+//! - `defined-N` asks for each name of N options whether it is defined. A turn adds how many are.
 //! - `memory` reads 100,000 words by 5 options, which `memory 0` only holds. A turn adds the
 //!   number of free words.
 //!

@@ -14,9 +14,7 @@ pub fn run(alloc: Global, job: Job, times: usize) -> Result<usize, Fail> {
     let input = input_of(alloc, job)?;
     match job {
         Job::Whole(_) => whole(alloc, &input, times),
-        Job::Declare(_) => declare(alloc, &input.options, times),
         Job::Read(_) | Job::Memory => read(alloc, &input, times),
-        Job::Accessors(_) => accessors(alloc, &input, times),
         Job::Canonical(_) => canonical(alloc, &input, times),
         Job::Equal => equal(alloc, &input.options, times),
         Job::Usage => usage(alloc, times),
@@ -37,17 +35,6 @@ fn whole(alloc: Global, input: &Input, times: usize) -> Result<usize, Fail> {
     Ok(sum)
 }
 
-/// Turns that declare the options. Each adds how many they are.
-#[inline(never)]
-fn declare(alloc: Global, named: &[Named], times: usize) -> Result<usize, Fail> {
-    let mut sum = 0usize;
-    for _ in 0..times {
-        let _options = declared(alloc, named)?;
-        sum = sum.wrapping_add(named.len());
-    }
-    Ok(sum)
-}
-
 /// Turns that read the words. Each adds how many of them are free.
 #[inline(never)]
 fn read(alloc: Global, input: &Input, times: usize) -> Result<usize, Fail> {
@@ -56,17 +43,6 @@ fn read(alloc: Global, input: &Input, times: usize) -> Result<usize, Fail> {
     let mut sum = 0usize;
     for _ in 0..times {
         sum = sum.wrapping_add(free_words(alloc, &options, &words)?);
-    }
-    Ok(sum)
-}
-
-/// Turns that take what matches give, with the values copied.
-#[inline(never)]
-fn accessors(alloc: Global, input: &Input, times: usize) -> Result<usize, Fail> {
-    let matches = read_anew(alloc, input)?;
-    let mut sum = 0usize;
-    for _ in 0..times {
-        sum = sum.wrapping_add(copied(alloc, &matches, &input.options)?);
     }
     Ok(sum)
 }
@@ -219,24 +195,6 @@ fn values_length(occurrences: &Occurrences<'_>) -> usize {
         }
     }
     sum
-}
-
-/// What matches give, added up, with the values copied.
-fn copied(alloc: Global, matches: &Matches, named: &[Named]) -> Result<usize, AllocError> {
-    let mut sum = total_length(&matches.free);
-    for option in named {
-        sum = sum.wrapping_add(copied_of(alloc, matches, option.main())?);
-    }
-    Ok(sum)
-}
-
-/// The count of an option and the lengths of its values, which are copied.
-fn copied_of(alloc: Global, matches: &Matches, name: &str) -> Result<usize, AllocError> {
-    if !matches.opt_defined(name) {
-        return Ok(0);
-    }
-    let values = matches.opt_strs(alloc, name)?;
-    Ok(matches.opt_count(name).wrapping_add(total_length(&values)))
 }
 
 /// The lengths of texts, added up.

@@ -17,6 +17,7 @@ use Rattle.getopts.specs.Told.{AreGroupsOf}
 use Rattle.getopts.specs.Parse.{IsAccepted, IsRefused}
 use Rattle.getopts.specs.CanonAnswers.{IsWritten as IsCanonicalLine, IsUnwritable}
 use Rattle.getopts_c.specs.Request.{concatenated}
+use Rattle.getopts_c.specs.Answer.{bad_status, fine_status, memory_status, room_status}
 use Rattle.getopts_c.specs.Answer.{FillsFront, IsLineOf, written, unwritable, unaccepted, text_numbers}
 use Rattle.getopts_c.specs.Reply.{Rooms, IsReply, byte_rooms}
 use Rattle.getopts.specs.Same.{fault_name}
@@ -25,7 +26,7 @@ use Rattle.getopts_c.specs.Answer.{IsAnswer, accepted, refused, all_names, four_
 -- the answer to accepted words
 pub accepted_answer : (options : Declared) (words : List (Bor Text)) (names : List Text) (matches : Matched) (status : ℕ) (numbers : List ℕ) (bytes : Text)
     → all_names options.groups ≡ names → IsAccepted options (texts words) matches
-    → (status ≡ 0) × (numbers ≡ matches_numbers names matches) × (bytes ≡ matches_bytes matches)
+    → (status ≡ fine_status) × (numbers ≡ matches_numbers names matches) × (bytes ≡ matches_bytes matches)
     → IsAnswer options (texts words) status numbers bytes
 accepted_answer options words names matches status numbers bytes names_are is are =
     rw (are.0, are.1, are.2, ← names_are) (accepted matches is)
@@ -126,7 +127,7 @@ as_many_groups options groups are =
 pub written_line : (options : Declared) (words : List (Bor Text)) (line : List Text)
     (status : ℕ) (numbers : List ℕ) (bytes : Text)
     → IsCanonicalLine options (texts words) line
-    → status ≡ 0 → numbers ≡ text_numbers line → bytes ≡ concatenated line
+    → status ≡ fine_status → numbers ≡ text_numbers line → bytes ≡ concatenated line
     → IsLineOf options (texts words) status numbers bytes
 written_line options words line status numbers bytes is status_is numbers_are bytes_are =
     rw (status_is, numbers_are, bytes_are) (written line is)
@@ -134,7 +135,7 @@ written_line options words line status numbers bytes is status_is numbers_are by
 -- the answer where words have no canonical line
 pub no_line : (options : Declared) (words : List (Bor Text)) (numbers : List ℕ) (bytes : Text)
     → IsUnwritable options (texts words) → numbers ≡ [] → bytes ≡ []
-    → IsLineOf options (texts words) 0 numbers bytes
+    → IsLineOf options (texts words) fine_status numbers bytes
 no_line options words numbers bytes is numbers_are bytes_are =
     rw (numbers_are, bytes_are) (unwritable is)
 
@@ -156,7 +157,7 @@ pub if_none : {T P : Type 0} (answer : Option T) → answer ≡ None → IfNone 
 if_none {T} {P} answer is known = subst (λ x. IfNone x P) is known
 
 -- the status of a fault is below that of want of memory
-fault_status_below : (fault : Fault) → fault_status fault < 6
+fault_status_below : (fault : Fault) → fault_status fault < memory_status
 fault_status_below (argument_missing name) = omega arith
 fault_status_below (unrecognized_option name) = omega arith
 fault_status_below (option_missing name) = omega arith
@@ -165,7 +166,7 @@ fault_status_below (unexpected_argument name) = omega arith
 
 -- the status of a canonical line is below that of want of memory
 pub line_status : (options : Declared) (line : List Text) (status : ℕ) (numbers : List ℕ) (bytes : Text)
-    → IsLineOf options line status numbers bytes → status < 6
+    → IsLineOf options line status numbers bytes → status < memory_status
 line_status options line status numbers bytes (written canonical is) = omega arith
 line_status options line status numbers bytes (unwritable is) = omega arith
 line_status options line status numbers bytes (unaccepted fault is) = fault_status_below fault
@@ -186,14 +187,14 @@ module _ {T E : Type 0} (status_of : T → ℕ) (numbers_of : T → List ℕ) (b
   SaysNotBoth error = error ≡ refusal → (¬ SaysOptions) ⊎ (¬ SaysTexts)
 
   pub IsReply-handed_out : (answer : Result T E)
-      → status ≤ 8
-      → (5 < status → (new.numbers ≡ old.numbers) × (new.bytes ≡ old.bytes))
-      → (5 < status → status < 8 → new.sizes ≡ old.sizes)
-      → (status < 6 → (new.sizes.numbers ≤ length old.numbers) × (new.sizes.bytes ≤ length old.bytes))
-      → (status < 6 → IsOkAnd answer IsWhatIsWritten)
-      → (status ≡ 8 → (length old.numbers < new.sizes.numbers) ⊎ (length old.bytes < new.sizes.bytes))
-      → (status ≡ 8 → IsOkAnd answer AreItsSizes)
-      → (status ≢ 6 → status ≢ 7 → IsOk answer) → (status ≡ 7 → IsErrOf answer refusal)
+      → status ≤ room_status
+      → (memory_status ≤ status → (new.numbers ≡ old.numbers) × (new.bytes ≡ old.bytes))
+      → (memory_status ≤ status → status < room_status → new.sizes ≡ old.sizes)
+      → (status < memory_status → (new.sizes.numbers ≤ length old.numbers) × (new.sizes.bytes ≤ length old.bytes))
+      → (status < memory_status → IsOkAnd answer IsWhatIsWritten)
+      → (status ≡ room_status → (length old.numbers < new.sizes.numbers) ⊎ (length old.bytes < new.sizes.bytes))
+      → (status ≡ room_status → IsOkAnd answer AreItsSizes)
+      → (status ≢ memory_status → status ≢ bad_status → IsOk answer) → (status ≡ bad_status → IsErrOf answer refusal)
       → IfOk answer (λ t. IsSuchAnswer (status_of t) (numbers_of t) (bytes_of t))
       → OnOk answer (SaysOptions × SaysTexts) → IfErr answer SaysNotBoth
       → IsReply SaysOptions SaysTexts IsSuchAnswer status old new
@@ -249,14 +250,14 @@ module _ {T E : Type 0} (status_of : T → ℕ) (numbers_of : T → List ℕ) (b
   few_bytes none (inr few) = few
 
   pub IsReply-bytes : (answer : Result T E)
-      → status ≤ 8
-      → (5 < status → (new.numbers ≡ old.numbers) × (new.bytes ≡ old.bytes))
-      → (5 < status → status < 8 → new.sizes ≡ old.sizes)
-      → (status < 6 → (new.sizes.numbers ≤ length old.numbers) × (new.sizes.bytes ≤ length old.bytes))
-      → (status < 6 → IsOkAnd answer (IsWrittenTo new.numbers))
-      → (status ≡ 8 → (length old.numbers < new.sizes.numbers) ⊎ (length old.bytes < new.sizes.bytes))
-      → (status ≡ 8 → IsOkAnd answer HaveSizes)
-      → (status ≢ 6 → status ≢ 7 → IsOk answer) → (status ≡ 7 → IsErrOf answer refusal)
+      → status ≤ room_status
+      → (memory_status ≤ status → (new.numbers ≡ old.numbers) × (new.bytes ≡ old.bytes))
+      → (memory_status ≤ status → status < room_status → new.sizes ≡ old.sizes)
+      → (status < memory_status → (new.sizes.numbers ≤ length old.numbers) × (new.sizes.bytes ≤ length old.bytes))
+      → (status < memory_status → IsOkAnd answer (IsWrittenTo new.numbers))
+      → (status ≡ room_status → (length old.numbers < new.sizes.numbers) ⊎ (length old.bytes < new.sizes.bytes))
+      → (status ≡ room_status → IsOkAnd answer HaveSizes)
+      → (status ≢ memory_status → status ≢ bad_status → IsOk answer) → (status ≡ bad_status → IsErrOf answer refusal)
       → IfOk answer (λ t. numbers_of t ≡ [])
       → IfOk answer (λ t. IsSuchAnswer (status_of t) (numbers_of t) (bytes_of t))
       → OnOk answer (SaysOptions × SaysTexts) → IfErr answer (λ error. error ≡ refusal → (¬ SaysOptions) ⊎ (¬ SaysTexts))

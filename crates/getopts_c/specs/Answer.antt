@@ -70,6 +70,10 @@ matches_numbers names matches = map (place_number matches.groups) names
 abbrev pub matches_bytes : Matched → Text
 matches_bytes matches = flat_map group_bytes matches.groups ++ concatenated matches.free
 
+-- the status of an answer that tells no fault
+abbrev pub fine_status : ℕ
+fine_status = 0
+
 -- the status of a fault
 abbrev pub fault_status : Fault → ℕ
 fault_status (argument_missing name) = 1
@@ -78,11 +82,23 @@ fault_status (option_missing name) = 3
 fault_status (option_duplicated name) = 4
 fault_status (unexpected_argument name) = 5
 
+-- the status of want of memory, the first one with no answer
+abbrev pub memory_status : ℕ
+memory_status = 6
+
+-- the status of a bad request, which says nothing lawful
+abbrev pub bad_status : ℕ
+bad_status = 7
+
+-- the status of too little room, the last one
+abbrev pub room_status : ℕ
+room_status = 8
+
 -- What the words of a line are, by options: the status, the numbers and the bytes of the matches
 -- that they are accepted with, or of the fault that they are refused with.
 pub data IsAnswer (options : Declared) (line : List Text) : ℕ → List ℕ → Text → Type 0 where
   accepted : (matches : Matched) → IsAccepted options line matches
-      → IsAnswer options line 0 (matches_numbers (all_names options.groups) matches)
+      → IsAnswer options line fine_status (matches_numbers (all_names options.groups) matches)
       (matches_bytes matches)
   refused : (fault : Fault) → IsRefused options line fault
       → IsAnswer options line (fault_status fault)
@@ -130,8 +146,8 @@ pub record IsRowsOf (bytes : Text) (lens kinds : List ℕ) (long_only : Bool)
 -- line, no numbers where there is none, or those of the fault that the line is refused with.
 pub data IsLineOf (options : Declared) (line : List Text) : ℕ → List ℕ → Text → Type 0 where
   written : (canonical : List Text) → IsCanonicalLine options line canonical
-      → IsLineOf options line 0 (text_numbers canonical) (concatenated canonical)
-  unwritable : IsUnwritable options line → IsLineOf options line 0 [] []
+      → IsLineOf options line fine_status (text_numbers canonical) (concatenated canonical)
+  unwritable : IsUnwritable options line → IsLineOf options line fine_status [] []
   unaccepted : (fault : Fault) → IsRefused options line fault
       → IsLineOf options line (fault_status fault)
       (length (fault_name fault) ∷ []) (fault_name fault)

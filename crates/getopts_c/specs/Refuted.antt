@@ -2,9 +2,10 @@
 -- through. All are asked by a request that says no options.
 use Rattle.std.specs.Prelude.{ℕ, false, [], ◌∷◌, ◌++◌, replicate, codes, ⊤}
 use Rattle.std.specs.Str.{IsUtf8}
+use Rattle.getopts.specs.Fail.{option_missing, unexpected_argument}
 use Rattle.getopts.specs.Names.{Text}
 use Rattle.getopts.specs.Refuted.Forms.{Refutes}
-use Rattle.getopts_c.specs.Answer.{IsUsageOf, IsShortUsageOf, IsRowsOf}
+use Rattle.getopts_c.specs.Answer.{IsUsageOf, IsShortUsageOf, IsRowsOf, fault_status, fine_status}
 use Rattle.getopts_c.specs.Reply.{Rooms, rooms, byte_rooms, IsReply, IsFine, IsFineText}
 use Rattle.getopts_c.specs.Request.{SayOptions}
 use Rattle.getopts_c.specs.declared.answer.Sizes.{Sizes}
@@ -34,20 +35,22 @@ with_usage = codes "B\n\nOptions:\n\n" ++ dots 37
 
 -- the usage text is told, and its size
 abbrev pub usage_told : ℕ × Rooms
-usage_told = (0, byte_rooms with_usage (sizes 0 13))
+usage_told = (fine_status, byte_rooms with_usage (sizes 0 13))
 
 -- a success tells no more bytes than there is room for
 abbrev pub usage_is_longer_than_its_room : Type 0
 usage_is_longer_than_its_room =
-    Refutes IsUsageReply usage_told (0, byte_rooms with_usage (sizes 0 200))
+    Refutes IsUsageReply usage_told (fine_status, byte_rooms with_usage (sizes 0 200))
 
 -- a usage text tells no fault
 abbrev pub usage_tells_a_fault : Type 0
-usage_tells_a_fault = Refutes IsUsageReply usage_told (3, byte_rooms with_usage (sizes 0 13))
+usage_tells_a_fault = Refutes IsUsageReply usage_told
+    (fault_status (option_missing []), byte_rooms with_usage (sizes 0 13))
 
 -- and no numbers
 abbrev pub usage_tells_numbers : Type 0
-usage_tells_numbers = Refutes IsUsageReply usage_told (0, byte_rooms with_usage (sizes 77 13))
+usage_tells_numbers =
+    Refutes IsUsageReply usage_told (fine_status, byte_rooms with_usage (sizes 77 13))
 
 -- ---- the line of all options
 
@@ -62,22 +65,23 @@ with_line = codes "Usage: p " ++ dots 41
 
 -- the line is told, and its size
 abbrev pub line_told : ℕ × Rooms
-line_told = (0, byte_rooms with_line (sizes 0 9))
+line_told = (fine_status, byte_rooms with_line (sizes 0 9))
 
 -- a success tells no more bytes than there is room for
 abbrev pub short_usage_is_longer_than_its_room : Type 0
 short_usage_is_longer_than_its_room =
-    Refutes IsShortUsageReply line_told (0, byte_rooms with_line (sizes 0 51))
+    Refutes IsShortUsageReply line_told (fine_status, byte_rooms with_line (sizes 0 51))
 
 -- the line tells no fault
 abbrev pub short_usage_tells_a_fault : Type 0
 short_usage_tells_a_fault =
-    Refutes IsShortUsageReply line_told (5, byte_rooms with_line (sizes 0 9))
+    Refutes IsShortUsageReply line_told
+    (fault_status (unexpected_argument []), byte_rooms with_line (sizes 0 9))
 
 -- and no numbers
 abbrev pub short_usage_tells_numbers : Type 0
 short_usage_tells_numbers =
-    Refutes IsShortUsageReply line_told (0, byte_rooms with_line (sizes 77 9))
+    Refutes IsShortUsageReply line_told (fine_status, byte_rooms with_line (sizes 77 9))
 
 -- ---- the rows of the usage text
 
@@ -88,13 +92,14 @@ IsRowsReply reply = IsReply (SayOptions [] [] [] false false) ⊤
 
 -- that there are no rows is told, by one number
 abbrev pub no_rows_told : ℕ × Rooms
-no_rows_told = (0, rooms (0 ∷ []) [] (sizes 1 0))
+no_rows_told = (fine_status, rooms (0 ∷ []) [] (sizes 1 0))
 
 -- a success tells no more numbers than there is room for
 abbrev pub rows_are_more_than_their_room : Type 0
 rows_are_more_than_their_room =
-    Refutes IsRowsReply no_rows_told (0, rooms (0 ∷ []) [] (sizes 2 0))
+    Refutes IsRowsReply no_rows_told (fine_status, rooms (0 ∷ []) [] (sizes 2 0))
 
 -- rows tell no fault
 abbrev pub rows_tell_a_fault : Type 0
-rows_tell_a_fault = Refutes IsRowsReply no_rows_told (3, rooms (0 ∷ []) [] (sizes 1 0))
+rows_tell_a_fault = Refutes IsRowsReply no_rows_told
+    (fault_status (option_missing []), rooms (0 ∷ []) [] (sizes 1 0))

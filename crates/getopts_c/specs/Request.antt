@@ -1,12 +1,13 @@
 -- What bytes, lengths and kinds say: texts, and option groups.
-use Rattle.std.specs.Prelude.{◌≡◌, ℕ, ◌+◌, ◌*◌, Bool, true, false, List, [], ◌∷◌, length, map}
+use Rattle.std.specs.Prelude.{◌≡◌, ℕ, ◌+◌, Bool, true, false, List, [], ◌∷◌, length, map}
 use Rattle.std.specs.List.{flat_map}
 use Rattle.getopts.specs.Names.{Text, AreTexts, IsLawfullyNamed}
 use Rattle.getopts.specs.Options.{Group, Declared, AreLawfullyNamed}
-use Rattle.getopts.specs.Same.{kind_index, occurrence_index}
 use Rattle.getopts.specs.declared.groups.HasArg.{HasArg}
 use Rattle.getopts.specs.declared.groups.Occur.{Occur}
 use Rattle.getopts.specs.declared.groups.ParsingStyle.{ParsingStyle}
+use Rattle.getopts.specs.declared.groups.HasArg.TheVariants.{Yes, No, Maybe}
+use Rattle.getopts.specs.declared.groups.Occur.TheVariants.{Req, Optional, Multi}
 use Rattle.getopts.specs.declared.groups.ParsingStyle.TheVariants.{FloatingFrees, StopAtFirstFree}
 
 -- texts one after the other
@@ -23,9 +24,21 @@ abbrev pub group_texts : Group → List Text
 group_texts group = group.known.names.short ∷ group.known.names.long
     ∷ group.hint ∷ group.description ∷ []
 
--- the number of two kinds
+-- the number of a kind of argument
+abbrev pub argument_number : HasArg → ℕ
+argument_number Yes = 0
+argument_number No = 3
+argument_number Maybe = 6
+
+-- the number of a kind of occurrence
+abbrev pub occurrence_number : Occur → ℕ
+occurrence_number Req = 0
+occurrence_number Optional = 1
+occurrence_number Multi = 2
+
+-- the number of two kinds: their numbers added
 abbrev pub kind_number : HasArg → Occur → ℕ
-kind_number kind occurrence = 3 * kind_index kind + occurrence_index occurrence
+kind_number kind occurrence = argument_number kind + occurrence_number occurrence
 
 -- the number of a group's kinds
 abbrev pub group_number : Group → ℕ

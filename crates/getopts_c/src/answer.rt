@@ -12,7 +12,9 @@ ghost use Rattle.getopts_c.specs.Request.{IsCut, SayOptions, SayTexts, concatena
 ghost use Rattle.getopts_c.specs.Answer.{IsAnswer, IsAnswered, IsCanonicalOf, IsLineOf, FillsFront};
 ghost use Rattle.getopts_c.specs.Answer.{IsRowsOf, IsShortUsageOf, IsUsageOf};
 ghost use Rattle.getopts.specs.Same.{fault_name};
-ghost use Rattle.getopts_c.specs.Answer.{all_names, fault_status, four_names};
+ghost use Rattle.getopts_c.specs.Answer.{all_names, four_names};
+ghost use Rattle.getopts_c.specs.Answer.{bad_status, fault_status, fine_status, memory_status};
+ghost use Rattle.getopts_c.specs.Answer.{room_status};
 ghost use Rattle.getopts_c.specs.Answer.{found_bytes, found_numbers, group_bytes, group_numbers};
 ghost use Rattle.getopts_c.specs.Answer.{matches_bytes, matches_numbers, optional_number};
 ghost use Rattle.getopts_c.specs.Answer.{place_number, text_numbers};
@@ -29,10 +31,23 @@ pub struct Sizes {
     pub bytes: usize,
 }
 
+/// The status of an answer that tells no fault.
+const FINE: u32 = 0;
+/// The status where an option lacks its argument.
+const ARGUMENT_MISSING: u32 = 1;
+/// The status where no option has a name.
+const UNRECOGNIZED_OPTION: u32 = 2;
+/// The status where a required option isn't there.
+const OPTION_MISSING: u32 = 3;
+/// The status where an option came too often.
+const OPTION_DUPLICATED: u32 = 4;
+/// The status where an argument is given to an option that takes none.
+const UNEXPECTED_ARGUMENT: u32 = 5;
+/// The status where memory was refused.
 const NO_MEMORY: u32 = 6;
-
+/// The status where nothing lawful is what the bytes say.
 const BAD: u32 = 7;
-
+/// The status where there was too little room.
 const TOO_SMALL: u32 = 8;
 
 /// What an answer holds.
@@ -195,17 +210,17 @@ impl Body {
 impl Answer {
     /// Hands an answer to a caller: its size, and what it holds where there is room.
     fn handed_out(&self, numbers: &mut [usize], bytes: &mut [u8], sizes: &mut Sizes) -> u32
-        requires { self.now.status < 6 }
-        ensures known { 5 < result → result ≡ 8 }
-        ensures untouched { 5 < result →
+        requires { self.now.status < memory_status }
+        ensures known { memory_status ≤ result → result ≡ room_status }
+        ensures untouched { memory_status ≤ result →
             (numbers.new ≡ numbers.old) × (bytes.new ≡ bytes.old) }
         ensures sizes_told { (sizes.new.numbers ≡ length self.now.body.numbers.items)
             × (sizes.new.bytes ≡ length (string_bytes self.now.body.bytes)) }
-        ensures small { result ≡ 8 →
+        ensures small { result ≡ room_status →
             (length numbers.old < sizes.new.numbers) ⊎ (length bytes.old < sizes.new.bytes) }
-        ensures within { result < 6 → (sizes.new.numbers ≤ length numbers.old)
+        ensures within { result < memory_status → (sizes.new.numbers ≤ length numbers.old)
             × (sizes.new.bytes ≤ length bytes.old) }
-        ensures written { result < 6 → (result ≡ self.now.status)
+        ensures written { result < memory_status → (result ≡ self.now.status)
             × FillsFront self.now.body.numbers.items numbers.new sizes.new.numbers
             × FillsFront (string_bytes self.now.body.bytes) bytes.new sizes.new.bytes }
     {
@@ -230,21 +245,23 @@ impl Answer {
         bytes: &mut [u8],
         sizes: &mut Sizes,
     ) -> u32
-        requires { IfOk answer (λ answer. answer.status < 6) }
-        ensures known { result ≤ 8 }
-        ensures untouched { 5 < result →
+        requires { IfOk answer (λ answer. answer.status < memory_status) }
+        ensures known { result ≤ room_status }
+        ensures untouched { memory_status ≤ result →
             (numbers.new ≡ numbers.old) × (bytes.new ≡ bytes.old) }
-        ensures untold { 5 < result → result < 8 → sizes.new ≡ sizes.old }
-        ensures small { result ≡ 8 →
+        ensures untold { memory_status ≤ result → result < room_status →
+            sizes.new ≡ sizes.old }
+        ensures small { result ≡ room_status →
             (length numbers.old < sizes.new.numbers) ⊎ (length bytes.old < sizes.new.bytes) }
-        ensures sizes_told { result ≡ 8 → IsOkAnd answer (λ answer.
+        ensures sizes_told { result ≡ room_status → IsOkAnd answer (λ answer.
             (sizes.new.numbers ≡ length answer.body.numbers.items)
             × (sizes.new.bytes ≡ length (string_bytes answer.body.bytes))) }
-        ensures lawful { result ≢ 6 → result ≢ 7 → IsOk answer }
-        ensures bad { result ≡ 7 → IsErrOf answer Refusal.Bad }
-        ensures within { result < 6 → (sizes.new.numbers ≤ length numbers.old)
+        ensures lawful { result ≢ memory_status → result ≢ bad_status → IsOk answer }
+        ensures bad { result ≡ bad_status → IsErrOf answer Refusal.Bad }
+        ensures within { result < memory_status → (sizes.new.numbers ≤ length numbers.old)
             × (sizes.new.bytes ≤ length bytes.old) }
-        ensures written { result < 6 → IsOkAnd answer (λ answer. (result ≡ answer.status)
+        ensures written { result < memory_status → IsOkAnd answer (λ answer.
+            (result ≡ answer.status)
             × FillsFront answer.body.numbers.items numbers.new sizes.new.numbers
             × FillsFront (string_bytes answer.body.bytes) bytes.new sizes.new.bytes) }
     {
@@ -275,11 +292,11 @@ fn refused(alloc: Global, fail: &Fail) -> Result<Answer, AllocError>
         × (string_bytes answer.body.bytes ≡ fault_name fault))) }
 {
     match fail {
-        Fail::ArgumentMissing(name) => of_name(alloc, 1, name),
-        Fail::UnrecognizedOption(name) => of_name(alloc, 2, name),
-        Fail::OptionMissing(name) => of_name(alloc, 3, name),
-        Fail::OptionDuplicated(name) => of_name(alloc, 4, name),
-        Fail::UnexpectedArgument(name) => of_name(alloc, 5, name),
+        Fail::ArgumentMissing(name) => of_name(alloc, ARGUMENT_MISSING, name),
+        Fail::UnrecognizedOption(name) => of_name(alloc, UNRECOGNIZED_OPTION, name),
+        Fail::OptionMissing(name) => of_name(alloc, OPTION_MISSING, name),
+        Fail::OptionDuplicated(name) => of_name(alloc, OPTION_DUPLICATED, name),
+        Fail::UnexpectedArgument(name) => of_name(alloc, UNEXPECTED_ARGUMENT, name),
         Fail::OutOfMemory => Err(AllocError),
     }
 }
@@ -293,7 +310,7 @@ fn accepted(
     bytes: usize,
 ) -> Result<Answer, AllocError>
     requires { length groups.now ≡ length matches.now.groups }
-    ensures { IfOk result (λ answer. (answer.status ≡ 0)
+    ensures { IfOk result (λ answer. (answer.status ≡ fine_status)
         × (answer.body.numbers.items
         ≡ matches_numbers (flat_map four_names (map texts groups.now)) matches.now)
         × (string_bytes answer.body.bytes ≡ matches_bytes matches.now)) }
@@ -304,7 +321,7 @@ fn accepted(
     body.push_groups(matches, groups.len())?;
     body.push_texts(&matches.free)?;
     body.push_optional(matches.free_trailing_start())?;
-    Ok(Answer { status: 0, body })
+    Ok(Answer { status: FINE, body })
 }
 
 /// The answer to a line by options, which are those of these groups, where the words have so many bytes.
@@ -338,7 +355,7 @@ fn words_by(
     ensures answered { IfOk result (λ answer. (line : List Text)
         × IsCut words.entry.bytes.now words.entry.lens.now line × IsAnswer options.now line
         answer.status answer.body.numbers.items (string_bytes answer.body.bytes)) }
-    ensures status { IfOk result (λ answer. answer.status < 6) }
+    ensures status { IfOk result (λ answer. answer.status < memory_status) }
     ensures lawful { OnOk result (SayTexts words.entry.bytes.now words.entry.lens.now) }
     ensures bad { IfErr result (λ refusal. refusal ≡ Refusal.Bad
         → ¬ (SayTexts words.entry.bytes.now words.entry.lens.now)) }
@@ -361,7 +378,7 @@ fn answer_from(
         request.entry.texts.now request.entry.lens.now request.entry.kinds.now
         request.entry.stop request.entry.long_only words.entry.bytes.now words.entry.lens.now
         answer.status answer.body.numbers.items (string_bytes answer.body.bytes)) }
-    ensures status { IfOk result (λ answer. answer.status < 6) }
+    ensures status { IfOk result (λ answer. answer.status < memory_status) }
     ensures lawful { OnOk result (SayOptions
         request.entry.texts.now request.entry.lens.now request.entry.kinds.now
         request.entry.stop request.entry.long_only
@@ -386,7 +403,7 @@ pub(crate) fn answer_to(
         request.entry.texts.now request.entry.lens.now request.entry.kinds.now
         request.entry.stop request.entry.long_only words.entry.bytes.now words.entry.lens.now
         answer.status answer.body.numbers.items (string_bytes answer.body.bytes)) }
-    ensures status { IfOk result (λ answer. answer.status < 6) }
+    ensures status { IfOk result (λ answer. answer.status < memory_status) }
     ensures lawful { OnOk result (SayOptions
         request.entry.texts.now request.entry.lens.now request.entry.kinds.now
         request.entry.stop request.entry.long_only
@@ -402,12 +419,12 @@ pub(crate) fn answer_to(
 
 /// The answer that is a text.
 fn of_text(alloc: Global, text: String) -> Answer
-    ensures status { result.status ≡ 0 }
+    ensures status { result.status ≡ fine_status }
     ensures numbers { result.body.numbers.items ≡ [] }
     ensures bytes { string_bytes result.body.bytes ≡ string_bytes text }
 {
     Answer {
-        status: 0,
+        status: FINE,
         body: Body {
             numbers: Vec::new(alloc),
             bytes: text,
@@ -422,8 +439,8 @@ pub(crate) fn usage_of(alloc: Global, request: Request<'_>, brief: &[u8]) -> Res
         request.entry.texts.now request.entry.lens.now request.entry.kinds.now
         request.entry.long_only brief.now (string_bytes answer.body.bytes)) }
     ensures numbers { IfOk result (λ answer. answer.body.numbers.items ≡ []) }
-    ensures fine { IfOk result (λ answer. answer.status ≡ 0) }
-    ensures status { IfOk result (λ answer. answer.status < 6) }
+    ensures fine { IfOk result (λ answer. answer.status ≡ fine_status) }
+    ensures status { IfOk result (λ answer. answer.status < memory_status) }
     ensures lawful { OnOk result (SayOptions
         request.entry.texts.now request.entry.lens.now request.entry.kinds.now
         false request.entry.long_only × IsUtf8 brief.now) }
@@ -449,8 +466,8 @@ pub(crate) fn short_usage_of(
         request.entry.texts.now request.entry.lens.now request.entry.kinds.now
         program.now (string_bytes answer.body.bytes)) }
     ensures numbers { IfOk result (λ answer. answer.body.numbers.items ≡ []) }
-    ensures fine { IfOk result (λ answer. answer.status ≡ 0) }
-    ensures status { IfOk result (λ answer. answer.status < 6) }
+    ensures fine { IfOk result (λ answer. answer.status ≡ fine_status) }
+    ensures status { IfOk result (λ answer. answer.status < memory_status) }
     ensures lawful { OnOk result (SayOptions
         request.entry.texts.now request.entry.lens.now request.entry.kinds.now
         false false × IsUtf8 program.now) }
@@ -466,7 +483,7 @@ pub(crate) fn short_usage_of(
 
 /// The answer that is texts: how many they are, the length of each, and the texts.
 fn of_texts(alloc: Global, words: &[String]) -> Result<Answer, AllocError>
-    ensures status { IfOk result (λ answer. answer.status ≡ 0) }
+    ensures status { IfOk result (λ answer. answer.status ≡ fine_status) }
     ensures numbers { IfOk result (λ answer.
         answer.body.numbers.items ≡ text_numbers (map string_bytes words.now)) }
     ensures bytes { IfOk result (λ answer.
@@ -474,7 +491,7 @@ fn of_texts(alloc: Global, words: &[String]) -> Result<Answer, AllocError>
 {
     let mut body = Body::with_capacity(alloc, words.len().saturating_add(1), 0)?;
     body.push_texts(words)?;
-    Ok(Answer { status: 0, body })
+    Ok(Answer { status: FINE, body })
 }
 
 /// The answer that is the rows of the usage text.
@@ -483,8 +500,8 @@ pub(crate) fn rows_of(alloc: Global, request: Request<'_>) -> Result<Answer, Ref
     ensures rows { IfOk result (λ answer. IsRowsOf
         request.entry.texts.now request.entry.lens.now request.entry.kinds.now
         request.entry.long_only answer.body.numbers.items (string_bytes answer.body.bytes)) }
-    ensures fine { IfOk result (λ answer. answer.status ≡ 0) }
-    ensures status { IfOk result (λ answer. answer.status < 6) }
+    ensures fine { IfOk result (λ answer. answer.status ≡ fine_status) }
+    ensures status { IfOk result (λ answer. answer.status < memory_status) }
     ensures lawful { OnOk result (SayOptions
         request.entry.texts.now request.entry.lens.now request.entry.kinds.now
         false request.entry.long_only) }
@@ -505,7 +522,7 @@ fn line_by(alloc: Global, options: &Options, words: &[&str]) -> Result<Answer, A
     match options.canonical_words(alloc, words) {
         Ok(Some(line)) => of_texts(alloc, &line),
         Ok(None) => Ok(Answer {
-            status: 0,
+            status: FINE,
             body: Body::new(alloc),
         }),
         Err(fail) => refused(alloc, &fail),
@@ -517,7 +534,7 @@ fn line_to(alloc: Global, options: &Options, words: Words<'_>) -> Result<Answer,
     ensures answered { IfOk result (λ answer. (line : List Text)
         × IsCut words.entry.bytes.now words.entry.lens.now line × IsLineOf options.now line
         answer.status answer.body.numbers.items (string_bytes answer.body.bytes)) }
-    ensures status { IfOk result (λ answer. answer.status < 6) }
+    ensures status { IfOk result (λ answer. answer.status < memory_status) }
     ensures lawful { OnOk result (SayTexts words.entry.bytes.now words.entry.lens.now) }
     ensures bad { IfErr result (λ refusal. refusal ≡ Refusal.Bad
         → ¬ (SayTexts words.entry.bytes.now words.entry.lens.now)) }
@@ -536,7 +553,7 @@ pub(crate) fn line_of(
         request.entry.texts.now request.entry.lens.now request.entry.kinds.now
         request.entry.stop request.entry.long_only words.entry.bytes.now words.entry.lens.now
         answer.status answer.body.numbers.items (string_bytes answer.body.bytes)) }
-    ensures status { IfOk result (λ answer. answer.status < 6) }
+    ensures status { IfOk result (λ answer. answer.status < memory_status) }
     ensures lawful { OnOk result (SayOptions
         request.entry.texts.now request.entry.lens.now request.entry.kinds.now
         request.entry.stop request.entry.long_only

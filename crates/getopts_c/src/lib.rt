@@ -29,8 +29,9 @@ use std::alloc::Global;
 /// Reads words by options, and writes what they give.
 ///
 /// Options are `texts`, cut by `lens`: of each group the short name, the long name, the hint and
-/// the description. `kinds` has a byte for each group: 3 times its kind of argument (needed 0, none
-/// 1, may have one 2) and its kind of occurrence (once 0, at most once 1, any number 2).
+/// the description. `kinds` has a byte for each group: the number of its kind of argument (needed
+/// 0, none 3, may have one 6) and that of its kind of occurrence (once 0, at most once 1, any
+/// number 2), added.
 #[unsafe(no_mangle)]
 pub extern "C" fn getopts_c_parse(
     alloc: Global,

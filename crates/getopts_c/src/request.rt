@@ -96,22 +96,34 @@ pub(crate) fn cut<'t>(
     }
 }
 
+/// The number of an option that needs an argument. That of how often it comes is added.
+const YES: u8 = 0;
+/// The number of an option that takes no argument.
+const NO: u8 = 3;
+/// The number of an option that may have an argument.
+const MAYBE: u8 = 6;
+/// The number of an option that comes exactly once.
+const REQ: u8 = 0;
+/// The number of an option that comes at most once.
+const OPTIONAL: u8 = 1;
+/// The number of an option that comes any number of times.
+const MULTI: u8 = 2;
+
 /// The kinds of argument and of occurrence that a byte says.
 fn kinds_of(kind: u8) -> Option<(HasArg, Occur)>
     ensures said { IfSome result (λ kinds. kind_number kinds.0 kinds.1 ≡ kind) }
     ensures other { IfNone result ((hasarg : HasArg) (occur : Occur)
         → kind_number hasarg occur ≢ kind) }
 {
-    match kind {
-        0 => Some((HasArg::Yes, Occur::Req)),
-        1 => Some((HasArg::Yes, Occur::Optional)),
-        2 => Some((HasArg::Yes, Occur::Multi)),
-        3 => Some((HasArg::No, Occur::Req)),
-        4 => Some((HasArg::No, Occur::Optional)),
-        5 => Some((HasArg::No, Occur::Multi)),
-        6 => Some((HasArg::Maybe, Occur::Req)),
-        7 => Some((HasArg::Maybe, Occur::Optional)),
-        8 => Some((HasArg::Maybe, Occur::Multi)),
+    let (hasarg, occur) = match kind {
+        YES..NO => (HasArg::Yes, kind - YES),
+        NO..MAYBE => (HasArg::No, kind - NO),
+        _ => (HasArg::Maybe, kind - MAYBE),
+    };
+    match occur {
+        REQ => Some((hasarg, Occur::Req)),
+        OPTIONAL => Some((hasarg, Occur::Optional)),
+        MULTI => Some((hasarg, Occur::Multi)),
         _ => None,
     }
 }

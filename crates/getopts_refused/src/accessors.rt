@@ -2,8 +2,7 @@
 
 ghost use Rattle.getopts.specs.Accessors.{IsDefined};
 
-use crate::answer::{Answer, became};
-use crate::marks::{begin, end};
+use crate::answer::{Answer, alike, became};
 use crate::reading::accepted;
 use getopts::Matches;
 use std::alloc::{AllocError, Global};
@@ -28,84 +27,21 @@ fn of(
     }
     let before = matches.clone()?;
     let answer = match call {
-        "opt_positions" => opt_positions(alloc, matches, name),
-        "opt_strs" => opt_strs(alloc, matches, name),
-        "opt_strs_pos" => opt_strs_pos(alloc, matches, name),
-        "opt_str" => opt_str(alloc, matches, name),
-        "opt_default" => opt_default(alloc, matches, name),
+        "opt_positions" => alike(alloc, || matches.opt_positions(alloc, name)),
+        "opt_strs" => alike(alloc, || matches.opt_strs(alloc, name)),
+        "opt_strs_pos" => alike(alloc, || matches.opt_strs_pos(alloc, name)),
+        "opt_str" => alike(alloc, || matches.opt_str(alloc, name)),
+        "opt_default" => alike(alloc, || matches.opt_default(alloc, name, "other")),
         "opts_str" => opts_str(alloc, matches, name),
-        _ => opts_str_first(alloc, matches, name),
+        _ => alike(alloc, || matches.opts_str_first(alloc, &[name])),
     };
     Ok(became(answer, *matches == before))
 }
 
-fn opt_positions(alloc: Global, matches: &Matches, name: &str) -> Answer
-    requires { IsDefined matches.now.groups name.now }
-{
-    let expected = matches.opt_positions(alloc, name)?;
-    begin(alloc)?;
-    let positions = matches.opt_positions(alloc, name);
-    end(alloc)?;
-    Ok(positions? == expected)
-}
-
-fn opt_strs(alloc: Global, matches: &Matches, name: &str) -> Answer
-    requires { IsDefined matches.now.groups name.now }
-{
-    let expected = matches.opt_strs(alloc, name)?;
-    begin(alloc)?;
-    let values = matches.opt_strs(alloc, name);
-    end(alloc)?;
-    Ok(values? == expected)
-}
-
-fn opt_strs_pos(alloc: Global, matches: &Matches, name: &str) -> Answer
-    requires { IsDefined matches.now.groups name.now }
-{
-    let expected = matches.opt_strs_pos(alloc, name)?;
-    begin(alloc)?;
-    let pairs = matches.opt_strs_pos(alloc, name);
-    end(alloc)?;
-    Ok(pairs? == expected)
-}
-
-fn opt_str(alloc: Global, matches: &Matches, name: &str) -> Answer
-    requires { IsDefined matches.now.groups name.now }
-{
-    let expected = matches.opt_str(alloc, name)?;
-    begin(alloc)?;
-    let value = matches.opt_str(alloc, name);
-    end(alloc)?;
-    Ok(value? == expected)
-}
-
-fn opt_default(alloc: Global, matches: &Matches, name: &str) -> Answer
-    requires { IsDefined matches.now.groups name.now }
-{
-    let expected = matches.opt_default(alloc, name, "other")?;
-    begin(alloc)?;
-    let value = matches.opt_default(alloc, name, "other");
-    end(alloc)?;
-    Ok(value? == expected)
-}
-
+/// The names are texts of their own, which are made before the call.
 fn opts_str(alloc: Global, matches: &Matches, name: &str) -> Answer
     requires { IsDefined matches.now.groups name.now }
 {
     let names = [String::from_str(alloc, name)?];
-    let expected = matches.opts_str(alloc, &names)?;
-    begin(alloc)?;
-    let value = matches.opts_str(alloc, &names);
-    end(alloc)?;
-    Ok(value? == expected)
-}
-
-fn opts_str_first(alloc: Global, matches: &Matches, name: &str) -> Answer
-    requires { IsDefined matches.now.groups name.now }
-{
-    let expected = matches.opts_str_first(alloc, &[name])?;
-    begin(alloc)?;
-    let value = matches.opts_str_first(alloc, &[name]);
-    end(alloc)?;
-    Ok(value? == expected)
+    alike(alloc, || matches.opts_str(alloc, &names))
 }

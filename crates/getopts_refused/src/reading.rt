@@ -1,7 +1,6 @@
 //! `parse` and `canonical`, and the same of a list that is lent.
 
-use crate::answer::{Answer, became};
-use crate::marks::{begin, end};
+use crate::answer::{alike, became};
 use getopts::{Fail, Options};
 use std::alloc::{AllocError, Global};
 
@@ -68,7 +67,8 @@ pub fn accepted(alloc: Global) -> getopts::Result {
 pub fn parse(alloc: Global, line: &str, given: Given) -> Result<&'static str, AllocError> {
     let options = options_of(alloc)?;
     let before = options.clone()?;
-    let answer = parses_alike(alloc, &options, words_of(line), given);
+    let words = words_of(line);
+    let answer = alike(alloc, || with_memory(parsed(alloc, &options, words, given)));
     Ok(became(answer, options == before))
 }
 
@@ -76,24 +76,12 @@ pub fn parse(alloc: Global, line: &str, given: Given) -> Result<&'static str, Al
 pub fn canonical(alloc: Global, line: &str, given: Given) -> Result<&'static str, AllocError> {
     let options = options_of(alloc)?;
     let before = options.clone()?;
-    let answer = writes_alike(alloc, &options, words_of(line), given);
+    let words = words_of(line);
+    let answer = alike(
+        alloc,
+        || with_memory(written(alloc, &options, words, given)),
+    );
     Ok(became(answer, options == before))
-}
-
-fn parses_alike(alloc: Global, options: &Options, words: &[&str], given: Given) -> Answer {
-    let expected = parsed(alloc, options, words, given);
-    begin(alloc)?;
-    let answer = parsed(alloc, options, words, given);
-    end(alloc)?;
-    are_alike(&answer, &expected)
-}
-
-fn writes_alike(alloc: Global, options: &Options, words: &[&str], given: Given) -> Answer {
-    let expected = written(alloc, options, words, given);
-    begin(alloc)?;
-    let answer = written(alloc, options, words, given);
-    end(alloc)?;
-    are_alike(&answer, &expected)
 }
 
 /// Parses words.
@@ -119,12 +107,10 @@ fn written(
     }
 }
 
-/// Whether an answer is the expected one, or else want of memory.
-fn are_alike<T: PartialEq>(answer: &Result<T, Fail>, expected: &Result<T, Fail>) -> Answer {
-    match (answer, expected) {
-        (Err(Fail::OutOfMemory), _) => Err(AllocError),
-        (Err(fail), Err(other)) => Ok(fail == other),
-        (Ok(given), Ok(other)) => Ok(given == other),
-        _ => Ok(false),
+/// An answer, where it isn't want of memory.
+fn with_memory<T>(answer: Result<T, Fail>) -> Result<Result<T, Fail>, AllocError> {
+    match answer {
+        Err(Fail::OutOfMemory) => Err(AllocError),
+        told => Ok(told),
     }
 }

@@ -1,10 +1,13 @@
 //! Descriptions in rows, and usage texts.
 
-use crate::answer::{Answer, became};
+use crate::answer::{Answer, alike, became};
 use crate::marks::{begin, end};
 use getopts::Options;
 use getopts::wrap::each_split_within;
 use std::alloc::{AllocError, Global};
+
+/// A description of three lines, the first one empty.
+const LAMB: &str = "\nMary had a little lamb\nLittle lamb\n";
 
 fn options_of(alloc: Global) -> Result<Options, AllocError> {
     let mut options = Options::new(alloc);
@@ -24,46 +27,13 @@ pub fn outcome(alloc: Global, call: &str) -> Result<&'static str, AllocError> {
     let options = options_of(alloc)?;
     let before = options.clone()?;
     let answer = match call {
-        "short_usage" => short_usage(alloc, &options),
-        "usage" => usage(alloc, &options),
-        "usage_rows" => usage_rows(alloc, &options),
+        "short_usage" => alike(alloc, || options.short_usage(alloc, "copy")),
+        "usage" => alike(alloc, || options.usage(alloc, "Copies.")),
+        "usage_rows" => alike(alloc, || options.usage_rows(alloc)),
         "usage_with_format" => usage_with_format(alloc, &options),
-        _ => split(alloc),
+        _ => alike(alloc, || each_split_within(alloc, LAMB, 5)),
     };
     Ok(became(answer, options == before))
-}
-
-fn split(alloc: Global) -> Answer {
-    let text = "\nMary had a little lamb\nLittle lamb\n";
-    let expected = each_split_within(alloc, text, 5)?;
-    begin(alloc)?;
-    let rows = each_split_within(alloc, text, 5);
-    end(alloc)?;
-    Ok(rows? == expected)
-}
-
-fn short_usage(alloc: Global, options: &Options) -> Answer {
-    let expected = options.short_usage(alloc, "copy")?;
-    begin(alloc)?;
-    let text = options.short_usage(alloc, "copy");
-    end(alloc)?;
-    Ok(text? == expected)
-}
-
-fn usage(alloc: Global, options: &Options) -> Answer {
-    let expected = options.usage(alloc, "Copies.")?;
-    begin(alloc)?;
-    let text = options.usage(alloc, "Copies.");
-    end(alloc)?;
-    Ok(text? == expected)
-}
-
-fn usage_rows(alloc: Global, options: &Options) -> Answer {
-    let expected = options.usage_rows(alloc)?;
-    begin(alloc)?;
-    let rows = options.usage_rows(alloc);
-    end(alloc)?;
-    Ok(rows? == expected)
 }
 
 /// The closure takes no memory, so that want of memory is want of the rows alone. It is called once

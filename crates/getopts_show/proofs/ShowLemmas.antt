@@ -1,6 +1,6 @@
 -- What the program's names and groups give.
 use Rattle.std.proofs.Common.{◌≡◌, ℕ, false, zero, suc, ◌+◌, ◌<◌, List, [], ◌∷◌, ◌++◌, length, take, slice_get, get_or, map, refl, ap, ◌∙◌, sym, subst, arith, zero-le}
-use Rattle.std.specs.Prelude.{⊤, Option, Some, None, MatchOption, IsSomeAnd}
+use Rattle.std.specs.Prelude.{Option}
 use Rattle.std.specs.Borrow.{Bor}
 use Rattle.std.specs.List.{AllByRecursion, cons_option, flat_map}
 use Rattle.std.specs.Option.{option_map}
@@ -19,7 +19,7 @@ use Rattle.getopts.specs.Options.{Declared, Group}
 use Rattle.getopts.specs.Parse.{IsAccepted, IsRefused}
 use Rattle.getopts.specs.Scan.{Mention}
 use Rattle.getopts_show.proofs.OneText.{accepted_not_refused}
-use Rattle.getopts_show.specs.Program.{AreAccepted, HasProgramGroups, IsProgramText, asks_help, fault_line, group_lines, matches_text, named_lines, program_groups, program_options, refused, shown, word_line}
+use Rattle.getopts_show.specs.Program.{AreAccepted, HasProgramGroups, IsProgramText, asks_help, group_lines, matches_text, named_lines, program_groups, program_options, shown, word_line}
 
 -- what holds of each text holds of the text at a place
 pub text_at : (P : Text → Type 0) (words : List (Bor Text)) → AllByRecursion P (texts words)
@@ -99,25 +99,8 @@ tells_none P (fail.UnexpectedArgument name) told never other = never _ told
 tells_none P fail.OutOfMemory told never other = other refl
 
 -- words that are accepted are not refused
-pub never_refused : (options : Declared) (words items : List (Bor Text)) (fault : Fault)
-    → HasOneAnswer (IsParseAnswer program_options (texts words)) → options ≡ program_options → items ≡ words
-    → AreAccepted (texts words) → IsRefused options (texts items) fault → ⊥
-never_refused options words items fault one options_are items_are accepted is =
-    accepted_not_refused (texts words) one accepted.0 fault accepted.1
-    (subst (λ (o : Declared). IsRefused o (texts words) fault) options_are
-    (subst (λ (ws : List (Bor Text)). IsRefused options (texts ws) fault) items_are is))
-
--- words that are refused, and the text of their fault
-pub refused_text : (options : Declared) (words items : List (Bor Text)) (fault : Fault) (text : Text)
-    → options ≡ program_options → items ≡ words → IsRefused options (texts items) fault → text ≡ fault_line fault
-    → IsProgramText (texts words) text 2
-refused_text options words items fault text options_are items_are is text_is =
-    subst (λ (t : Text). IsProgramText (texts words) t 2) (sym text_is)
-    (refused fault (subst (λ (o : Declared). IsRefused o (texts words) fault) options_are
-    (subst (λ (ws : List (Bor Text)). IsRefused options (texts ws) fault) items_are is)))
-
--- what follows from what a refusal tells of a fault, where it tells one
-pub told_fault : (P Q : Fault → Type 0) (R : Type 0) (fault : Option Fault) → MatchOption fault ⊤ P → IsSomeAnd fault Q
-    → ((f : Fault) → P f → Q f → R) → R
-told_fault P Q R None told is follows = absurd is
-told_fault P Q R (Some fault) told is follows = follows fault told is
+pub never_refused : (options : Declared) (words : List Text)
+    → HasOneAnswer (IsParseAnswer program_options words) → options ≡ program_options
+    → AreAccepted words → (fault : Fault) → IsRefused options words fault → ⊥
+never_refused options words one are accepted fault is =
+    accepted_not_refused words one accepted.0 fault accepted.1 (rw are at is)

@@ -1,11 +1,11 @@
 //! The program's work over words and a writer.
 
-ghost use Rattle.std.specs.Prelude.{◌≡◌, ◌++◌, ℕ, List, true, false, map, IfOk, IsSomeAnd, OnOk};
+ghost use Rattle.std.specs.Prelude.{◌≡◌, ◌++◌, ℕ, List, true, false, map, IfOk, OnOk, Some};
 ghost use Rattle.std.specs.List.{flat_map};
 ghost use Rattle.std.specs.String.{string_bytes};
 ghost use Rattle.std.specs.Io.KnownBytes.{Appends};
 ghost use Rattle.getopts.specs.Accessors.{AreDefined, IsDefined, pairs_of};
-ghost use Rattle.getopts.specs.Fail.{fault_of};
+ghost use Rattle.getopts.specs.Fail.{Fault, fault_of};
 ghost use Rattle.getopts.specs.Names.{Text, texts};
 ghost use Rattle.getopts.specs.Parse.{IsAccepted};
 ghost use Rattle.getopts.specs.CanonAnswers.{IsWritten};
@@ -88,7 +88,7 @@ fn answer_to(alloc: Global, words: &[&str]) -> Result<Answer, AllocError>
         IsProgramText (texts words.now) (string_bytes answer.text) answer.status) }
 {
     let options = program_options(alloc)?;
-    match options.parse(alloc, words.iter().copied()) {
+    match options.parse_words(alloc, words) {
         Ok(matches) => Ok(Answer {
             text: accepted_text(alloc, &options, words, &matches)?,
             status: SHOWN,
@@ -139,7 +139,7 @@ fn shown_text(
 }
 
 /// The canonical line of accepted words. They have one, since no main name of the program's options
-/// holds `=`, and `canonical` refuses them only for want of memory.
+/// holds `=`, and `canonical_words` refuses them only for want of memory.
 fn canonical_line(
     alloc: Global,
     options: &Options,
@@ -151,7 +151,7 @@ fn canonical_line(
         IsWritten program_options (texts words.now) (map string_bytes line.items)) }
 {
     equal_input_equal_answers();
-    match options.canonical(alloc, words.iter().copied()) {
+    match options.canonical_words(alloc, words) {
         Ok(Some(line)) => Ok(line),
         Ok(None) => unreachable!(),
         Err(fail) => match fail {
@@ -164,8 +164,8 @@ fn canonical_line(
 /// The line of the fault that a refusal tells. An error comes also where it tells that memory was
 /// refused.
 fn fault_line(alloc: Global, fail: &Fail) -> Result<String, AllocError>
-    ensures { IfOk result (λ text.
-        IsSomeAnd (fault_of fail.now) (λ fault. string_bytes text ≡ fault_line fault)) }
+    ensures { IfOk result (λ text. (fault : Fault) × (fault_of fail.now ≡ Some fault)
+        × (string_bytes text ≡ fault_line fault)) }
 {
     match fail {
         Fail::OutOfMemory => Err(AllocError),

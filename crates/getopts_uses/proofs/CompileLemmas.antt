@@ -2,14 +2,14 @@
 use Rattle.std.proofs.Common.{ℕ, List, ◌∷◌, [], codes, refl, sym, ◌∙◌}
 use Rattle.getopts.specs.Options.{grammar_of}
 use Rattle.getopts.specs.Scan.{Item, two}
-use Rattle.getopts.specs.ScanLaws.{AreHigherAfter, AreLowerAfter, MayStandFor, LongAttachedOrSeparate, ShortAttachedOrSeparate}
+use Rattle.getopts.specs.ScanLaws.{AreHigherAfter, Respells, LongAttachedOrSeparate, ShortAttachedOrSeparate}
 use Rattle.getopts.specs.Theorem.{OneContentHoldsSame}
-use Rattle.getopts.proofs.MainTheorem.Callers.{each_value-first, each_value-values}
+use Rattle.getopts.proofs.MainTheorem.Callers.{each_value-first, each_value-values, attached_filled}
 use Rattle.getopts_uses.specs.Compile.{compile_options, GivesTheSameJob, OutputsMayBeAttached}
 
 module _ (holds_same : OneContentHoldsSame compile_options) where
   -- an item that may stand for another gives the same job
-  same_job : (Alike : ℕ → List ℕ → List ℕ → Type 0) (item other : Item) → MayStandFor (grammar_of compile_options) Alike (other ∷ []) item → GivesTheSameJob item other
+  same_job : (Alike : ℕ → List ℕ → List ℕ → Type 0) (item other : Item) → Respells (grammar_of compile_options) item (other ∷ []) Alike → GivesTheSameJob item other
   same_job Alike item other may front back tail words job reads is =
       let alike = may front back tail words reads in
       let held = holds_same words _ _ _ is.matches is.accepted reads alike.reads (let m = alike.mentions in let f = alike.free in cc) in
@@ -23,8 +23,10 @@ module _ (holds_same : OneContentHoldsSame compile_options) where
 
   pub OutputsMayBeAttached_lem : LongAttachedOrSeparate (grammar_of compile_options) → ShortAttachedOrSeparate (grammar_of compile_options) → OutputsMayBeAttached
   OutputsMayBeAttached_lem long_law short_law = record {
-    long_separate = λ file. same_job AreHigherAfter _ _ (long_law.to_separate two (codes "output") file refl);
-    long_attached = λ file. same_job AreLowerAfter _ _ (long_law.to_attached two (codes "output") file refl);
-    short_separate = λ file. same_job AreHigherAfter _ _ (short_law.to_separate [] 111 file refl);
-    short_attached = λ file filled. same_job AreLowerAfter _ _ (short_law.to_attached [] 111 file refl filled);
+    long_separate = λ file. same_job AreHigherAfter _ _ (long_law.either two (codes "output") file refl).to_longer;
+    long_attached = λ file. same_job (λ position old new. AreHigherAfter position new old) _ _ (long_law.either two (codes "output") file refl).to_shorter;
+    short_separate = λ file front back tail words job reads.
+        let filled = attached_filled (grammar_of compile_options) front back tail words [] 111 file reads in
+        same_job AreHigherAfter _ _ (short_law.either [] 111 file refl filled).to_longer front back tail words job reads;
+    short_attached = λ file filled. same_job (λ position old new. AreHigherAfter position new old) _ _ (short_law.either [] 111 file refl filled).to_shorter;
   }

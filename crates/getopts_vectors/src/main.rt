@@ -22,8 +22,6 @@ mod items;
 #[cfg(test)]
 mod large_lines;
 #[cfg(test)]
-mod no_columns;
-#[cfg(test)]
 mod usage_closures;
 #[cfg(test)]
 mod values;

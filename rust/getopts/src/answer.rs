@@ -5,10 +5,14 @@ use crate::archive::{Room, Sizes};
 use crate::Fail;
 use std::alloc::{handle_alloc_error, Layout};
 
+// The statuses of the archive, as in `getopts_c.h`.
+const FINE: u32 = 0;
+const ARGUMENT_MISSING: u32 = 1;
+const UNRECOGNIZED_OPTION: u32 = 2;
+const OPTION_MISSING: u32 = 3;
+const OPTION_DUPLICATED: u32 = 4;
 const NO_MEMORY: u32 = 6;
-
 const BAD: u32 = 7;
-
 const TOO_SMALL: u32 = 8;
 
 /// A status, and what the archive wrote.
@@ -59,11 +63,11 @@ impl Answer {
     /// The fault that the archive told, if it told one.
     pub fn accepted(self) -> Result<Answer, Fail> {
         match self.status {
-            0 => Ok(self),
-            1 => Err(Fail::ArgumentMissing(self.text)),
-            2 => Err(Fail::UnrecognizedOption(self.text)),
-            3 => Err(Fail::OptionMissing(self.text)),
-            4 => Err(Fail::OptionDuplicated(self.text)),
+            FINE => Ok(self),
+            ARGUMENT_MISSING => Err(Fail::ArgumentMissing(self.text)),
+            UNRECOGNIZED_OPTION => Err(Fail::UnrecognizedOption(self.text)),
+            OPTION_MISSING => Err(Fail::OptionMissing(self.text)),
+            OPTION_DUPLICATED => Err(Fail::OptionDuplicated(self.text)),
             _ => Err(Fail::UnexpectedArgument(self.text)),
         }
     }

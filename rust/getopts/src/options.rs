@@ -40,6 +40,24 @@ pub enum Occur {
     Multi,
 }
 
+/// The number of a kind of argument, as in `getopts_c.h`.
+fn argument_number(hasarg: HasArg) -> u8 {
+    match hasarg {
+        HasArg::Yes => 0,
+        HasArg::No => 3,
+        HasArg::Maybe => 6,
+    }
+}
+
+/// The number of a kind of occurrence, which is added to that of the argument.
+fn occurrence_number(occur: Occur) -> u8 {
+    match occur {
+        Occur::Req => 0,
+        Occur::Optional => 1,
+        Occur::Multi => 2,
+    }
+}
+
 /// The names and kinds of options, which matches share. The texts of each are its short name, its long
 /// name, and two empty ones: a line is read without hints and descriptions.
 #[derive(Clone, Debug, Default)]
@@ -197,7 +215,7 @@ impl Options {
             "the long_name (second argument) should be longer than a single \
              character, or an empty string for none"
         );
-        let kind = 3 * hasarg as u8 + occur as u8;
+        let kind = argument_number(hasarg) + occurrence_number(occur);
         Arc::make_mut(&mut self.names).push(short_name, long_name, kind);
         for text in [short_name, long_name, hint, desc] {
             self.texts.push(text);

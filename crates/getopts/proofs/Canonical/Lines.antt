@@ -22,8 +22,8 @@ use Rattle.getopts.specs.ScanLaws.{mentions_of}
 use Rattle.getopts.specs.Matches.{found_at, matched, FitsCount, KeepsCounts}
 use Rattle.getopts.specs.Canon.{Content, content_of, main_at, HasPlainMain, AnswersMain, FitsKind}
 use Rattle.getopts.specs.Canon.{IsPlain, IsSound, canonical_word, canonical_line, attached_value}
-use Rattle.getopts.specs.Canon.{canonical_item, canonical_reading, with_setting, IsCountKeeping}
-use Rattle.getopts.specs.Canon.{Says, ReadsBackEverywhere, SaysNothingElse, IsOnlyContent}
+use Rattle.getopts.specs.Canon.{canonical_item, canonical_reading, with_setting}
+use Rattle.getopts.specs.Canon.{IsAcceptedWith, Says, ReadsBack}
 use Rattle.getopts.specs.Canon.{HasCanonicalLine, HasNoItem, HasUnwritable}
 use Rattle.getopts.specs.Theorem.{CanonicalLinesTell}
 use Rattle.getopts.specs.declared.groups.HasArg.{HasArg}
@@ -162,10 +162,9 @@ attached_argument-attached_value : (value : Option Text)
 attached_argument-attached_value None = refl
 attached_argument-attached_value (Some value) = refl
 
-argument_words-attached_value : (value : Option Text) (more : List Text)
-    → argument_words (attached_value value) more ≡ more
-argument_words-attached_value None more = refl
-argument_words-attached_value (Some value) more = refl
+argument_words-attached_value : (value : Option Text) → argument_words (attached_value value) ≡ []
+argument_words-attached_value None = refl
+argument_words-attached_value (Some value) = refl
 
 value_of-attached_value : (value : Option Text) → value_of (attached_value value) ≡ value
 value_of-attached_value None = refl
@@ -286,41 +285,52 @@ KeepsCounts-mentions knowns grammar other_grammar reading other same keeps =
     KeepsCounts-numbers knowns 0 _ _
     (λ k. length-found_at k grammar reading ∙ ap (count_at k) same ∙ sym (length-found_at k other_grammar other)) keeps
 
--- a reading that keeps the counts says its content
-pub Says-reading : (options : Declared) (reading : Reading) (words : List Text)
-    → IsCountKeeping options reading words
-    → Says options words (content_of (grammar_of options) reading)
-Says-reading options reading words reads = record {
+-- words that are accepted with a content say it
+pub Says-accepted : (options : Declared) (words : List Text) (content : Content)
+    → IsAcceptedWith options words content → Says options words content
+Says-accepted options words content accepted = record {
   style = options.style;
   long_only = options.long_only;
-  reading = reading;
-  reads = reads;
-  content_is = refl;
+  accepted = accepted;
 }
+
+-- the reading of what a line says is one
+says_reads : (options : Declared) (words : List Text) (content : Content)
+    (says : Says options words content)
+    → IsReading (grammar_of (with_setting options says.style says.long_only))
+    says.accepted.reading words
+says_reads options words content says = (says.accepted.only says.accepted.reading).1 refl
 
 -- what a line says is sound
 pub IsSound-says : (options : Declared) (words : List Text) (content : Content)
     → Says options words content → IsSound options.groups content
 IsSound-says options words content says =
-    rw says.content_is (IsSound-reading (with_setting options says.style says.long_only) says.reading words says.reads.reads)
+    rw says.accepted.content_is
+    (IsSound-reading (with_setting options says.style says.long_only) says.accepted.reading words
+    (says_reads options words content says))
+
+-- the canonical line reads back in both styles and both modes
+abbrev ReadsBackEverywhere : Declared → Content → Type 0
+ReadsBackEverywhere options content = (style : ParsingStyle) (long_only : Bool)
+    → ReadsBack (with_setting options style long_only) content
 
 -- what a line says reads back, where it is plain
-pub ReadsBackEverywhere-says : (options : Declared) (words : List Text) (content : Content)
+ReadsBackEverywhere-says : (options : Declared) (words : List Text) (content : Content)
     → Says options words content → IsPlain options.groups content
     → ReadsBackEverywhere options content
 ReadsBackEverywhere-says options words content says plain style long_only =
     let said = with_setting options says.style says.long_only in
     let set = with_setting options style long_only in
-    let good : AllByRecursion (IsGood options.groups) content.mentions = rw says.content_is
-    (IsGood-reading said says.reading says.reads.reads.items) in
+    let good : AllByRecursion (IsGood options.groups) content.mentions = rw says.accepted.content_is
+    (IsGood-reading said says.accepted.reading (says_reads options words content says).items) in
     let back = content_of-canonical set content good in
-    let told : mentions_of (grammar_of said) says.reading ≡ mentions_of (grammar_of set)
-    (canonical_reading options.groups content) = ap (λ c. c.mentions) (sym says.content_is ∙ sym back) in
+    let told : mentions_of (grammar_of said) says.accepted.reading ≡ mentions_of (grammar_of set)
+    (canonical_reading options.groups content) = ap (λ c. c.mentions) (sym says.accepted.content_is ∙ sym back) in
     record {
       reads = record {
         reads = IsReading-canonical set content good plain;
         keeps = KeepsCounts-mentions (knowns_of options.groups) (grammar_of said)
-            (grammar_of set) says.reading (canonical_reading options.groups content) told says.reads.keeps;
+            (grammar_of set) says.accepted.reading (canonical_reading options.groups content) told says.accepted.counts;
       };
       same = back;
     }
@@ -331,15 +341,16 @@ IsNamed-with_setting : (options : Declared) (style : ParsingStyle) (long_only : 
 IsNamed-with_setting options style long_only named = record { empty = named.empty; ascii = named.ascii }
 
 -- a canonical line that reads back says nothing else, since a line has one reading at most
-pub SaysNothingElse-reads_back : (options : Declared) (content : Content)
-    → IsNamed (grammar_of options) → ReadsBackEverywhere options content
-    → SaysNothingElse options content
-SaysNothingElse-reads_back options content named back other says =
+says_nothing_else-reads_back : (options : Declared) (content : Content)
+    → IsNamed (grammar_of options) → ReadsBackEverywhere options content → (other : Content)
+    → Says options (canonical_line options.groups content) other → other ≡ content
+says_nothing_else-reads_back options content named back other says =
     let there = back says.style says.long_only in
     let set = grammar_of (with_setting options says.style says.long_only) in
     let same = only_reading set (IsNamed-with_setting options says.style says.long_only named)
-    (canonical_line options.groups content) says.reading _ says.reads.reads there.reads.reads in
-    says.content_is ∙ ap (content_of set) same ∙ there.same
+    (canonical_line options.groups content) says.accepted.reading _
+    (says_reads options (canonical_line options.groups content) other says) there.reads.reads in
+    says.accepted.content_is ∙ ap (content_of set) same ∙ there.same
 
 -- a text that holds no `=` is cut off at one place only
 cut_once-with_equals : (a b : Text) (v w : Option Text) → holds_equals a ≡ false
@@ -408,12 +419,6 @@ canonical_line-same groups content other lawful sound plain sound_other plain_ot
       let content_with : List Mention → List Text → Content = λ told frees. record { mentions = told; free = frees } in
       ap (λ told. content_with told content.free) parts.0 ∙ ap (content_with other.mentions) parts.1
 
--- a sound and plain content alone has its canonical line
-pub IsOnlyContent-sound : (groups : List Group) (content : Content) → AreLawfullyNamed groups
-    → IsSound groups content → IsPlain groups content → IsOnlyContent groups content
-IsOnlyContent-sound groups content lawful sound plain other sound_other plain_other =
-    canonical_line-same groups other content lawful sound_other plain_other sound plain
-
 -- the laws of the canonical line of a plain content that a line says
 pub HasCanonicalLine-says : (options : Declared) (words : List Text) (content : Content)
     → AreLawfullyNamed options.groups → IsNamed (grammar_of options) → Says options words content
@@ -421,13 +426,14 @@ pub HasCanonicalLine-says : (options : Declared) (words : List Text) (content : 
 HasCanonicalLine-says options words content lawful named says plain =
     let sound = IsSound-says options words content says in
     let back = ReadsBackEverywhere-says options words content says plain in
-    let nothing_else = SaysNothingElse-reads_back options content named back in
+    let nothing_else = says_nothing_else-reads_back options content named back in
     record {
       sound = sound;
       reads_back = back;
       says_nothing_else = nothing_else;
       its_own = λ other says_other. ap (canonical_line options.groups) (nothing_else other says_other);
-      only = IsOnlyContent-sound options.groups content lawful sound plain;
+      only = λ other sound_other plain_other.
+          canonical_line-same options.groups other content lawful sound_other plain_other sound plain;
     }
 
 -- two canonical lines are equal exactly if they say the same
@@ -456,20 +462,20 @@ no_name-equals name main (attached value) cut_once holds same =
 no_name-equals name main (separate word) cut_once holds same =
     true≢false (sym (holds_equals-append main (equals_sign ∷ word) holds) ∙ ap holds_equals (sym same ∙ append-nil name) ∙ cut_once)
 
--- the canonical word begins no lawful item with just its mention, where the main name holds `=`
+-- the canonical word is that of no lawful item with just its mention, where the main name holds `=`
 pub HasNoItem-equals : (options : Declared) (m : Mention)
     → holds_equals (main_at options.groups m.group) ≡ true → HasNoItem options m
-HasNoItem-equals options m holds style long_only (free word) after others lawful just same = absurd cc
-HasNoItem-equals options m holds style long_only (long one name argument) after others lawful just same =
+HasNoItem-equals options m holds style long_only (free word) lawful just same = absurd cc
+HasNoItem-equals options m holds style long_only (long one name argument) lawful just same =
     let text : name ++ with_equals (attached_argument argument) ≡ dash ∷ (main_at options.groups m.group ++ with_equals m.value) = cc in
     true≢false (sym (ap begins_with_dash text) ∙ begins_with_dash-append name (attached_argument argument) lawful.before.1)
-HasNoItem-equals options m holds style long_only (long two name argument) after others lawful just same =
+HasNoItem-equals options m holds style long_only (long two name argument) lawful just same =
     let text : name ++ with_equals (attached_argument argument) ≡ main_at options.groups m.group ++ with_equals m.value = cc in
     let mentioned : mention (grammar_of (with_setting options style long_only)) name (value_of argument) ≡ m = cc in
     let value : m.value ≡ value_of argument = sym (ap (λ k. k.value) mentioned) in
     no_name-equals name (main_at options.groups m.group) argument lawful.cut_once holds
     (text ∙ ap (λ v. main_at options.groups m.group ++ with_equals v) value)
-HasNoItem-equals options m holds style long_only (cluster names end) after others lawful just same =
+HasNoItem-equals options m holds style long_only (cluster names end) lawful just same =
     let text : names ++ end_text end ≡ dash ∷ (main_at options.groups m.group ++ with_equals m.value) = cc in
     true≢false (sym (ap begins_with_dash text) ∙ lawful.short_form)
 

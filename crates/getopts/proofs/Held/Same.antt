@@ -11,16 +11,12 @@ use Rattle.getopts.specs.Names.{Text}
 use Rattle.getopts.specs.Options.{Known, Group, knowns_of}
 use Rattle.getopts.specs.Matches.{Found, MatchedGroup, Matched}
 use Rattle.getopts.specs.Pairs.{beside_pairs, name_texts}
-use Rattle.getopts.specs.Held.Groups.{known_with}
+use Rattle.getopts.specs.Held.Groups.{kinds_of, known_with}
 use Rattle.getopts.specs.Held.Options.{group_with}
 use Rattle.getopts.specs.Same.{same_known, same_group, same_found, same_matched_group, same_matches}
 use Rattle.getopts.specs.declared.groups.Kinds.{Kinds}
 use Rattle.getopts.proofs.Held.Options.{same_known-decides, same_group-decides}
 use Rattle.getopts.proofs.Held.Pairs.{kinds-beside, name_texts-beside, knowns_of-held}
-
--- the kinds of a group
-abbrev kinds_of : Known → Kinds
-kinds_of known = record { hasarg = known.kind; occur = known.occurrence }
 
 -- the test of two groups' kinds
 abbrev pub same_kinds : Kinds → Kinds → Bool

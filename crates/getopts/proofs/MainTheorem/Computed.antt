@@ -13,13 +13,14 @@ use Rattle.getopts.specs.Scan.{Reading, IsReading}
 use Rattle.getopts.specs.Matches.{Matched, MatchedGroup, matches_of, FitsCount, KeepsCount}
 use Rattle.getopts.specs.Matches.{KeepsCounts, broken_count, IsCountFault}
 use Rattle.getopts.specs.Canon.{content_of, canonical_line}
-use Rattle.getopts.specs.CanonAnswers.{IsAcceptedWith, IsParseAnswer, IsCanonicalAnswer}
+use Rattle.getopts.specs.Canon.{IsAcceptedWith}
+use Rattle.getopts.specs.CanonAnswers.{IsParseAnswer, IsCanonicalAnswer}
 use Rattle.getopts.specs.Refuted.Forms.{EachLineHasAnswers}
 use Rattle.getopts.specs.declared.groups.Occur.{Occur}
 use Rattle.getopts.specs.declared.groups.Occur.TheVariants.{Req, Optional, Multi}
 use Rattle.getopts.proofs.Canonical.Lines.{is_plain, is_plain-true, is_plain-false}
 use Rattle.getopts.proofs.Canonical.Lines.{HasUnwritable-content, HasCanonicalLine-says}
-use Rattle.getopts.proofs.Canonical.Lines.{Says-reading, IsSound-reading}
+use Rattle.getopts.proofs.Canonical.Lines.{Says-accepted, IsSound-reading}
 use Rattle.getopts.proofs.Parsing.Parsed.{named_here, only_reads, HasNoReading-fault}
 use Rattle.getopts.proofs.Reading.Readings.{read_reading, read_fault}
 use Rattle.getopts.proofs.Reading.Turns.{read}
@@ -156,7 +157,7 @@ module _ (options : Declared) (lawful : AreLawfullyNamed options.groups)
             plain = is;
             line_is = refl;
             laws = HasCanonicalLine-says options words content lawful (named_here options lawful shorts)
-                (Says-reading options reading words (record { reads = reads; keeps = kept })) is;
+                (Says-accepted options words content accepted) is;
           }
       line_of-is false other =
           let content = content_of (grammar_of options) reading in

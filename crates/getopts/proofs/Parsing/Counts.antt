@@ -14,7 +14,8 @@ use Rattle.getopts.specs.Matches.{FitsCount, broken_count, IsCountFault}
 use Rattle.getopts.specs.Names.{Text}
 use Rattle.getopts.specs.Held.Accepted.{index_of}
 use Rattle.getopts.specs.Held.Found.{given_view}
-use Rattle.getopts.specs.declared.groups.Occur.{Occur}
+use Rattle.getopts.specs.Held.Groups.{kinds_of}
+use Rattle.getopts.specs.declared.groups.Kinds.{Kinds}
 use Rattle.getopts.specs.declared.line.Given.{Given}
 use Rattle.getopts.proofs.Lists.{AllByRecursion-append}
 use Rattle.getopts.proofs.Held.Index.{length-places_of, slice_get-places_by_group}
@@ -107,17 +108,19 @@ none_past [] i none = zero-le
 none_past (x ∷ xs) zero none = cc none
 none_past (x ∷ xs) (suc i) none = omega (arith, none_past xs i none)
 
--- the group at a place, by how often it may come
-pub known-there : (knowns : List Known) (i : ℕ) (occur : Occur)
-    → Some occur ≡ option_map (λ (known : Known). known.occurrence) (slice_get knowns i)
-    → (known : Known) × (slice_get knowns i ≡ Some known) × (known.occurrence ≡ occur)
-known-there [] i occur there = cc there
-known-there (known ∷ knowns) zero occur there = (known, refl, sym (cc there))
-known-there (known ∷ knowns) (suc i) occur there = known-there knowns i occur there
+-- the group at a place, by its kinds
+pub known-there : (knowns : List Known) (i : ℕ) (kinds : Kinds)
+    → Some kinds ≡ option_map kinds_of (slice_get knowns i)
+    → (known : Known) × (slice_get knowns i ≡ Some known) × (known.occurrence ≡ kinds.occur)
+known-there [] i kinds there = cc there
+known-there (known ∷ knowns) zero kinds there =
+    let same : kinds ≡ kinds_of known = cc there in
+    (known, refl, sym (ap (λ (k : Kinds). k.occur) same))
+known-there (known ∷ knowns) (suc i) kinds there = known-there knowns i kinds there
 
 -- where no group is at a place, the list ends before it
 pub none_known : (knowns : List Known) (i : ℕ)
-    → None ≡ option_map (λ (known : Known). known.occurrence) (slice_get knowns i)
+    → None ≡ option_map kinds_of (slice_get knowns i)
     → length knowns ≤ i
 none_known [] i none = zero-le
 none_known (known ∷ knowns) zero none = cc none

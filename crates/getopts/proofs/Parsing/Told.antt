@@ -17,8 +17,8 @@ use Rattle.getopts.specs.Matches.{KeepsCounts}
 use Rattle.getopts.specs.Accessors.{place_of, found_of, found_in, first_value}
 use Rattle.getopts.specs.Canon.{FitsKind}
 use Rattle.getopts.specs.Parse.{IsAccepted}
-use Rattle.getopts.specs.Told.{HaveLastWordsFree, HaveValuesFor, AreGroupsOf, HaveValuesByKind}
-use Rattle.getopts.specs.Told.{DefineDeclared, HoldRequiredOnce, HoldNeededValues}
+use Rattle.getopts.specs.Told.{HaveLastWordsFree, AreGroupsOf, HaveValuesByKind}
+use Rattle.getopts.specs.Told.{DefineDeclared, HoldRequiredOnce, HoldNeededValues, Accepts}
 use Rattle.getopts.specs.ScanLaws.{EndIn}
 use Rattle.getopts.specs.declared.groups.ParsingStyle.TheVariants.{FloatingFrees, StopAtFirstFree}
 use Rattle.getopts.specs.declared.groups.HasArg.{HasArg}
@@ -30,6 +30,11 @@ use Rattle.getopts.proofs.Canonical.Lines.{FitsGroup, IsFitting-reading}
 use Rattle.getopts.proofs.Held.Matches.{knowns-matched}
 use Rattle.getopts.proofs.Reading.Readings.{spelled_all-append}
 use Rattle.getopts.proofs.Held.Pairs.{names-knowns_of}
+use Rattle.getopts.proofs.Parsing.Parsed.{positions_below-accepted}
+
+-- each occurrence has a value, or none, as this kind of argument wants
+abbrev HaveValuesFor : HasArg → List Found → Type 0
+HaveValuesFor kind founds = AllByRecursion (λ found. FitsKind kind found.value) founds
 
 -- the names of known groups
 names-known : (groups : List MatchedGroup) (knowns : List Known)
@@ -236,3 +241,12 @@ HaveLastWordsFree-accepted options words matches accepted style =
     subst (EndIn words) (ap (λ (m : Matched). m.free) (sym accepted.matches_are))
     (EndIn-reading (grammar_of options) accepted.reading words
     ((accepted.only accepted.reading).1 refl) style)
+
+-- what accepted words tell of their matches
+pub Accepts-accepted : (options : Declared) (words : List Text) (matches : Matched)
+    → IsAccepted options words matches → Accepts options words matches
+Accepts-accepted options words matches accepted = record {
+  accepted = accepted;
+  positions_below = positions_below-accepted options words matches accepted;
+  free_last = HaveLastWordsFree-accepted options words matches accepted;
+}

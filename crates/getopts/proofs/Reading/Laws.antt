@@ -2,27 +2,29 @@
 use Rattle.std.proofs.Common.{◌≡◌, ◌≢◌, ◌==◌, ℕ, zero, suc, ◌+◌, ◌<◌, ◌≤◌, Bool, true, false, cond}
 use Rattle.std.proofs.Common.{List, [], ◌∷◌, ◌++◌, length, map, get_or, Some, refl, sym, ap, ◌∙◌}
 use Rattle.std.proofs.Common.{subst, arith}
+use Rattle.std.specs.Prelude.{⊤}
 use Rattle.std.proofs.Math.Seq.{drop-append_seam}
 use Rattle.std.specs.List.{AllByRecursion, flat_map}
+use Rattle.std.specs.List.Sorted.{IsNonDecreasingBy}
 use Rattle.std.proofs.lemmas.List.{append-nil, append_assoc, length-append}
 use Rattle.std.proofs.lemmas.Grind.{flat_map-append}
 use Rattle.getopts.specs.Names.{Text}
 use Rattle.getopts.specs.Options.{Known, Grammar}
 use Rattle.getopts.specs.Scan.{dash, is_dashed, begins_with_dash, Argument, none, attached}
 use Rattle.getopts.specs.Scan.{separate, Dashes, one, two, End, flags, ends_in, Item, free, long}
-use Rattle.getopts.specs.Scan.{cluster, dash_text, end_text, spelled, spelled_all, MayStandBefore}
+use Rattle.getopts.specs.Scan.{cluster, dash_text, end_text, spelled_all, MayStandBefore}
 use Rattle.getopts.specs.Scan.{FitsLong, FitsEnd, IsLawfulEnd, IsLawfulLong, IsLawfulCluster}
 use Rattle.getopts.specs.Scan.{IsLawfulItem, is_bare, EndsOrIsDashed, AreWellFollowed, Tail}
 use Rattle.getopts.specs.Scan.{line_end, stop, rest, tail_words, Reading, IsReading, Mention}
 use Rattle.getopts.specs.Scan.{mentions, Occurrence, occurrence_at, word_count, occurrences_after}
 use Rattle.getopts.specs.Scan.{occurrences_of, free_items, tail_frees, free_words, trailing_after}
 use Rattle.getopts.specs.Matches.{Found, found_at, matched}
-use Rattle.getopts.specs.ScanLaws.{AreSame, AreAny, AreHigherAfter, AreLowerAfter, ReadsAlike}
-use Rattle.getopts.specs.ScanLaws.{MayStandFor, mentions_of, positions_in, LongAttachedOrSeparate}
+use Rattle.getopts.specs.ScanLaws.{AreHigherAfter, ReadsAlike, Respells}
+use Rattle.getopts.specs.ScanLaws.{mentions_of, positions_in, LongAttachedOrSeparate}
 use Rattle.getopts.specs.ScanLaws.{ShortAttachedOrSeparate, ClusterSplits, OneDashOrTwo}
 use Rattle.getopts.specs.ScanLaws.{is_last_bare, joined_reading, HasContentOfBoth, LinesCompose}
 use Rattle.getopts.specs.ScanLaws.{IsAfterStop, TrailingStartIsAfterStop, IsSubsequence, empty}
-use Rattle.getopts.specs.ScanLaws.{kept, left_out, FreeWordsAreSubsequence, NeverDecrease}
+use Rattle.getopts.specs.ScanLaws.{kept, left_out, FreeWordsAreSubsequence}
 use Rattle.getopts.specs.ScanLaws.{HavePositionsInOrder}
 use Rattle.getopts.specs.declared.groups.HasArg.TheVariants.{Yes}
 use Rattle.getopts.proofs.Lists.{AllByRecursion-append, AllByRecursion-left}
@@ -30,6 +32,7 @@ use Rattle.getopts.proofs.Lists.{AllByRecursion-right}
 use Rattle.getopts.proofs.Reading.Positions.{mentions_of-items, positions_in-one_higher}
 use Rattle.getopts.proofs.Reading.Readings.{EndsOrIsDashed-spelled, spelled_all-append}
 use Rattle.getopts.proofs.Reading.Texts.{is_dashed-text}
+use Rattle.getopts.proofs.Reading.Turns.{spelled}
 
 -- only ordinary mode has bare clusters
 ordinary_from_bare : (grammar : Grammar) (item : Item) → IsLawfulItem grammar item
@@ -163,21 +166,21 @@ module _ (grammar : Grammar) (item longer : Item)
     (same_free : free_items (longer ∷ []) ≡ free_items (item ∷ []))
     (one_more : word_count (longer ∷ []) ≡ word_count (item ∷ []) + 1) where
   -- the longer one for the other
-  MayStandFor-longer : ((back : List Item) (more : List Text)
+  Respells-longer : ((back : List Item) (more : List Text)
       → FitInPlace grammar (item ∷ back)
-      (longer ∷ back) more) → MayStandFor grammar AreHigherAfter (longer ∷ []) item
-  MayStandFor-longer fit front back tail words reads =
+      (longer ∷ back) more) → Respells grammar item (longer ∷ []) AreHigherAfter
+  Respells-longer fit front back tail words reads =
       ReadsAlike-in_place grammar (AreHigherAfter (word_count front)) front (item ∷ back) (longer ∷ back) tail words (fit back (tail_words tail))
       (ap (λ (told : List Mention). told ++ flat_map (mentions grammar) back) same)
       (positions_in-one_higher grammar item longer back same one_more front tail)
       (free_items-append (longer ∷ []) back ∙ ap (λ frees. frees ++ free_items back) same_free ∙ sym (free_items-append (item ∷ []) back)) reads
 
   -- the other for the longer one
-  MayStandFor-shorter : ((back : List Item) (more : List Text)
-      → FitInPlace grammar (longer ∷ back)
-      (item ∷ back) more) → MayStandFor grammar AreLowerAfter (item ∷ []) longer
-  MayStandFor-shorter fit front back tail words reads =
-      ReadsAlike-in_place grammar (AreLowerAfter (word_count front)) front (longer ∷ back) (item ∷ back) tail words (fit back (tail_words tail))
+  Respells-shorter : ((back : List Item) (more : List Text)
+      → FitInPlace grammar (longer ∷ back) (item ∷ back) more)
+      → Respells grammar longer (item ∷ []) (λ position old new. AreHigherAfter position new old)
+  Respells-shorter fit front back tail words reads =
+      ReadsAlike-in_place grammar (λ old new. AreHigherAfter (word_count front) new old) front (longer ∷ back) (item ∷ back) tail words (fit back (tail_words tail))
       (ap (λ (told : List Mention). told ++ flat_map (mentions grammar) back) (sym same))
       (positions_in-one_higher grammar item longer back same one_more front tail)
       (free_items-append (item ∷ []) back ∙ ap (λ frees. frees ++ free_items back) (sym same_free) ∙ sym (free_items-append (longer ∷ []) back)) reads
@@ -207,14 +210,14 @@ IsLawfulLong-yes grammar dashes name argument new_argument kind fits lawful = re
 -- a long argument attached or separate
 pub LongAttachedOrSeparate_lem : (grammar : Grammar) → LongAttachedOrSeparate grammar
 LongAttachedOrSeparate_lem grammar = record {
-  to_separate = λ dashes name argument kind.
-      MayStandFor-longer grammar (long dashes name (attached argument)) (long dashes name (separate argument)) refl refl refl
-      (λ back more. FitInPlace-long grammar dashes dashes name _ _ back more
-      (IsLawfulLong-yes grammar dashes name (attached argument) (separate argument) kind tt));
-  to_attached = λ dashes name argument kind.
-      MayStandFor-shorter grammar (long dashes name (attached argument)) (long dashes name (separate argument)) refl refl refl
-      (λ back more. FitInPlace-long grammar dashes dashes name _ _ back more
-      (IsLawfulLong-yes grammar dashes name (separate argument) (attached argument) kind tt));
+  either = λ dashes name argument kind. record {
+    to_longer = Respells-longer grammar (long dashes name (attached argument)) (long dashes name (separate argument)) refl refl refl
+        (λ back more. FitInPlace-long grammar dashes dashes name _ _ back more
+        (IsLawfulLong-yes grammar dashes name (attached argument) (separate argument) kind tt));
+    to_shorter = Respells-shorter grammar (long dashes name (attached argument)) (long dashes name (separate argument)) refl refl refl
+        (λ back more. FitInPlace-long grammar dashes dashes name _ _ back more
+        (IsLawfulLong-yes grammar dashes name (separate argument) (attached argument) kind tt));
+  };
 }
 
 -- in long-only mode either dashes may stand before a name that doesn't begin with `-`
@@ -227,7 +230,7 @@ MayStandBefore-long_only long_only two name only plain = tt
 pub OneDashOrTwo_lem : (grammar : Grammar) → OneDashOrTwo grammar
 OneDashOrTwo_lem grammar = record {
   other_dashes = λ dashes other name argument only plain front back tail words reads.
-      ReadsAlike-in_place grammar (AreSame (word_count front)) front (long dashes name argument ∷ back) (long other name argument ∷ back) tail words
+      ReadsAlike-in_place grammar (λ old new. new ≡ old) front (long dashes name argument ∷ back) (long other name argument ∷ back) tail words
       (FitInPlace-long grammar dashes other name argument argument back (tail_words tail) (λ lawful. record {
         before = MayStandBefore-long_only grammar.long_only other name only plain;
         cut_once = lawful.cut_once;
@@ -269,14 +272,14 @@ FitInPlace-cluster grammar names option argument new_argument back more kind fit
 -- a short argument attached or separate
 pub ShortAttachedOrSeparate_lem : (grammar : Grammar) → ShortAttachedOrSeparate grammar
 ShortAttachedOrSeparate_lem grammar = record {
-  to_separate = λ names option argument kind.
-      MayStandFor-longer grammar (cluster names (ends_in option (attached argument)))
-      (cluster names (ends_in option (separate argument))) refl refl refl
-      (λ back more. FitInPlace-cluster grammar names option (attached argument) (separate argument) back more kind tt refl);
-  to_attached = λ names option argument kind filled.
-      MayStandFor-shorter grammar (cluster names (ends_in option (attached argument)))
-      (cluster names (ends_in option (separate argument))) refl refl refl
-      (λ back more. FitInPlace-cluster grammar names option (separate argument) (attached argument) back more kind filled refl);
+  either = λ names option argument kind filled. record {
+    to_longer = Respells-longer grammar (cluster names (ends_in option (attached argument)))
+        (cluster names (ends_in option (separate argument))) refl refl refl
+        (λ back more. FitInPlace-cluster grammar names option (attached argument) (separate argument) back more kind tt refl);
+    to_shorter = Respells-shorter grammar (cluster names (ends_in option (attached argument)))
+        (cluster names (ends_in option (separate argument))) refl refl refl
+        (λ back more. FitInPlace-cluster grammar names option (separate argument) (attached argument) back more kind filled refl);
+  };
 }
 
 -- a cluster whose rest is bare is bare
@@ -295,12 +298,12 @@ IsLawfulEnd-rest grammar flag names flags filled lawful = λ nil. filled (append
 IsLawfulEnd-rest grammar flag names (ends_in option argument) filled lawful = lawful
 
 -- a cluster may stand split after its first flag
-MayStandFor-split : (grammar : Grammar) (flag : ℕ) (names : List ℕ) (end : End)
+Respells-split : (grammar : Grammar) (flag : ℕ) (names : List ℕ) (end : End)
     → names ++ end_text end ≢ [] → begins_with_dash (names ++ end_text end) ≡ false
-    → MayStandFor grammar AreAny (cluster (flag ∷ []) flags ∷ cluster names end ∷ [])
-    (cluster (flag ∷ names) end)
-MayStandFor-split grammar flag names end filled plain front back tail words reads =
-    ReadsAlike-in_place grammar (AreAny (word_count front)) front (cluster (flag ∷ names) end ∷ back)
+    → Respells grammar (cluster (flag ∷ names) end)
+    (cluster (flag ∷ []) flags ∷ cluster names end ∷ []) (λ position old new. ⊤)
+Respells-split grammar flag names end filled plain front back tail words reads =
+    ReadsAlike-in_place grammar (λ old new. ⊤) front (cluster (flag ∷ names) end ∷ back)
     (cluster (flag ∷ []) flags ∷ cluster names end ∷ back) tail words fit
     refl tt refl reads
   where
@@ -330,7 +333,7 @@ MayStandFor-split grammar flag names end filled plain front back tail words read
 
 -- a cluster splits
 pub ClusterSplits_lem : (grammar : Grammar) → ClusterSplits grammar
-ClusterSplits_lem grammar = record { after_flag = MayStandFor-split grammar }
+ClusterSplits_lem grammar = record { after_flag = Respells-split grammar }
 
 -- the words of two lists of items
 pub spelled_all-joined : (items others : List Item) (more : List Text)
@@ -476,6 +479,10 @@ RiseFrom-get_or low (found ∷ founds) rise (suc index) default in_range =
     let step : found.position ≤ (get_or founds index default).position = RiseFrom-get_or found.position founds rise.1 index default (omega arith) in
     omega (arith, rise.0, step)
 
+-- the positions of a group's occurrences never decrease
+abbrev NeverDecrease : List Found → Type 0
+NeverDecrease founds = IsNonDecreasingBy (λ found. found.position) founds
+
 -- positions that rise never decrease
 NeverDecrease-from_rise : (low : ℕ) (founds : List Found) → RiseFrom low founds
     → NeverDecrease founds
@@ -514,7 +521,7 @@ RiseFrom-items grammar place before (item ∷ items) = RiseFrom-item place befor
     (RiseFrom-lower before (before + word_count (item ∷ [])) _ (omega arith) (RiseFrom-items grammar place (before + word_count (item ∷ [])) items))
 
 -- the positions of each group's occurrences never decrease
-pub NeverDecrease-reading : (grammar : Grammar) (reading : Reading) (place : ℕ)
+NeverDecrease-reading : (grammar : Grammar) (reading : Reading) (place : ℕ)
     → NeverDecrease (found_at place (occurrences_of grammar reading))
 NeverDecrease-reading grammar reading place = NeverDecrease-from_rise 0 _ (RiseFrom-items grammar place 0 reading.items)
 

@@ -10,7 +10,7 @@ use Rattle.std.proofs.lemmas.List.Elements.{Contains-append_cases}
 use Rattle.std.proofs.lemmas.Bool.Decides.{nat_tests}
 use Rattle.getopts.specs.Names.{Text}
 use Rattle.getopts.specs.Options.{Known, Grammar}
-use Rattle.getopts.specs.Scan.{Item, free, long, cluster, spelled, spelled_all, Tail, tail_words}
+use Rattle.getopts.specs.Scan.{Item, free, long, cluster, item_words, spelled_all, Tail, tail_words}
 use Rattle.getopts.specs.Scan.{Reading, IsReading, Mention, mentions, Occurrence, occurrence_at}
 use Rattle.getopts.specs.Scan.{word_count, occurrences_after, occurrences_of}
 use Rattle.getopts.specs.Matches.{Found, found_at, matched}
@@ -18,6 +18,7 @@ use Rattle.getopts.specs.ScanLaws.{mentions_of, positions_in, one_higher_after, 
 use Rattle.getopts.specs.ScanLaws.{PositionsAreWords, HavePositionsBelow}
 use Rattle.getopts.proofs.Lists.{AllByRecursion-append, slice_get-append}
 use Rattle.getopts.proofs.Reading.Readings.{spelled_all-append}
+use Rattle.getopts.proofs.Reading.Turns.{spelled}
 
 -- the words of items, and those that follow
 pub length-spelled_all : (items : List Item) (more : List Text)
@@ -199,7 +200,7 @@ position-mentioned position (first ∷ told) occurrence (suc k, below, is) = pos
 
 -- the first word of an item is the same whatever follows it
 first_word-spelled : (item : Item) (more : List Text)
-    → slice_get (spelled item more) 0 ≡ slice_get (spelled item []) 0
+    → slice_get (spelled item more) 0 ≡ slice_get (item_words item) 0
 first_word-spelled (free word) more = refl
 first_word-spelled (long dashes name argument) more = refl
 first_word-spelled (cluster names end) more = refl
@@ -235,14 +236,6 @@ PositionsAreWords_lem grammar = record { of_occurrence = stands } where
         after = found.after;
         items_are = found.items_are;
         mentioned = mentioned;
-        below = omega (
-          arith,
-          here,
-          ap length words_are,
-          length-append (spelled_all found.before [])
-              (spelled found.item more),
-          spells_word found.item more,
-        );
         first_word = ap (slice_get words) here ∙ ap (λ (ws : List Text). slice_get ws (word_count found.before)) words_are
             ∙ slice_get-append (spelled_all found.before []) (spelled found.item more) ∙ first_word-spelled found.item more;
       }

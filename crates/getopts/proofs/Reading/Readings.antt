@@ -7,13 +7,13 @@ use Rattle.getopts.specs.Names.{Text, AreTexts}
 use Rattle.getopts.specs.Options.{Grammar}
 use Rattle.getopts.specs.Fail.{Fault}
 use Rattle.getopts.specs.Scan.{stop_word, none, attached, separate, flags, ends_in, Item, free}
-use Rattle.getopts.specs.Scan.{long, cluster, spelled, spelled_all, IsLawfulItem, EndsOrIsDashed}
+use Rattle.getopts.specs.Scan.{long, cluster, spelled_all, IsLawfulItem, EndsOrIsDashed}
 use Rattle.getopts.specs.Scan.{AreWellFollowed, Tail, line_end, stop, rest, tail_words}
 use Rattle.getopts.specs.Scan.{IsLawfulTail, Reading, IsReading, BeginsWith, IsFaultAt, IsScanFault}
 use Rattle.getopts.specs.declared.groups.ParsingStyle.{ParsingStyle}
 use Rattle.getopts.proofs.Lists.{AllByRecursion-right}
 use Rattle.getopts.proofs.Reading.Turns.{IsNamed, Turn, ends, takes_one, takes_two, faults, turn}
-use Rattle.getopts.proofs.Reading.Turns.{free_turn, with_item, after_turn, read_both, read}
+use Rattle.getopts.proofs.Reading.Turns.{spelled, free_turn, with_item, after_turn, read_both, read}
 use Rattle.getopts.proofs.Reading.Steps.{TakesItem, spelled_turn, fault_turn, fault_dashed}
 use Rattle.getopts.proofs.Reading.Steps.{turn_free}
 use Rattle.getopts.proofs.Reading.Steps.{turn_stop, IsSoundTurn, turn_sound}

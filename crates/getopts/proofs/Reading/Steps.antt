@@ -13,7 +13,7 @@ use Rattle.getopts.specs.Fail.{option_duplicated, unexpected_argument}
 use Rattle.getopts.specs.Scan.{dash, is_dashed, holds_equals, stop_word, Argument, none, attached}
 use Rattle.getopts.specs.Scan.{separate, Dashes, one, two, End, flags, ends_in, Item, free, long}
 use Rattle.getopts.specs.Scan.{cluster, dash_text, with_equals, long_word, attached_argument}
-use Rattle.getopts.specs.Scan.{argument_words, end_text, end_words, spelled, MayStandBefore}
+use Rattle.getopts.specs.Scan.{argument_words, end_text, end_words, MayStandBefore}
 use Rattle.getopts.specs.Scan.{FitsLong, FitsEnd, IsFlag, IsLawfulEnd, IsLawfulCluster}
 use Rattle.getopts.specs.Scan.{IsLawfulItem, is_bare, EndsOrIsDashed, stop, tail_words}
 use Rattle.getopts.specs.Scan.{IsLawfulTail, BeginsWith, IsLongForm, IsShortForm, HasUnknownFlag}
@@ -23,7 +23,8 @@ use Rattle.getopts.specs.declared.groups.HasArg.TheVariants.{Yes, No, Maybe}
 use Rattle.getopts.specs.declared.groups.ParsingStyle.{ParsingStyle}
 use Rattle.getopts.specs.declared.groups.ParsingStyle.TheVariants.{FloatingFrees, StopAtFirstFree}
 use Rattle.getopts.proofs.Lists.{AllByRecursion-append, filled-append}
-use Rattle.getopts.proofs.Reading.Turns.{IsNamed, Turn, ends, takes_one, takes_two, faults}
+use Rattle.getopts.proofs.Reading.Turns.{spelled, IsNamed, Turn, ends, takes_one, takes_two}
+use Rattle.getopts.proofs.Reading.Turns.{faults}
 use Rattle.getopts.proofs.Reading.Turns.{first_char}
 use Rattle.getopts.proofs.Reading.Turns.{named_turn, long_name, long_argument, long_turn}
 use Rattle.getopts.proofs.Reading.Turns.{maybe_turn}
@@ -77,9 +78,9 @@ begins_long : (grammar : Grammar) (dashes : Dashes) (word name : Text) (argument
     (kind : HasArg) (more : List Text)
     → HasDashes grammar dashes word (name ++ with_equals (attached_argument argument))
     → holds_equals name ≡ false → grammar.kind_of name ≡ Some kind → FitsLong kind argument
-    → BeginsWith grammar (word ∷ argument_words argument more) (long dashes name argument) more
+    → BeginsWith grammar (word ∷ (argument_words argument ++ more)) (long dashes name argument) more
 begins_long grammar dashes word name argument kind more form plain resolved fits = record {
-  spells = ap (λ (w : Text). w ∷ argument_words argument more) form.word_is;
+  spells = ap (λ (w : Text). w ∷ (argument_words argument ++ more)) form.word_is;
   lawful = record {
     before = before_front grammar.long_only dashes name (with_equals (attached_argument argument)) form.before;
     cut_once = plain;
@@ -133,9 +134,9 @@ flags_ascii grammar named (byte ∷ names) each = (flag_ascii (named.ascii byte)
 begins_cluster : (grammar : Grammar) (word : Text) (names : List ℕ) (end : End) (more : List Text)
     → IsShortForm grammar word (names ++ end_text end) → AllByRecursion (IsFlag grammar) names
     → IsLawfulEnd grammar names end → (is_bare (cluster names end) ≡ true → EndsOrIsDashed more)
-    → BeginsWith grammar (word ∷ end_words end more) (cluster names end) more
+    → BeginsWith grammar (word ∷ (end_words end ++ more)) (cluster names end) more
 begins_cluster grammar word names end more form each last followed = record {
-  spells = ap (λ (w : Text). w ∷ end_words end more) form.word_is;
+  spells = ap (λ (w : Text). w ∷ (end_words end ++ more)) form.word_is;
   lawful = record { ordinary = form.ordinary; short_form = form.second; each = each; last = last };
   followed = followed;
 }

@@ -10,11 +10,15 @@ use Rattle.getopts.specs.Options.{Grammar}
 use Rattle.getopts.specs.Fail.{Fault, argument_missing, unrecognized_option, unexpected_argument}
 use Rattle.getopts.specs.Scan.{dash, equals_sign, is_dashed, holds_equals, stop_word, Dashes, one}
 use Rattle.getopts.specs.Scan.{two, none, attached, separate, flags, ends_in, Item, free, long}
-use Rattle.getopts.specs.Scan.{cluster, Tail, line_end, stop, rest, Reading}
+use Rattle.getopts.specs.Scan.{cluster, item_words, Tail, line_end, stop, rest, Reading}
 use Rattle.getopts.specs.declared.groups.HasArg.{HasArg}
 use Rattle.getopts.specs.declared.groups.HasArg.TheVariants.{Yes, No, Maybe}
 use Rattle.getopts.specs.declared.groups.ParsingStyle.{ParsingStyle}
 use Rattle.getopts.specs.declared.groups.ParsingStyle.TheVariants.{FloatingFrees, StopAtFirstFree}
+
+-- the words of an item, before those that follow
+abbrev pub spelled : Item → List Text → List Text
+spelled item more = item_words item ++ more
 
 -- Names are texts: the empty one doesn't resolve, nor does a byte that is no ASCII.
 pub record IsNamed (grammar : Grammar) : Type 0 where

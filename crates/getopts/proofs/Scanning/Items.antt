@@ -18,7 +18,7 @@ pub ReadsItem-long : (grammar : Grammar) (word text name : Text) (argument : Arg
     (kind : HasArg) (place : ℕ) (after : List Text) (position used : ℕ) →
     IsInLongForm grammar word text → text ≡ name ++ with_equals (attached_argument argument) → holds_equals name ≡ false →
     grammar.kind_of name ≡ Some kind → grammar.place_of name ≡ Some place → FitsLong kind argument →
-    used ≤ length after → after ≡ argument_words argument (drop used after) →
+    used ≤ length after → after ≡ argument_words argument ++ drop used after →
     ReadsItem grammar word after position used (record { mention = record { group = place; value = value_of argument }; position = position } ∷ [])
 ReadsItem-long grammar word text name argument kind place after position used form text_is cut_once kind_is place_is fits within after_is = record {
   item = long form.dashes name argument;
@@ -64,7 +64,7 @@ pub AddsItem-long : (grammar : Grammar) (word text name : Text) (argument : Argu
     →
     IsInLongForm grammar word text → text ≡ name ++ with_equals (attached_argument argument) → holds_equals name ≡ false →
     grammar.kind_of name ≡ Some kind → grammar.place_of name ≡ Some place → FitsLong kind argument →
-    used ≤ length after → after ≡ argument_words argument (drop used after) →
+    used ≤ length after → after ≡ argument_words argument ++ drop used after →
     new ≡ old ++ record { mention = record { group = place; value = value_of argument }; position = position } ∷ [] →
     AddsItem grammar word after position used old new
 AddsItem-long grammar word text name argument kind place after position used old new form text_is cut_once kind_is

@@ -13,7 +13,7 @@ use Rattle.getopts.specs.Options.{Grammar}
 use Rattle.getopts.specs.Fail.{Fault}
 use Rattle.getopts.specs.Line.{AddsItem}
 use Rattle.getopts.specs.declared.groups.ParsingStyle.TheVariants.{FloatingFrees, StopAtFirstFree}
-use Rattle.getopts.specs.Scan.{Item, free, long, cluster, spelled, spelled_all, IsLawfulItem}
+use Rattle.getopts.specs.Scan.{Item, free, long, cluster, spelled_all, IsLawfulItem}
 use Rattle.getopts.specs.Scan.{is_dashed, stop_word, is_bare, EndsOrIsDashed, AreWellFollowed}
 use Rattle.getopts.specs.Scan.{BeginsWith, Occurrence, occurrence_at, word_count, occurrences_after}
 use Rattle.getopts.specs.Scan.{mentions, free_items, Tail, stop, rest, tail_words, trailing_after}
@@ -22,6 +22,7 @@ use Rattle.getopts.proofs.Lists.{AllByRecursion-append, drop_past}
 use Rattle.getopts.proofs.Reading.Laws.{free_items-append, spelled_all-joined}
 use Rattle.getopts.proofs.Reading.Positions.{word_count-cons, length-spelled_all}
 use Rattle.getopts.proofs.Reading.Readings.{EndsOrIsDashed-spelled, spelled_all-append}
+use Rattle.getopts.proofs.Reading.Turns.{spelled}
 
 -- The words before this place spell items, with these occurrences and free words.
 pub record ReadSoFar (grammar : Grammar) (words : List Text) (at : ℕ)

@@ -3,21 +3,22 @@ use Rattle.std.proofs.Common.{◌≡◌, ℕ, zero, suc, ◌+◌, ◌-◌, ◌<�
 use Rattle.std.proofs.Common.{List, [], ◌∷◌, ◌++◌, Option, Some, None, length, take, drop, refl, ap}
 use Rattle.std.proofs.Common.{sym, ◌∙◌, subst, arith, codes, append_assoc}
 use Rattle.std.specs.Prelude.{Result, Ok, Err, OnOk, slice_get, nat_lt, if◌then◌else◌}
-use Rattle.std.specs.List.{AllZip}
+use Rattle.std.specs.List.{AllZip, list_any}
 use Rattle.std.specs.Option.{option_map}
 use Rattle.std.proofs.lemmas.Bool.Decides.{nat_tests}
 use Rattle.std.proofs.lemmas.List.{take_all, take_more, drop_at}
 use Rattle.std.proofs.lemmas.List.Folds.{list_any-append}
 use Rattle.std.proofs.lemmas.Option.{slice_get_within, get_or_from_slice_get, slice_get-get_or}
 use Rattle.std.proofs.lemmas.Option.{none-some}
-use Rattle.getopts.specs.Held.Groups.{group_view}
+use Rattle.getopts.specs.Held.Groups.{group_view, known_view}
 use Rattle.getopts.specs.Names.{Text, is_empty}
-use Rattle.getopts.specs.Options.{Group, Declared}
+use Rattle.getopts.specs.Options.{Known, Group, Declared, knowns_of}
 use Rattle.getopts.specs.Only.{IsTheOnly}
 use Rattle.getopts.specs.Usage.{AddsTheOnly, any_short, spaces, head, next_row, padding, row_text}
 use Rattle.getopts.specs.Usage.{IsUsageRow, AreUsageRows, usage_text, IsUsageText}
 use Rattle.getopts.specs.Wrap.{width_of, IsDescriptionRows, joined, parting, AddsDescription}
 use Rattle.getopts.specs.declared.groups.Group.{Group as Borrowed}
+use Rattle.getopts.specs.declared.groups.Known.{Known as HeldKnown}
 use Rattle.getopts.proofs.Lists.{all_zip_push}
 use Rattle.getopts.proofs.Wrapping.Lines.{rows_exactly}
 use Rattle.getopts.proofs.Wrapping.Texts.{joined-push}
@@ -60,35 +61,49 @@ each_is_the_only {X} {Y} R (x ∷ xs) (y ∷ ys) all = λ other. (
 
 -- ---- groups, one after the other
 
--- one more group, where one was found at the next place
-pub group_more : (groups : List Group) (place : ℕ) (found : Option Borrowed) (group : Borrowed)
-    → option_map group_view found ≡ slice_get groups place → found ≡ Some group
-    → take (place + 1) groups ≡ take place groups ++ group_view group ∷ []
-group_more groups place found group view is =
-    let got : slice_get groups place ≡ Some (group_view group) = sym view ∙ ap (option_map group_view) is in
-    take_more groups place (group_view group) (slice_get_within groups place (group_view group) got)
-    ∙ ap (λ (last : Group). take place groups ++ last ∷ []) (get_or_from_slice_get groups place (group_view group) (group_view group) got)
+module _ {Held Seen : Type 0} (view : Held → Seen) where
+  -- one more group, where one was found at the next place
+  pub group_more : (groups : List Seen) (place : ℕ) (found : Option Held) (group : Held)
+      → option_map view found ≡ slice_get groups place → found ≡ Some group
+      → take (place + 1) groups ≡ take place groups ++ view group ∷ []
+  group_more groups place found group got is =
+      let at : slice_get groups place ≡ Some (view group) = sym got ∙ ap (option_map view) is in
+      take_more groups place (view group) (slice_get_within groups place (view group) at)
+      ∙ ap (λ (last : Seen). take place groups ++ last ∷ []) (get_or_from_slice_get groups place (view group) (view group) at)
 
--- one was found at each place within the list
-pub group_missing : (groups : List Group) (place : ℕ) (found : Option Borrowed)
-    → place < length groups → option_map group_view found ≡ slice_get groups place
-    → ((group : Borrowed) → found ≡ Some group → ⊥) → ⊥
-group_missing groups place (Some group) within view missing = missing group refl
-group_missing [] place None within view missing = absurd (omega arith)
-group_missing (first ∷ groups) place None within view missing = none-some _ (view ∙ slice_get-get_or (first ∷ groups) place first within)
+  -- one was found at each place within the list
+  pub group_missing : (groups : List Seen) (place : ℕ) (found : Option Held)
+      → place < length groups → option_map view found ≡ slice_get groups place
+      → ((group : Held) → found ≡ Some group → ⊥) → ⊥
+  group_missing groups place (Some group) within got missing = missing group refl
+  group_missing [] place None within got missing = absurd (omega arith)
+  group_missing (first ∷ groups) place None within got missing = none-some _ (got ∙ slice_get-get_or (first ∷ groups) place first within)
+
+-- whether a group has a short name
+abbrev has_short : Known → Bool
+has_short known = not (is_empty known.names.short)
+
+-- whether any of these groups has a short name
+abbrev pub any_known_short : List Known → Bool
+any_known_short knowns = list_any has_short knowns
+
+-- the same of groups with their help texts
+pub any_short-knowns : (groups : List Group) → any_known_short (knowns_of groups) ≡ any_short groups
+any_short-knowns [] = refl
+any_short-knowns (group ∷ groups) = ap (λ more. has_short group.known || more) (any_short-knowns groups)
 
 -- whether any group has a short name, with one more group
-pub any_short_more : (groups : List Group) (place : ℕ) (found : Option Borrowed) (group : Borrowed)
-    → option_map group_view found ≡ slice_get groups place → found ≡ Some group
-    → (so_far now : Bool) → so_far ≡ any_short (take place groups)
-    → now ≡ (so_far || not (is_empty group.names.short.now))
-    → now ≡ any_short (take (place + 1) groups)
-any_short_more groups place found group view is so_far now so_far_is now_is =
+pub any_short_more : (knowns : List Known) (place : ℕ) (found : Option HeldKnown) (known : HeldKnown)
+    → option_map known_view found ≡ slice_get knowns place → found ≡ Some known
+    → (so_far now : Bool) → so_far ≡ any_known_short (take place knowns)
+    → now ≡ (so_far || not (is_empty known.names.short.now))
+    → now ≡ any_known_short (take (place + 1) knowns)
+any_short_more knowns place found known got is so_far now so_far_is now_is =
     now_is
-    ∙ ap (λ so_far. so_far || not (is_empty group.names.short.now)) so_far_is
-    ∙ ap (λ last. any_short (take place groups) || last) (or_false (not (is_empty group.names.short.now)))
-    ∙ sym (list_any-append (λ group. not (is_empty group.known.names.short)) (take place groups) (group_view group ∷ []))
-    ∙ ap any_short (sym (group_more groups place found group view is))
+    ∙ ap (λ so_far. so_far || has_short (known_view known)) so_far_is
+    ∙ ap (λ last. any_known_short (take place knowns) || last) (or_false (has_short (known_view known)))
+    ∙ sym (list_any-append has_short (take place knowns) (known_view known ∷ []))
+    ∙ ap any_known_short (sym (group_more known_view knowns place found known got is))
   where
     or_false : (b : Bool) → b ≡ (b || false)
     or_false true = refl
@@ -161,7 +176,7 @@ pub rows_more : (options : Declared) (place : ℕ) (found : Option Borrowed) (gr
     → AreRowsBefore options (place + 1) (rows ++ row ∷ [])
 rows_more options place found group view is long_only among_shorts long_only_is among_shorts_is rows row each only =
     let Only : Group → Text → Type 0 = λ group row. IsTheOnly (IsUsageRow options.long_only (any_short options.groups) group) row in
-    rw (group_more options.groups place found group view is)
+    rw (group_more group_view options.groups place found group view is)
     (all_zip_push Only (take place options.groups) rows (group_view group) row each (rw (long_only_is, among_shorts_is) at only))
 
 -- with the last one these are the only usage rows

@@ -21,6 +21,10 @@ known_with kinds short long = record {
   occurrence = kinds.occur;
 }
 
+-- the kinds of a group
+abbrev pub kinds_of : Known → Kinds
+kinds_of known = record { hasarg = known.kind; occur = known.occurrence }
+
 -- what is known of a borrowed group
 abbrev pub known_view : HeldKnown → Known
 known_view held = known_with held.kinds held.names.short.now held.names.long.now
@@ -36,7 +40,7 @@ HaveTextsForShorts groups = AllByRecursion (λ group. IsUtf8 group.known.names.s
 -- a borrowed group
 abbrev pub group_view : HeldGroup → Group
 group_view held = record {
-  known = record { names = names_view held.names; kind = held.hasarg; occurrence = held.occur };
+  known = known_view held.known;
   hint = held.hint.now;
   description = held.desc.now;
 }

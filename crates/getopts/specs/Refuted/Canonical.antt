@@ -5,8 +5,8 @@ use Rattle.getopts.specs.Options.{Declared}
 use Rattle.getopts.specs.Refuted.Forms.{Refutes, optflag, optflagopt, usual, only_long, typed}
 
 -- the option `v`/`verbose`
-abbrev pub verbose : Declared
-verbose = usual (optflag "v" "verbose" ∷ [])
+abbrev pub one_flag : Declared
+one_flag = usual (optflag "v" "verbose" ∷ [])
 
 -- `x` is attached
 abbrev pub canonical_value_apart : Type 0
@@ -22,12 +22,12 @@ canonical_without_stop = Refutes (IsCanonicalAnswer (usual []) (typed ("x" ∷ [
 
 -- the name is the main name, not the one that was typed
 abbrev pub canonical_keeps_typed_names : Type 0
-canonical_keeps_typed_names = Refutes (IsCanonicalAnswer verbose (typed ("-v" ∷ [])))
+canonical_keeps_typed_names = Refutes (IsCanonicalAnswer one_flag (typed ("-v" ∷ [])))
     (Ok (Some (typed ("--verbose" ∷ "--" ∷ [])))) (Ok (Some (typed ("--v" ∷ "--" ∷ []))))
 
 -- the words aren't those that were typed
 abbrev pub canonical_hands_words_back : Type 0
-canonical_hands_words_back = Refutes (IsCanonicalAnswer verbose (typed ("-v" ∷ [])))
+canonical_hands_words_back = Refutes (IsCanonicalAnswer one_flag (typed ("-v" ∷ [])))
     (Ok (Some (typed ("--verbose" ∷ "--" ∷ [])))) (Ok (Some (typed ("-v" ∷ []))))
 
 -- there is a line, though a main name that isn't used holds `=`
@@ -38,12 +38,12 @@ canonical_none_for_declared_name =
 
 -- there is a line
 abbrev pub canonical_always_none : Type 0
-canonical_always_none = Refutes (IsCanonicalAnswer verbose (typed ("-v" ∷ [])))
+canonical_always_none = Refutes (IsCanonicalAnswer one_flag (typed ("-v" ∷ [])))
     (Ok (Some (typed ("--verbose" ∷ "--" ∷ [])))) (Ok None)
 
 -- the line has the option
 abbrev pub canonical_always_stop : Type 0
-canonical_always_stop = Refutes (IsCanonicalAnswer verbose (typed ("-v" ∷ [])))
+canonical_always_stop = Refutes (IsCanonicalAnswer one_flag (typed ("-v" ∷ [])))
     (Ok (Some (typed ("--verbose" ∷ "--" ∷ [])))) (Ok (Some (typed ("--" ∷ []))))
 
 -- there is no line, as `--p=x` would be cut after `p`

@@ -9,7 +9,7 @@ use Rattle.getopts.specs.Matches.{Matched}
 use Rattle.getopts.specs.Accessors.{values_of}
 use Rattle.getopts.specs.Parse.{IsAccepted}
 use Rattle.getopts.specs.Refuted.Forms.{Refutes, Answers, optflag, optmulti, usual, only_long}
-use Rattle.getopts.specs.Refuted.Forms.{typed, found}
+use Rattle.getopts.specs.Refuted.Forms.{typed, found_by}
 use Rattle.getopts.specs.declared.fail.Fail.TheVariants.{UnrecognizedOption, OptionMissing}
 use Rattle.getopts.specs.declared.fail.Fail.TheVariants.{OutOfMemory}
 use Rattle.getopts.specs.declared.groups.HasArg.TheVariants.{Yes}
@@ -25,7 +25,7 @@ abbrev pub matches_clone_drops_values : Type 0
 matches_clone_drops_values =
     Refutes (Answers (usual (optmulti "a" "" ∷ [])) (typed ("-a1" ∷ []))
     (λ matches values. (copy : Matched) × (copy ≡ matches)
-    × (values ≡ values_of (found copy "a"))))
+    × (values ≡ values_of (found_by copy "a"))))
     (Ok (typed ("1" ∷ []))) (Ok (typed ("a" ∷ [])))
 
 -- a copy of a fault tells its name

@@ -88,5 +88,5 @@ abbrev pub e_acute : Text
 e_acute = 195 ∷ 169 ∷ []
 
 -- the occurrences that matches hold of what a name stands for
-abbrev pub found : Matched → String → List Found
-found matches name = found_of matches.groups (codes name)
+abbrev pub found_by : Matched → String → List Found
+found_by matches name = found_of matches.groups (codes name)

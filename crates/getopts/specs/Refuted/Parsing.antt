@@ -10,7 +10,7 @@ use Rattle.getopts.specs.Matches.{Matched}
 use Rattle.getopts.specs.Accessors.{first_value}
 use Rattle.getopts.specs.Refuted.Forms.{Refutes, Answers, optflag, optflagopt, optopt, reqopt}
 use Rattle.getopts.specs.Refuted.Forms.{usual}
-use Rattle.getopts.specs.Refuted.Forms.{stopping, only_long, typed, e_acute, found}
+use Rattle.getopts.specs.Refuted.Forms.{stopping, only_long, typed, e_acute, found_by}
 use Rattle.getopts.specs.declared.groups.HasArg.TheVariants.{No}
 use Rattle.getopts.specs.declared.groups.Occur.TheVariants.{Optional}
 
@@ -27,19 +27,19 @@ abbrev pub AreAny : Matched → List ℕ → Type 0
 AreAny matches answer = ⊤
 
 -- the option `v` of words with free words anywhere
-abbrev pub verbose : Declared
-verbose = usual (optflag "v" "verbose" ∷ [])
+abbrev pub one_flag : Declared
+one_flag = usual (optflag "v" "verbose" ∷ [])
 
 -- `-v` isn't free
 abbrev pub every_word_is_free : Type 0
 every_word_is_free =
-    Refutes (Answers verbose (typed ("-v" ∷ [])) AreFree) (Ok []) (Ok (typed ("-v" ∷ [])))
+    Refutes (Answers one_flag (typed ("-v" ∷ [])) AreFree) (Ok []) (Ok (typed ("-v" ∷ [])))
 
 -- `foo` is a free word, and no value of `color`
 abbrev pub long_optional_takes_next_word : Type 0
 long_optional_takes_next_word =
     Refutes (Answers (usual (optflagopt "c" "color" ∷ [])) (typed ("--color" ∷ "foo" ∷ []))
-    (λ matches value. value ≡ first_value (found matches "color")))
+    (λ matches value. value ≡ first_value (found_by matches "color")))
     (Ok None) (Ok (Some (codes "foo")))
 
 -- `auto` is the value of `c`, and isn't free
@@ -62,7 +62,7 @@ alias_beside_its_main_name =
     AreCounts)
     (Ok (0 ∷ 1 ∷ [])) (Ok (1 ∷ 0 ∷ []))
     × Refutes (Answers (usual (optflag "a" "apple" ∷ optflag "a" "" ∷ [])) (typed ("-a" ∷ []))
-    (λ matches count. count ≡ length (found matches "a")))
+    (λ matches count. count ≡ length (found_by matches "a")))
     (Ok 1) (Ok 0)
 
 -- `-b` is the first group with the main name `apple`, which takes no argument, and not the group
@@ -73,7 +73,7 @@ alias_answers_its_declarer =
     AreCounts)
     (Err (option_missing (codes "apple"))) (Err (argument_missing (codes "b")))
     × Refutes (Answers (usual (optflag "a" "apple" ∷ optflag "b" "apple" ∷ [])) (typed ("-b" ∷ []))
-    (λ matches count. count ≡ length (found matches "b")))
+    (λ matches count. count ≡ length (found_by matches "b")))
     (Ok 1) (Ok 0)
 
 -- the cluster `-é` is refused, though `é` is a long name
@@ -87,7 +87,7 @@ wide_character_resolves =
 abbrev pub cluster_drops_equals_sign : Type 0
 cluster_drops_equals_sign =
     Refutes (Answers (usual (optopt "o" "" ∷ [])) (typed ("-o=5" ∷ []))
-    (λ matches value. value ≡ first_value (found matches "o")))
+    (λ matches value. value ≡ first_value (found_by matches "o")))
     (Ok (Some (codes "=5"))) (Ok (Some (codes "5")))
 
 -- `b`, which was defined first and came twice, is told before `a`, which is missing
@@ -99,7 +99,7 @@ missing_before_duplicated =
 
 -- `v` may come once
 abbrev pub counts_unchecked : Type 0
-counts_unchecked = Refutes (Answers verbose (typed ("-v" ∷ "-v" ∷ [])) AreCounts)
+counts_unchecked = Refutes (Answers one_flag (typed ("-v" ∷ "-v" ∷ [])) AreCounts)
     (Err (option_duplicated (codes "verbose"))) (Ok (2 ∷ []))
 
 -- a free word alone is accepted

@@ -23,14 +23,14 @@ returns-clause-ok c =
 
 pub loop-place-preserved : goal.loop-place-preserved
 loop-place-preserved c =
-    elim c.match-occur.branch [
+    elim c.match-kinds_at.branch [
       | in-Some+else-not-fits_count w ↦
-          let there = known-there c.args.groups.now c.loop-place.place w.in-Some.occur w.in-Some.ensures in
+          let there = known-there c.args.groups.now c.loop-place.place w.in-Some.kinds w.in-Some.ensures in
           let counted : w.count-count.result ≡ length (found_at c.loop-place.place c.args.found.now) =
           w.count-count.ensures ∙ ap (λ (ix : List (List ℕ)). length (unwrap_or (slice_get ix c.loop-place.place) []))
           c.in_ok-index.ensures ∙ length-found_at c.args.groups.now c.args.found.now c.loop-place.place
           (omega arith) in
-          let fits : FitsCount w.in-Some.occur w.count-count.result = w.fits_count.ensures.0 w.if-not-fits_count.false in
+          let fits : FitsCount w.in-Some.kinds.occur w.count-count.result = w.fits_count.ensures.0 w.if-not-fits_count.false in
           KeepsCounts-more c.args.groups.now c.args.found.now c.loop-place.place there.0 there.1 c.loop-place.invariant w.count-count.result counted
           (subst (λ (occur : Occur). FitsCount occur w.count-count.result) (sym there.2) fits)
       | in_default w ↦ absurd (omega (arith, none_known c.args.groups.now c.loop-place.place w.in_default.ensures))
@@ -38,7 +38,7 @@ loop-place-preserved c =
 
 pub returns-then-not-fits_count-clause-err : goal.returns-then-not-fits_count-clause-err
 returns-then-not-fits_count-clause-err c =
-    let there = known-there c.args.groups.now c.loop-place.place c.in-Some.occur c.in-Some.ensures in
+    let there = known-there c.args.groups.now c.loop-place.place c.in-Some.kinds c.in-Some.ensures in
     let count = c.count-count.result in
     let counted : count ≡ length (found_at c.loop-place.place c.args.found.now) =
     c.count-count.ensures ∙ ap (λ (ix : List (List ℕ)). length (unwrap_or (slice_get ix c.loop-place.place) []))

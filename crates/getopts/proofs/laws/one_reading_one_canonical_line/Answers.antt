@@ -1,4 +1,5 @@
 -- What the options keep makes their names lawful, and so the laws hold.
+use Rattle.getopts.specs.Canon.{with_setting}
 use Rattle.getopts.proofs.MainTheorem.Callers.{OneContentHoldsSame_lem}
 use Rattle.getopts.proofs.Canonical.Lines.{IsSound-says}
 use Rattle.getopts.proofs.Parsing.Parsed.{keeps_laws}
@@ -6,7 +7,7 @@ use Rattle.getopts.proofs.MainTheorem.Theorem.{OneReading-options, AcceptedExact
 use Rattle.getopts.proofs.MainTheorem.Theorem.{RefusedExactlyWhen-options, OneOfThree-options}
 use Rattle.getopts.proofs.MainTheorem.Theorem.{OneReadingGivesAll-options}
 use Rattle.getopts.proofs.MainTheorem.Theorem.{CanonicalLinesTell-options}
-use Rattle.getopts.proofs.MainTheorem.Theorem.{AnsweredLinesTell-options, HasCanonicalLine-options}
+use Rattle.getopts.proofs.MainTheorem.Theorem.{HasCanonicalLine-options}
 use Rattle.getopts.proofs.laws.one_reading_one_canonical_line.Goals as goal
 
 pub returns : goal.returns
@@ -14,20 +15,16 @@ returns c =
     let options = c.args.options.now in
     let lawful = c.groups-groups.ensures.lawful in
     let shorts = c.groups-groups.ensures.shorts in
-    let laws = HasCanonicalLine-options options lawful shorts in
     record {
       one_reading = OneReading-options options lawful shorts;
+      one_reading_in_each = λ style long_only. OneReading-options (with_setting options style long_only) lawful shorts;
       accepted = AcceptedExactlyWhen-options options lawful shorts;
       refused = RefusedExactlyWhen-options options lawful shorts;
       one_of_three = OneOfThree-options options lawful shorts;
       gives_all = OneReadingGivesAll-options options lawful shorts;
       holds_same = OneContentHoldsSame_lem options (AcceptedExactlyWhen-options options lawful shorts);
       canonical_lines_tell = CanonicalLinesTell-options options lawful shorts;
-      answered_lines_tell = AnsweredLinesTell-options options lawful shorts;
-      reads_back = λ words content says plain. (laws words content says plain).reads_back;
-      says_nothing_else = λ words content says plain. (laws words content says plain).says_nothing_else;
-      its_own = λ words content says plain. (laws words content says plain).its_own;
-      only_content = λ words content says plain. (laws words content says plain).only;
+      canonical_lines = HasCanonicalLine-options options lawful shorts;
       reading_laws = keeps_laws options lawful shorts;
       sound = IsSound-says options;
     }

@@ -1,11 +1,15 @@
 -- The texts of the pairs are the values.
-use Rattle.std.proofs.Common.{ℕ, Vec, String, Global}
+use Rattle.std.proofs.Common.{◌≡◌, ◌∙◌, ℕ, Vec, String, Global, ap}
 use Rattle.std.proofs.lemmas.Result.{IfOk-weaker}
+use Rattle.getopts.specs.Accessors.{found_of, values_of}
+use Rattle.getopts.specs.Matches.{Matched}
 use Rattle.getopts.proofs.Held.Matches.{texts_of_held_pairs}
 use Rattle.getopts.proofs.matches.Matches.opt_strs_pos.Goals as goal
 
 pub returns-clause-texts : goal.returns-clause-texts
-returns-clause-texts c = rw (← c.given_of.ensures)
-    (IfOk-weaker _ _ _
-    (λ (pairs : Vec (ℕ × String Global) Global) same. texts_of_held_pairs pairs.items c.given_of.result same)
-    c.pairs.ensures)
+returns-clause-texts c =
+    let found : c.occurrences_of.result ≡ found_of c.args.self.now.groups c.args.name.now =
+    c.occurrences_of.ensures ∙ ap (λ (matches : Matched). found_of matches.groups c.args.name.now) c.self.view_is in
+    IfOk-weaker _ _ _
+    (λ (pairs : Vec (ℕ × String Global) Global) same. texts_of_held_pairs pairs.items c.occurrences_of.result same ∙ ap values_of found)
+    c.pairs.ensures

@@ -1,32 +1,17 @@
 -- The copies are those of what is held.
-use Rattle.std.proofs.Common.{◌≡◌, ◌∙◌, sym}
+use Rattle.std.proofs.Common.{◌≡◌, ◌∙◌}
 use Rattle.std.specs.String.{string_bytes}
-use Rattle.getopts.specs.Matches.{matched}
-use Rattle.getopts.specs.Held.Accepted.{index_of}
 use Rattle.getopts.proofs.Lists.{map-alike}
 use Rattle.getopts.proofs.matches.MatchesClone.clone.Goals as goal
-
-pub invariant_of-result : goal.invariant_of-result
-invariant_of-result c =
-    let groups : c.in_ok-clone-2.field-0 ≡ c.self.inside.groups = c.in_ok-clone-2.ensures.cases in
-    let table : c.in_ok-clone-3.field-0 ≡ c.self.inside.table = c.in_ok-clone-3.ensures.same in
-    let found : c.in_ok-clone-4.field-0 ≡ c.self.inside.found = c.in_ok-clone-4.ensures.cases in
-    let index : c.in_ok-clone-5.field-0 ≡ c.self.inside.index = c.in_ok-clone-5.ensures.cases in
-    record {
-      lawful = rw groups c.self.invariant.lawful;
-      table = rw (groups, table) c.self.invariant.table;
-      index = index ∙ c.self.invariant.index ∙ sym (λ i. index_of (groups i) (found i));
-    }
 
 pub returns : goal.returns
 returns c =
     let groups : c.in_ok-clone-2.field-0 ≡ c.self.inside.groups = c.in_ok-clone-2.ensures.cases in
-    let found : c.in_ok-clone-4.field-0 ≡ c.self.inside.found = c.in_ok-clone-4.ensures.cases in
     let free = map-alike string_bytes c.self.inside.free.items c.in_ok-clone.field-0.items c.in_ok-clone.ensures.cases.0 in
     record {
       same =
           (λ i. record {
-            groups = matched 0 (groups i) (found i);
+            groups = groups i;
             free = free i;
             trailing_start = c.self.inside.trailing_start;
           }) ∙ c.self.view_is;

@@ -1,15 +1,15 @@
 -- The words that were taken are those that the iterator gives.
-use Rattle.std.proofs.Common.{List, length, ◌∙◌, subst, Bor}
+use Rattle.std.proofs.Common.{List, ◌∙◌, subst, Bor}
 use Rattle.std.specs.Iterator.Runs.{WholeRun}
 use Rattle.std.proofs.lemmas.Result.{IfOk-weaker, IfErr-weaker}
 use Rattle.getopts.specs.Fail.{Fault, Tells}
 use Rattle.getopts.specs.Names.{Text, texts}
 use Rattle.getopts.specs.Matches.{Matched}
-use Rattle.getopts.specs.ScanLaws.{HavePositionsBelow}
 use Rattle.getopts.specs.Parse.{IsAccepted, IsRefused}
-use Rattle.getopts.specs.Told.{HaveLastWordsFree}
+use Rattle.getopts.specs.Told.{Accepts}
 use Rattle.getopts.specs.declared.fail.Fail.{Fail}
 use Rattle.getopts.proofs.Parsing.Faults.{Tells-weaker}
+use Rattle.getopts.proofs.Parsing.Told.{Accepts-accepted}
 use Rattle.getopts.proofs.options.Options.parse.Goals as goal
 
 pub returns-clause-accepted : goal.returns-clause-accepted
@@ -17,8 +17,14 @@ returns-clause-accepted g c =
     let run = c.in_ok-words.ensures in
     let words = c.deref.ensures.value ∙ run.3 in
     IfOk-weaker c.parse_words.result _
-    (λ (matches : Matched). WholeRun g.I.Iterator.next_gives c.args.args (λ run. IsAccepted c.args.self.now (texts run.items) matches))
-    (λ matches accepted. (run.0, run.1, run.2, subst (λ (ws : List (Bor Text)). IsAccepted c.args.self.now (texts ws) matches) words accepted))
+    (λ (matches : Matched). WholeRun g.I.Iterator.next_gives c.args.args (λ run. Accepts c.args.self.now (texts run.items) matches))
+    (λ matches accepted. (
+      run.0,
+      run.1,
+      run.2,
+      Accepts-accepted c.args.self.now (texts (run.0).items) matches
+          (subst (λ (ws : List (Bor Text)). IsAccepted c.args.self.now (texts ws) matches) words accepted),
+    ))
     c.parse_words.ensures.accepted
 
 pub returns-clause-refused : goal.returns-clause-refused
@@ -32,21 +38,3 @@ returns-clause-refused g c =
     (λ run. IsRefused c.args.self.now (texts run.items) fault)) told
     (λ fault refused. (run.0, run.1, run.2, subst (λ (ws : List (Bor Text)). IsRefused c.args.self.now (texts ws) fault) words refused)))
     c.parse_words.ensures.refused
-
-pub returns-clause-positions_below : goal.returns-clause-positions_below
-returns-clause-positions_below g c =
-    let run = c.in_ok-words.ensures in
-    let words = c.deref.ensures.value ∙ run.3 in
-    IfOk-weaker c.parse_words.result _
-    (λ (matches : Matched). WholeRun g.I.Iterator.next_gives c.args.args (λ run. HavePositionsBelow (length run.items) matches.groups))
-    (λ matches below. (run.0, run.1, run.2, subst (λ (ws : List (Bor Text)). HavePositionsBelow (length ws) matches.groups) words below))
-    c.parse_words.ensures.positions_below
-
-pub returns-clause-free_last : goal.returns-clause-free_last
-returns-clause-free_last g c =
-    let run = c.in_ok-words.ensures in
-    let words = c.deref.ensures.value ∙ run.3 in
-    IfOk-weaker c.parse_words.result _
-    (λ (matches : Matched). WholeRun g.I.Iterator.next_gives c.args.args (λ run. HaveLastWordsFree c.args.self.now (texts run.items) matches.free))
-    (λ matches last. (run.0, run.1, run.2, subst (λ (ws : List (Bor Text)). HaveLastWordsFree c.args.self.now (texts ws) matches.free) words last))
-    c.parse_words.ensures.free_last

@@ -23,13 +23,13 @@ loop-place-preserved c =
       | in-Some+in_ok-push_parting+in_ok-push_option w ↦
           let count : length texts ≡ place = simp length-map (length-take-le place groups (omega arith)) in
           rw (
-            group_more groups place c.group.result w.in-Some.group c.group.ensures w.in-Some.is,
+            group_more group_view groups place c.group.result w.in-Some.group c.group.ensures w.in-Some.is,
             map-append option_text (take place groups) (group_view w.in-Some.group ∷ []),
           )
           (text_more (codes " ") texts place _ _ _ _ (option_text (group_view w.in-Some.group)) count
           c.loop-place.invariant w.in_ok-push_parting.ensures
           (ap string_bytes w.text-is ∙ w.in_ok-push_option.ensures))
-      | in_default w ↦ absurd (group_missing groups place c.group.result (omega arith) c.group.ensures w.in_default.not-Some)
+      | in_default w ↦ absurd (group_missing group_view groups place c.group.result (omega arith) c.group.ensures w.in_default.not-Some)
     ]
 
 -- all options were added

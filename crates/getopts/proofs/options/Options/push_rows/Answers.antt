@@ -1,5 +1,6 @@
 use Rattle.std.proofs.Common.{[], ◌∷◌, ◌++◌, ap, ◌∙◌, refl, sym, append-nil, arith, codes}
 use Rattle.std.proofs.Common.{string_bytes, length-append}
+use Rattle.getopts.specs.Held.Groups.{group_view}
 use Rattle.getopts.proofs.Wrapping.Usage.{group_missing, text_more, rows_more, rows_all}
 use Rattle.getopts.proofs.options.Options.push_rows.Goals as goal
 use Rattle.getopts.proofs.options.Options.push_rows.Goals.{in-Some+in_ok-push_parting+in_ok-push_row}
@@ -26,7 +27,7 @@ loop-place-preserved c =
             text_is = text_more (codes "\n") so_far.rows place _ _ _ _ row so_far.count so_far.text_is
                 w.in_ok-push_parting.ensures (ap string_bytes w.text-is ∙ w.in_ok-push_row.ensures.2);
           }
-      | in_default w ↦ absurd (group_missing options.groups place c.group.result (omega arith) c.group.ensures w.in_default.not-Some)
+      | in_default w ↦ absurd (group_missing group_view options.groups place c.group.result (omega arith) c.group.ensures w.in_default.not-Some)
     ]
 
 -- all rows were added

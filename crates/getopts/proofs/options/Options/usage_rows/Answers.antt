@@ -28,7 +28,7 @@ loop-place-preserved c =
           (rows_more options place c.group.result w.in-Some.group c.group.ensures w.in-Some.is _ _
           c.layout-layout.ensures.long_only c.layout-layout.ensures.any_short
           (map string_bytes c.loop-place.rows.items) row c.loop-place.invariant only)
-      | in_default w ↦ absurd (group_missing options.groups place c.group.result (omega arith) c.group.ensures w.in_default.not-Some)
+      | in_default w ↦ absurd (group_missing group_view options.groups place c.group.result (omega arith) c.group.ensures w.in_default.not-Some)
     ]
 
 -- all rows are there

@@ -1,18 +1,18 @@
 -- The groups are the same where what is known of them is, and the occurrences at each place.
-use Rattle.std.proofs.Common.{◌≡◌, ◌∙◌, map, length, sym, ap, arith}
+use Rattle.std.proofs.Common.{◌≡◌, ◌∙◌, List, map, length, sym, ap, arith}
 use Rattle.std.proofs.lemmas.Bool.{not-true, not-false}
 use Rattle.std.specs.Cmp.Lexicographic.{pointwise}
-use Rattle.getopts.specs.Matches.{MatchedGroup, Matched}
+use Rattle.getopts.specs.Matches.{MatchedGroup}
 use Rattle.getopts.specs.Same.{same_known, same_found}
 use Rattle.getopts.proofs.Parsing.Counts.{length-matched}
 use Rattle.getopts.proofs.Held.Matches.{knowns-matched, differ_known, differ_found}
 use Rattle.getopts.proofs.Held.Matches.{same_found_everywhere}
-use Rattle.getopts.proofs.matches.Matches.same_groups.Goals as goal
-use Rattle.getopts.proofs.matches.Matches.same_groups.Goals.{After-ne}
+use Rattle.getopts.proofs.matched.MatchedGroups.same.Goals as goal
+use Rattle.getopts.proofs.matched.MatchedGroups.same.Goals.{After-ne}
 
 knowns : (c : After-ne)
-    → pointwise same_known (map (λ (group : MatchedGroup). group.known) c.args.self.now.groups)
-    (map (λ (group : MatchedGroup). group.known) c.args.other.now.groups)
+    → pointwise same_known (map (λ (group : MatchedGroup). group.known) c.args.self.now)
+    (map (λ (group : MatchedGroup). group.known) c.args.other.now)
     ≡ pointwise same_known c.self.inside.groups c.other.inside.groups
 knowns c = rw (
   ← c.self.view_is,
@@ -21,22 +21,22 @@ knowns c = rw (
   knowns-matched 0 c.other.inside.groups c.other.inside.found,
 )
 
-as_many : (c : After-ne) → length c.args.self.now.groups ≡ length c.self.inside.groups
-as_many c = ap (λ (matches : Matched). length matches.groups) (sym c.self.view_is) ∙ length-matched 0 c.self.inside.groups c.self.inside.found
+as_many : (c : After-ne) → length c.args.self.now ≡ length c.self.inside.groups
+as_many c = ap (λ (groups : List MatchedGroup). length groups) (sym c.self.view_is) ∙ length-matched 0 c.self.inside.groups c.self.inside.found
 
 pub returns-then-ne : goal.returns-then-ne
-returns-then-ne c = sym (differ_known c.args.self.now.groups c.args.other.now.groups
+returns-then-ne c = sym (differ_known c.args.self.now c.args.other.now
     (knowns (goal.at.returns-then-ne c).After-ne ∙ not-true _ (sym c.ne.ensures ∙ c.if-ne.true)))
 
 pub returns-then-not-same : goal.returns-then-not-same
 returns-then-not-same c =
-    sym (differ_found c.args.self.now.groups c.args.other.now.groups c.loop-place.place
+    sym (differ_found c.args.self.now c.args.other.now c.loop-place.place
     ((λ i. pointwise same_found (sym c.occurrences_at.ensures i) (sym c.occurrences_at-in-loop-place.ensures i))
     ∙ sym c.same.ensures ∙ c.if-not-same.true))
 
 pub returns : goal.returns
 returns c =
     let before = (goal.at.returns c).After-ne in
-    sym (same_found_everywhere c.args.self.now.groups c.args.other.now.groups
+    sym (same_found_everywhere c.args.self.now c.args.other.now
     (knowns before ∙ not-false _ (sym c.ne.ensures ∙ c.if-ne.false))
     (λ k h. c.loop-place.invariant k (omega (arith, h, as_many before))))

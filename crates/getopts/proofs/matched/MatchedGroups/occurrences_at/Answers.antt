@@ -1,8 +1,8 @@
 -- The places that the index has for a group are those of its occurrences.
 use Rattle.std.proofs.Common.{◌≡◌, ◌∙◌, ap, List, ℕ, [], slice_get, unwrap_or}
 use Rattle.getopts.proofs.Held.Matches.{held_places, held_places-within, held_places-found}
-use Rattle.getopts.proofs.matches.Matches.occurrences_at.Goals as goal
-use Rattle.getopts.proofs.matches.Matches.occurrences_at.Goals.{After-places}
+use Rattle.getopts.proofs.matched.MatchedGroups.occurrences_at.Goals as goal
+use Rattle.getopts.proofs.matched.MatchedGroups.occurrences_at.Goals.{After-places}
 
 places_are : (c : After-places)
     → c.places.result.now ≡ held_places c.self.inside.groups c.self.inside.found c.args.place

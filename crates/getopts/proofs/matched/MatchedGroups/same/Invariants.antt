@@ -3,7 +3,7 @@ use Rattle.std.proofs.Common.{◌≡◌, ◌<◌, ℕ, Some, true}
 use Rattle.std.specs.Cmp.Lexicographic.{pointwise}
 use Rattle.getopts.specs.Accessors.{found_in}
 use Rattle.getopts.specs.Same.{same_found}
-use Rattle.getopts.proofs.matches.Matches.same_groups.Given as goal
+use Rattle.getopts.proofs.matched.MatchedGroups.same.Given as goal
 
 abbrev pub invariant-loop-place : goal.invariant-loop-place
-invariant-loop-place l = (k : ℕ) → k < l.place → pointwise same_found (found_in l.self.groups (Some k)) (found_in l.other.groups (Some k)) ≡ true
+invariant-loop-place l = (k : ℕ) → k < l.place → pointwise same_found (found_in l.self (Some k)) (found_in l.other (Some k)) ≡ true

@@ -1,0 +1,71 @@
+//! The texts of panics: what each call says that is handed names which it doesn't take.
+
+use crate::answer::ADDING;
+use getopts::{Matches, Options};
+use std::panic::{catch_unwind, AssertUnwindSafe};
+
+/// The text of a call's panic, or that there was none.
+fn text_of<T>(call: impl FnOnce() -> T) -> String {
+    match catch_unwind(AssertUnwindSafe(call)) {
+        Ok(_) => "no panic".to_string(),
+        Err(panic) => match panic.downcast::<String>() {
+            Ok(text) => *text,
+            Err(panic) => panic.downcast_ref::<&str>().unwrap_or(&"").to_string(),
+        },
+    }
+}
+
+/// A line for each call: the names, and the text of its panic.
+pub fn lines() -> Vec<String> {
+    let mut lines = Vec::new();
+    for (short, long) in [("ab", ""), ("é", ""), ("", "a"), ("ab", "c"), ("", "")] {
+        for add in ADDING {
+            let text = text_of(|| {
+                let mut options = Options::new();
+                add(&mut options, short, long);
+                options.parse(Vec::<String>::new())
+            });
+            lines.push(format!("{short:?} {long:?}: {text}"));
+        }
+    }
+    let mut options = Options::new();
+    options
+        .optopt("o", "", "", "FILE")
+        .optopt("i", "", "", "FILE");
+    let matches = options.parse(["-ox"]).expect("an accepted line");
+    for name in ["", "nope", "é"] {
+        lines.extend(of_name(&matches, name));
+    }
+    for names in [["o", "nope"], ["i", "nope"], ["nope", "o"]] {
+        lines.extend(of_names(&matches, names));
+    }
+    lines
+}
+
+/// Of calls that ask for a name that no option has.
+fn of_name(matches: &Matches, name: &str) -> Vec<String> {
+    let texts = [
+        text_of(|| matches.opt_present(name)),
+        text_of(|| matches.opt_count(name)),
+        text_of(|| matches.opt_positions(name)),
+        text_of(|| matches.opt_strs(name)),
+        text_of(|| matches.opt_strs_pos(name)),
+        text_of(|| matches.opt_str(name)),
+        text_of(|| matches.opt_default(name, "")),
+        text_of(|| matches.opt_get::<i32>(name)),
+        text_of(|| matches.opt_get_default(name, 7)),
+    ];
+    texts.map(|text| format!("{name:?}: {text}")).to_vec()
+}
+
+/// Of calls that ask for two names, of which no option has the one.
+fn of_names(matches: &Matches, names: [&str; 2]) -> Vec<String> {
+    let owned = names.map(String::from);
+    let texts = [
+        text_of(|| matches.opts_present(&owned)),
+        text_of(|| matches.opts_str(&owned)),
+        text_of(|| matches.opts_present_any(names)),
+        text_of(|| matches.opts_str_first(names)),
+    ];
+    texts.map(|text| format!("{names:?}: {text}")).to_vec()
+}

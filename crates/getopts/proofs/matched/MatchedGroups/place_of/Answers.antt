@@ -1,0 +1,11 @@
+-- A name resolves among the groups held as among the texts of their names.
+use Rattle.getopts.proofs.Held.Matches.{place_of-matched}
+use Rattle.getopts.proofs.matched.MatchedGroups.place_of.Goals as goal
+
+pub returns : goal.returns
+returns c =
+    rw (
+      ← c.self.view_is,
+      ← place_of-matched c.self.inside.groups c.self.inside.found c.args.name.now,
+      ← c.names.ensures,
+    ) c.resolve.ensures
