@@ -7,6 +7,7 @@ to write what the README says. It takes the program that `rt ci` leaves in crate
 there. The last line is 'N passed, M failed'.
 """
 
+import concurrent.futures
 import ctypes
 import errno
 import os
@@ -250,21 +251,28 @@ def little_stack():
         ends(f"20,000 words with a stack of {kib} KiB", ended, SHOWN, shown(free=words))
 
 
+def counted(part, *given):
+    """The runs of a part, and the checks of it that passed and that failed."""
+    before = runs, passed, failed
+    part(*given)
+    return [now - then for now, then in zip((runs, passed, failed), before)]
+
+
 def main():
+    global runs, passed, failed
     if not os.access(SHOW, os.X_OK) or not shutil.which("rt"):
         print(f"system/run.py: {SHOW} or rt is not there: run 'rt ci' first\n0 passed, 1 failed")
         sys.exit(1)
     with tempfile.TemporaryDirectory() as folder:
         room = pathlib.Path(folder)
         preload = between(room)
-        words_that_are_no_text()
-        no_words(preload)
-        outputs_that_take_nothing()
-        a_file_of_so_many_bytes(room)
-        writes_that_take_little_or_fail(preload)
-        large_words(preload)
-        little_memory(preload)
-        little_stack()
+        parts = [(large_words, preload), (little_memory, preload), (writes_that_take_little_or_fail, preload),
+                 (words_that_are_no_text,), (no_words, preload), (outputs_that_take_nothing,),
+                 (a_file_of_so_many_bytes, room), (little_stack,)]
+        with concurrent.futures.ProcessPoolExecutor(4) as apart:
+            for told in [apart.submit(counted, *part) for part in parts]:
+                ran, well, badly = told.result()
+                runs, passed, failed = runs + ran, passed + well, failed + badly
     print(f"{runs} runs\n{passed} passed, {failed} failed")
     sys.exit(failed > 0)
 
