@@ -102,11 +102,14 @@ pub record IsAcceptedWith (options : Declared) (words : List Text) (content : Co
   pub counts : KeepsCounts (matches_of options reading).groups
   pub content_is : content ≡ content_of (grammar_of options) reading
 
--- A line says a content: in some style and mode it is accepted with it.
+-- A line says a content: in some style and mode it has a reading with this content that keeps the
+-- counts.
 pub record Says (options : Declared) (words : List Text) (content : Content) : Type 0 where
   pub style : ParsingStyle
   pub long_only : Bool
-  pub accepted : IsAcceptedWith (with_setting options style long_only) words content
+  pub reading : Reading
+  pub reads : IsCountKeeping (with_setting options style long_only) reading words
+  pub content_is : content ≡ content_of (grammar_of (with_setting options style long_only)) reading
 
 -- The canonical line of a content reads back: its canonical reading keeps the counts and has that
 -- content.

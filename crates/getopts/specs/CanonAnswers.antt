@@ -1,5 +1,5 @@
 -- The answers of `canonical`: what it answers to accepted words, and what holds of contents.
-use Rattle.std.specs.Prelude.{◌≡◌, List, Option, MatchOption, Result, MatchResult}
+use Rattle.std.specs.Prelude.{◌≡◌, ◌↔◌, Bool, List, Option, MatchOption, Result, MatchResult}
 use Rattle.getopts.specs.Names.{Text}
 use Rattle.getopts.specs.Options.{Declared}
 use Rattle.getopts.specs.Fail.{Fault}
@@ -7,7 +7,8 @@ use Rattle.getopts.specs.Matches.{Matched}
 use Rattle.getopts.specs.Parse.{IsAccepted, IsRefused}
 pub use Rattle.getopts.specs.Canon.{IsAcceptedWith}
 use Rattle.getopts.specs.Canon.{Content, IsPlain, IsSound, canonical_line, HasCanonicalLine}
-use Rattle.getopts.specs.Canon.{HasUnwritable}
+use Rattle.getopts.specs.Canon.{HasUnwritable, with_setting}
+use Rattle.getopts.specs.declared.groups.ParsingStyle.{ParsingStyle}
 
 -- The words are accepted with a content that is plain, and this is its canonical line, which keeps
 -- the laws of such lines.
@@ -42,3 +43,12 @@ IsCanonicalAnswer options words answer =
 -- two answers are one
 abbrev pub HasOneAnswer : {X : Type 0} → (X → Type 0) → Type 0
 HasOneAnswer {X} P = (answer other : X) → P answer → P other → answer ≡ other
+
+-- Two lines that `canonical` answers by the same groups, in styles and modes that may differ, are
+-- equal exactly if the words that they were made of are accepted with the same content.
+abbrev pub AnsweredLinesTell : Declared → Type 0
+AnsweredLinesTell options = (style other_style : ParsingStyle) (long_only other_long_only : Bool)
+    (words others line other : List Text)
+    → (written : IsWritten (with_setting options style long_only) words line)
+    → (written_other : IsWritten (with_setting options other_style other_long_only) others other)
+    → (line ≡ other) ↔ (written.content ≡ written_other.content)

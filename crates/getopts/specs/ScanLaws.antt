@@ -72,9 +72,13 @@ pub record LongAttachedOrSeparate (grammar : Grammar) : Type 0 where
       (long dashes name (attached argument)) (long dashes name (separate argument))
 
 -- A short argument attached or separate: `-xargument` and `-x`, `argument` read alike, also after
--- flags, where the kind of `x` is Yes and the argument isn't empty, but that positions of later
--- items are one higher with the latter.
+-- flags, where the kind of `x` is Yes, but that positions of later items are one higher with the
+-- latter; an argument that is empty can't be attached.
 pub record ShortAttachedOrSeparate (grammar : Grammar) : Type 0 where
+  pub to_separate : (names : List ℕ) (option : ℕ) (argument : Text)
+      → grammar.kind_of (option ∷ []) ≡ Some Yes
+      → Respells grammar (cluster names (ends_in option (attached argument)))
+      (cluster names (ends_in option (separate argument)) ∷ []) AreHigherAfter
   pub either : (names : List ℕ) (option : ℕ) (argument : Text)
       → grammar.kind_of (option ∷ []) ≡ Some Yes
       → argument ≢ []
@@ -171,6 +175,7 @@ pub record StandsInItem (grammar : Grammar) (reading : Reading) (words : List Te
   pub items_are : reading.items ≡ before ++ item ∷ after
   pub mentioned :
       Contains (map (occurrence_at (word_count before)) (mentions grammar item)) occurrence
+  pub below : occurrence.position < length words
   pub first_word : slice_get words occurrence.position ≡ slice_get (item_words item) 0
 
 -- Positions are indexes of words: each occurrence of a reading stands in an item, at its first

@@ -1,7 +1,8 @@
 -- What accepted matches tell of the names that the options declare.
 use Rattle.std.specs.Prelude.{◌≡◌, ◌<◌, List, length, map, Some, IsSome}
 use Rattle.std.specs.List.{AllByRecursion}
-use Rattle.getopts.specs.Names.{Text}
+use Rattle.std.specs.Borrow.{Bor}
+use Rattle.getopts.specs.Names.{Text, texts}
 use Rattle.getopts.specs.Options.{Declared, Declares, knowns_of, kind_of, occurrence_of}
 use Rattle.getopts.specs.Matches.{Matched, MatchedGroup}
 use Rattle.getopts.specs.Parse.{IsAccepted}
@@ -42,7 +43,8 @@ HaveLastWordsFree options words free = options.style ≡ StopAtFirstFree → End
 
 -- The options accept the words with these matches, whose positions are indexes of words; and under
 -- `StopAtFirstFree` the words end in the free words.
-pub record Accepts (options : Declared) (words : List Text) (matches : Matched) : Type 0 where
-  pub accepted : IsAccepted options words matches
+pub record Accepts (options : Declared) (words : List (Bor Text)) (matches : Matched)
+    : Type 0 where
+  pub accepted : IsAccepted options (texts words) matches
   pub positions_below : HavePositionsBelow (length words) matches.groups
-  pub free_last : HaveLastWordsFree options words matches.free
+  pub free_last : HaveLastWordsFree options (texts words) matches.free

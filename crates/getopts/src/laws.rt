@@ -4,7 +4,7 @@ ghost use Rattle.getopts.specs.Canon.{Content, Says, IsSound, IsPlain, HasCanoni
 ghost use Rattle.getopts.specs.declared.groups.ParsingStyle.{ParsingStyle};
 ghost use Rattle.std.specs.Prelude.{List, Bool};
 ghost use Rattle.getopts.specs.Accessors.{held_names};
-ghost use Rattle.getopts.specs.CanonAnswers.{IsParseAnswer, IsCanonicalAnswer, HasOneAnswer};
+ghost use Rattle.getopts.specs.CanonAnswers.{IsParseAnswer, IsCanonicalAnswer, HasOneAnswer, AnsweredLinesTell};
 ghost use Rattle.getopts.specs.Names.{Text, MainNameResolves, OneByteIsShort, EmptyResolvesNot};
 ghost use Rattle.getopts.specs.Options.{Declared, MayBeDeclared, names_of, grammar_of};
 ghost use Rattle.getopts.specs.Parse.{KeepsReadingLaws};
@@ -38,9 +38,10 @@ pub fn one_reading_one_canonical_line(options: &Options)
     // Words that say the same give matches that are the same but for positions.
     ensures holds_same { OneContentHoldsSame options.now }
 
-    // Canonical lines are equal exactly if they say the same. Each reads back in both styles and both
+    // Canonical lines are equal exactly if they say the same: of contents, and of answers. Each reads back in both styles and both
     // modes, says nothing else, is its own, and is that of no other content.
     ensures canonical_lines_tell { CanonicalLinesTell options.now }
+    ensures answered_lines_tell { AnsweredLinesTell options.now }
     ensures canonical_lines { (words : List Text) (content : Content)
         → Says options.now words content → IsPlain options.now.groups content
         → HasCanonicalLine options.now content }

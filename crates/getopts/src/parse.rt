@@ -43,7 +43,7 @@ impl Options {
         requires can { I.can_next args }
         requires ends { IsFinite (I.remaining args) }
         ensures accepted { IfOk result (λ matches. WholeRun I.next_gives args
-            (λ run. Accepts self.now (texts run.items) matches)) }
+            (λ run. Accepts self.now run.items matches)) }
         ensures refused { IfErr result (λ fail. Tells fail (λ fault. WholeRun I.next_gives args
             (λ run. IsRefused self.now (texts run.items) fault))) }
 

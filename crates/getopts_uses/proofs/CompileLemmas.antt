@@ -4,7 +4,7 @@ use Rattle.getopts.specs.Options.{grammar_of}
 use Rattle.getopts.specs.Scan.{Item, two}
 use Rattle.getopts.specs.ScanLaws.{AreHigherAfter, Respells, LongAttachedOrSeparate, ShortAttachedOrSeparate}
 use Rattle.getopts.specs.Theorem.{OneContentHoldsSame}
-use Rattle.getopts.proofs.MainTheorem.Callers.{each_value-first, each_value-values, attached_filled}
+use Rattle.getopts.proofs.MainTheorem.Callers.{each_value-first, each_value-values}
 use Rattle.getopts_uses.specs.Compile.{compile_options, GivesTheSameJob, OutputsMayBeAttached}
 
 module _ (holds_same : OneContentHoldsSame compile_options) where
@@ -25,8 +25,6 @@ module _ (holds_same : OneContentHoldsSame compile_options) where
   OutputsMayBeAttached_lem long_law short_law = record {
     long_separate = λ file. same_job AreHigherAfter _ _ (long_law.either two (codes "output") file refl).to_longer;
     long_attached = λ file. same_job (λ position old new. AreHigherAfter position new old) _ _ (long_law.either two (codes "output") file refl).to_shorter;
-    short_separate = λ file front back tail words job reads.
-        let filled = attached_filled (grammar_of compile_options) front back tail words [] 111 file reads in
-        same_job AreHigherAfter _ _ (short_law.either [] 111 file refl filled).to_longer front back tail words job reads;
+    short_separate = λ file. same_job AreHigherAfter _ _ (short_law.to_separate [] 111 file refl);
     short_attached = λ file filled. same_job (λ position old new. AreHigherAfter position new old) _ _ (short_law.either [] 111 file refl filled).to_shorter;
   }

@@ -7,7 +7,7 @@ use Rattle.std.proofs.lemmas.List.Folds.{list_any_at, list_all-map}
 use Rattle.std.specs.List.{AllByRecursion, list_all}
 use Rattle.std.specs.String.{string_bytes}
 use Rattle.getopts.specs.Names.{Text}
-use Rattle.getopts.specs.Options.{Group, Declared, grammar_of, knowns_of}
+use Rattle.getopts.specs.Options.{Group, Declared, AreLawfullyNamed, grammar_of, knowns_of}
 use Rattle.getopts.specs.Fail.{Fault}
 use Rattle.getopts.specs.Scan.{equals_sign, holds_equals, Reading, IsScanFault, Occurrence}
 use Rattle.getopts.specs.ScanLaws.{mentions_of}
@@ -19,11 +19,11 @@ use Rattle.getopts.specs.Canon.{Content, IsCountKeeping, content_of, main_at, Ha
 use Rattle.getopts.specs.Canon.{canonical_line, IsAcceptedWith, Says}
 use Rattle.getopts.specs.AcceptedLine.{IsAcceptedLine}
 use Rattle.getopts.specs.CanonAnswers.{IsWritten, IsUnwritable, IsParseAnswer}
-use Rattle.getopts.specs.CanonAnswers.{IsCanonicalAnswer}
+use Rattle.getopts.specs.CanonAnswers.{IsCanonicalAnswer, AnsweredLinesTell}
 use Rattle.getopts.specs.declared.accepted.AcceptedLine.{AcceptedLine}
 use Rattle.getopts.proofs.Canonical.Lines.{is_plain-true, is_plain-false, HasCanonicalLine-says}
 use Rattle.getopts.proofs.Canonical.Lines.{Says-accepted, IsSound-says}
-use Rattle.getopts.proofs.Canonical.Lines.{HasUnwritable-content}
+use Rattle.getopts.proofs.Canonical.Lines.{HasUnwritable-content, CanonicalLinesTell-lawful}
 use Rattle.getopts.proofs.Parsing.Only.{meets}
 use Rattle.getopts.proofs.Parsing.Parsed.{only_reads, named_here, groups_are, IsAccepted-reading}
 use Rattle.getopts.proofs.Reading.Turns.{IsNamed}
@@ -94,7 +94,7 @@ module _ (options : Declared) (words : List Text) (accepted : AcceptedLine)
 
   -- and the line says it
   Says-line : Says options words (line_content accepted.line)
-  Says-line = Says-accepted options words (line_content accepted.line) IsAcceptedWith-line
+  Says-line = Says-accepted options options.style options.long_only words (line_content accepted.line) IsAcceptedWith-line
 
   -- where they hold no group whose main name holds `=`, the line that is made is theirs
   pub IsWritten-line : list_all
@@ -123,6 +123,18 @@ module _ (options : Declared) (words : List Text) (accepted : AcceptedLine)
         not_plain = not_plain;
         unwritable = HasUnwritable-content options (line_content accepted.line) not_plain;
       }
+
+-- the main theorem, of two answered lines
+pub AnsweredLinesTell-lawful : (options : Declared) → AreLawfullyNamed options.groups
+    → AnsweredLinesTell options
+AnsweredLinesTell-lawful options lawful style other_style long_only other_long_only words others line other written written_other =
+    let says = Says-accepted options style long_only words written.content written.accepted in
+    let says_other = Says-accepted options other_style other_long_only others written_other.content written_other.accepted in
+    let tell = CanonicalLinesTell-lawful options lawful words others written.content written_other.content says
+    written.plain says_other written_other.plain in (
+      λ same. tell.0 (sym written.line_is ∙ same ∙ written_other.line_is),
+      λ same. written.line_is ∙ tell.1 same ∙ sym written_other.line_is,
+    )
 
 -- what an answered line meets, and what holds where none is answered
 pub IfSome-weaker : {X : Type 0} (answer : Option X) (P Q : X → Type 0) → ((x : X) → P x → Q x)

@@ -285,29 +285,26 @@ KeepsCounts-mentions knowns grammar other_grammar reading other same keeps =
     KeepsCounts-numbers knowns 0 _ _
     (λ k. length-found_at k grammar reading ∙ ap (count_at k) same ∙ sym (length-found_at k other_grammar other)) keeps
 
--- words that are accepted with a content say it
-pub Says-accepted : (options : Declared) (words : List Text) (content : Content)
-    → IsAcceptedWith options words content → Says options words content
-Says-accepted options words content accepted = record {
-  style = options.style;
-  long_only = options.long_only;
-  accepted = accepted;
+-- words that are accepted with a content, in some style and mode, say it
+pub Says-accepted : (options : Declared) (style : ParsingStyle) (long_only : Bool)
+    (words : List Text) (content : Content)
+    → IsAcceptedWith (with_setting options style long_only) words content
+    → Says options words content
+Says-accepted options style long_only words content accepted = record {
+  style = style;
+  long_only = long_only;
+  reading = accepted.reading;
+  reads = record { reads = (accepted.only accepted.reading).1 refl; keeps = accepted.counts };
+  content_is = accepted.content_is;
 }
-
--- the reading of what a line says is one
-says_reads : (options : Declared) (words : List Text) (content : Content)
-    (says : Says options words content)
-    → IsReading (grammar_of (with_setting options says.style says.long_only))
-    says.accepted.reading words
-says_reads options words content says = (says.accepted.only says.accepted.reading).1 refl
 
 -- what a line says is sound
 pub IsSound-says : (options : Declared) (words : List Text) (content : Content)
     → Says options words content → IsSound options.groups content
 IsSound-says options words content says =
-    rw says.accepted.content_is
-    (IsSound-reading (with_setting options says.style says.long_only) says.accepted.reading words
-    (says_reads options words content says))
+    rw says.content_is
+    (IsSound-reading (with_setting options says.style says.long_only) says.reading words
+    says.reads.reads)
 
 -- the canonical line reads back in both styles and both modes
 abbrev ReadsBackEverywhere : Declared → Content → Type 0
@@ -321,16 +318,16 @@ ReadsBackEverywhere-says : (options : Declared) (words : List Text) (content : C
 ReadsBackEverywhere-says options words content says plain style long_only =
     let said = with_setting options says.style says.long_only in
     let set = with_setting options style long_only in
-    let good : AllByRecursion (IsGood options.groups) content.mentions = rw says.accepted.content_is
-    (IsGood-reading said says.accepted.reading (says_reads options words content says).items) in
+    let good : AllByRecursion (IsGood options.groups) content.mentions = rw says.content_is
+    (IsGood-reading said says.reading says.reads.reads.items) in
     let back = content_of-canonical set content good in
-    let told : mentions_of (grammar_of said) says.accepted.reading ≡ mentions_of (grammar_of set)
-    (canonical_reading options.groups content) = ap (λ c. c.mentions) (sym says.accepted.content_is ∙ sym back) in
+    let told : mentions_of (grammar_of said) says.reading ≡ mentions_of (grammar_of set)
+    (canonical_reading options.groups content) = ap (λ c. c.mentions) (sym says.content_is ∙ sym back) in
     record {
       reads = record {
         reads = IsReading-canonical set content good plain;
         keeps = KeepsCounts-mentions (knowns_of options.groups) (grammar_of said)
-            (grammar_of set) says.accepted.reading (canonical_reading options.groups content) told says.accepted.counts;
+            (grammar_of set) says.reading (canonical_reading options.groups content) told says.reads.keeps;
       };
       same = back;
     }
@@ -348,9 +345,9 @@ says_nothing_else-reads_back options content named back other says =
     let there = back says.style says.long_only in
     let set = grammar_of (with_setting options says.style says.long_only) in
     let same = only_reading set (IsNamed-with_setting options says.style says.long_only named)
-    (canonical_line options.groups content) says.accepted.reading _
-    (says_reads options (canonical_line options.groups content) other says) there.reads.reads in
-    says.accepted.content_is ∙ ap (content_of set) same ∙ there.same
+    (canonical_line options.groups content) says.reading _
+    says.reads.reads there.reads.reads in
+    says.content_is ∙ ap (content_of set) same ∙ there.same
 
 -- a text that holds no `=` is cut off at one place only
 cut_once-with_equals : (a b : Text) (v w : Option Text) → holds_equals a ≡ false

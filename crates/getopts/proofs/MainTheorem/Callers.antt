@@ -1,17 +1,13 @@
 -- Lemmas for callers.
-use Rattle.std.proofs.Common.{◌≡◌, ◌≢◌, ◌==◌, ℕ, zero, suc, ◌+◌, Bool, true, false, cond, List, [], ◌∷◌}
+use Rattle.std.proofs.Common.{◌≡◌, ◌==◌, ℕ, zero, suc, ◌+◌, Bool, true, false, cond, List, [], ◌∷◌}
 use Rattle.std.proofs.Common.{map, Option, Some, None, Result, Ok, Err, refl, ap, sym}
 use Rattle.std.proofs.Common.{subst, ◌∙◌}
 use Rattle.std.specs.List.{filter, filter_map, cons_option}
 use Rattle.getopts.specs.Names.{Text, resolution}
-use Rattle.getopts.specs.Options.{Known, Grammar, Declared, MayBeDeclared, names_of, knowns_of}
+use Rattle.getopts.specs.Options.{Known, Declared, MayBeDeclared, names_of, knowns_of}
 use Rattle.getopts.specs.Options.{grammar_of}
-use Rattle.getopts.specs.Scan.{attached, ends_in, Item, cluster, FitsEnd, IsLawfulItem, Tail}
-use Rattle.getopts.specs.Scan.{Reading, IsReading, Mention, Occurrence, occurrences_of, free_words}
-use Rattle.getopts.specs.ScanLaws.{mentions_of, reading_of}
-use Rattle.getopts.specs.declared.groups.HasArg.{HasArg}
-use Rattle.getopts.specs.declared.groups.HasArg.TheVariants.{Yes, No, Maybe}
-use Rattle.getopts.proofs.Lists.{AllByRecursion-right}
+use Rattle.getopts.specs.Scan.{Reading, Mention, Occurrence, occurrences_of, free_words}
+use Rattle.getopts.specs.ScanLaws.{mentions_of}
 use Rattle.getopts.specs.Canon.{Content}
 use Rattle.getopts.specs.Matches.{Found, Matched, found_at, matched, matches_of, KeepsCounts}
 use Rattle.getopts.specs.Accessors.{IsReadAs, place_of, found_in, found_of, each_value, first_value}
@@ -137,19 +133,3 @@ OneContentHoldsSame_lem options accepted_when words others old new matches accep
       subst (λ (those : Matched). HoldSame those (matches_of options new)) matches_are
           (HoldSame-content options old new told free),
     )
-
--- ---- arguments
-
--- the argument that is attached at the end of a lawful cluster isn't empty
-pub attached_filled : (grammar : Grammar) (front back : List Item) (tail : Tail)
-    (words : List Text) (names : List ℕ) (option : ℕ) (argument : Text)
-    → IsReading grammar (reading_of front (cluster names (ends_in option (attached argument)) ∷ [])
-    back tail) words → argument ≢ []
-attached_filled grammar front back tail words names option argument reads =
-    let items = cluster names (ends_in option (attached argument)) ∷ back in
-    let lawful = (AllByRecursion-right (IsLawfulItem grammar) front items reads.items).0 in
-    filled lawful.last.0 lawful.last.2 where
-      filled : (kind : HasArg) → FitsEnd kind (attached argument) → argument ≢ []
-      filled No fits = absurd fits
-      filled Yes fits = fits
-      filled Maybe fits = fits

@@ -157,7 +157,7 @@ module _ (options : Declared) (lawful : AreLawfullyNamed options.groups)
             plain = is;
             line_is = refl;
             laws = HasCanonicalLine-says options words content lawful (named_here options lawful shorts)
-                (Says-accepted options words content accepted) is;
+                (Says-accepted options options.style options.long_only words content accepted) is;
           }
       line_of-is false other =
           let content = content_of (grammar_of options) reading in

@@ -6,7 +6,8 @@ use Rattle.std.specs.List.{AllByRecursion, filter}
 use Rattle.std.specs.Option.{option_map}
 use Rattle.std.proofs.lemmas.Bool.{eqb-true}
 use Rattle.std.proofs.lemmas.Option.{option_and_then_some, same_Some}
-use Rattle.getopts.specs.Names.{Text, Names, resolution}
+use Rattle.std.specs.Borrow.{Bor}
+use Rattle.getopts.specs.Names.{Text, Names, resolution, texts}
 use Rattle.getopts.specs.Options.{Known, Group, Grammar, Declared, names_of, knowns_of, kind_at}
 use Rattle.getopts.specs.Options.{grammar_of}
 use Rattle.getopts.specs.Scan.{Occurrence, Item, free, long, cluster, Tail, line_end, stop, rest}
@@ -19,7 +20,7 @@ use Rattle.getopts.specs.Canon.{FitsKind}
 use Rattle.getopts.specs.Parse.{IsAccepted}
 use Rattle.getopts.specs.Told.{HaveLastWordsFree, AreGroupsOf, HaveValuesByKind}
 use Rattle.getopts.specs.Told.{DefineDeclared, HoldRequiredOnce, HoldNeededValues, Accepts}
-use Rattle.getopts.specs.ScanLaws.{EndIn}
+use Rattle.getopts.specs.ScanLaws.{EndIn, HavePositionsBelow}
 use Rattle.getopts.specs.declared.groups.ParsingStyle.TheVariants.{FloatingFrees, StopAtFirstFree}
 use Rattle.getopts.specs.declared.groups.HasArg.{HasArg}
 use Rattle.getopts.specs.declared.groups.HasArg.TheVariants.{Yes}
@@ -31,6 +32,7 @@ use Rattle.getopts.proofs.Held.Matches.{knowns-matched}
 use Rattle.getopts.proofs.Reading.Readings.{spelled_all-append}
 use Rattle.getopts.proofs.Held.Pairs.{names-knowns_of}
 use Rattle.getopts.proofs.Parsing.Parsed.{positions_below-accepted}
+use Rattle.getopts.proofs.Scanning.Loop.{length-texts}
 
 -- each occurrence has a value, or none, as this kind of argument wants
 abbrev HaveValuesFor : HasArg → List Found → Type 0
@@ -243,10 +245,11 @@ HaveLastWordsFree-accepted options words matches accepted style =
     ((accepted.only accepted.reading).1 refl) style)
 
 -- what accepted words tell of their matches
-pub Accepts-accepted : (options : Declared) (words : List Text) (matches : Matched)
-    → IsAccepted options words matches → Accepts options words matches
+pub Accepts-accepted : (options : Declared) (words : List (Bor Text)) (matches : Matched)
+    → IsAccepted options (texts words) matches → Accepts options words matches
 Accepts-accepted options words matches accepted = record {
   accepted = accepted;
-  positions_below = positions_below-accepted options words matches accepted;
-  free_last = HaveLastWordsFree-accepted options words matches accepted;
+  positions_below = subst (λ n. HavePositionsBelow n matches.groups) (length-texts words)
+      (positions_below-accepted options (texts words) matches accepted);
+  free_last = HaveLastWordsFree-accepted options (texts words) matches accepted;
 }

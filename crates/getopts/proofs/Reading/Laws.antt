@@ -272,15 +272,23 @@ FitInPlace-cluster grammar names option argument new_argument back more kind fit
 -- a short argument attached or separate
 pub ShortAttachedOrSeparate_lem : (grammar : Grammar) → ShortAttachedOrSeparate grammar
 ShortAttachedOrSeparate_lem grammar = record {
+  to_separate = to_separate;
   either = λ names option argument kind filled. record {
-    to_longer = Respells-longer grammar (cluster names (ends_in option (attached argument)))
-        (cluster names (ends_in option (separate argument))) refl refl refl
-        (λ back more. FitInPlace-cluster grammar names option (attached argument) (separate argument) back more kind tt refl);
+    to_longer = to_separate names option argument kind;
     to_shorter = Respells-shorter grammar (cluster names (ends_in option (attached argument)))
         (cluster names (ends_in option (separate argument))) refl refl refl
         (λ back more. FitInPlace-cluster grammar names option (separate argument) (attached argument) back more kind filled refl);
   };
 }
+  where
+    to_separate : (names : List ℕ) (option : ℕ) (argument : Text)
+        → grammar.kind_of (option ∷ []) ≡ Some Yes
+        → Respells grammar (cluster names (ends_in option (attached argument)))
+        (cluster names (ends_in option (separate argument)) ∷ []) AreHigherAfter
+    to_separate names option argument kind =
+        Respells-longer grammar (cluster names (ends_in option (attached argument)))
+        (cluster names (ends_in option (separate argument))) refl refl refl
+        (λ back more. FitInPlace-cluster grammar names option (attached argument) (separate argument) back more kind tt refl)
 
 -- a cluster whose rest is bare is bare
 is_bare-rest : (flag : ℕ) (names : List ℕ) (end : End) → is_bare (cluster names end) ≡ true

@@ -7,7 +7,7 @@ use Rattle.getopts.proofs.MainTheorem.Theorem.{OneReading-options, AcceptedExact
 use Rattle.getopts.proofs.MainTheorem.Theorem.{RefusedExactlyWhen-options, OneOfThree-options}
 use Rattle.getopts.proofs.MainTheorem.Theorem.{OneReadingGivesAll-options}
 use Rattle.getopts.proofs.MainTheorem.Theorem.{CanonicalLinesTell-options}
-use Rattle.getopts.proofs.MainTheorem.Theorem.{HasCanonicalLine-options}
+use Rattle.getopts.proofs.MainTheorem.Theorem.{AnsweredLinesTell-options, HasCanonicalLine-options}
 use Rattle.getopts.proofs.laws.one_reading_one_canonical_line.Goals as goal
 
 pub returns : goal.returns
@@ -24,6 +24,7 @@ returns c =
       gives_all = OneReadingGivesAll-options options lawful shorts;
       holds_same = OneContentHoldsSame_lem options (AcceptedExactlyWhen-options options lawful shorts);
       canonical_lines_tell = CanonicalLinesTell-options options lawful shorts;
+      answered_lines_tell = AnsweredLinesTell-options options lawful shorts;
       canonical_lines = HasCanonicalLine-options options lawful shorts;
       reading_laws = keeps_laws options lawful shorts;
       sound = IsSound-says options;

@@ -17,12 +17,12 @@ returns-clause-accepted g c =
     let run = c.in_ok-words.ensures in
     let words = c.deref.ensures.value ∙ run.3 in
     IfOk-weaker c.parse_words.result _
-    (λ (matches : Matched). WholeRun g.I.Iterator.next_gives c.args.args (λ run. Accepts c.args.self.now (texts run.items) matches))
+    (λ (matches : Matched). WholeRun g.I.Iterator.next_gives c.args.args (λ run. Accepts c.args.self.now run.items matches))
     (λ matches accepted. (
       run.0,
       run.1,
       run.2,
-      Accepts-accepted c.args.self.now (texts (run.0).items) matches
+      Accepts-accepted c.args.self.now (run.0).items matches
           (subst (λ (ws : List (Bor Text)). IsAccepted c.args.self.now (texts ws) matches) words accepted),
     ))
     c.parse_words.ensures.accepted
