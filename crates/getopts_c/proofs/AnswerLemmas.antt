@@ -1,10 +1,13 @@
 -- What an answer is, from what its parts are.
-use Rattle.std.proofs.Common.{◌≡◌, ℕ, zero, suc, ◌+◌, List, [], ◌∷◌, ◌++◌, length, map, take, get_or, slice_get, refl, take_all, zero-le, ap, subst, sym, append_assoc, append-nil, ◌∙◌, inl, inr, arith}
+use Rattle.std.proofs.Common.{◌≡◌, ℕ, zero, suc, ◌+◌, List, [], ◌∷◌, ◌++◌, length, map, take, get_or, slice_get}
+use Rattle.std.proofs.Common.{refl, take_all, zero-le, ap, subst, sym, append_assoc, append-nil, ◌∙◌, inl, inr}
+use Rattle.std.proofs.Common.{arith}
 use Rattle.std.proofs.lemmas.Grind.{flat_map-append}
 use Rattle.std.proofs.lemmas.List.{length-map}
 use Rattle.std.specs.List.{flat_map, cons_option}
 use Rattle.std.specs.Option.{option_map}
-use Rattle.std.specs.Prelude.{◌≢◌, ◌<◌, ◌≤◌, ◌⊎◌, IfNone, IfSome, ⊤, Result, Ok, Err, IfOk, IfErr, OnOk, IsOk, IsOkAnd, IsErrOf, Option, Some, None, MatchOption, IsSomeAnd}
+use Rattle.std.specs.Prelude.{◌≢◌, ◌<◌, ◌≤◌, ◌⊎◌, IfNone, IfSome, ⊤, Result, Ok, Err, IfOk, IfErr, OnOk, IsOk}
+use Rattle.std.specs.Prelude.{IsOkAnd, IsErrOf, Option, Some, None, MatchOption, IsSomeAnd}
 use Rattle.std.specs.Borrow.{Bor}
 use Rattle.getopts.specs.Fail.{Fault, argument_missing, unrecognized_option, option_missing, option_duplicated, unexpected_argument}
 use Rattle.getopts.specs.Names.{texts}
@@ -21,10 +24,12 @@ use Rattle.getopts_c.specs.Answer.{bad_status, fine_status, memory_status, room_
 use Rattle.getopts_c.specs.Answer.{FillsFront, IsLineOf, written, unwritable, unaccepted, text_numbers}
 use Rattle.getopts_c.specs.Reply.{Rooms, IsReply, byte_rooms}
 use Rattle.getopts.specs.Same.{fault_name}
-use Rattle.getopts_c.specs.Answer.{IsAnswer, accepted, refused, all_names, four_names, fault_status, matches_bytes, matches_numbers, optional_number, place_number}
+use Rattle.getopts_c.specs.Answer.{IsAnswer, accepted, refused, all_names, four_names, fault_status, matches_bytes}
+use Rattle.getopts_c.specs.Answer.{matches_numbers, optional_number, place_number}
 
 -- the answer to accepted words
-pub accepted_answer : (options : Declared) (words : List (Bor Text)) (names : List Text) (matches : Matched) (status : ℕ) (numbers : List ℕ) (bytes : Text)
+pub accepted_answer : (options : Declared) (words : List (Bor Text)) (names : List Text) (matches : Matched)
+    (status : ℕ) (numbers : List ℕ) (bytes : Text)
     → all_names options.groups ≡ names → IsAccepted options (texts words) matches
     → (status ≡ fine_status) × (numbers ≡ matches_numbers names matches) × (bytes ≡ matches_bytes matches)
     → IsAnswer options (texts words) status numbers bytes
@@ -57,14 +62,17 @@ on_ok_so (Ok t) is so = so is
 on_ok_so (Err e) is so = tt
 
 -- what is added for the places of the first two of four texts is added for the two names
-pub two_added : (groups : List MatchedGroup) (old mid new : List ℕ) (group : List (Bor Text)) (d : Bor Text) (short long : Option ℕ) → length group ≡ 4
+pub two_added : (groups : List MatchedGroup) (old mid new : List ℕ) (group : List (Bor Text)) (d : Bor Text)
+    (short long : Option ℕ) → length group ≡ 4
     → short ≡ place_of groups (get_or group 0 d).now → long ≡ place_of groups (get_or group 1 d).now
-    → mid ≡ old ++ optional_number short ∷ [] → new ≡ mid ++ optional_number long ∷ [] → new ≡ old ++ map (place_number groups) (four_names (texts group))
+    → mid ≡ old ++ optional_number short ∷ [] → new ≡ mid ++ optional_number long ∷ []
+    → new ≡ old ++ map (place_number groups) (four_names (texts group))
 two_added groups old mid new [] d short long is short_is long_is first second = absurd (omega arith)
 two_added groups old mid new (a ∷ []) d short long is short_is long_is first second = absurd (omega arith)
 two_added groups old mid new (a ∷ b ∷ group) d short long is short_is long_is first second =
     second ∙ ap (λ xs. xs ++ optional_number long ∷ []) first ∙ append_assoc old (optional_number short ∷ []) (optional_number long ∷ [])
-    ∙ ap (λ place. old ++ optional_number place ∷ optional_number long ∷ []) short_is ∙ ap (λ place. old ++ place_number groups a.now ∷ optional_number place ∷ []) long_is
+    ∙ ap (λ place. old ++ optional_number place ∷ optional_number long ∷ []) short_is
+    ∙ ap (λ place. old ++ place_number groups a.now ∷ optional_number place ∷ []) long_is
 
 -- a front with one element more
 take_more : {X : Type 0} (xs : List X) (i : ℕ) → take (i + 1) xs ≡ take i xs ++ cons_option (slice_get xs i) []
@@ -76,7 +84,8 @@ take_more (x ∷ xs) (suc i) =
     let later : suc i + 1 ≡ suc (i + 1) = omega arith in
     ap (λ n. take n (x ∷ xs)) later ∙ ap (λ more. x ∷ more) (take_more xs i)
 
-module _ {A : Type 0} (f : Found → List A) (founds : List Found) (i : ℕ) (next : Option (ℕ × Option (Bor Text))) (is : option_map held_found next ≡ slice_get founds i)
+module _ {A : Type 0} (f : Found → List A) (founds : List Found) (i : ℕ) (next : Option (ℕ × Option (Bor Text)))
+    (is : option_map held_found next ≡ slice_get founds i)
     (initial old new : List A) (before : old ≡ initial ++ flat_map f (take i founds)) where
   -- the front with the next occurrence, if there is one
   front_more : initial ++ flat_map f (take (i + 1) founds) ≡ old ++ flat_map f (cons_option (option_map held_found next) [])
@@ -87,7 +96,8 @@ module _ {A : Type 0} (f : Found → List A) (founds : List Found) (i : ℕ) (ne
       ∙ ap (λ xs. xs ++ flat_map f (cons_option (option_map held_found next) [])) (sym before)
 
   -- what was added for a front, and then for the next occurrence, was added for one more
-  pub occurrence_added : (pair : ℕ × Option (Bor Text)) → next ≡ Some pair → new ≡ old ++ f (held_found pair) → new ≡ initial ++ flat_map f (take (i + 1) founds)
+  pub occurrence_added : (pair : ℕ × Option (Bor Text)) → next ≡ Some pair → new ≡ old ++ f (held_found pair)
+      → new ≡ initial ++ flat_map f (take (i + 1) founds)
   occurrence_added pair there added =
       added ∙ ap (λ xs. old ++ xs) (sym (append-nil (f (held_found pair))))
       ∙ ap (λ o. old ++ flat_map f (cons_option (option_map held_found o) [])) (sym there) ∙ sym front_more
@@ -99,7 +109,8 @@ module _ {A : Type 0} (f : Found → List A) (founds : List Found) (i : ℕ) (ne
 
 -- one more group of a front, by its occurrences
 group_more : {A : Type 0} (f : List Found → List A) (groups : List MatchedGroup) (i : ℕ) → i < length groups
-    → flat_map (λ (group : MatchedGroup). f group.found) (take (i + 1) groups) ≡ flat_map (λ (group : MatchedGroup). f group.found) (take i groups) ++ f (found_in groups (Some i))
+    → flat_map (λ (group : MatchedGroup). f group.found) (take (i + 1) groups)
+      ≡ flat_map (λ (group : MatchedGroup). f group.found) (take i groups) ++ f (found_in groups (Some i))
 group_more f [] i within = absurd (omega arith)
 group_more f (group ∷ groups) zero within = append-nil (f group.found)
 group_more f (group ∷ groups) (suc i) within =
@@ -180,7 +191,8 @@ module _ {T E : Type 0} (status_of : T → ℕ) (numbers_of : T → List ℕ) (b
 
   -- what is written is the answer
   abbrev pub IsWhatIsWritten : T → Type 0
-  IsWhatIsWritten t = (status ≡ status_of t) × FillsFront (numbers_of t) new.numbers new.sizes.numbers × FillsFront (bytes_of t) new.bytes new.sizes.bytes
+  IsWhatIsWritten t = (status ≡ status_of t) × FillsFront (numbers_of t) new.numbers new.sizes.numbers
+      × FillsFront (bytes_of t) new.bytes new.sizes.bytes
 
   -- what the request says, where there is no answer
   abbrev pub SaysNotBoth : E → Type 0
@@ -239,13 +251,15 @@ module _ {T E : Type 0} (status_of : T → ℕ) (numbers_of : T → List ℕ) (b
   sizes_filled (Ok t) filled = (filled.1.size_is, filled.2.size_is)
   sizes_filled (Err e) filled = absurd filled
 
-  fills_none : (answer : Result T E) → IsOkAnd answer (IsWrittenTo new.numbers) → IfOk answer (λ t. numbers_of t ≡ []) → IsOkAnd answer (IsWrittenTo [])
+  fills_none : (answer : Result T E) → IsOkAnd answer (IsWrittenTo new.numbers)
+      → IfOk answer (λ t. numbers_of t ≡ []) → IsOkAnd answer (IsWrittenTo [])
   fills_none (Ok t) filled none =
       let zero_is : new.sizes.numbers ≡ 0 = filled.1.size_is ∙ ap length none in
       (filled.0, record { size_is = filled.1.size_is; front = ap (λ n. take n []) zero_is ∙ sym none }, filled.2)
   fills_none (Err e) filled none = absurd filled
 
-  few_bytes : new.sizes.numbers ≡ 0 → (length old.numbers < new.sizes.numbers) ⊎ (length old.bytes < new.sizes.bytes) → length old.bytes < new.sizes.bytes
+  few_bytes : new.sizes.numbers ≡ 0
+      → (length old.numbers < new.sizes.numbers) ⊎ (length old.bytes < new.sizes.bytes) → length old.bytes < new.sizes.bytes
   few_bytes none (inl few) = absurd (omega (arith, none, few))
   few_bytes none (inr few) = few
 

@@ -44,7 +44,8 @@ value_back (Some value) (Some other) more after size bytes =
 
 -- as many occurrences, from their numbers and their bytes, and what follows them
 founds_back : (founds others : List Found) (rest left : List ℕ) (more after : Text) → length founds ≡ length others
-    → flat_map found_numbers founds ++ rest ≡ flat_map found_numbers others ++ left → flat_map found_bytes founds ++ more ≡ flat_map found_bytes others ++ after
+    → flat_map found_numbers founds ++ rest ≡ flat_map found_numbers others ++ left
+    → flat_map found_bytes founds ++ more ≡ flat_map found_bytes others ++ after
     → (founds ≡ others) × (rest ≡ left) × (more ≡ after)
 founds_back [] [] rest left more after count numbers bytes = (refl, numbers, bytes)
 founds_back [] (other ∷ others) rest left more after count numbers bytes = absurd (omega arith)
@@ -56,14 +57,17 @@ founds_back (found ∷ founds) (other ∷ others) rest left more after count num
     let size : optional_number (option_map length found.value) ≡ optional_number (option_map length other.value) = cc in
     let behind : flat_map found_numbers founds ++ rest ≡ flat_map found_numbers others ++ left = cc in
     let value = value_back found.value other.value (flat_map found_bytes founds ++ more) (flat_map found_bytes others ++ after) size
-    (sym (append_assoc (found_bytes found) (flat_map found_bytes founds) more) ∙ bytes ∙ append_assoc (found_bytes other) (flat_map found_bytes others) after) in
+    (sym (append_assoc (found_bytes found) (flat_map found_bytes founds) more) ∙ bytes
+        ∙ append_assoc (found_bytes other) (flat_map found_bytes others) after) in
     let follow = founds_back founds others rest left more after (omega arith) behind value.1 in
-    let first : found ≡ other = ap (λ (n : ℕ). record { position = n; value = found.value }) position ∙ ap (λ (v : Option Text). record { position = other.position; value = v }) value.0 in
+    let first : found ≡ other = ap (λ (n : ℕ). record { position = n; value = found.value }) position
+        ∙ ap (λ (v : Option Text). record { position = other.position; value = v }) value.0 in
     (ap (λ (f : Found). f ∷ founds) first ∙ ap (λ (fs : List Found). other ∷ fs) follow.0, follow.1, follow.2)
 
 -- the occurrences of as many groups, from their numbers and their bytes, and what follows them
 groups_back : (groups others : List MatchedGroup) (rest left : List ℕ) (more after : Text) → length groups ≡ length others
-    → flat_map group_numbers groups ++ rest ≡ flat_map group_numbers others ++ left → flat_map group_bytes groups ++ more ≡ flat_map group_bytes others ++ after
+    → flat_map group_numbers groups ++ rest ≡ flat_map group_numbers others ++ left
+    → flat_map group_bytes groups ++ more ≡ flat_map group_bytes others ++ after
     → (map (λ (group : MatchedGroup). group.found) groups ≡ map (λ (group : MatchedGroup). group.found) others) × (rest ≡ left) × (more ≡ after)
 groups_back [] [] rest left more after count numbers bytes = (refl, numbers, bytes)
 groups_back [] (other ∷ others) rest left more after count numbers bytes = absurd (omega arith)
@@ -79,7 +83,8 @@ groups_back (group ∷ groups) (other ∷ others) rest left more after count num
     (flat_map group_bytes groups ++ more) (flat_map group_bytes others ++ after) size
     (sym (append_assoc (flat_map found_numbers group.found) (flat_map group_numbers groups) rest) ∙ behind
     ∙ append_assoc (flat_map found_numbers other.found) (flat_map group_numbers others) left)
-    (sym (append_assoc (group_bytes group) (flat_map group_bytes groups) more) ∙ bytes ∙ append_assoc (group_bytes other) (flat_map group_bytes others) after) in
+    (sym (append_assoc (group_bytes group) (flat_map group_bytes groups) more) ∙ bytes
+        ∙ append_assoc (group_bytes other) (flat_map group_bytes others) after) in
     let follow = groups_back groups others rest left more after (omega arith) first.1 first.2 in (
       ap (λ (fs : List Found). fs ∷ map (λ (group : MatchedGroup). group.found) groups) first.0
           ∙ ap (λ (lists : List (List Found)). other.found ∷ lists) follow.0,
@@ -96,7 +101,8 @@ texts_back words others numbers bytes =
 
 -- the free words and the trailing start, from their numbers and the words' bytes
 free_back : (matches others : Matched)
-    → text_numbers matches.free ++ optional_number matches.trailing_start ∷ [] ≡ text_numbers others.free ++ optional_number others.trailing_start ∷ []
+    → text_numbers matches.free ++ optional_number matches.trailing_start ∷ []
+      ≡ text_numbers others.free ++ optional_number others.trailing_start ∷ []
     → concatenated matches.free ≡ concatenated others.free
     → (matches.free ≡ others.free) × (matches.trailing_start ≡ others.trailing_start)
 free_back matches others numbers bytes =
@@ -115,11 +121,14 @@ pub matches_back : (names : List Text) (matches others : Matched)
     → matches_numbers names matches ≡ matches_numbers names others → matches_bytes matches ≡ matches_bytes others
     → TellAlike names matches others
 matches_back names matches others numbers bytes =
-    let behind : Matched → List ℕ = λ m. (length m.groups ∷ flat_map group_numbers m.groups) ++ (text_numbers m.free ++ optional_number m.trailing_start ∷ []) in
+    let behind : Matched → List ℕ = λ m. (length m.groups ∷ flat_map group_numbers m.groups)
+        ++ (text_numbers m.free ++ optional_number m.trailing_start ∷ []) in
     let named = same_front (map (place_number matches.groups) names) (map (place_number others.groups) names) (behind matches) (behind others) numbers
     (length-map names (place_number matches.groups) ∙ sym (length-map names (place_number others.groups))) in
-    let whole : length matches.groups ∷ (flat_map group_numbers matches.groups ++ (text_numbers matches.free ++ optional_number matches.trailing_start ∷ []))
-    ≡ length others.groups ∷ (flat_map group_numbers others.groups ++ (text_numbers others.free ++ optional_number others.trailing_start ∷ [])) = named.1 in
+    let whole : length matches.groups ∷ (flat_map group_numbers matches.groups
+        ++ (text_numbers matches.free ++ optional_number matches.trailing_start ∷ []))
+    ≡ length others.groups ∷ (flat_map group_numbers others.groups
+        ++ (text_numbers others.free ++ optional_number others.trailing_start ∷ [])) = named.1 in
     let count : length matches.groups ≡ length others.groups = cc in
     let rest : flat_map group_numbers matches.groups ++ (text_numbers matches.free ++ optional_number matches.trailing_start ∷ [])
     ≡ flat_map group_numbers others.groups ++ (text_numbers others.free ++ optional_number others.trailing_start ∷ []) = cc in

@@ -26,7 +26,8 @@ flat_of_map f [] = refl
 flat_of_map f (x ∷ xs) = ap (λ rest. f x ++ rest) (flat_of_map f xs)
 
 -- fours that are the groups' texts hold what the groups' texts hold
-pub flat_fours : (fours : List (List (Bor Text))) (groups : List Group) → map texts fours ≡ map group_texts groups → flat_map texts fours ≡ flat_map group_texts groups
+pub flat_fours : (fours : List (List (Bor Text))) (groups : List Group) → map texts fours ≡ map group_texts groups
+    → flat_map texts fours ≡ flat_map group_texts groups
 flat_fours fours groups are = sym (flat_of_map texts fours) ∙ ap (flat_map (λ x. x)) are ∙ flat_of_map group_texts groups
 
 -- the names of groups are those of their texts
@@ -35,7 +36,8 @@ names_of_fours [] = refl
 names_of_fours (group ∷ groups) = ap (λ rest. group.known.names.short ∷ group.known.names.long ∷ rest) (names_of_fours groups)
 
 -- the names of groups are those of fours that are the groups' texts
-pub names_are : (fours : List (List (Bor Text))) (groups : List Group) → map texts fours ≡ map group_texts groups → all_names groups ≡ flat_map four_names (map texts fours)
+pub names_are : (fours : List (List (Bor Text))) (groups : List Group) → map texts fours ≡ map group_texts groups
+    → all_names groups ≡ flat_map four_names (map texts fours)
 names_are fours groups are = names_of_fours groups ∙ ap (flat_map four_names) (sym are)
 
 -- there are as many fours as groups
@@ -43,7 +45,8 @@ pub as_many : (fours : List (List (Bor Text))) (groups : List Group) → map tex
 as_many fours groups are = sym (length-map fours texts) ∙ ap length are ∙ length-map groups group_texts
 
 -- a request, by its texts in fours
-pub request_is : (bytes : Text) (lens kinds : List ℕ) (stop long_only : Bool) (pieces : List (Bor Text)) (fours : List (List (Bor Text))) (options : Declared)
+pub request_is : (bytes : Text) (lens kinds : List ℕ) (stop long_only : Bool) (pieces : List (Bor Text))
+    (fours : List (List (Bor Text))) (options : Declared)
     → IsCut bytes lens (texts pieces) → flat_map texts fours ≡ texts pieces → IsDeclaredBy (map texts fours) kinds stop long_only options
     → IsRequest bytes lens kinds stop long_only options
 request_is bytes lens kinds stop long_only pieces fours options cut flat is = record {

@@ -15,12 +15,14 @@ module _ (words : List Text) (one : HasOneAnswer (IsParseAnswer program_options 
   one_accepted matches other is also = let same : Ok other ≡ Ok matches = one (Ok other) (Ok matches) also is in cc
 
   -- words are accepted with one content
-  one_content : (content other : Content) → IsAcceptedWith program_options words content → IsAcceptedWith program_options words other → other ≡ content
+  one_content : (content other : Content) → IsAcceptedWith program_options words content
+      → IsAcceptedWith program_options words other → other ≡ content
   one_content content other is also =
       also.content_is ∙ ap (content_of (grammar_of program_options)) ((is.only also.reading).0 ((also.only also.reading).1 refl)) ∙ sym is.content_is
 
   -- words that are accepted are not refused
-  pub accepted_not_refused : (matches : Matched) (fault : Fault) → IsAccepted program_options words matches → IsRefused program_options words fault → ⊥
+  pub accepted_not_refused : (matches : Matched) (fault : Fault) → IsAccepted program_options words matches
+      → IsRefused program_options words fault → ⊥
   accepted_not_refused matches fault is also = let same : Ok matches ≡ Err fault = one (Ok matches) (Err fault) is also in cc
 
   -- words are refused with one fault
@@ -35,7 +37,8 @@ module _ (words : List Text) (one : HasOneAnswer (IsParseAnswer program_options 
       cc
 
   -- the text and the status of words are the only ones
-  one_text : {text other : Text} {status another : ℕ} → IsProgramText words text status → IsProgramText words other another → (other ≡ text) × (another ≡ status)
+  one_text : {text other : Text} {status another : ℕ} → IsProgramText words text status
+      → IsProgramText words other another → (other ≡ text) × (another ≡ status)
   one_text (helped matches text is asks help) (helped others other also ask helps) = ((help other).0 ((helps other).1 refl), refl)
   one_text (shown matches content is plain says) (shown others other also plains tells) =
       (let same = one_accepted matches others is also in let same_content = one_content content other says tells in cc, refl)

@@ -1,5 +1,6 @@
 -- What the program's names and groups give.
-use Rattle.std.proofs.Common.{◌≡◌, ℕ, false, zero, suc, ◌+◌, ◌<◌, List, [], ◌∷◌, ◌++◌, length, take, slice_get, get_or, map, refl, ap, ◌∙◌, sym, subst, arith, zero-le}
+use Rattle.std.proofs.Common.{◌≡◌, ℕ, false, zero, suc, ◌+◌, ◌<◌, List, [], ◌∷◌, ◌++◌, length, take, slice_get}
+use Rattle.std.proofs.Common.{get_or, map, refl, ap, ◌∙◌, sym, subst, arith, zero-le}
 use Rattle.std.specs.Prelude.{Option}
 use Rattle.std.specs.Borrow.{Bor}
 use Rattle.std.specs.List.{AllByRecursion, cons_option, flat_map}
@@ -19,7 +20,8 @@ use Rattle.getopts.specs.Options.{Declared, Group}
 use Rattle.getopts.specs.Parse.{IsAccepted, IsRefused}
 use Rattle.getopts.specs.Scan.{Mention}
 use Rattle.getopts_show.proofs.OneText.{accepted_not_refused}
-use Rattle.getopts_show.specs.Program.{AreAccepted, HasProgramGroups, IsProgramText, asks_help, group_lines, matches_text, named_lines, program_groups, program_options, shown, word_line}
+use Rattle.getopts_show.specs.Program.{AreAccepted, HasProgramGroups, IsProgramText, asks_help, group_lines}
+use Rattle.getopts_show.specs.Program.{matches_text, named_lines, program_groups, program_options, shown, word_line}
 
 -- what holds of each text holds of the text at a place
 pub text_at : (P : Text → Type 0) (words : List (Bor Text)) → AllByRecursion P (texts words)
@@ -45,7 +47,8 @@ module _ (founds : List Found) (i : ℕ) (next : Option (ℕ × Option (Bor Text
 
   -- its position
   pub positions-more : positions_of (take (i + 1) founds) ≡ positions_of (take i founds) ++ positions_of (cons_option (option_map held_found next) [])
-  positions-more = ap positions_of founds-more ∙ map-append (λ (found : Found). found.position) (take i founds) (cons_option (option_map held_found next) [])
+  positions-more = ap positions_of founds-more
+      ∙ map-append (λ (found : Found). found.position) (take i founds) (cons_option (option_map held_found next) [])
 
   -- its position and value
   pub pairs-more : pairs_of (take (i + 1) founds) ≡ pairs_of (take i founds) ++ pairs_of (cons_option (option_map held_found next) [])
@@ -58,15 +61,17 @@ main_names = map (λ (group : Group). main_name group.known.names) program_group
 -- the lines of the program's main names are the lines of its groups
 pub lines_of_names : (groups : List MatchedGroup) → HasProgramGroups groups
     → flat_map (named_lines groups) main_names ≡ flat_map group_lines groups
-lines_of_names groups (occurrences, is) = subst (λ (gs : List MatchedGroup). flat_map (named_lines gs) main_names ≡ flat_map group_lines gs) (sym is) refl
+lines_of_names groups (occurrences, is) = subst
+    (λ (gs : List MatchedGroup). flat_map (named_lines gs) main_names ≡ flat_map group_lines gs) (sym is) refl
 
 -- the text of accepted words that don't ask for help, by their canonical line
 pub text_of_matches : {words line : List Text} {matches : Matched} {text : Text} → IsWritten program_options words line
-    → IsAccepted program_options words matches → asks_help matches ≡ false → text ≡ matches_text matches ++ flat_map word_line line
+    → IsAccepted program_options words matches → asks_help matches ≡ false
+    → text ≡ matches_text matches ++ flat_map (word_line (codes "line")) line
     → IsProgramText words text 0
 text_of_matches {words} {line} {matches} {text} written accepted plain is =
     subst (λ (t : Text). IsProgramText words t 0)
-    (sym (is ∙ ap (λ (l : List Text). matches_text matches ++ flat_map word_line l) written.line_is))
+    (sym (is ∙ ap (λ (l : List Text). matches_text matches ++ flat_map (word_line (codes "line")) l) written.line_is))
     (shown matches written.content accepted plain written.accepted)
 
 -- no main name of the program's groups holds `=`

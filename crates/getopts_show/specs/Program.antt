@@ -56,13 +56,9 @@ abbrev pub value_line : Text → ℕ × Text → Text
 value_line name pair =
     name ++ (codes " @" ++ (decimal pair.0 ++ (codes " = " ++ (pair.1 ++ newline))))
 
--- the line `free: word`
-abbrev pub free_line : Text → Text
-free_line word = codes "free: " ++ (word ++ newline)
-
--- the line `line: word`
-abbrev pub word_line : Text → Text
-word_line word = codes "line: " ++ (word ++ newline)
+-- the line `label: word`
+abbrev pub word_line : Text → Text → Text
+word_line label word = label ++ (codes ": " ++ (word ++ newline))
 
 -- the lines of an option with this name and these occurrences: how many they are and where, and
 -- each value with its position
@@ -84,11 +80,11 @@ group_lines group = option_lines (main_name group.known.names) group.found
 
 -- the text of matches: the lines of each option in order, and the line of each free word
 abbrev pub matches_text : Matched → Text
-matches_text matches = flat_map group_lines matches.groups ++ flat_map free_line matches.free
+matches_text matches = flat_map group_lines matches.groups ++ flat_map (word_line (codes "free")) matches.free
 
 -- the text of a content: the line of each word of its canonical line
 abbrev pub content_text : Content → Text
-content_text content = flat_map word_line (canonical_line program_groups content)
+content_text content = flat_map (word_line (codes "line")) (canonical_line program_groups content)
 
 -- the line of a fault: the program's name, and what the fault says
 abbrev pub fault_line : Fault → Text

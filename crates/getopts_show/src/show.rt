@@ -1,6 +1,6 @@
 //! The program's work over words and a writer.
 
-ghost use Rattle.std.specs.Prelude.{◌≡◌, ◌++◌, ℕ, List, true, false, map, IfOk, OnOk, Some};
+ghost use Rattle.std.specs.Prelude.{◌≡◌, ◌++◌, ℕ, List, codes, true, false, map, IfOk, OnOk, Some};
 ghost use Rattle.std.specs.List.{flat_map};
 ghost use Rattle.std.specs.String.{string_bytes};
 ghost use Rattle.std.specs.Io.KnownBytes.{Appends};
@@ -10,7 +10,7 @@ ghost use Rattle.getopts.specs.Names.{Text, texts};
 ghost use Rattle.getopts.specs.Parse.{IsAccepted};
 ghost use Rattle.getopts.specs.CanonAnswers.{IsWritten};
 ghost use Rattle.getopts_show.specs.Program.{AreAccepted, IsProgramText, IsOnlyText, HasProgramGroups, IsStatus, IsDone, ShowsText};
-ghost use Rattle.getopts_show.specs.Program.{asks_help, count_line, fault_line, free_line, matches_text, named_lines, program_groups, program_options, value_line, with_groups, word_line};
+ghost use Rattle.getopts_show.specs.Program.{asks_help, count_line, fault_line, matches_text, named_lines, program_groups, program_options, value_line, with_groups, word_line};
 
 use getopts::{Fail, Matches, Occurrences, Options, equal_input_equal_answers};
 use std::alloc::{AllocError, Global};
@@ -133,9 +133,25 @@ fn shown_text(
     ensures { IfOk result (λ text. IsProgramText (texts words.now) (string_bytes text) 0) }
 {
     let mut text = matches_text(alloc, matches)?;
-    let line = canonical_line(alloc, options, words)?;
-    push_line(&mut text, &line)?;
+    push_canonical(&mut text, alloc, options, words)?;
     Ok(text)
+}
+
+/// Adds the line of each word of the canonical line of accepted words.
+fn push_canonical(
+    text: &mut String,
+    alloc: Global,
+    options: &Options,
+    words: &[&str],
+) -> Result<(), AllocError>
+    requires program { options.now ≡ program_options }
+    requires accepted { AreAccepted (texts words.now) }
+    ensures { OnOk result ((line : List Text) × IsWritten program_options (texts words.now) line
+        × (string_bytes text.new
+            ≡ string_bytes text.old ++ flat_map (word_line (codes "line")) line)) }
+{
+    let line = canonical_line(alloc, options, words)?;
+    push_words(text, "line", &line)
 }
 
 /// The canonical line of accepted words. They have one, since no main name of the program's options
@@ -201,7 +217,7 @@ fn matches_text(alloc: Global, matches: &Matches) -> Result<String, AllocError>
     ensures { IfOk result (λ text. string_bytes text ≡ matches_text matches.now) }
 {
     let mut text = options_text(alloc, matches, &MAIN_NAMES)?;
-    push_free(&mut text, &matches.free)?;
+    push_words(&mut text, "free", &matches.free)?;
     Ok(text)
 }
 
@@ -266,24 +282,13 @@ fn push_values(
     Ok(())
 }
 
-/// Adds the line of each free word.
-fn push_free(text: &mut String, free: &[String]) -> Result<(), AllocError>
+/// Adds the line of each word, after this label.
+fn push_words(text: &mut String, label: &str, words: &[String]) -> Result<(), AllocError>
     ensures { OnOk result (string_bytes text.new
-        ≡ string_bytes text.old ++ flat_map free_line (map string_bytes free.now)) }
+        ≡ string_bytes text.old ++ flat_map (word_line label.now) (map string_bytes words.now)) }
 {
-    for word in free {
-        writeln!(text, "free: {word}")?;
-    }
-    Ok(())
-}
-
-/// Adds the line of each word of the canonical line.
-fn push_line(text: &mut String, line: &[String]) -> Result<(), AllocError>
-    ensures { OnOk result (string_bytes text.new
-        ≡ string_bytes text.old ++ flat_map word_line (map string_bytes line.now)) }
-{
-    for word in line {
-        writeln!(text, "line: {word}")?;
+    for word in words {
+        writeln!(text, "{label}: {word}")?;
     }
     Ok(())
 }

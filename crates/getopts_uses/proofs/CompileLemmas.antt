@@ -9,7 +9,8 @@ use Rattle.getopts_uses.specs.Compile.{compile_options, GivesTheSameJob, Outputs
 
 module _ (holds_same : OneContentHoldsSame compile_options) where
   -- an item that may stand for another gives the same job
-  same_job : (Alike : ℕ → List ℕ → List ℕ → Type 0) (item other : Item) → Respells (grammar_of compile_options) item (other ∷ []) Alike → GivesTheSameJob item other
+  same_job : (Alike : ℕ → List ℕ → List ℕ → Type 0) (item other : Item)
+      → Respells (grammar_of compile_options) item (other ∷ []) Alike → GivesTheSameJob item other
   same_job Alike item other may front back tail words job reads is =
       let alike = may front back tail words reads in
       let held = holds_same words _ _ _ is.matches is.accepted reads alike.reads (let m = alike.mentions in let f = alike.free in cc) in
@@ -21,10 +22,13 @@ module _ (holds_same : OneContentHoldsSame compile_options) where
         folders = is.folders ∙ sym (each_value-values _ _ (held.1.values (codes "L")));
       }
 
-  pub OutputsMayBeAttached_lem : LongAttachedOrSeparate (grammar_of compile_options) → ShortAttachedOrSeparate (grammar_of compile_options) → OutputsMayBeAttached
+  pub OutputsMayBeAttached_lem : LongAttachedOrSeparate (grammar_of compile_options)
+      → ShortAttachedOrSeparate (grammar_of compile_options) → OutputsMayBeAttached
   OutputsMayBeAttached_lem long_law short_law = record {
     long_separate = λ file. same_job AreHigherAfter _ _ (long_law.either two (codes "output") file refl).to_longer;
-    long_attached = λ file. same_job (λ position old new. AreHigherAfter position new old) _ _ (long_law.either two (codes "output") file refl).to_shorter;
+    long_attached = λ file. same_job (λ position old new. AreHigherAfter position new old) _ _
+        (long_law.either two (codes "output") file refl).to_shorter;
     short_separate = λ file. same_job AreHigherAfter _ _ (short_law.to_separate [] 111 file refl);
-    short_attached = λ file filled. same_job (λ position old new. AreHigherAfter position new old) _ _ (short_law.either [] 111 file refl filled).to_shorter;
+    short_attached = λ file filled. same_job (λ position old new. AreHigherAfter position new old) _ _
+        (short_law.either [] 111 file refl filled).to_shorter;
   }

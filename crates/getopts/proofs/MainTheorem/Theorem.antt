@@ -78,7 +78,8 @@ module _ (options : Declared) (lawful : AreLawfullyNamed options.groups)
     plain = plain;
     line_is = refl;
     laws = HasCanonicalLine-options words (content_of (grammar_of options) reading)
-        (Says-accepted options options.style options.long_only words (content_of (grammar_of options) reading) (accepted_with words reading keeps)) plain;
+        (Says-accepted options options.style options.long_only words (content_of (grammar_of options) reading)
+            (accepted_with words reading keeps)) plain;
   }
 
   -- accepted exactly when a reading keeps the counts

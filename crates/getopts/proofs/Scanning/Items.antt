@@ -70,7 +70,8 @@ pub AddsItem-long : (grammar : Grammar) (word text name : Text) (argument : Argu
 AddsItem-long grammar word text name argument kind place after position used old new form text_is cut_once kind_is
     place_is fits within after_is added = record {
       occurrences = record { mention = record { group = place; value = value_of argument }; position = position } ∷ [];
-      reads = ReadsItem-long grammar word text name argument kind place after position used form text_is cut_once kind_is place_is fits within after_is;
+      reads = ReadsItem-long grammar word text name argument kind place after position used form text_is cut_once
+          kind_is place_is fits within after_is;
       added = added;
     }
 

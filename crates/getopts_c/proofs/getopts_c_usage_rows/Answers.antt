@@ -21,6 +21,7 @@ returns c =
     out.result (rooms args.numbers.now args.bytes.now args.sizes.now) (rooms out.new.numbers out.new.bytes out.new.sizes) answer
     out.ensures.known out.ensures.untouched out.ensures.untold out.ensures.within out.ensures.written out.ensures.small out.ensures.sizes_told
     out.ensures.lawful out.ensures.bad
-    (both_hold (λ answer. answer.status ≡ fine_status) (λ answer. AreSuch answer.body.numbers.items (string_bytes answer.body.bytes)) answer is.fine is.rows)
+    (both_hold (λ answer. answer.status ≡ fine_status)
+        (λ answer. AreSuch answer.body.numbers.items (string_bytes answer.body.bytes)) answer is.fine is.rows)
     (on_ok_so answer is.lawful (λ says. (says, tt)))
     (IfErr-weaker answer (λ refusal. refusal ≡ Bad → ¬ Says) (λ refusal. refusal ≡ Bad → (¬ Says) ⊎ (¬ ⊤)) (λ refusal no bad. inl (no bad)) is.bad)

@@ -66,7 +66,8 @@ rows_fit : IsRowsReply no_rows_told
 rows_fit = record {
   known = omega arith;
   within = λ _. (omega arith, omega arith);
-  answered = λ _. (refl, record { options = usual []; rows = []; options_are = no_request; rows_are = only_no_rows; numbers_are = refl; bytes_are = refl });
+  answered = λ _. (refl, record { options = usual []; rows = []; options_are = no_request; rows_are = only_no_rows;
+      numbers_are = refl; bytes_are = refl });
   untouched = λ big. absurd (omega (arith, big));
   untold = λ big _. absurd (omega (arith, big));
   lawful = λ _ _. (says_none, tt);
@@ -76,25 +77,33 @@ rows_fit = record {
 }
 
 pub returns-clause-usage_is_longer_than_its_room : goal.returns-clause-usage_is_longer_than_its_room
-returns-clause-usage_is_longer_than_its_room c = record { lets_through = usage_fits; refuses = λ is. let within = (is.within (omega arith)).1 in omega (arith, within) }
+returns-clause-usage_is_longer_than_its_room c = record
+    { lets_through = usage_fits; refuses = λ is. let within = (is.within (omega arith)).1 in omega (arith, within) }
 
 pub returns-clause-usage_tells_a_fault : goal.returns-clause-usage_tells_a_fault
-returns-clause-usage_tells_a_fault c = record { lets_through = usage_fits; refuses = λ is. let fine = (is.answered (omega arith)).0 in omega (arith, fine) }
+returns-clause-usage_tells_a_fault c = record
+    { lets_through = usage_fits; refuses = λ is. let fine = (is.answered (omega arith)).0 in omega (arith, fine) }
 
 pub returns-clause-usage_tells_numbers : goal.returns-clause-usage_tells_numbers
-returns-clause-usage_tells_numbers c = record { lets_through = usage_fits; refuses = λ is. let within = (is.within (omega arith)).0 in omega (arith, within) }
+returns-clause-usage_tells_numbers c = record
+    { lets_through = usage_fits; refuses = λ is. let within = (is.within (omega arith)).0 in omega (arith, within) }
 
 pub returns-clause-short_usage_is_longer_than_its_room : goal.returns-clause-short_usage_is_longer_than_its_room
-returns-clause-short_usage_is_longer_than_its_room c = record { lets_through = line_fits; refuses = λ is. let within = (is.within (omega arith)).1 in omega (arith, within) }
+returns-clause-short_usage_is_longer_than_its_room c = record
+    { lets_through = line_fits; refuses = λ is. let within = (is.within (omega arith)).1 in omega (arith, within) }
 
 pub returns-clause-short_usage_tells_a_fault : goal.returns-clause-short_usage_tells_a_fault
-returns-clause-short_usage_tells_a_fault c = record { lets_through = line_fits; refuses = λ is. let fine = (is.answered (omega arith)).0 in omega (arith, fine) }
+returns-clause-short_usage_tells_a_fault c = record
+    { lets_through = line_fits; refuses = λ is. let fine = (is.answered (omega arith)).0 in omega (arith, fine) }
 
 pub returns-clause-short_usage_tells_numbers : goal.returns-clause-short_usage_tells_numbers
-returns-clause-short_usage_tells_numbers c = record { lets_through = line_fits; refuses = λ is. let within = (is.within (omega arith)).0 in omega (arith, within) }
+returns-clause-short_usage_tells_numbers c = record
+    { lets_through = line_fits; refuses = λ is. let within = (is.within (omega arith)).0 in omega (arith, within) }
 
 pub returns-clause-rows_are_more_than_their_room : goal.returns-clause-rows_are_more_than_their_room
-returns-clause-rows_are_more_than_their_room c = record { lets_through = rows_fit; refuses = λ is. let within = (is.within (omega arith)).0 in omega (arith, within) }
+returns-clause-rows_are_more_than_their_room c = record
+    { lets_through = rows_fit; refuses = λ is. let within = (is.within (omega arith)).0 in omega (arith, within) }
 
 pub returns-clause-rows_tell_a_fault : goal.returns-clause-rows_tell_a_fault
-returns-clause-rows_tell_a_fault c = record { lets_through = rows_fit; refuses = λ is. let fine = (is.answered (omega arith)).0 in omega (arith, fine) }
+returns-clause-rows_tell_a_fault c = record
+    { lets_through = rows_fit; refuses = λ is. let fine = (is.answered (omega arith)).0 in omega (arith, fine) }

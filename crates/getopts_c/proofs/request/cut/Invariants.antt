@@ -7,4 +7,5 @@ use Rattle.getopts_c.specs.Request.{concatenated}
 use Rattle.getopts_c.proofs.request.cut.Given as goal
 
 abbrev pub invariant-loop-len : goal.invariant-loop-len
-invariant-loop-len l = shadow (Utf8 l.rest) × (l.bytes ≡ concatenated (texts l.pieces.items) ++ l.rest) × (take l.len-index l.lens ≡ map length (texts l.pieces.items))
+invariant-loop-len l = shadow (Utf8 l.rest) × (l.bytes ≡ concatenated (texts l.pieces.items) ++ l.rest)
+    × (take l.len-index l.lens ≡ map length (texts l.pieces.items))

@@ -10,7 +10,9 @@ pub loop-place-preserved : goal.loop-place-preserved
 loop-place-preserved c =
     let groups = c.args.matches.now.groups in
     let within : c.loop-place.place < length groups = omega (arith, c.loop-place-test.true, c.requires) in (
-      more_added (λ (founds : List Found). length founds ∷ flat_map found_numbers founds) groups c.loop-place.place _ _ _ _ within c.occurrences_at.ensures
+      more_added (λ (founds : List Found). length founds ∷ flat_map found_numbers founds) groups c.loop-place.place
+          _ _ _ _ within c.occurrences_at.ensures
           c.loop-place.invariant.0 c.in_ok-push_occurrences.ensures.numbers,
-      more_added (flat_map found_bytes) groups c.loop-place.place _ _ _ _ within c.occurrences_at.ensures c.loop-place.invariant.1 c.in_ok-push_occurrences.ensures.bytes,
+      more_added (flat_map found_bytes) groups c.loop-place.place _ _ _ _ within c.occurrences_at.ensures
+          c.loop-place.invariant.1 c.in_ok-push_occurrences.ensures.bytes,
     )

@@ -1,9 +1,0 @@
-use Rattle.std.proofs.Common.{◌≡◌, ◌++◌, map, take}
-use Rattle.std.specs.List.{flat_map}
-use Rattle.std.specs.String.{string_bytes}
-use Rattle.getopts_show.specs.Program.{free_line}
-use Rattle.getopts_show.proofs.show.push_free.Given as goal
-
--- the lines of the words so far were added
-abbrev pub invariant-loop-word : goal.invariant-loop-word
-invariant-loop-word l = string_bytes l.text ≡ string_bytes l.initial.text ++ flat_map free_line (map string_bytes (take l.word-index l.free))
