@@ -24,6 +24,12 @@ program() {
         cmp "$room/$1.wrote" "$folder/stdout" && echo "as stored, by the program that was built last"
         return
     fi
+    if [ "$1" = getopts_replay ]; then
+        # One run answers the recorded cases and what the rules ask beyond them.
+        python3 beside/rules.py --try >"$room/$1.wrote" 2>&1 || { tail -n 20 "$room/$1.wrote"; return 1; }
+        echo "as stored, and by the rules: $(tail -n 1 "$room/$1.wrote")"
+        return
+    fi
     (cd "$folder" && rt try -- "${words[@]}") <"$input" >"$room/$1.wrote" 2>"$room/$1.said" ||
         { tail -n 20 "$room/$1.said"; return 1; }
     cmp "$room/$1.wrote" "$folder/stdout" && echo "as stored"

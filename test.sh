@@ -71,8 +71,8 @@ ended() {
 # prover has to refuse.
 again() {
     tar --exclude=./.git --exclude=out --exclude=target -c . | tar -C "$room/copy" -x &&
-        nice -n 19 bash "$room/copy/rust/archive.sh" check &&
-        nice -n 19 bash "$room/copy/edits/try.sh"
+        bash "$room/copy/rust/archive.sh" check &&
+        bash "$room/copy/edits/try.sh"
 }
 
 room=$(mktemp -d)
@@ -88,16 +88,16 @@ if [ -n "$quick" ]; then
     else
         echo "skipped: refused memory, and the program and the system: the whole test builds their programs"
     fi
-    begin "recorded cases by the rules" python3 beside/rules.py --try
 else
     begin "the archive from the proved source, and edits over it" again
+    begin "C and Rust" bash rust/test.sh --quick --after "$room/built" "$@"
     # What follows stands on the programs that this builds.
     if part "proofs, tests and programs of all crates" rt ci; then
-        begin "C and Rust" bash rust/test.sh --quick "$@"
         begin "refused memory" bash refused/run.sh
         begin "the program and the system" python3 system/run.py
         begin "recorded cases by the rules" python3 beside/rules.py
     fi
+    touch "$room/built"
 fi
 part "code on the pages for callers" bash docs/quotes.sh
 part "modules that use each other" bash docs/modules.sh

@@ -291,11 +291,11 @@ def asked_lines(cases):
     return [one for one in cases.split(b"\n") if one and not one.startswith(b"#")]
 
 
-def held(lines, answers):
-    """How many answers there are, how many of them the rules give, and those that differ."""
-    session, given, at, told, differ = Session(), answers.split(b"\n")[:-1], 0, 0, []
+def held(lines, answers, recorded=()):
+    """How many answers there are, how many of them the rules give, those that differ, and those to these lines."""
+    session, given, at, told, differ, kept = Session(), answers.split(b"\n")[:-1], 0, 0, [], []
     case = b""
-    for one in lines:
+    for number, one in enumerate(lines):
         word, fields = parts(one)
         case = one if word == "case" else case
         for expected in session.answer(word, fields):
@@ -303,43 +303,49 @@ def held(lines, answers):
                 told += 1
                 if at >= len(given) or given[at] != expected:
                     differ.append((case, one, expected, given[at] if at < len(given) else b"(no answer)"))
+            kept += given[at:at + 1] if number in recorded else []
             at += 1
     if at != len(given):
         differ.append((b"at the end", b"", b"%d lines" % at, b"%d lines" % len(given)))
-    return at, told, differ
+    return at, told, differ, kept
 
 
 def asked_beyond(lines):
-    """The cases, and below each line of words its canonical line and the positions of each name."""
-    session, names, out = Session(), [], []
+    """The cases, and below each line of words its canonical line and the positions of each name; and which of these
+    lines are those of the cases."""
+    session, names, out, recorded = Session(), [], [], set()
     for one in lines:
         word, fields = parts(one)
+        recorded.add(len(out))
         out.append(one)
         session.answer(word, fields)
         if word == "words":
             names = {name: 0 for group in session.options.groups for name in (group.short, group.long) if name}
             out.append(line("canonical", *fields))
             out += [line("positions", name) for name in names if len(session.read) == 3]
-    return out
+    return out, recorded
 
 
 def main():
     arguments = sys.argv[1:]
     cases = pathlib.Path(arguments[arguments.index("--cases") + 1]) if "--cases" in arguments else REPLAY / "stdin"
     lines = asked_lines(cases.read_bytes())
-    beyond = asked_beyond(lines)
+    beyond, recorded = asked_beyond(lines)
     if "--ask" in arguments:
         sys.stdout.buffer.write(b"\n".join(beyond) + b"\n")
         return
     differ = []
     if "--cases" not in arguments:
-        asked, told, differ = held(lines, (REPLAY / "stdout").read_bytes())
+        stored = (REPLAY / "stdout").read_bytes()
+        asked, told, differ, _ = held(lines, stored)
         print(f"the Rust crate's recorded answers: {told} of {asked} lines are answered here, {len(differ)} differ")
     program = ["rt", "try"] if "--try" in arguments else [REPLAY / "out/getopts_replay"]
     ran = subprocess.run(program, cwd=REPLAY, input=b"\n".join(beyond) + b"\n", capture_output=True)
     if ran.returncode != 0:
         sys.exit(f"rules.py: {program[0]} ended with status {ran.returncode}: {ran.stderr.decode()[-1000:]}")
-    asked, told, others = held(beyond, ran.stdout)
+    asked, told, others, kept = held(beyond, ran.stdout, recorded)
+    if "--cases" not in arguments and kept != stored.split(b"\n")[:-1]:
+        sys.exit("rules.py: the answers to the recorded cases aren't those that are stored")
     written = sum(one.startswith(b"canonical") for one in beyond) - sum(one.startswith(b"canonical") for one in lines)
     print(f"the library's answers, with {written} canonical lines and the positions of "
           f"{len(beyond) - len(lines) - written} names beyond: {told} of {asked} lines are answered here, "

@@ -1,20 +1,24 @@
 #!/usr/bin/env bash
 # Tests the archive, the C layer and the Rust crate.
 #
-#     rust/test.sh [--quick] [CRATE]
+#     rust/test.sh [--quick] [--after FILE] [CRATE]
 #
 # CRATE is a folder that holds the crate getopts 0.2.24; without it cargo fetches that crate. CARGO_FLAGS
-# are handed to each cargo. With --quick nothing is proved. What that or this machine leaves out is skipped with
-# a line that says so. The last line is 'N passed, M failed, K skipped'.
+# are handed to each cargo. With --quick nothing is proved. With --after it waits at its end, until FILE is there,
+# before it asks the program getopts_show what it answers. What that or this machine leaves out is skipped with a
+# line that says so. The last line is 'N passed, M failed, K skipped'.
 set -uo pipefail
 top=$(cd "$(dirname "$0")/.." && pwd)
-quick=
-if [ "${1:-}" = --quick ]; then
-    quick=yes
-    shift
-fi
+quick='' after=''
+while [ $# -gt 0 ]; do
+    case $1 in
+        --quick) quick=yes; shift ;;
+        --after) after=${2:?--after takes a file}; shift 2 ;;
+        *) break ;;
+    esac
+done
 if [ $# -gt 1 ] || { [ $# = 1 ] && [ ! -f "$1/Cargo.toml" ]; }; then
-    echo "usage: rust/test.sh [--quick] [CRATE], where CRATE is a folder with the crate getopts" >&2
+    echo "usage: rust/test.sh [--quick] [--after FILE] [CRATE], where CRATE is a folder with the crate getopts" >&2
     exit 2
 fi
 crate=${1:+$(cd "$1" && pwd)}
@@ -89,17 +93,23 @@ same_licences() {
 }
 check "the licences" same_licences
 
-# The program that the examples have to answer as. `rt ci` leaves it there.
+# ask_show: asks at the end whether the examples that were built answer as the program does. `rt ci` leaves it there.
 show=$top/crates/getopts_show/out/getopts_show
-if [ ! -x "$show" ] && [ -z "$no_proof" ]; then
-    check "getopts_show" bash -c "cd '$top/crates/getopts_show' && rt run -- x"
-fi
-answers_as_show() {
-    if [ -x "$show" ]; then
-        check "$1" same_as_show "$2"
-    else
-        skip "$1: getopts_show isn't built, and $no_proof"
+examples=()
+ask_show() {
+    local example
+    [ ${#examples[@]} -gt 0 ] || return 0
+    until [ -z "$after" ] || [ -e "$after" ]; do sleep 1; done
+    if [ ! -x "$show" ] && [ -z "$no_proof" ]; then
+        check "getopts_show" bash -c "cd '$top/crates/getopts_show' && rt run -- x"
     fi
+    for example in "${examples[@]}"; do
+        if [ -x "$show" ]; then
+            check "${example#"$room"/} answers as getopts_show" same_as_show "$example"
+        else
+            skip "${example#"$room"/} answers as getopts_show: that isn't built, and $no_proof"
+        fi
+    done
 }
 
 # The exports, the layer and the installation are tested by a script of their own.
@@ -115,7 +125,7 @@ if [ -z "$compiler" ]; then
 else
     strict=("$compiler" -std=c11 -O2 -Wall -Wextra -Wpedantic -Wshadow -Wconversion -Wno-sign-conversion -Werror)
     check "the C program" "${strict[@]}" "$top"/c/{show,getopts,heap}.c "$archive" -o "$room/show"
-    answers_as_show "the C program answers as getopts_show" "$room/show"
+    examples+=("$room/show")
     if "$compiler" -O2 -ffreestanding -fPIC -shared -nostdlib "$top/refused/refuse.c" -o "$room/refuse.so"; then
         preload=yes
         says "the C program under refused memory" refused "$room/show" 3 0
@@ -126,6 +136,7 @@ fi
 
 if ! has cargo cc; then
     skip "the Rust crate: there is no cargo, or no cc that it links by"
+    ask_show
     finish
     exit
 fi
@@ -134,7 +145,7 @@ in_crate() { (cd "$here" && cargo "$@"); }
 check "the crate's tests" in_crate test "${flags[@]}"
 check "the crate's tests with canonical" in_crate test "${flags[@]}" --features canonical
 check "the Rust examples" in_crate build "${flags[@]}" --release --features canonical --examples
-answers_as_show "the Rust example answers as getopts_show" "$room/target/release/examples/show"
+examples+=("$room/target/release/examples/show")
 if [ -n "$preload" ]; then
     # As any Rust program it ends by a signal then.
     says "the Rust crate under refused memory" refused "$room/target/release/examples/refused" 134 1
@@ -341,4 +352,5 @@ else
     skip "that crate's public tests: no folder was given that has them"
 fi
 
+ask_show
 finish

@@ -1,6 +1,6 @@
 -- What the program's names and groups give.
 use Rattle.std.proofs.Common.{◌≡◌, ℕ, false, zero, suc, ◌+◌, ◌<◌, List, [], ◌∷◌, ◌++◌, length, take, slice_get}
-use Rattle.std.proofs.Common.{get_or, map, refl, ap, ◌∙◌, sym, subst, arith, zero-le}
+use Rattle.std.proofs.Common.{codes, get_or, map, refl, ap, ◌∙◌, sym, subst, arith, zero-le}
 use Rattle.std.specs.Prelude.{Option}
 use Rattle.std.specs.Borrow.{Bor}
 use Rattle.std.specs.List.{AllByRecursion, cons_option, flat_map}

@@ -1,4 +1,5 @@
 use Rattle.std.proofs.Common.{◌++◌, ◌∙◌, ap, map}
+use Rattle.std.proofs.lemmas.Result.{on_ok_weaker}
 use Rattle.std.specs.List.{flat_map}
 use Rattle.std.specs.Prelude.{codes}
 use Rattle.std.specs.String.{string_bytes}
@@ -7,6 +8,8 @@ use Rattle.getopts_show.proofs.show.push_canonical.Goals as goal
 
 pub returns : goal.returns
 returns c =
-    (map string_bytes c.in_ok-line.line.items, c.in_ok-line.ensures,
-    c.in_ok-push_words.ensures
-    ∙ ap (λ line. string_bytes c.text.old ++ flat_map (word_line (codes "line")) (map string_bytes line)) c.deref.ensures.value)
+    on_ok_weaker c.push_words.result
+    (λ added. (map string_bytes c.in_ok-line.line.items, c.in_ok-line.ensures,
+        added ∙ ap (λ line. string_bytes c.args.text.now ++ flat_map (word_line (codes "line")) (map string_bytes line))
+            c.deref.ensures.value))
+    c.push_words.ensures

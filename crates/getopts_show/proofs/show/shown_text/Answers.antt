@@ -8,5 +8,5 @@ use Rattle.getopts_show.proofs.show.shown_text.Goals as goal
 pub returns : goal.returns
 returns c =
     let shown = c.in_ok-push_canonical.ensures in
-    text_of_matches shown.1.0 c.requires.accepted c.requires.no_help
-    (shown.1.1 ∙ ap (λ text. text ++ flat_map (word_line (codes "line")) shown.0) c.in_ok-text.ensures)
+    text_of_matches shown.1 c.requires.accepted c.requires.no_help
+    (shown.2 ∙ ap (λ text. text ++ flat_map (word_line (codes "line")) shown.0) c.in_ok-text.ensures)
