@@ -344,22 +344,24 @@ pub record EndsInYes (grammar : Grammar) (word name : Text) : Type 0 where
   pub name_is : name ≡ option ∷ []
   pub kind : grammar.kind_of name ≡ Some Yes
 
--- The faults of a word where an item begins, with these words after it: a name that doesn't
--- resolve; an attached argument for kind No; no argument for kind Yes at the end of the line.
-abbrev pub IsFaultAt : Grammar → Text → List Text → Fault → Type 0
-IsFaultAt grammar word after (unrecognized_option name) =
-    ((argument : Option Text)
-    × IsLongForm grammar word name argument
-    × (grammar.kind_of name ≡ None))
-    ⊎ HasUnknownFlag grammar word name
-IsFaultAt grammar word after (unexpected_argument name) = (argument : Text)
-    × IsLongForm grammar word name (Some argument)
-    × (grammar.kind_of name ≡ Some No)
-IsFaultAt grammar word after (argument_missing name) =
-    ((IsLongForm grammar word name None × (grammar.kind_of name ≡ Some Yes))
-    ⊎ EndsInYes grammar word name)
-    × (after ≡ [])
-IsFaultAt grammar word after fault = ⊥
+-- The faults of a word where an item begins, with these words after it.
+pub data IsFaultAt (grammar : Grammar) (word : Text) (after : List Text) : Fault → Type 0 where
+  -- in long form, a name that doesn't resolve
+  unknown_name : (name : Text) (argument : Option Text) → IsLongForm grammar word name argument
+      → grammar.kind_of name ≡ None → IsFaultAt grammar word after (unrecognized_option name)
+  -- in short form, after flags, a character that names no option
+  unknown_character : (name : Text) → HasUnknownFlag grammar word name
+      → IsFaultAt grammar word after (unrecognized_option name)
+  -- in long form, an attached argument for kind No
+  unwanted_argument : (name argument : Text) → IsLongForm grammar word name (Some argument)
+      → grammar.kind_of name ≡ Some No → IsFaultAt grammar word after (unexpected_argument name)
+  -- in long form, kind Yes with no argument at the end of the line
+  long_unfinished : (name : Text) → IsLongForm grammar word name None
+      → grammar.kind_of name ≡ Some Yes → after ≡ []
+      → IsFaultAt grammar word after (argument_missing name)
+  -- in short form, after flags, a last name of kind Yes at the end of the line
+  short_unfinished : (name : Text) → EndsInYes grammar word name → after ≡ []
+      → IsFaultAt grammar word after (argument_missing name)
 
 -- A scan fault of a line: the fault of a word, where the words before it have a reading that ends
 -- there.

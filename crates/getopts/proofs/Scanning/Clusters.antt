@@ -16,6 +16,7 @@ use Rattle.getopts.specs.Options.{Grammar}
 use Rattle.getopts.specs.Fail.{argument_missing, unrecognized_option}
 use Rattle.getopts.specs.Scan.{dash, Argument, none, attached, separate, flags, ends_in, cluster}
 use Rattle.getopts.specs.Scan.{attached_argument, value_of, IsFlag, IsShortForm, IsFaultAt}
+use Rattle.getopts.specs.Scan.{unknown_character, short_unfinished}
 use Rattle.getopts.specs.Scan.{begins_with_dash, Occurrence, occurrence_at, mention, is_bare}
 use Rattle.getopts.specs.Line.{AddsItem, IsEnding}
 use Rattle.getopts.specs.declared.groups.HasArg.{HasArg}
@@ -177,7 +178,7 @@ module _ (grammar : Grammar) (position : ℕ) (text : Text) where
           → grammar.kind_of (slice_index text at ∷ []) ≡ None → IsScalar character
           → name ≡ encode_utf8 character → drop at text ≡ name ++ more
           → IsFaultAt grammar word after (unrecognized_option name)
-      IsFaultAt-unknown character name more unknown scalar name_is text_is = inr (record {
+      IsFaultAt-unknown character name more unknown scalar name_is text_is = unknown_character name (record {
         names = take at text;
         character = character;
         more = more;
@@ -201,14 +202,12 @@ module _ (grammar : Grammar) (position : ℕ) (text : Text) where
       pub IsFaultAt-missing : grammar.kind_of (slice_index text at ∷ []) ≡ Some Yes
           → drop (at + 1) text ≡ [] → after ≡ []
           → IsFaultAt grammar word after (argument_missing (slice_index text at ∷ []))
-      IsFaultAt-missing kind_is at_end line_ends = (
-        inr (record {
-          names = take at text;
-          option = slice_index text at;
-          short_form = subst (IsShortForm grammar word) (text_parts text at within ∙ ap (λ t. take at text ++ (slice_index text at ∷ t)) at_end) form;
-          each = before.flags;
-          name_is = refl;
-          kind = kind_is;
-        }),
-        line_ends,
-      )
+      IsFaultAt-missing kind_is at_end line_ends = short_unfinished (slice_index text at ∷ []) (record {
+        names = take at text;
+        option = slice_index text at;
+        short_form = subst (IsShortForm grammar word)
+            (text_parts text at within ∙ ap (λ t. take at text ++ (slice_index text at ∷ t)) at_end) form;
+        each = before.flags;
+        name_is = refl;
+        kind = kind_is;
+      }) line_ends
