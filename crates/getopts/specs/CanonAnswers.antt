@@ -10,14 +10,12 @@ use Rattle.getopts.specs.Canon.{Content, IsPlain, IsSound, canonical_line, HasCa
 use Rattle.getopts.specs.Canon.{HasUnwritable, with_setting}
 use Rattle.getopts.specs.declared.groups.ParsingStyle.{ParsingStyle}
 
--- The words are accepted with a content that is plain, and this is its canonical line, which keeps
--- the laws of such lines.
+-- The words are accepted with a content that is plain, and this is its canonical line.
 pub record IsWritten (options : Declared) (words line : List Text) : Type 0 where
   pub content : Content
   pub accepted : IsAcceptedWith options words content
   pub plain : IsPlain options.groups content
   pub line_is : line ≡ canonical_line options.groups content
-  pub laws : HasCanonicalLine options content
 
 -- The words are accepted with a content that is sound and isn't plain: some mention of it can't be
 -- written.
@@ -39,6 +37,11 @@ IsCanonicalAnswer options words answer =
     MatchResult answer
     (λ written. MatchOption written (IsUnwritable options words) (IsWritten options words))
     (IsRefused options words)
+
+-- the laws of the lines that `canonical` answers: of each, those of the content that it is made of
+abbrev pub KeepsLineLaws : Declared → Type 0
+KeepsLineLaws options = (words line : List Text) → (written : IsWritten options words line)
+    → HasCanonicalLine options written.content
 
 -- two answers are one
 abbrev pub HasOneAnswer : {X : Type 0} → (X → Type 0) → Type 0

@@ -18,8 +18,9 @@ use Rattle.getopts.specs.Parse.{Reads, IsAccepted, BreaksCounts, IsRefused}
 use Rattle.getopts.specs.Canon.{Content, IsCountKeeping, content_of, main_at, HasPlainMain, IsPlain}
 use Rattle.getopts.specs.Canon.{canonical_line, IsAcceptedWith, Says}
 use Rattle.getopts.specs.AcceptedLine.{IsAcceptedLine}
+use Rattle.std.specs.Str.{IsUtf8}
 use Rattle.getopts.specs.CanonAnswers.{IsWritten, IsUnwritable, IsParseAnswer}
-use Rattle.getopts.specs.CanonAnswers.{IsCanonicalAnswer, AnsweredLinesTell}
+use Rattle.getopts.specs.CanonAnswers.{IsCanonicalAnswer, AnsweredLinesTell, KeepsLineLaws}
 use Rattle.getopts.specs.declared.accepted.AcceptedLine.{AcceptedLine}
 use Rattle.getopts.proofs.Canonical.Lines.{is_plain-true, is_plain-false, HasCanonicalLine-says}
 use Rattle.getopts.proofs.Canonical.Lines.{Says-accepted, IsSound-says}
@@ -106,8 +107,6 @@ module _ (options : Declared) (words : List Text) (accepted : AcceptedLine)
     accepted = IsAcceptedWith-line;
     plain = plain-list_all options.groups accepted.line.found plain;
     line_is = answer_is;
-    laws = HasCanonicalLine-says options words (line_content accepted.line) is.lawful IsNamed-line
-        Says-line (plain-list_all options.groups accepted.line.found plain);
   }
 
   -- else some mention can't be written
@@ -123,6 +122,14 @@ module _ (options : Declared) (words : List Text) (accepted : AcceptedLine)
         not_plain = not_plain;
         unwritable = HasUnwritable-content options (line_content accepted.line) not_plain;
       }
+
+-- answered lines keep their laws
+pub KeepsLineLaws-lawful : (options : Declared) → AreLawfullyNamed options.groups
+    → AllByRecursion (λ group. IsUtf8 group.known.names.short) options.groups
+    → KeepsLineLaws options
+KeepsLineLaws-lawful options lawful shorts words line written =
+    HasCanonicalLine-says options words written.content lawful (named_here options lawful shorts)
+    (Says-accepted options options.style options.long_only words written.content written.accepted) written.plain
 
 -- the main theorem, of two answered lines
 pub AnsweredLinesTell-lawful : (options : Declared) → AreLawfullyNamed options.groups

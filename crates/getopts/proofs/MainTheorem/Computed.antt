@@ -19,8 +19,8 @@ use Rattle.getopts.specs.Refuted.Forms.{EachLineHasAnswers}
 use Rattle.getopts.specs.declared.groups.Occur.{Occur}
 use Rattle.getopts.specs.declared.groups.Occur.TheVariants.{Req, Optional, Multi}
 use Rattle.getopts.proofs.Canonical.Lines.{is_plain, is_plain-true, is_plain-false}
-use Rattle.getopts.proofs.Canonical.Lines.{HasUnwritable-content, HasCanonicalLine-says}
-use Rattle.getopts.proofs.Canonical.Lines.{Says-accepted, IsSound-reading}
+use Rattle.getopts.proofs.Canonical.Lines.{HasUnwritable-content}
+use Rattle.getopts.proofs.Canonical.Lines.{IsSound-reading}
 use Rattle.getopts.proofs.Parsing.Parsed.{named_here, only_reads, HasNoReading-fault}
 use Rattle.getopts.proofs.Reading.Readings.{read_reading, read_fault}
 use Rattle.getopts.proofs.Reading.Turns.{read}
@@ -156,8 +156,6 @@ module _ (options : Declared) (lawful : AreLawfullyNamed options.groups)
             accepted = accepted;
             plain = is;
             line_is = refl;
-            laws = HasCanonicalLine-says options words content lawful (named_here options lawful shorts)
-                (Says-accepted options options.style options.long_only words content accepted) is;
           }
       line_of-is false other =
           let content = content_of (grammar_of options) reading in

@@ -14,7 +14,7 @@ use Rattle.getopts.specs.Canon.{Content, IsAcceptedWith, Says}
 use Rattle.getopts.specs.CanonAnswers.{IsWritten, AnsweredLinesTell}
 use Rattle.getopts.specs.Theorem.{IsFirstFault, OneReading, AcceptedExactlyWhen, RefusedExactlyWhen}
 use Rattle.getopts.specs.Theorem.{OneOfThree, OneReadingGivesAll, CanonicalLinesTell}
-use Rattle.getopts.proofs.Canonical.Lines.{Says-accepted, HasCanonicalLine-says}
+use Rattle.getopts.proofs.Canonical.Lines.{HasCanonicalLine-says}
 use Rattle.getopts.proofs.Canonical.Lines.{CanonicalLinesTell-lawful}
 use Rattle.getopts.proofs.Canonical.Answered.{accepted_reads, breaking_reads, only_matches}
 use Rattle.getopts.proofs.Canonical.Answered.{not_refused, only_content, only_line}
@@ -77,9 +77,6 @@ module _ (options : Declared) (lawful : AreLawfullyNamed options.groups)
     accepted = accepted_with words reading keeps;
     plain = plain;
     line_is = refl;
-    laws = HasCanonicalLine-options words (content_of (grammar_of options) reading)
-        (Says-accepted options options.style options.long_only words (content_of (grammar_of options) reading)
-            (accepted_with words reading keeps)) plain;
   }
 
   -- accepted exactly when a reading keeps the counts

@@ -8,6 +8,7 @@ use Rattle.getopts.proofs.MainTheorem.Theorem.{RefusedExactlyWhen-options, OneOf
 use Rattle.getopts.proofs.MainTheorem.Theorem.{OneReadingGivesAll-options}
 use Rattle.getopts.proofs.MainTheorem.Theorem.{CanonicalLinesTell-options}
 use Rattle.getopts.proofs.MainTheorem.Theorem.{AnsweredLinesTell-options, HasCanonicalLine-options}
+use Rattle.getopts.proofs.Canonical.Answered.{KeepsLineLaws-lawful}
 use Rattle.getopts.proofs.laws.one_reading_one_canonical_line.Goals as goal
 
 pub returns : goal.returns
@@ -26,6 +27,7 @@ returns c =
       canonical_lines_tell = CanonicalLinesTell-options options lawful shorts;
       answered_lines_tell = AnsweredLinesTell-options options lawful shorts;
       canonical_lines = HasCanonicalLine-options options lawful shorts;
+      line_laws = KeepsLineLaws-lawful options lawful shorts;
       reading_laws = keeps_laws options lawful shorts;
       sound = IsSound-says options;
     }
