@@ -2,7 +2,7 @@
 
 ghost use Rattle.std.specs.Prelude.{map, IfOk, IfErr, IfSome, IfNone};
 ghost use Rattle.std.specs.String.{string_bytes};
-ghost use Rattle.getopts.specs.CanonAnswers.{IsWritten, IsUnwritable};
+ghost use Rattle.getopts.specs.CanonAnswers.{IsWritten, IsUnwritable, KeepsLineLaws};
 ghost use Rattle.getopts.specs.Fail.{Tells};
 ghost use Rattle.getopts.specs.Names.{texts};
 ghost use Rattle.getopts.specs.Parse.{IsRefused};
@@ -20,6 +20,7 @@ pub fn key_of(alloc: Global, options: &Options, words: &[&str]) -> Result<Option
         (IsUnwritable options.now (texts words.now))) }
     ensures refused { IfErr result (λ fail. Tells fail (IsRefused options.now (texts words.now))) }
     ensures tells { KeysTell options.now }
+    ensures laws { KeepsLineLaws options.now }
 {
     one_reading_one_canonical_line(options);
     options.canonical(alloc, words.iter().copied())
