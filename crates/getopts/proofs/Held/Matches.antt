@@ -46,7 +46,7 @@ knowns-matched first (known ∷ knowns) occurrences = ap (λ (more : List Known)
 -- the occurrences of the group at a place
 found-matched : (first : ℕ) (knowns : List Known) (occurrences : List Occurrence) (i : ℕ)
     → i < length knowns
-    → found_in (matched first knowns occurrences) (Some i) ≡ found_at (first + i) occurrences
+    → found_in (matched first knowns occurrences) i ≡ found_at (first + i) occurrences
 found-matched first [] occurrences i within = absurd (omega arith)
 found-matched first (known ∷ knowns) occurrences zero within = ap (λ (n : ℕ). found_at n occurrences) (omega arith)
 found-matched first (known ∷ knowns) occurrences (suc i) within =
@@ -99,7 +99,7 @@ module _ (knowns : List Known) (occurrences : List Occurrence) (place : ℕ) whe
 
   -- they are the occurrences of that group
   pub held_places-found : map found_part (filter_map (λ p. slice_get occurrences p) held_places)
-      ≡ found_in (matched 0 knowns occurrences) (Some place)
+      ≡ found_in (matched 0 knowns occurrences) place
   held_places-found = elim (cases_lt place (length knowns)) [
     | inl there ↦
         ap (λ (ps : List ℕ). map found_part (filter_map (λ p. slice_get occurrences p) ps))
@@ -153,7 +153,7 @@ differ_known (a ∷ groups) (b ∷ others) differ = elim (and_cases (same_known 
 
 -- nor where the occurrences at some place aren't
 pub differ_found : (groups others : List MatchedGroup) (i : ℕ)
-    → pointwise same_found (found_in groups (Some i)) (found_in others (Some i)) ≡ false
+    → pointwise same_found (found_in groups i) (found_in others i) ≡ false
     → pointwise same_matched_group groups others ≡ false
 differ_found [] [] i differ = absurd (true≢false differ)
 differ_found [] (b ∷ others) i differ = refl
@@ -166,7 +166,7 @@ pub same_found_everywhere : (groups others : List MatchedGroup)
     → pointwise same_known (map (λ (group : MatchedGroup). group.known) groups)
     (map (λ (group : MatchedGroup). group.known) others) ≡ true
     → ((i : ℕ) → i < length groups
-    → pointwise same_found (found_in groups (Some i)) (found_in others (Some i))
+    → pointwise same_found (found_in groups i) (found_in others i)
     ≡ true) → pointwise same_matched_group groups others ≡ true
 same_found_everywhere [] [] known found = refl
 same_found_everywhere [] (b ∷ others) known found = known
