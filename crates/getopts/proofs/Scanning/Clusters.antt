@@ -178,36 +178,32 @@ module _ (grammar : Grammar) (position : ℕ) (text : Text) where
           → grammar.kind_of (slice_index text at ∷ []) ≡ None → IsScalar character
           → name ≡ encode_utf8 character → drop at text ≡ name ++ more
           → IsFaultAt grammar word after (unrecognized_option name)
-      IsFaultAt-unknown character name more unknown scalar name_is text_is = unknown_character name (record {
-        names = take at text;
-        character = character;
-        more = more;
-        short_form = subst (IsShortForm grammar word) (sym (take-append-drop at text) ∙ ap (λ t. take at text ++ t) text_is) form;
-        each = before.flags;
-        scalar = scalar;
-        name_is = name_is;
-        unknown =
-            let begins : slice_index text at ∷ drop (at + 1) text ≡ encode_utf8 character ++ more =
-            sym (text_from text at within) ∙ text_is ∙ ap (λ n. n ++ more) name_is in
-            elim (cases_lt (slice_index text at) 128) [
+      IsFaultAt-unknown character name more unknown scalar name_is text_is =
+          let begins : drop at text ≡ encode_utf8 character ++ more = text_is ∙ ap (λ n. n ++ more) name_is in
+          let first : slice_index text at ∷ drop (at + 1) text ≡ encode_utf8 character ++ more =
+          sym (text_from text at within) ∙ begins in
+          rw name_is (unknown_character character (record {
+            bytes = take at text;
+            more = more;
+            short_form = subst (IsShortForm grammar word)
+                (sym (take-append-drop at text) ∙ ap (λ t. take at text ++ t) begins) form;
+            each = before.flags;
+            scalar = scalar;
+            unknown = elim (cases_lt (slice_index text at) 128) [
               | inl ascii ↦ inr (subst (λ n. grammar.kind_of n ≡ None)
-                  (sym (name_is ∙ encode-ascii_byte character (slice_index text at)
-                  (drop (at + 1) text) more begins ascii)) unknown)
-              | inr wide ↦ inl (subst (λ n. 1 < length n) (sym name_is)
-                  (length-encode-wide character (slice_index text at) (drop (at + 1) text) more begins wide))
+                  (sym (encode-ascii_byte character (slice_index text at) (drop (at + 1) text) more first ascii)) unknown)
+              | inr wide ↦ inl (length-encode-wide character (slice_index text at) (drop (at + 1) text) more first wide)
             ];
-      })
+          }))
 
       -- flags, and a last name of kind Yes without an argument
       pub IsFaultAt-missing : grammar.kind_of (slice_index text at ∷ []) ≡ Some Yes
           → drop (at + 1) text ≡ [] → after ≡ []
           → IsFaultAt grammar word after (argument_missing (slice_index text at ∷ []))
-      IsFaultAt-missing kind_is at_end line_ends = short_unfinished (slice_index text at ∷ []) (record {
-        names = take at text;
-        option = slice_index text at;
+      IsFaultAt-missing kind_is at_end line_ends = short_unfinished (slice_index text at) (record {
+        bytes = take at text;
         short_form = subst (IsShortForm grammar word)
             (text_parts text at within ∙ ap (λ t. take at text ++ (slice_index text at ∷ t)) at_end) form;
         each = before.flags;
-        name_is = refl;
         kind = kind_is;
       }) line_ends
