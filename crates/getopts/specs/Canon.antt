@@ -1,5 +1,5 @@
--- The canonical line: what a line says, written again with main names alone; what such a line
--- tells, and where there is none.
+-- The canonical line: what a line says, written again with main names alone; the laws of such a
+-- line, and where there is none.
 use Rattle.std.specs.Prelude.{◌≡◌, ◌≢◌, ◌↔◌, ⊤, ℕ, Bool, false, List, [], ◌∷◌, ◌++◌, map, Option}
 use Rattle.std.specs.Prelude.{Some, None, slice_get}
 use Rattle.std.specs.List.{AllByRecursion, Contains}

@@ -82,8 +82,8 @@ OneContentHoldsSame options = (words others : List Text) (reading other : Readin
 
 -- Two plain contents that lines say, in styles and modes that may differ, have equal canonical
 -- lines exactly if they are equal.
-abbrev pub CanonicalLinesTell : Declared → Type 0
-CanonicalLinesTell options = (words others : List Text) (content other : Content)
+abbrev pub OneLineOneContent : Declared → Type 0
+OneLineOneContent options = (words others : List Text) (content other : Content)
     → Says options words content → IsPlain options.groups content
     → Says options others other → IsPlain options.groups other
     → (canonical_line options.groups content ≡ canonical_line options.groups other)

@@ -4,11 +4,11 @@ ghost use Rattle.getopts.specs.Canon.{Content, Says, IsSound, IsPlain, HasCanoni
 ghost use Rattle.getopts.specs.declared.groups.ParsingStyle.{ParsingStyle};
 ghost use Rattle.std.specs.Prelude.{List, Bool};
 ghost use Rattle.getopts.specs.Accessors.{held_names};
-ghost use Rattle.getopts.specs.CanonAnswers.{IsParseAnswer, IsCanonicalAnswer, HasOneAnswer, AnsweredLinesTell, KeepsLineLaws};
+ghost use Rattle.getopts.specs.CanonAnswers.{IsParseAnswer, IsCanonicalAnswer, HasOneAnswer, OneAnswerOneContent, KeepsLineLaws};
 ghost use Rattle.getopts.specs.Names.{Text, MainNameResolves, OneByteIsShort, EmptyResolvesNot};
 ghost use Rattle.getopts.specs.Options.{Declared, MayBeDeclared, names_of, grammar_of};
 ghost use Rattle.getopts.specs.Parse.{KeepsReadingLaws};
-ghost use Rattle.getopts.specs.Theorem.{OneReading, AcceptedExactlyWhen, RefusedExactlyWhen, OneOfThree, OneReadingGivesAll, OneContentHoldsSame, CanonicalLinesTell};
+ghost use Rattle.getopts.specs.Theorem.{OneReading, AcceptedExactlyWhen, RefusedExactlyWhen, OneOfThree, OneReadingGivesAll, OneContentHoldsSame, OneLineOneContent};
 
 use crate::matches::Matches;
 use crate::options::Options;
@@ -41,8 +41,8 @@ pub fn one_reading_one_canonical_line(options: &Options)
     // Canonical lines are equal exactly if they say the same: those of contents, and those that are
     // answered. Each of either reads back in both styles and both modes, says nothing else, is its own, and
     // is that of no other content.
-    ensures canonical_lines_tell { CanonicalLinesTell options.now }
-    ensures answered_lines_tell { AnsweredLinesTell options.now }
+    ensures one_line_one_content { OneLineOneContent options.now }
+    ensures one_answer_one_content { OneAnswerOneContent options.now }
     ensures canonical_lines { (words : List Text) (content : Content)
         → Says options.now words content → IsPlain options.now.groups content
         → HasCanonicalLine options.now content }

@@ -16,7 +16,7 @@ use Rattle.getopts.specs.Held.Occurrences.{held_found}
 use Rattle.getopts.specs.Matches.{Found, Matched, MatchedGroup}
 use Rattle.getopts.specs.Names.{Text}
 use Rattle.getopts.specs.Options.{Group, Declared}
-use Rattle.getopts.specs.Told.{AreGroupsOf}
+use Rattle.getopts.specs.Holds.{AreGroupsOf}
 use Rattle.getopts.specs.Parse.{IsAccepted, IsRefused}
 use Rattle.getopts.specs.CanonAnswers.{IsWritten as IsCanonicalLine, IsUnwritable}
 use Rattle.getopts_c.specs.Request.{concatenated}

@@ -13,7 +13,7 @@ ghost use Rattle.getopts.specs.Names.{Text};
 ghost use Rattle.getopts.specs.Options.{Declared, MayBeDeclared};
 ghost use Rattle.getopts_c.specs.Request.{IsCut, IsRequest, SayOptions, SayTexts, concatenated};
 ghost use Rattle.getopts_c.specs.Answer.{IsAnswered, IsCanonicalOf, IsRowsOf};
-ghost use Rattle.getopts_c.specs.Answer.{IsShortUsageOf, IsUsageOf, TellAlike};
+ghost use Rattle.getopts_c.specs.Answer.{IsShortUsageOf, IsUsageOf, AreAlike};
 ghost use Rattle.getopts_c.specs.Reply.{IsReply, IsFine, IsFineText, rooms, byte_rooms};
 ghost use Rattle.getopts.specs.Same.{fault_name};
 ghost use Rattle.getopts_c.specs.Answer.{fault_status, matches_bytes, matches_numbers};
@@ -219,7 +219,7 @@ pub fn answers_say_one_thing()
     ensures matches { (names : List Text) (matches others : Matched)
         → matches_numbers names matches ≡ matches_numbers names others
         → matches_bytes matches ≡ matches_bytes others
-        → TellAlike names matches others }
+        → AreAlike names matches others }
     ensures fault { (fault other : Fault) → fault_status fault ≡ fault_status other
         → fault_name fault ≡ fault_name other → fault ≡ other }
     ensures texts { (words others : List Text) → text_numbers words ≡ text_numbers others

@@ -6,7 +6,7 @@ ghost use Rattle.getopts.specs.CanonAnswers.{IsWritten, IsUnwritable, KeepsLineL
 ghost use Rattle.getopts.specs.Fail.{Tells};
 ghost use Rattle.getopts.specs.Names.{texts};
 ghost use Rattle.getopts.specs.Parse.{IsRefused};
-ghost use Rattle.getopts_uses.specs.Cache.{KeysTell};
+ghost use Rattle.getopts_uses.specs.Cache.{OneKeyOneContent};
 
 use getopts::{Fail, Options, one_reading_one_canonical_line};
 use std::alloc::Global;
@@ -19,7 +19,7 @@ pub fn key_of(alloc: Global, options: &Options, words: &[&str]) -> Result<Option
     ensures unwritable { IfOk result (λ key. IfNone key
         (IsUnwritable options.now (texts words.now))) }
     ensures refused { IfErr result (λ fail. Tells fail (IsRefused options.now (texts words.now))) }
-    ensures tells { KeysTell options.now }
+    ensures one_key_one_content { OneKeyOneContent options.now }
     ensures laws { KeepsLineLaws options.now }
 {
     one_reading_one_canonical_line(options);

@@ -20,11 +20,11 @@ use Rattle.getopts.specs.Canon.{canonical_line, IsAcceptedWith, Says}
 use Rattle.getopts.specs.AcceptedLine.{IsAcceptedLine}
 use Rattle.std.specs.Str.{IsUtf8}
 use Rattle.getopts.specs.CanonAnswers.{IsWritten, IsUnwritable, IsParseAnswer}
-use Rattle.getopts.specs.CanonAnswers.{IsCanonicalAnswer, AnsweredLinesTell, KeepsLineLaws}
+use Rattle.getopts.specs.CanonAnswers.{IsCanonicalAnswer, OneAnswerOneContent, KeepsLineLaws}
 use Rattle.getopts.specs.declared.accepted.AcceptedLine.{AcceptedLine}
 use Rattle.getopts.proofs.Canonical.Lines.{is_plain-true, is_plain-false, HasCanonicalLine-says}
 use Rattle.getopts.proofs.Canonical.Lines.{Says-accepted, IsSound-says}
-use Rattle.getopts.proofs.Canonical.Lines.{HasUnwritable-content, CanonicalLinesTell-lawful}
+use Rattle.getopts.proofs.Canonical.Lines.{HasUnwritable-content, OneLineOneContent-lawful}
 use Rattle.getopts.proofs.Parsing.Only.{meets}
 use Rattle.getopts.proofs.Parsing.Parsed.{only_reads, named_here, groups_are, IsAccepted-reading}
 use Rattle.getopts.proofs.Reading.Turns.{IsNamed}
@@ -132,12 +132,12 @@ KeepsLineLaws-lawful options lawful shorts words line written =
     (Says-accepted options options.style options.long_only words written.content written.accepted) written.plain
 
 -- the main theorem, of two answered lines
-pub AnsweredLinesTell-lawful : (options : Declared) → AreLawfullyNamed options.groups
-    → AnsweredLinesTell options
-AnsweredLinesTell-lawful options lawful style other_style long_only other_long_only words others line other written written_other =
+pub OneAnswerOneContent-lawful : (options : Declared) → AreLawfullyNamed options.groups
+    → OneAnswerOneContent options
+OneAnswerOneContent-lawful options lawful style other_style long_only other_long_only words others line other written written_other =
     let says = Says-accepted options style long_only words written.content written.accepted in
     let says_other = Says-accepted options other_style other_long_only others written_other.content written_other.accepted in
-    let tell = CanonicalLinesTell-lawful options lawful words others written.content written_other.content says
+    let tell = OneLineOneContent-lawful options lawful words others written.content written_other.content says
     written.plain says_other written_other.plain in (
       λ same. tell.0 (sym written.line_is ∙ same ∙ written_other.line_is),
       λ same. written.line_is ∙ tell.1 same ∙ sym written_other.line_is,

@@ -25,7 +25,7 @@ use Rattle.getopts.specs.Canon.{IsPlain, IsSound, canonical_word, canonical_line
 use Rattle.getopts.specs.Canon.{canonical_item, canonical_reading, with_setting}
 use Rattle.getopts.specs.Canon.{IsAcceptedWith, Says, ReadsBack}
 use Rattle.getopts.specs.Canon.{HasCanonicalLine, HasNoItem, HasUnwritable}
-use Rattle.getopts.specs.Theorem.{CanonicalLinesTell}
+use Rattle.getopts.specs.Theorem.{OneLineOneContent}
 use Rattle.getopts.specs.declared.groups.HasArg.{HasArg}
 use Rattle.getopts.specs.declared.groups.HasArg.TheVariants.{Yes, No, Maybe}
 use Rattle.getopts.specs.declared.groups.ParsingStyle.{ParsingStyle}
@@ -434,9 +434,9 @@ HasCanonicalLine-says options words content lawful named says plain =
     }
 
 -- two canonical lines are equal exactly if they say the same
-pub CanonicalLinesTell-lawful : (options : Declared) → AreLawfullyNamed options.groups
-    → CanonicalLinesTell options
-CanonicalLinesTell-lawful options lawful words others content other says plain says_other plain_other =
+pub OneLineOneContent-lawful : (options : Declared) → AreLawfullyNamed options.groups
+    → OneLineOneContent options
+OneLineOneContent-lawful options lawful words others content other says plain says_other plain_other =
     canonical_line-same options.groups content other lawful (IsSound-says options words content says) plain
     (IsSound-says options others other says_other) plain_other
 

@@ -17,7 +17,7 @@ use Rattle.getopts.specs.Theorem.{AcceptedExactlyWhen, HoldSame, OneContentHolds
 use Rattle.getopts.proofs.Canonical.Lines.{KeepsCounts-mentions}
 use Rattle.getopts.proofs.Held.Matches.{knowns-matched}
 use Rattle.getopts.proofs.MainTheorem.Refuted.{are_plain, lawful_groups}
-use Rattle.getopts.proofs.Parsing.Told.{place_of-groups}
+use Rattle.getopts.proofs.Parsing.Holds.{place_of-groups}
 
 -- what a value is read as by one reading, it is read as by another that asks for less
 pub IsReadAs-weaker : {T E : Type 0} (P Q : Text → Result T E → Type 0)

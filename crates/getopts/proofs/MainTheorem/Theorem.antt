@@ -11,14 +11,14 @@ use Rattle.getopts.specs.Parse.{IsAccepted, BreaksCounts, HasNoReading, IsRefuse
 use Rattle.getopts.specs.Canon.{content_of, IsPlain, canonical_line, IsCountKeeping}
 use Rattle.getopts.specs.Canon.{HasCanonicalLine}
 use Rattle.getopts.specs.Canon.{Content, IsAcceptedWith, Says}
-use Rattle.getopts.specs.CanonAnswers.{IsWritten, AnsweredLinesTell}
+use Rattle.getopts.specs.CanonAnswers.{IsWritten, OneAnswerOneContent}
 use Rattle.getopts.specs.Theorem.{IsFirstFault, OneReading, AcceptedExactlyWhen, RefusedExactlyWhen}
-use Rattle.getopts.specs.Theorem.{OneOfThree, OneReadingGivesAll, CanonicalLinesTell}
+use Rattle.getopts.specs.Theorem.{OneOfThree, OneReadingGivesAll, OneLineOneContent}
 use Rattle.getopts.proofs.Canonical.Lines.{HasCanonicalLine-says}
-use Rattle.getopts.proofs.Canonical.Lines.{CanonicalLinesTell-lawful}
+use Rattle.getopts.proofs.Canonical.Lines.{OneLineOneContent-lawful}
 use Rattle.getopts.proofs.Canonical.Answered.{accepted_reads, breaking_reads, only_matches}
 use Rattle.getopts.proofs.Canonical.Answered.{not_refused, only_content, only_line}
-use Rattle.getopts.proofs.Canonical.Answered.{AnsweredLinesTell-lawful}
+use Rattle.getopts.proofs.Canonical.Answered.{OneAnswerOneContent-lawful}
 use Rattle.getopts.proofs.Parsing.Only.{IsTheOnly-from, meets}
 use Rattle.getopts.proofs.Parsing.Parsed.{only_reads, named_here, HasNoReading-fault}
 use Rattle.getopts.proofs.Reading.Readings.{only_reading, reading_or_fault}
@@ -151,9 +151,9 @@ module _ (options : Declared) (lawful : AreLawfullyNamed options.groups)
   }
 
   -- two canonical lines
-  pub CanonicalLinesTell-options : CanonicalLinesTell options
-  CanonicalLinesTell-options = CanonicalLinesTell-lawful options lawful
+  pub OneLineOneContent-options : OneLineOneContent options
+  OneLineOneContent-options = OneLineOneContent-lawful options lawful
 
   -- two answers
-  pub AnsweredLinesTell-options : AnsweredLinesTell options
-  AnsweredLinesTell-options = AnsweredLinesTell-lawful options lawful
+  pub OneAnswerOneContent-options : OneAnswerOneContent options
+  OneAnswerOneContent-options = OneAnswerOneContent-lawful options lawful

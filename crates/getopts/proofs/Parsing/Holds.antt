@@ -1,4 +1,4 @@
--- What accepted matches tell of the names that the options declare.
+-- What accepted matches hold of the names that the options declare.
 use Rattle.std.proofs.Common.{◌≡◌, ◌==◌, ◌<◌, ◌+◌, ℕ, zero, suc, Bool, true, false, cond, List, []}
 use Rattle.std.proofs.Common.{◌∷◌, ◌++◌, length, append_assoc, map, slice_get, Option, Some, None}
 use Rattle.std.proofs.Common.{IsSome, refl, ap, sym, subst, ◌∙◌, arith, add-zero, zero-add}
@@ -18,8 +18,8 @@ use Rattle.getopts.specs.Matches.{KeepsCounts}
 use Rattle.getopts.specs.Accessors.{place_of, found_of, found_in, first_value}
 use Rattle.getopts.specs.Canon.{FitsKind}
 use Rattle.getopts.specs.Parse.{IsAccepted}
-use Rattle.getopts.specs.Told.{HaveLastWordsFree, AreGroupsOf, HaveValuesByKind}
-use Rattle.getopts.specs.Told.{DefineDeclared, HoldRequiredOnce, HoldNeededValues, Accepts}
+use Rattle.getopts.specs.Holds.{HaveLastWordsFree, AreGroupsOf, HaveValuesByKind}
+use Rattle.getopts.specs.Holds.{DefineDeclared, HoldRequiredOnce, HoldNeededValues, Accepts}
 use Rattle.getopts.specs.ScanLaws.{EndIn, HavePositionsBelow}
 use Rattle.getopts.specs.declared.groups.ParsingStyle.TheVariants.{FloatingFrees, StopAtFirstFree}
 use Rattle.getopts.specs.declared.groups.HasArg.{HasArg}
