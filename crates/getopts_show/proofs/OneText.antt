@@ -18,7 +18,7 @@ module _ (words : List Text) (one : HasOneAnswer (IsParseAnswer program_options 
   one_content : (content other : Content) → IsAcceptedWith program_options words content
       → IsAcceptedWith program_options words other → other ≡ content
   one_content content other is also =
-      also.content_is ∙ ap (content_of (grammar_of program_options)) ((is.only also.reading).0 ((also.only also.reading).1 refl)) ∙ sym is.content_is
+      also.content_is ∙ ap (content_of program_options) ((is.only also.reading).0 ((also.only also.reading).1 refl)) ∙ sym is.content_is
 
   -- words that are accepted are not refused
   pub accepted_not_refused : (matches : Matched) (fault : Fault) → IsAccepted program_options words matches

@@ -238,7 +238,7 @@ module _ (options : Declared) (words : List Text) where
   pub only_content : (content other : Content) → IsAcceptedWith options words content
       → IsAcceptedWith options words other → content ≡ other
   only_content content other is is_other =
-      is.content_is ∙ ap (content_of (grammar_of options))
+      is.content_is ∙ ap (content_of options)
       ((is_other.only is.reading).0 (count_keeping options words content is).reads) ∙ sym is_other.content_is
 
   pub only_line : (line other : List Text) → IsWritten options words line

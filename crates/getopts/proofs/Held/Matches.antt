@@ -23,7 +23,8 @@ use Rattle.getopts.specs.Matches.{Found, MatchedGroup, found_at, matched}
 use Rattle.getopts.specs.Accessors.{AreHeldLawfully, found_in, place_of, values_of, pairs_of}
 use Rattle.getopts.specs.Same.{same_known, same_found, same_matched_group}
 use Rattle.getopts.specs.Held.Groups.{HaveLawfulNames}
-use Rattle.getopts.specs.Held.Occurrences.{found_part, pair_view}
+use Rattle.getopts.specs.Held.Occurrences.{pair_view}
+use Rattle.getopts.specs.Matches.{found_part}
 use Rattle.getopts.specs.Held.Accepted.{index_of}
 use Rattle.getopts.proofs.Parsing.Counts.{length-matched}
 use Rattle.getopts.proofs.Held.Index.{filter_map-places_of, places_of-within}

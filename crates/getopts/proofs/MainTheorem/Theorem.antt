@@ -54,7 +54,7 @@ module _ (options : Declared) (lawful : AreLawfullyNamed options.groups)
   }
 
   accepted_with : (words : List Text) (reading : Reading) → IsCountKeeping options reading words
-      → IsAcceptedWith options words (content_of (grammar_of options) reading)
+      → IsAcceptedWith options words (content_of options reading)
   accepted_with words reading keeps = record {
     reading = reading;
     only = only_reads options lawful shorts words reading keeps.reads;
@@ -69,11 +69,11 @@ module _ (options : Declared) (lawful : AreLawfullyNamed options.groups)
   HasCanonicalLine-options words content says plain = HasCanonicalLine-says options words content lawful named says plain
 
   written : (words : List Text) (reading : Reading) → IsCountKeeping options reading words
-      → IsPlain options.groups (content_of (grammar_of options) reading)
+      → IsPlain options.groups (content_of options reading)
       → IsWritten options words
-      (canonical_line options.groups (content_of (grammar_of options) reading))
+      (canonical_line options.groups (content_of options reading))
   written words reading keeps plain = record {
-    content = content_of (grammar_of options) reading;
+    content = content_of options reading;
     accepted = accepted_with words reading keeps;
     plain = plain;
     line_is = refl;
@@ -142,12 +142,12 @@ module _ (options : Declared) (lawful : AreLawfullyNamed options.groups)
   OneReadingGivesAll-options words reading keeps = record {
     matches = IsTheOnly-from (IsAccepted options words) (matches_of options reading) (accepted words reading keeps)
         (λ other is. only_matches options words other (matches_of options reading) is (accepted words reading keeps));
-    content = IsTheOnly-from (IsAcceptedWith options words) (content_of (grammar_of options) reading) (accepted_with words reading keeps)
-        (λ other is. only_content options words other (content_of (grammar_of options) reading) is (accepted_with words reading keeps));
+    content = IsTheOnly-from (IsAcceptedWith options words) (content_of options reading) (accepted_with words reading keeps)
+        (λ other is. only_content options words other (content_of options reading) is (accepted_with words reading keeps));
     line = λ plain. IsTheOnly-from (IsWritten options words)
-        (canonical_line options.groups (content_of (grammar_of options) reading)) (written words reading keeps plain)
+        (canonical_line options.groups (content_of options reading)) (written words reading keeps plain)
         (λ other is. only_line options words other (canonical_line options.groups
-        (content_of (grammar_of options) reading)) is (written words reading keeps plain));
+        (content_of options reading)) is (written words reading keeps plain));
   }
 
   -- two canonical lines
