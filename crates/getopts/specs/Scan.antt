@@ -324,30 +324,21 @@ pub record IsShortForm (grammar : Grammar) (word text : Text) : Type 0 where
   pub filled : text ≢ []
   pub second : begins_with_dash text ≡ false
 
--- in short form, after flags, a character that has more than one byte or doesn't resolve
-pub record HasUnknownFlag (grammar : Grammar) (word : Text) (character : ℕ) : Type 0 where
+-- a word in short form that has this text after flags
+pub record HasAfterFlags (grammar : Grammar) (word text : Text) : Type 0 where
   pub bytes : List ℕ
-  pub more : Text
-  pub short_form : IsShortForm grammar word (bytes ++ (encode_utf8 character ++ more))
+  pub short_form : IsShortForm grammar word (bytes ++ text)
   pub each : AllByRecursion (IsFlag grammar) bytes
-  pub scalar : IsScalar character
-  pub unknown : (1 < length (encode_utf8 character))
-      ⊎ (grammar.kind_of (encode_utf8 character) ≡ None)
-
--- in short form, after flags, a last option of kind Yes
-pub record EndsInYes (grammar : Grammar) (word : Text) (option : ℕ) : Type 0 where
-  pub bytes : List ℕ
-  pub short_form : IsShortForm grammar word (bytes ++ (option ∷ []))
-  pub each : AllByRecursion (IsFlag grammar) bytes
-  pub kind : grammar.kind_of (option ∷ []) ≡ Some Yes
 
 -- The faults of a word where an item begins, with these words after it.
 pub data IsFaultAt (grammar : Grammar) (word : Text) (after : List Text) : Fault → Type 0 where
   -- in long form, a name that doesn't resolve
   unknown_name : (name : Text) (argument : Option Text) → IsLongForm grammar word name argument
       → grammar.kind_of name ≡ None → IsFaultAt grammar word after (unrecognized_option name)
-  -- in short form, after flags, a character that names no option
-  unknown_character : (character : ℕ) → HasUnknownFlag grammar word character
+  -- in short form, after flags, a character that has more than one byte or doesn't resolve
+  unknown_character : (character : ℕ) (more : Text) → IsScalar character
+      → HasAfterFlags grammar word (encode_utf8 character ++ more)
+      → (1 < length (encode_utf8 character)) ⊎ (grammar.kind_of (encode_utf8 character) ≡ None)
       → IsFaultAt grammar word after (unrecognized_option (encode_utf8 character))
   -- in long form, an attached argument for kind No
   unwanted_argument : (name argument : Text) → IsLongForm grammar word name (Some argument)
@@ -357,7 +348,8 @@ pub data IsFaultAt (grammar : Grammar) (word : Text) (after : List Text) : Fault
       → grammar.kind_of name ≡ Some Yes → after ≡ []
       → IsFaultAt grammar word after (argument_missing name)
   -- in short form, after flags, a last option of kind Yes at the end of the line
-  short_unfinished : (option : ℕ) → EndsInYes grammar word option → after ≡ []
+  short_unfinished : (option : ℕ) → HasAfterFlags grammar word (option ∷ [])
+      → grammar.kind_of (option ∷ []) ≡ Some Yes → after ≡ []
       → IsFaultAt grammar word after (argument_missing (option ∷ []))
 
 -- A scan fault of a line: the fault of a word, where the words before it have a reading that ends

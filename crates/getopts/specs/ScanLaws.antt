@@ -134,9 +134,7 @@ pub record LinesCompose (grammar : Grammar) : Type 0 where
 -- a place among the free words, from which on they are the words after the stop
 pub record IsAfterStop (reading : Reading) (start : ℕ) : Type 0 where
   pub below : start < length (free_words reading)
-  pub words : List Text
-  pub tail_is : reading.tail ≡ stop words
-  pub free_from : drop start (free_words reading) ≡ words
+  pub tail_is : reading.tail ≡ stop (drop start (free_words reading))
 
 -- The trailing start: where there is one, it is a place among the free words, and these are from
 -- there on the words after the stop.

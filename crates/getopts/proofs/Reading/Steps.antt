@@ -15,8 +15,8 @@ use Rattle.getopts.specs.Scan.{cluster, dash_text, with_equals, long_word, attac
 use Rattle.getopts.specs.Scan.{argument_words, end_text, end_words, MayStandBefore}
 use Rattle.getopts.specs.Scan.{FitsLong, FitsEnd, IsFlag, IsLawfulEnd, IsLawfulCluster}
 use Rattle.getopts.specs.Scan.{IsLawfulItem, is_bare, EndsOrIsDashed, stop, tail_words}
-use Rattle.getopts.specs.Scan.{IsLawfulTail, BeginsWith, IsLongForm, IsShortForm, HasUnknownFlag}
-use Rattle.getopts.specs.Scan.{EndsInYes, IsFaultAt, unknown_name, unknown_character, unwanted_argument}
+use Rattle.getopts.specs.Scan.{IsLawfulTail, BeginsWith, IsLongForm, IsShortForm, HasAfterFlags}
+use Rattle.getopts.specs.Scan.{IsFaultAt, unknown_name, unknown_character, unwanted_argument}
 use Rattle.getopts.specs.Scan.{long_unfinished, short_unfinished}
 use Rattle.getopts.specs.declared.groups.HasArg.{HasArg}
 use Rattle.getopts.specs.declared.groups.HasArg.TheVariants.{Yes, No, Maybe}
@@ -173,7 +173,7 @@ option_sound grammar word names option (c ∷ text) more form each Maybe resolve
     begins_cluster grammar word names (ends_in option (attached (c ∷ text))) more form each
     (Maybe, resolved, λ e. cc e) (λ bare. absurd (false≢true bare))
 option_sound grammar word names option [] [] form each Yes resolved other =
-    λ utf8. short_unfinished option (record { bytes = names; short_form = form; each = each; kind = resolved }) refl
+    λ utf8. short_unfinished option (record { bytes = names; short_form = form; each = each }) resolved refl
 option_sound grammar word names option [] (next ∷ others) form each Yes resolved other = (
   next,
   others,
@@ -195,14 +195,11 @@ unknown_flag grammar named word names byte text more form each resolved utf8 =
     let flags_first : IsUtf8 (names ++ byte ∷ text) = IsUtf8-past_ascii dash (names ++ byte ∷ text) (omega arith) whole in
     let from : IsUtf8 (byte ∷ text) = IsUtf8-past_asciis names (byte ∷ text) (flags_ascii grammar named names each) flags_first in
     let begins = begins_with_char byte text from in
-    rw begins.1.first (unknown_character begins.0 (record {
+    rw begins.1.first (unknown_character begins.0 begins.1.rest begins.1.scalar (record {
       bytes = names;
-      more = begins.1.rest;
       short_form = subst (λ (t : Text). IsShortForm grammar word (names ++ t)) begins.1.text_is form;
       each = each;
-      scalar = begins.1.scalar;
-      unknown = is_unknown begins.0 begins.1.rest begins.1.text_is;
-    })) where
+    }) (is_unknown begins.0 begins.1.rest begins.1.text_is)) where
       is_unknown : (c : ℕ) (others : Text) → byte ∷ text ≡ encode_utf8 c ++ others
           → (1 < length (encode_utf8 c)) ⊎ (grammar.kind_of (encode_utf8 c) ≡ None)
       is_unknown c others e = elim (cases_lt byte 128) [
@@ -600,22 +597,24 @@ unknown_bytes_turn grammar named word names c (byte ∷ bytes) text more e utf8 
 
 -- a word with an unknown flag
 unknown_turn : (grammar : Grammar) → IsNamed grammar
-    → (word : Text) (character : ℕ) (more : List Text)
-    → IsUtf8 word → HasUnknownFlag grammar word character
+    → (word : Text) (character : ℕ) (text : Text) (more : List Text) → IsUtf8 word
+    → HasAfterFlags grammar word (encode_utf8 character ++ text)
+    → (1 < length (encode_utf8 character)) ⊎ (grammar.kind_of (encode_utf8 character) ≡ None)
     → turn grammar word more ≡ faults (unrecognized_option (encode_utf8 character))
-unknown_turn grammar named word character more utf8 has =
+unknown_turn grammar named word character text more utf8 has unknown =
     let name = encode_utf8 character in
-    let whole : IsUtf8 (dash ∷ (has.bytes ++ (name ++ has.more))) = subst IsUtf8 has.short_form.word_is utf8 in
-    let from : IsUtf8 (name ++ has.more) =
-    IsUtf8-past_asciis has.bytes (name ++ has.more) (flags_ascii grammar named has.bytes has.each)
-    (IsUtf8-past_ascii dash (has.bytes ++ (name ++ has.more)) (omega arith) whole) in
-    unknown_bytes_turn grammar named word has.bytes character name has.more more refl from has.short_form has.each has.unknown
+    let whole : IsUtf8 (dash ∷ (has.bytes ++ (name ++ text))) = subst IsUtf8 has.short_form.word_is utf8 in
+    let from : IsUtf8 (name ++ text) =
+    IsUtf8-past_asciis has.bytes (name ++ text) (flags_ascii grammar named has.bytes has.each)
+    (IsUtf8-past_ascii dash (has.bytes ++ (name ++ text)) (omega arith) whole) in
+    unknown_bytes_turn grammar named word has.bytes character name text more refl from has.short_form has.each unknown
 
 -- a word that ends in an option of kind Yes, at the end of the line
-missing_turn : (grammar : Grammar) (word : Text) (option : ℕ) → EndsInYes grammar word option
+missing_turn : (grammar : Grammar) (word : Text) (option : ℕ)
+    → HasAfterFlags grammar word (option ∷ []) → grammar.kind_of (option ∷ []) ≡ Some Yes
     → turn grammar word [] ≡ faults (argument_missing (option ∷ []))
-missing_turn grammar word option has =
-    short_turn_byte grammar word has.bytes option [] [] (Some Yes) has.short_form has.each has.kind
+missing_turn grammar word option has kind =
+    short_turn_byte grammar word has.bytes option [] [] (Some Yes) has.short_form has.each kind
 
 -- a word with a fault
 pub fault_turn : (grammar : Grammar) → IsNamed grammar
@@ -623,22 +622,22 @@ pub fault_turn : (grammar : Grammar) → IsNamed grammar
     → IsFaultAt grammar word more fault → turn grammar word more ≡ faults fault
 fault_turn grammar named word more fault utf8 (unknown_name name argument form unknown) =
     long_fault grammar word name argument more None form unknown
-fault_turn grammar named word more fault utf8 (unknown_character character has) =
-    unknown_turn grammar named word character more utf8 has
+fault_turn grammar named word more fault utf8 (unknown_character character text scalar has unknown) =
+    unknown_turn grammar named word character text more utf8 has unknown
 fault_turn grammar named word more fault utf8 (unwanted_argument name argument form kind) =
     long_fault grammar word name (Some argument) more (Some No) form kind
 fault_turn grammar named word more fault utf8 (long_unfinished name form kind ended) =
     rw ended (long_fault grammar word name None [] (Some Yes) form kind)
-fault_turn grammar named word more fault utf8 (short_unfinished option has ended) =
-    rw ended (missing_turn grammar word option has)
+fault_turn grammar named word more fault utf8 (short_unfinished option has kind ended) =
+    rw ended (missing_turn grammar word option has kind)
 
 -- a word with a fault is dashed
 pub fault_dashed : (grammar : Grammar) (word : Text) (more : List Text) (fault : Fault)
     → IsFaultAt grammar word more fault → is_dashed word ≡ true
 fault_dashed grammar word more fault (unknown_name name argument form unknown) = form.dashed
-fault_dashed grammar word more fault (unknown_character character has) =
-    short_dashed grammar word (has.bytes ++ (encode_utf8 character ++ has.more)) has.short_form
+fault_dashed grammar word more fault (unknown_character character text scalar has unknown) =
+    short_dashed grammar word (has.bytes ++ (encode_utf8 character ++ text)) has.short_form
 fault_dashed grammar word more fault (unwanted_argument name argument form kind) = form.dashed
 fault_dashed grammar word more fault (long_unfinished name form kind ended) = form.dashed
-fault_dashed grammar word more fault (short_unfinished option has ended) =
+fault_dashed grammar word more fault (short_unfinished option has kind ended) =
     short_dashed grammar word (has.bytes ++ option ∷ []) has.short_form

@@ -182,19 +182,16 @@ module _ (grammar : Grammar) (position : ℕ) (text : Text) where
           let begins : drop at text ≡ encode_utf8 character ++ more = text_is ∙ ap (λ n. n ++ more) name_is in
           let first : slice_index text at ∷ drop (at + 1) text ≡ encode_utf8 character ++ more =
           sym (text_from text at within) ∙ begins in
-          rw name_is (unknown_character character (record {
+          rw name_is (unknown_character character more scalar (record {
             bytes = take at text;
-            more = more;
             short_form = subst (IsShortForm grammar word)
                 (sym (take-append-drop at text) ∙ ap (λ t. take at text ++ t) begins) form;
             each = before.flags;
-            scalar = scalar;
-            unknown = elim (cases_lt (slice_index text at) 128) [
-              | inl ascii ↦ inr (subst (λ n. grammar.kind_of n ≡ None)
-                  (sym (encode-ascii_byte character (slice_index text at) (drop (at + 1) text) more first ascii)) unknown)
-              | inr wide ↦ inl (length-encode-wide character (slice_index text at) (drop (at + 1) text) more first wide)
-            ];
-          }))
+          }) (elim (cases_lt (slice_index text at) 128) [
+            | inl ascii ↦ inr (subst (λ n. grammar.kind_of n ≡ None)
+                (sym (encode-ascii_byte character (slice_index text at) (drop (at + 1) text) more first ascii)) unknown)
+            | inr wide ↦ inl (length-encode-wide character (slice_index text at) (drop (at + 1) text) more first wide)
+          ]))
 
       -- flags, and a last name of kind Yes without an argument
       pub IsFaultAt-missing : grammar.kind_of (slice_index text at ∷ []) ≡ Some Yes
@@ -205,5 +202,4 @@ module _ (grammar : Grammar) (position : ℕ) (text : Text) where
         short_form = subst (IsShortForm grammar word)
             (text_parts text at within ∙ ap (λ t. take at text ++ (slice_index text at ∷ t)) at_end) form;
         each = before.flags;
-        kind = kind_is;
-      }) line_ends
+      }) kind_is line_ends
