@@ -5,7 +5,6 @@ use Rattle.getopts.specs.CanonAnswers.{HasOneAnswer, IsAcceptedWith, IsParseAnsw
 use Rattle.getopts.specs.Fail.{Fault}
 use Rattle.getopts.specs.Matches.{Matched}
 use Rattle.getopts.specs.Names.{Text}
-use Rattle.getopts.specs.Options.{grammar_of}
 use Rattle.getopts.specs.Parse.{IsAccepted, IsRefused}
 use Rattle.getopts_show.specs.Program.{IsProgramText, IsOnlyText, asks_help, fault_line, helped, program_options, refused, shown}
 
