@@ -11,8 +11,8 @@ ghost use Rattle.getopts_uses.specs.Cache.{OneKeyOneContent};
 use getopts::{Fail, Options, one_reading_one_canonical_line};
 use std::alloc::Global;
 
-/// The key of a line: its canonical line. There is none where an option that the line gives has a main
-/// name that holds `=`.
+/// The key of a line: its canonical line, with the laws of such lines. There is none where an option
+/// that the line gives has a main name that holds `=`.
 pub fn key_of(alloc: Global, options: &Options, words: &[&str]) -> Result<Option<Vec<String>>, Fail>
     ensures written { IfOk result (λ key. IfSome key (λ key.
         IsWritten options.now (texts words.now) (map string_bytes key.items))) }

@@ -27,7 +27,6 @@ use Rattle.getopts.proofs.Canonical.Lines.{Says-accepted, IsSound-says}
 use Rattle.getopts.proofs.Canonical.Lines.{HasUnwritable-content, OneLineOneContent-lawful}
 use Rattle.getopts.proofs.Parsing.Only.{meets}
 use Rattle.getopts.proofs.Parsing.Parsed.{only_reads, named_here, groups_are, IsAccepted-reading}
-use Rattle.getopts.proofs.Reading.Turns.{IsNamed}
 use Rattle.getopts.proofs.Scanning.Words.{holds_equals-none}
 
 -- a test that finds `=` just where it is
@@ -64,10 +63,6 @@ count_keeping options words content is = record { reads = meets (Reads options w
 
 module _ (options : Declared) (words : List Text) (accepted : AcceptedLine)
     (is : IsAcceptedLine options words accepted) where
-  -- the names of the options are names
-  pub IsNamed-line : IsNamed (grammar_of options)
-  IsNamed-line = named_here options is.lawful is.shorts
-
   -- the matches of the line are accepted
   pub IsAccepted-line : IsAccepted options words (record {
     groups = matched 0 (knowns_of options.groups) accepted.line.found;

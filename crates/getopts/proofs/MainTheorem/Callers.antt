@@ -74,7 +74,8 @@ values-found_of options old new same name =
     ap (λ (place : Option ℕ). each_value (option_map_or (found_in (matches_of options new).groups) place []))
     (resolves new)
     ∙ here (resolution (names_of options.groups) name)
-    ∙ ap (λ (place : Option ℕ). each_value (option_map_or (found_in (matches_of options old).groups) place [])) (sym (resolves old)) where
+    ∙ ap (λ (place : Option ℕ). each_value (option_map_or (found_in (matches_of options old).groups) place []))
+    (sym (resolves old)) where
       resolves : (reading : Reading)
           → place_of (matches_of options reading).groups name
           ≡ resolution (names_of options.groups) name
