@@ -3,4 +3,4 @@ pub mod Only
 pub mod Faults
 pub mod Counts
 pub mod Parsed
-pub mod Told
+pub mod Holds

@@ -2,7 +2,7 @@
 use Rattle.std.specs.Prelude.{◌≡◌, ℕ, Bool, List, [], ◌∷◌, map, length, nat_lt, IsSome, Option}
 use Rattle.std.specs.Prelude.{Some, None, Result, Ok, Err, slice_get, unwrap_or}
 use Rattle.std.specs.List.{AllByRecursion, filter_map}
-use Rattle.std.specs.Option.{option_and_then, option_map, option_map_or, option_or}
+use Rattle.std.specs.Option.{option_map, option_map_or, option_or}
 use Rattle.getopts.specs.Names.{Text, Names, IsLawfullyNamed, resolution}
 use Rattle.getopts.specs.Matches.{Found, MatchedGroup}
 
@@ -26,14 +26,13 @@ AreDefined groups names = AllByRecursion (IsDefined groups) names
 abbrev pub AreHeldLawfully : List MatchedGroup → Type 0
 AreHeldLawfully groups = AllByRecursion (λ group. IsLawfullyNamed group.known.names) groups
 
--- the occurrences of the group at this place; where there is no such group, none
-abbrev pub found_in : List MatchedGroup → Option ℕ → List Found
-found_in groups place =
-    option_map_or (λ group. group.found) (option_and_then (λ i. slice_get groups i) place) []
+-- the occurrences of the group at a place; past the last group there are none
+abbrev pub found_in : List MatchedGroup → ℕ → List Found
+found_in groups place = option_map_or (λ group. group.found) (slice_get groups place) []
 
 -- the occurrences of the group that a name resolves to; of an undefined name there are none
 abbrev pub found_of : List MatchedGroup → Text → List Found
-found_of groups name = found_in groups (place_of groups name)
+found_of groups name = option_map_or (found_in groups) (place_of groups name) []
 
 -- whether there is an occurrence
 abbrev pub is_present : List MatchedGroup → Text → Bool

@@ -1,12 +1,12 @@
--- The canonical line: what a line says, written again with main names alone; what such a line
--- tells, and where there is none.
+-- The canonical line: what a line says, written again with main names alone; the laws of such a
+-- line, and where there is none.
 use Rattle.std.specs.Prelude.{◌≡◌, ◌≢◌, ◌↔◌, ⊤, ℕ, Bool, false, List, [], ◌∷◌, ◌++◌, map, Option}
 use Rattle.std.specs.Prelude.{Some, None, slice_get}
 use Rattle.std.specs.List.{AllByRecursion, Contains}
 use Rattle.std.specs.Option.{option_map_or}
 use Rattle.getopts.specs.Only.{IsTheOnly}
 use Rattle.getopts.specs.Names.{Text, main_name, resolution}
-use Rattle.getopts.specs.Options.{Group, Declared, names_of, Grammar, grammar_of}
+use Rattle.getopts.specs.Options.{Group, Declared, names_of, grammar_of}
 use Rattle.getopts.specs.Scan.{holds_equals, stop_word, Argument, none, attached, two, Item, long}
 use Rattle.getopts.specs.Scan.{long_word, item_words, IsLawfulItem, stop, Reading, IsReading}
 use Rattle.getopts.specs.Scan.{Mention, mentions, free_words}
@@ -22,10 +22,10 @@ pub record Content : Type 0 where
   pub mentions : List Mention
   pub free : List Text
 
--- the content of a reading
-abbrev pub content_of : Grammar → Reading → Content
-content_of grammar reading = record {
-  mentions = mentions_of grammar reading;
+-- the content of a reading by these options
+abbrev pub content_of : Declared → Reading → Content
+content_of options reading = record {
+  mentions = mentions_of (grammar_of options) reading;
   free = free_words reading;
 }
 
@@ -100,7 +100,7 @@ pub record IsAcceptedWith (options : Declared) (words : List Text) (content : Co
   pub reading : Reading
   pub only : IsTheOnly (Reads options words) reading
   pub counts : KeepsCounts (matches_of options reading).groups
-  pub content_is : content ≡ content_of (grammar_of options) reading
+  pub content_is : content ≡ content_of options reading
 
 -- A line says a content: in some style and mode it has a reading with this content that keeps the
 -- counts.
@@ -109,14 +109,14 @@ pub record Says (options : Declared) (words : List Text) (content : Content) : T
   pub long_only : Bool
   pub reading : Reading
   pub reads : IsCountKeeping (with_setting options style long_only) reading words
-  pub content_is : content ≡ content_of (grammar_of (with_setting options style long_only)) reading
+  pub content_is : content ≡ content_of (with_setting options style long_only) reading
 
 -- The canonical line of a content reads back: its canonical reading keeps the counts and has that
 -- content.
 pub record ReadsBack (options : Declared) (content : Content) : Type 0 where
   pub reads : IsCountKeeping options (canonical_reading options.groups content)
       (canonical_line options.groups content)
-  pub same : content_of (grammar_of options) (canonical_reading options.groups content) ≡ content
+  pub same : content_of options (canonical_reading options.groups content) ≡ content
 
 -- The laws of the canonical line of a content that is plain and that some line says. In both styles
 -- and both modes it reads back, it says that content alone, and the canonical line of what it says

@@ -10,14 +10,12 @@ use Rattle.getopts.specs.Canon.{Content, IsPlain, IsSound, canonical_line, HasCa
 use Rattle.getopts.specs.Canon.{HasUnwritable, with_setting}
 use Rattle.getopts.specs.declared.groups.ParsingStyle.{ParsingStyle}
 
--- The words are accepted with a content that is plain, and this is its canonical line, which keeps
--- the laws of such lines.
+-- The words are accepted with a content that is plain, and this is its canonical line.
 pub record IsWritten (options : Declared) (words line : List Text) : Type 0 where
   pub content : Content
   pub accepted : IsAcceptedWith options words content
   pub plain : IsPlain options.groups content
   pub line_is : line ≡ canonical_line options.groups content
-  pub laws : HasCanonicalLine options content
 
 -- The words are accepted with a content that is sound and isn't plain: some mention of it can't be
 -- written.
@@ -40,14 +38,19 @@ IsCanonicalAnswer options words answer =
     (λ written. MatchOption written (IsUnwritable options words) (IsWritten options words))
     (IsRefused options words)
 
+-- the laws of the lines that `canonical` answers: of each, those of the content that it is made of
+abbrev pub KeepsLineLaws : Declared → Type 0
+KeepsLineLaws options = (words line : List Text) → (written : IsWritten options words line)
+    → HasCanonicalLine options written.content
+
 -- two answers are one
 abbrev pub HasOneAnswer : {X : Type 0} → (X → Type 0) → Type 0
 HasOneAnswer {X} P = (answer other : X) → P answer → P other → answer ≡ other
 
 -- Two lines that `canonical` answers by the same groups, in styles and modes that may differ, are
 -- equal exactly if the words that they were made of are accepted with the same content.
-abbrev pub AnsweredLinesTell : Declared → Type 0
-AnsweredLinesTell options = (style other_style : ParsingStyle) (long_only other_long_only : Bool)
+abbrev pub OneAnswerOneContent : Declared → Type 0
+OneAnswerOneContent options = (style other_style : ParsingStyle) (long_only other_long_only : Bool)
     (words others line other : List Text)
     → (written : IsWritten (with_setting options style long_only) words line)
     → (written_other : IsWritten (with_setting options other_style other_long_only) others other)

@@ -18,8 +18,8 @@ pub mod Parse
 pub mod ScanLaws
 -- what accessors answer
 pub mod Accessors
--- what accepted matches tell of declared names
-pub mod Told
+-- what accepted matches hold of declared names
+pub mod Holds
 -- what canonical lines are, and what they tell
 pub mod Canon
 -- the answers of `canonical`

@@ -25,11 +25,13 @@ pub record Matched : Type 0 where
   pub free : List Text
   pub trailing_start : Option ℕ
 
+-- an occurrence of a group that is known
+abbrev pub found_part : Occurrence → Found
+found_part occurrence = record { position = occurrence.position; value = occurrence.mention.value }
+
 -- the occurrences of the group at this place
 abbrev pub found_at : ℕ → List Occurrence → List Found
-found_at place occurrences =
-    map (λ o. record { position = o.position; value = o.mention.value })
-    (filter (λ o. o.mention.group == place) occurrences)
+found_at place occurrences = map found_part (filter (λ o. o.mention.group == place) occurrences)
 
 -- each group with its occurrences, where the first group has this place
 abbrev pub matched : ℕ → List Known → List Occurrence → List MatchedGroup

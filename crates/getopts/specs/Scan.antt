@@ -107,7 +107,7 @@ abbrev pub item_words : Item → List Text
 item_words (free word) = word ∷ []
 item_words (long dashes name argument) =
     long_word dashes name (attached_argument argument) ∷ argument_words argument
-item_words (cluster names end) = (dash ∷ (names ++ end_text end)) ∷ end_words end
+item_words (cluster bytes end) = (dash ∷ (bytes ++ end_text end)) ∷ end_words end
 
 -- the words that items spell one after the other, before those that follow
 abbrev pub spelled_all : List Item → List Text → List Text
@@ -147,8 +147,8 @@ IsFlag grammar name = grammar.kind_of (name ∷ []) ≡ Some No
 
 -- a lawful end of a cluster with these flags
 abbrev pub IsLawfulEnd : Grammar → List ℕ → End → Type 0
-IsLawfulEnd grammar names flags = names ≢ []
-IsLawfulEnd grammar names (ends_in option argument) = (kind : HasArg)
+IsLawfulEnd grammar bytes flags = bytes ≢ []
+IsLawfulEnd grammar bytes (ends_in option argument) = (kind : HasArg)
     × (grammar.kind_of (option ∷ []) ≡ Some kind)
     × FitsEnd kind argument
 
@@ -160,21 +160,21 @@ pub record IsLawfulLong (grammar : Grammar) (dashes : Dashes) (name : Text) (arg
   pub resolves : (kind : HasArg) × (grammar.kind_of name ≡ Some kind) × FitsLong kind argument
 
 -- a lawful cluster: in ordinary mode, with no `-` after its dash, of flags and a lawful end
-pub record IsLawfulCluster (grammar : Grammar) (names : List ℕ) (end : End) : Type 0 where
+pub record IsLawfulCluster (grammar : Grammar) (bytes : List ℕ) (end : End) : Type 0 where
   pub ordinary : grammar.long_only ≡ false
-  pub short_form : begins_with_dash (names ++ end_text end) ≡ false
-  pub each : AllByRecursion (IsFlag grammar) names
-  pub last : IsLawfulEnd grammar names end
+  pub short_form : begins_with_dash (bytes ++ end_text end) ≡ false
+  pub each : AllByRecursion (IsFlag grammar) bytes
+  pub last : IsLawfulEnd grammar bytes end
 
 -- a lawful item; a free word isn't dashed, and there is none under `StopAtFirstFree`
 abbrev pub IsLawfulItem : Grammar → Item → Type 0
 IsLawfulItem grammar (free word) = (is_dashed word ≡ false) × (grammar.style ≡ FloatingFrees)
 IsLawfulItem grammar (long dashes name argument) = IsLawfulLong grammar dashes name argument
-IsLawfulItem grammar (cluster names end) = IsLawfulCluster grammar names end
+IsLawfulItem grammar (cluster bytes end) = IsLawfulCluster grammar bytes end
 
 -- whether an item is a bare cluster: it ends in an option without an argument
 abbrev pub is_bare : Item → Bool
-is_bare (cluster names (ends_in option none)) = true
+is_bare (cluster bytes (ends_in option none)) = true
 is_bare item = false
 
 -- the line ends, or its next word is dashed
@@ -252,8 +252,8 @@ end_mentions grammar (ends_in option argument) =
 abbrev pub mentions : Grammar → Item → List Mention
 mentions grammar (free word) = []
 mentions grammar (long dashes name argument) = mention grammar name (value_of argument) ∷ []
-mentions grammar (cluster names end) =
-    map (λ name. mention grammar (name ∷ []) None) names ++ end_mentions grammar end
+mentions grammar (cluster bytes end) =
+    map (λ byte. mention grammar (byte ∷ []) None) bytes ++ end_mentions grammar end
 
 -- an occurrence: what is mentioned, and the position in the line, which is the index of the word in
 -- which its item begins
@@ -324,42 +324,33 @@ pub record IsShortForm (grammar : Grammar) (word text : Text) : Type 0 where
   pub filled : text ≢ []
   pub second : begins_with_dash text ≡ false
 
--- in short form, after flags, a character that has more than one byte or doesn't resolve
-pub record HasUnknownFlag (grammar : Grammar) (word name : Text) : Type 0 where
-  pub names : List ℕ
-  pub character : ℕ
-  pub more : Text
-  pub short_form : IsShortForm grammar word (names ++ (name ++ more))
-  pub each : AllByRecursion (IsFlag grammar) names
-  pub scalar : IsScalar character
-  pub name_is : name ≡ encode_utf8 character
-  pub unknown : (1 < length name) ⊎ (grammar.kind_of name ≡ None)
+-- a word in short form that has this text after flags
+pub record HasAfterFlags (grammar : Grammar) (word text : Text) : Type 0 where
+  pub bytes : List ℕ
+  pub short_form : IsShortForm grammar word (bytes ++ text)
+  pub each : AllByRecursion (IsFlag grammar) bytes
 
--- in short form, after flags, a last name of one byte and of kind Yes
-pub record EndsInYes (grammar : Grammar) (word name : Text) : Type 0 where
-  pub names : List ℕ
-  pub option : ℕ
-  pub short_form : IsShortForm grammar word (names ++ (option ∷ []))
-  pub each : AllByRecursion (IsFlag grammar) names
-  pub name_is : name ≡ option ∷ []
-  pub kind : grammar.kind_of name ≡ Some Yes
-
--- The faults of a word where an item begins, with these words after it: a name that doesn't
--- resolve; an attached argument for kind No; no argument for kind Yes at the end of the line.
-abbrev pub IsFaultAt : Grammar → Text → List Text → Fault → Type 0
-IsFaultAt grammar word after (unrecognized_option name) =
-    ((argument : Option Text)
-    × IsLongForm grammar word name argument
-    × (grammar.kind_of name ≡ None))
-    ⊎ HasUnknownFlag grammar word name
-IsFaultAt grammar word after (unexpected_argument name) = (argument : Text)
-    × IsLongForm grammar word name (Some argument)
-    × (grammar.kind_of name ≡ Some No)
-IsFaultAt grammar word after (argument_missing name) =
-    ((IsLongForm grammar word name None × (grammar.kind_of name ≡ Some Yes))
-    ⊎ EndsInYes grammar word name)
-    × (after ≡ [])
-IsFaultAt grammar word after fault = ⊥
+-- The faults of a word where an item begins, with these words after it.
+pub data IsFaultAt (grammar : Grammar) (word : Text) (after : List Text) : Fault → Type 0 where
+  -- in long form, a name that doesn't resolve
+  unknown_name : (name : Text) (argument : Option Text) → IsLongForm grammar word name argument
+      → grammar.kind_of name ≡ None → IsFaultAt grammar word after (unrecognized_option name)
+  -- in short form, after flags, a character that has more than one byte or doesn't resolve
+  unknown_character : (character : ℕ) (more : Text) → IsScalar character
+      → HasAfterFlags grammar word (encode_utf8 character ++ more)
+      → (1 < length (encode_utf8 character)) ⊎ (grammar.kind_of (encode_utf8 character) ≡ None)
+      → IsFaultAt grammar word after (unrecognized_option (encode_utf8 character))
+  -- in long form, an attached argument for kind No
+  unwanted_argument : (name argument : Text) → IsLongForm grammar word name (Some argument)
+      → grammar.kind_of name ≡ Some No → IsFaultAt grammar word after (unexpected_argument name)
+  -- in long form, kind Yes with no argument at the end of the line
+  long_unfinished : (name : Text) → IsLongForm grammar word name None
+      → grammar.kind_of name ≡ Some Yes → after ≡ []
+      → IsFaultAt grammar word after (argument_missing name)
+  -- in short form, after flags, a last option of kind Yes at the end of the line
+  short_unfinished : (option : ℕ) → HasAfterFlags grammar word (option ∷ [])
+      → grammar.kind_of (option ∷ []) ≡ Some Yes → after ≡ []
+      → IsFaultAt grammar word after (argument_missing (option ∷ []))
 
 -- A scan fault of a line: the fault of a word, where the words before it have a reading that ends
 -- there.

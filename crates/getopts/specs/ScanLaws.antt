@@ -75,24 +75,24 @@ pub record LongAttachedOrSeparate (grammar : Grammar) : Type 0 where
 -- flags, where the kind of `x` is Yes, but that positions of later items are one higher with the
 -- latter; an argument that is empty can't be attached.
 pub record ShortAttachedOrSeparate (grammar : Grammar) : Type 0 where
-  pub to_separate : (names : List ℕ) (option : ℕ) (argument : Text)
+  pub to_separate : (bytes : List ℕ) (option : ℕ) (argument : Text)
       → grammar.kind_of (option ∷ []) ≡ Some Yes
-      → Respells grammar (cluster names (ends_in option (attached argument)))
-      (cluster names (ends_in option (separate argument)) ∷ []) AreHigherAfter
-  pub either : (names : List ℕ) (option : ℕ) (argument : Text)
+      → Respells grammar (cluster bytes (ends_in option (attached argument)))
+      (cluster bytes (ends_in option (separate argument)) ∷ []) AreHigherAfter
+  pub either : (bytes : List ℕ) (option : ℕ) (argument : Text)
       → grammar.kind_of (option ∷ []) ≡ Some Yes
       → argument ≢ []
-      → AreOneWordApart grammar (cluster names (ends_in option (attached argument)))
-      (cluster names (ends_in option (separate argument)))
+      → AreOneWordApart grammar (cluster bytes (ends_in option (attached argument)))
+      (cluster bytes (ends_in option (separate argument)))
 
 -- A cluster splits: `-xs` and `-x`, `-s` read alike but for positions, where `x` is a flag and `s`
 -- isn't empty and doesn't begin with `-`.
 pub record ClusterSplits (grammar : Grammar) : Type 0 where
-  pub after_flag : (flag : ℕ) (names : List ℕ) (end : End)
-      → names ++ end_text end ≢ []
-      → begins_with_dash (names ++ end_text end) ≡ false
-      → Respells grammar (cluster (flag ∷ names) end)
-      (cluster (flag ∷ []) flags ∷ cluster names end ∷ []) (λ position old new. ⊤)
+  pub after_flag : (flag : ℕ) (bytes : List ℕ) (end : End)
+      → bytes ++ end_text end ≢ []
+      → begins_with_dash (bytes ++ end_text end) ≡ false
+      → Respells grammar (cluster (flag ∷ bytes) end)
+      (cluster (flag ∷ []) flags ∷ cluster bytes end ∷ []) (λ position old new. ⊤)
 
 -- One dash or two: in long-only mode `-name` and `--name` read alike, positions too, where the name
 -- doesn't begin with `-`.
@@ -134,9 +134,7 @@ pub record LinesCompose (grammar : Grammar) : Type 0 where
 -- a place among the free words, from which on they are the words after the stop
 pub record IsAfterStop (reading : Reading) (start : ℕ) : Type 0 where
   pub below : start < length (free_words reading)
-  pub words : List Text
-  pub tail_is : reading.tail ≡ stop words
-  pub free_from : drop start (free_words reading) ≡ words
+  pub tail_is : reading.tail ≡ stop (drop start (free_words reading))
 
 -- The trailing start: where there is one, it is a place among the free words, and these are from
 -- there on the words after the stop.

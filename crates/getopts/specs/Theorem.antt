@@ -52,10 +52,10 @@ OneOfThree options = (words : List Text) → AreTexts words → ExactlyOne
 -- plain, the only canonical line.
 pub record GivesAll (options : Declared) (words : List Text) (reading : Reading) : Type 0 where
   pub matches : IsTheOnly (IsAccepted options words) (matches_of options reading)
-  pub content : IsTheOnly (IsAcceptedWith options words) (content_of (grammar_of options) reading)
-  pub line : IsPlain options.groups (content_of (grammar_of options) reading)
+  pub content : IsTheOnly (IsAcceptedWith options words) (content_of options reading)
+  pub line : IsPlain options.groups (content_of options reading)
       → IsTheOnly (IsWritten options words)
-      (canonical_line options.groups (content_of (grammar_of options) reading))
+      (canonical_line options.groups (content_of options reading))
 
 -- a reading that keeps the counts gives the answers of `parse` and of `canonical`
 abbrev pub OneReadingGivesAll : Declared → Type 0
@@ -76,14 +76,14 @@ OneContentHoldsSame options = (words others : List Text) (reading other : Readin
     (matches : Matched)
     → IsAccepted options words matches
     → Reads options words reading → Reads options others other
-    → content_of (grammar_of options) other ≡ content_of (grammar_of options) reading
+    → content_of options other ≡ content_of options reading
     → IsAccepted options others (matches_of options other)
     × HoldSame matches (matches_of options other)
 
 -- Two plain contents that lines say, in styles and modes that may differ, have equal canonical
 -- lines exactly if they are equal.
-abbrev pub CanonicalLinesTell : Declared → Type 0
-CanonicalLinesTell options = (words others : List Text) (content other : Content)
+abbrev pub OneLineOneContent : Declared → Type 0
+OneLineOneContent options = (words others : List Text) (content other : Content)
     → Says options words content → IsPlain options.groups content
     → Says options others other → IsPlain options.groups other
     → (canonical_line options.groups content ≡ canonical_line options.groups other)

@@ -4,20 +4,17 @@ use Rattle.std.specs.Prelude.{List, [], ◌∷◌, ◌++◌, length, take, map, 
 use Rattle.std.specs.Prelude.{chars, encode_utf8_all, if◌then◌else◌}
 use Rattle.std.specs.List.{AllZip, flat_map, join_by, join_with_byte, slice_split}
 use Rattle.std.specs.Char.{is_whitespace}
+use Rattle.getopts.specs.Names.{Text}
 use Rattle.unicode_width.specs.Width.{str_width}
 
 -- ---- words and runs
 
--- a word, by its bytes
-abbrev pub Word : Type 0
-Word = List ℕ
-
--- words that stand in one row
+-- words, by their bytes, that stand in one row
 abbrev pub Run : Type 0
-Run = List Word
+Run = List Text
 
 -- the columns that a word takes by itself
-unfoldable pub width_of : Word → ℕ
+unfoldable pub width_of : Text → ℕ
 width_of word = str_width false (chars word)
 
 -- the columns of a run: those of each word, and one for each gap between two words
@@ -25,7 +22,7 @@ abbrev pub columns_of : Run → ℕ
 columns_of run = sum_by width_of run + (length run - 1)
 
 -- a run as the text of a row: its words, joined by one space
-abbrev pub text_of : Run → List ℕ
+abbrev pub text_of : Run → Text
 text_of run = join_with_byte 32 run
 
 -- ---- breakings
@@ -35,7 +32,7 @@ abbrev pub FitsIn : ℕ → Run → Type 0
 FitsIn limit run = (length run ≡ 1) ⊎ (columns_of run ≤ limit)
 
 -- the words are cut into runs: none is empty, and each fits
-pub record IsFittingBreaking (limit : ℕ) (words : List Word) (runs : List Run) : Type 0 where
+pub record IsFittingBreaking (limit : ℕ) (words : List Text) (runs : List Run) : Type 0 where
   pub joined : flat_map (λ run. run) runs ≡ words
   pub nonempty : All (λ run. 0 < length run) runs
   pub fits : All (FitsIn limit) runs
@@ -47,12 +44,12 @@ NoneTakesMore limit (run ∷ next ∷ more) =
 NoneTakesMore limit runs = Unit {0}
 
 -- a fitting breaking in which no run could take in the word that comes next
-pub record IsTightBreaking (limit : ℕ) (words : List Word) (runs : List Run) : Type 0 where
+pub record IsTightBreaking (limit : ℕ) (words : List Text) (runs : List Run) : Type 0 where
   pub fitting : IsFittingBreaking limit words runs
   pub tight : NoneTakesMore limit runs
 
 -- a tight breaking, and no fitting breaking of the same words has fewer runs
-pub record IsFewestBreaking (limit : ℕ) (words : List Word) (runs : List Run) : Type 0 where
+pub record IsFewestBreaking (limit : ℕ) (words : List Text) (runs : List Run) : Type 0 where
   pub tight : IsTightBreaking limit words runs
   pub fewest : (others : List Run) → IsFittingBreaking limit words others
       → length runs ≤ length others
@@ -60,61 +57,61 @@ pub record IsFewestBreaking (limit : ℕ) (words : List Word) (runs : List Run) 
 -- ---- descriptions
 
 -- the lines of a description, which is cut at U+000A
-abbrev pub lines_of : List ℕ → List (List ℕ)
+abbrev pub lines_of : Text → List Text
 lines_of desc = slice_split (λ byte. byte == 10) desc
 
 -- the words of a line: it is cut at each character of white space, and the pieces that are not
 -- empty are its words, so each word is a run of other characters that is as long as it can be
-abbrev pub words_of : List ℕ → List Word
+abbrev pub words_of : Text → List Text
 words_of line =
     map encode_utf8_all
     (filter (λ piece. nat_lt 0 (length piece)) (slice_split is_whitespace (chars line)))
 
 -- the words of each line of a description
-abbrev pub words_of_lines : List ℕ → List (List Word)
+abbrev pub words_of_lines : Text → List (List Text)
 words_of_lines desc = map words_of (lines_of desc)
 
 -- the description breaks into the rows, where `IsBroken` says how a line's words may be broken: the
 -- rows are the texts of the runs of each line in turn
-pub record BreaksInto (IsBroken : List Word → List Run → Type 0) (desc : List ℕ)
-    (rows : List (List ℕ)) : Type 0 where
+pub record BreaksInto (IsBroken : List Text → List Run → Type 0) (desc : Text)
+    (rows : List Text) : Type 0 where
   pub breakings : List (List Run)
   pub each_line : AllZip IsBroken (words_of_lines desc) breakings
   pub texts : rows ≡ map text_of (flat_map (λ runs. runs) breakings)
 
 -- the rows of a description for a limit: those of each line's tight breaking
-abbrev pub IsDescriptionRows : ℕ → List ℕ → List (List ℕ) → Type 0
+abbrev pub IsDescriptionRows : ℕ → Text → List Text → Type 0
 IsDescriptionRows limit desc rows = BreaksInto (IsTightBreaking limit) desc rows
 
 -- ---- rows in one text
 
 -- the texts in order, with the separator between each two
-abbrev pub joined : List ℕ → List (List ℕ) → List ℕ
+abbrev pub joined : Text → List Text → Text
 joined separator texts = join_by (λ text. text) separator texts
 
 -- what stands between a text and those before it, where the flag tells whether any came
-abbrev pub parting : Bool → List ℕ → List ℕ
+abbrev pub parting : Bool → Text → Text
 parting begun separator = if begun then separator else []
 
 -- the texts in order, each after the separator, but for the first where none came before it
-abbrev pub continued : Bool → List ℕ → List (List ℕ) → List ℕ
+abbrev pub continued : Bool → Text → List Text → Text
 continued begun separator texts =
     if begun then flat_map (λ text. separator ++ text) texts else joined separator texts
 
 -- the text grows by the rows of a description, with the separator between each two
-abbrev pub AddsDescription : ℕ → List ℕ → List ℕ → List ℕ → List ℕ → Type 0
+abbrev pub AddsDescription : ℕ → Text → Text → Text → Text → Type 0
 AddsDescription limit separator desc old new =
-    (rows : List (List ℕ)) × IsDescriptionRows limit desc rows
+    (rows : List Text) × IsDescriptionRows limit desc rows
     × (new ≡ old ++ joined separator rows)
 
 -- the rows of a line are the texts of the runs of its tight breaking
-abbrev pub IsLineRows : ℕ → List ℕ → List (List ℕ) → Type 0
+abbrev pub IsLineRows : ℕ → Text → List Text → Type 0
 IsLineRows limit line rows =
     (runs : List Run) × IsTightBreaking limit (words_of line) runs × (rows ≡ map text_of runs)
 
 -- The text grows by the rows of a line, with the separator between each two. The flags tell whether
 -- any row, of this line or another, stands in the text before and after.
-abbrev pub AddsLine : ℕ → List ℕ → List ℕ → Bool → Bool → List ℕ → List ℕ → Type 0
+abbrev pub AddsLine : ℕ → Text → Text → Bool → Bool → Text → Text → Type 0
 AddsLine limit separator line before after old new =
-    (rows : List (List ℕ)) × IsLineRows limit line rows
+    (rows : List Text) × IsLineRows limit line rows
     × (after ≡ before || nat_lt 0 (length rows)) × (new ≡ old ++ continued before separator rows)

@@ -44,7 +44,7 @@ impl Matches {
     /// the last group. After `-v -o x` by `optopt("o",..)` and `optflag("v",..)` those at 0 are one of
     /// position 1 and value `x`. The Rust has no such call.
     pub fn occurrences_at(&self, place: usize) -> Occurrences<'_>
-        ensures { result ≡ found_in self.now.groups (Some place) }
+        ensures { result ≡ found_in self.now.groups place }
     {
         self.groups.occurrences_at(place)
     }

@@ -1,6 +1,6 @@
 //! The canonical line: what a line says, written again with main names alone.
 
-ghost use Rattle.std.specs.Prelude.{◌≡◌, map, IfOk, IfErr, IfSome, IfNone, not};
+ghost use Rattle.std.specs.Prelude.{◌≡◌, map, IfOk, IfErr, IfSome, IfNone, OnOk, not};
 ghost use Rattle.std.specs.List.{list_all};
 ghost use Rattle.std.specs.Option.{option_copied};
 ghost use Rattle.std.specs.String.{string_bytes};
@@ -91,7 +91,7 @@ impl Options {
     ghost use Rattle.std.specs.Iterator.{IsFinite};
     ghost use Rattle.std.specs.Iterator.Runs.{WholeRun};
     ghost use Rattle.getopts.specs.Parse.{IsRefused};
-    ghost use Rattle.getopts.specs.CanonAnswers.{IsWritten, IsUnwritable};
+    ghost use Rattle.getopts.specs.CanonAnswers.{IsWritten, IsUnwritable, KeepsLineLaws};
 
     /// Writes an accepted line again with main names alone, for a program that logs, compares or caches
     /// by command lines.
@@ -123,6 +123,7 @@ impl Options {
             (λ run. IsUnwritable self.now (texts run.items)))) }
         ensures refused { IfErr result (λ fail. Tells fail (λ fault. WholeRun I.next_gives args
             (λ run. IsRefused self.now (texts run.items) fault))) }
+        ensures laws { OnOk result (KeepsLineLaws self.now) }
     {
         let words = words_from(alloc, args)?;
         self.canonical_words(alloc, &words)
@@ -143,6 +144,7 @@ impl Options {
             (IsUnwritable self.now (texts words.now))) }
         ensures refused { IfErr result (λ fail. Tells fail
             (IsRefused self.now (texts words.now))) }
+        ensures laws { OnOk result (KeepsLineLaws self.now) }
     {
         let accepted = self.accepted_line(alloc, words)?;
         if are_plain(self, &accepted) {

@@ -4,11 +4,11 @@ ghost use Rattle.getopts.specs.Canon.{Content, Says, IsSound, IsPlain, HasCanoni
 ghost use Rattle.getopts.specs.declared.groups.ParsingStyle.{ParsingStyle};
 ghost use Rattle.std.specs.Prelude.{List, Bool};
 ghost use Rattle.getopts.specs.Accessors.{held_names};
-ghost use Rattle.getopts.specs.CanonAnswers.{IsParseAnswer, IsCanonicalAnswer, HasOneAnswer, AnsweredLinesTell};
+ghost use Rattle.getopts.specs.CanonAnswers.{IsParseAnswer, IsCanonicalAnswer, HasOneAnswer, OneAnswerOneContent, KeepsLineLaws};
 ghost use Rattle.getopts.specs.Names.{Text, MainNameResolves, OneByteIsShort, EmptyResolvesNot};
 ghost use Rattle.getopts.specs.Options.{Declared, MayBeDeclared, names_of, grammar_of};
 ghost use Rattle.getopts.specs.Parse.{KeepsReadingLaws};
-ghost use Rattle.getopts.specs.Theorem.{OneReading, AcceptedExactlyWhen, RefusedExactlyWhen, OneOfThree, OneReadingGivesAll, OneContentHoldsSame, CanonicalLinesTell};
+ghost use Rattle.getopts.specs.Theorem.{OneReading, AcceptedExactlyWhen, RefusedExactlyWhen, OneOfThree, OneReadingGivesAll, OneContentHoldsSame, OneLineOneContent};
 
 use crate::matches::Matches;
 use crate::options::Options;
@@ -38,13 +38,15 @@ pub fn one_reading_one_canonical_line(options: &Options)
     // Words that say the same give matches that are the same but for positions.
     ensures holds_same { OneContentHoldsSame options.now }
 
-    // Canonical lines are equal exactly if they say the same: of contents, and of answers. Each reads back in both styles and both
-    // modes, says nothing else, is its own, and is that of no other content.
-    ensures canonical_lines_tell { CanonicalLinesTell options.now }
-    ensures answered_lines_tell { AnsweredLinesTell options.now }
+    // Canonical lines are equal exactly if they say the same: those of contents, and those that are
+    // answered. Each of either reads back in both styles and both modes, says nothing else, is its own, and
+    // is that of no other content.
+    ensures one_line_one_content { OneLineOneContent options.now }
+    ensures one_answer_one_content { OneAnswerOneContent options.now }
     ensures canonical_lines { (words : List Text) (content : Content)
         → Says options.now words content → IsPlain options.now.groups content
         → HasCanonicalLine options.now content }
+    ensures line_laws { KeepsLineLaws options.now }
 
     // Other spellings of a line, lines one after the other, and where free words and occurrences stand.
     ensures reading_laws { KeepsReadingLaws (grammar_of options.now) }
@@ -56,11 +58,12 @@ pub fn one_reading_one_canonical_line(options: &Options)
     let _groups = options.groups();
 }
 
-/// The laws of readings, and that words which say the same hold the same, of any options that may be
-/// declared, where none need be there: a law to cite, which does nothing.
+/// The laws of readings and of answered lines, and that words which say the same hold the same, of any
+/// options that may be declared, where none need be there: a law to cite, which does nothing.
 pub fn declared_options_keep_laws()
     ensures reading_laws { (options : Declared) → MayBeDeclared options
         → KeepsReadingLaws (grammar_of options) }
+    ensures line_laws { (options : Declared) → MayBeDeclared options → KeepsLineLaws options }
     ensures holds_same { (options : Declared) → MayBeDeclared options
         → OneContentHoldsSame options }
 {}

@@ -83,7 +83,7 @@ impl MatchedGroups {
 
     /// The occurrences of the group at a place.
     pub(crate) fn occurrences_at(&self, place: usize) -> Occurrences<'_>
-        ensures { result ≡ found_in self.now (Some place) }
+        ensures { result ≡ found_in self.now place }
     {
         Occurrences {
             found: &self.found,

@@ -16,7 +16,7 @@ use Rattle.getopts.specs.Held.Occurrences.{held_found}
 use Rattle.getopts.specs.Matches.{Found, Matched, MatchedGroup}
 use Rattle.getopts.specs.Names.{Text}
 use Rattle.getopts.specs.Options.{Group, Declared}
-use Rattle.getopts.specs.Told.{AreGroupsOf}
+use Rattle.getopts.specs.Holds.{AreGroupsOf}
 use Rattle.getopts.specs.Parse.{IsAccepted, IsRefused}
 use Rattle.getopts.specs.CanonAnswers.{IsWritten as IsCanonicalLine, IsUnwritable}
 use Rattle.getopts_c.specs.Request.{concatenated}
@@ -110,18 +110,18 @@ module _ {A : Type 0} (f : Found → List A) (founds : List Found) (i : ℕ) (ne
 -- one more group of a front, by its occurrences
 group_more : {A : Type 0} (f : List Found → List A) (groups : List MatchedGroup) (i : ℕ) → i < length groups
     → flat_map (λ (group : MatchedGroup). f group.found) (take (i + 1) groups)
-      ≡ flat_map (λ (group : MatchedGroup). f group.found) (take i groups) ++ f (found_in groups (Some i))
+      ≡ flat_map (λ (group : MatchedGroup). f group.found) (take i groups) ++ f (found_in groups i)
 group_more f [] i within = absurd (omega arith)
 group_more f (group ∷ groups) zero within = append-nil (f group.found)
 group_more f (group ∷ groups) (suc i) within =
     let later : suc i + 1 ≡ suc (i + 1) = omega arith in
     ap (λ n. flat_map (λ (group : MatchedGroup). f group.found) (take n (group ∷ groups))) later
     ∙ ap (λ more. f group.found ++ more) (group_more f groups i (omega arith))
-    ∙ sym (append_assoc (f group.found) (flat_map (λ (group : MatchedGroup). f group.found) (take i groups)) (f (found_in groups (Some i))))
+    ∙ sym (append_assoc (f group.found) (flat_map (λ (group : MatchedGroup). f group.found) (take i groups)) (f (found_in groups i)))
 
 -- what was added for a front, and then for the next group, was added for one group more
 pub more_added : {A : Type 0} (f : List Found → List A) (groups : List MatchedGroup) (i : ℕ) (initial old new : List A) (founds : List Found)
-    → i < length groups → founds ≡ found_in groups (Some i)
+    → i < length groups → founds ≡ found_in groups i
     → old ≡ initial ++ flat_map (λ (group : MatchedGroup). f group.found) (take i groups) → new ≡ old ++ f founds
     → new ≡ initial ++ flat_map (λ (group : MatchedGroup). f group.found) (take (i + 1) groups)
 more_added f groups i initial old new founds within is before added =

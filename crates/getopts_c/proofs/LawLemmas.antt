@@ -1,15 +1,17 @@
 -- What a request says is one thing: it can be read back.
-use Rattle.std.proofs.Common.{◌≡◌, ℕ, Bool, List, [], ◌∷◌, ◌++◌, take, drop, length, map, refl, sym, ap, ◌∙◌}
+use Rattle.std.proofs.Common.{◌≡◌, ℕ, Bool, List, [], ◌∷◌, ◌++◌, take, drop, length, map, refl, sym, ap, ◌∙◌, subst}
 use Rattle.std.proofs.Math.Seq.{take-append_seam, drop-append_seam}
 use Rattle.std.specs.Prelude.{◌==◌, ◌%◌, if◌then◌else◌, nat_lt}
-use Rattle.std.specs.List.{flat_map}
-use Rattle.getopts.specs.Names.{Text}
-use Rattle.getopts.specs.Options.{Group, Declared}
+use Rattle.std.specs.List.{flat_map, AllByRecursion}
+use Rattle.std.specs.Str.{IsUtf8}
+use Rattle.getopts.specs.Names.{Text, AreTexts}
+use Rattle.getopts.specs.Options.{Group, Declared, MayBeDeclared}
 use Rattle.getopts.specs.declared.groups.HasArg.{HasArg}
 use Rattle.getopts.specs.declared.groups.Occur.{Occur}
 use Rattle.getopts.specs.declared.groups.HasArg.TheVariants.{Yes, No, Maybe}
 use Rattle.getopts.specs.declared.groups.Occur.TheVariants.{Req, Optional, Multi}
 use Rattle.getopts_c.specs.Request.{concatenated, IsCut, IsRequest, group_number, group_texts, kind_number, style_of}
+use Rattle.getopts_c.specs.Request.{SayOptions}
 
 -- fronts of one length are the same, and so is what follows them
 pub same_front : {A : Type 0} (front other rest left : List A) → front ++ rest ≡ other ++ left → length front ≡ length other
@@ -105,3 +107,18 @@ pub request_once : (bytes : Text) (lens kinds : List ℕ) (stop long_only : Bool
     → options ≡ others
 request_once bytes lens kinds stop long_only options others is other =
     sym (request_is_from bytes lens kinds stop long_only options is) ∙ request_is_from bytes lens kinds stop long_only others other
+
+-- the short names among UTF-8 texts are UTF-8
+shorts_are : (groups : List Group) → AreTexts (flat_map group_texts groups)
+    → AllByRecursion (λ group. IsUtf8 group.known.names.short) groups
+shorts_are [] utf8 = tt
+shorts_are (group ∷ groups) utf8 = (utf8.0, shorts_are groups utf8.1.1.1.1)
+
+-- the options of a request that says options may be declared
+pub request_declared : (bytes : Text) (lens kinds : List ℕ) (stop long_only : Bool)
+    → SayOptions bytes lens kinds stop long_only
+    → (options : Declared) → IsRequest bytes lens kinds stop long_only options
+    → MayBeDeclared options
+request_declared bytes lens kinds stop long_only said options is =
+    subst MayBeDeclared (request_once bytes lens kinds stop long_only said.options options said.options_are is)
+    (record { named = said.named; shorts = shorts_are said.options.groups said.utf8 })

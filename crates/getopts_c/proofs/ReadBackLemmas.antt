@@ -10,7 +10,7 @@ use Rattle.getopts.specs.Matches.{Found, Matched, MatchedGroup}
 use Rattle.getopts.specs.Names.{Text}
 use Rattle.getopts.specs.Same.{fault_name}
 use Rattle.getopts_c.proofs.LawLemmas.{cut_once, same_front}
-use Rattle.getopts_c.specs.Answer.{TellAlike, fault_status, found_bytes, found_numbers, group_bytes, group_numbers}
+use Rattle.getopts_c.specs.Answer.{AreAlike, fault_status, found_bytes, found_numbers, group_bytes, group_numbers}
 use Rattle.getopts_c.specs.Answer.{matches_bytes, matches_numbers, optional_number, place_number, text_numbers}
 use Rattle.getopts_c.specs.Request.{concatenated}
 
@@ -119,7 +119,7 @@ free_back matches others numbers bytes =
 -- what matches tell, from their numbers and their bytes
 pub matches_back : (names : List Text) (matches others : Matched)
     → matches_numbers names matches ≡ matches_numbers names others → matches_bytes matches ≡ matches_bytes others
-    → TellAlike names matches others
+    → AreAlike names matches others
 matches_back names matches others numbers bytes =
     let behind : Matched → List ℕ = λ m. (length m.groups ∷ flat_map group_numbers m.groups)
         ++ (text_numbers m.free ++ optional_number m.trailing_start ∷ []) in

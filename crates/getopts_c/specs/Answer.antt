@@ -168,9 +168,9 @@ HasSizes Answers numbers_size bytes_size =
     (status : ℕ) × (numbers : List ℕ) × (bytes : Text) × Answers status numbers bytes
     × (numbers_size ≡ length numbers) × (bytes_size ≡ length bytes)
 
--- Two matches tell the same: each of these names resolves alike, the groups have the same
+-- Two matches are alike: each of these names resolves alike, the groups have the same
 -- occurrences, and the free words and the trailing start are the same.
-pub record TellAlike (names : List Text) (matches others : Matched) : Type 0 where
+pub record AreAlike (names : List Text) (matches others : Matched) : Type 0 where
   pub places : map (place_of matches.groups) names ≡ map (place_of others.groups) names
   pub found : map (λ group. group.found) matches.groups ≡ map (λ group. group.found) others.groups
   pub free : matches.free ≡ others.free

@@ -10,9 +10,10 @@ ghost use Rattle.getopts.specs.CanonAnswers.{HasOneAnswer};
 ghost use Rattle.getopts.specs.Fail.{Fault};
 ghost use Rattle.getopts.specs.Matches.{Matched};
 ghost use Rattle.getopts.specs.Names.{Text};
+ghost use Rattle.getopts.specs.Options.{Declared, MayBeDeclared};
 ghost use Rattle.getopts_c.specs.Request.{IsCut, IsRequest, SayOptions, SayTexts, concatenated};
 ghost use Rattle.getopts_c.specs.Answer.{IsAnswered, IsCanonicalOf, IsRowsOf};
-ghost use Rattle.getopts_c.specs.Answer.{IsShortUsageOf, IsUsageOf, TellAlike};
+ghost use Rattle.getopts_c.specs.Answer.{IsShortUsageOf, IsUsageOf, AreAlike};
 ghost use Rattle.getopts_c.specs.Reply.{IsReply, IsFine, IsFineText, rooms, byte_rooms};
 ghost use Rattle.getopts.specs.Same.{fault_name};
 ghost use Rattle.getopts_c.specs.Answer.{fault_status, matches_bytes, matches_numbers};
@@ -197,10 +198,17 @@ pub extern "C" fn getopts_c_canonical(
 
 /// Bytes, lengths and kinds say one set of options at most, and bytes and lengths one list of
 /// words: a law to cite, which does nothing.
+///
+/// Options that are said lawfully may be declared, so the library's laws of such options hold of them
+/// (`declared_options_keep_laws`): those of readings, and those of canonical lines.
 pub fn requests_say_one_thing()
     ensures options { (bytes : Text) (lens kinds : List ℕ) (stop long_only : Bool)
         → HasOneAnswer (IsRequest bytes lens kinds stop long_only) }
     ensures line { (bytes : Text) (lens : List ℕ) → HasOneAnswer (IsCut bytes lens) }
+    ensures declared { (bytes : Text) (lens kinds : List ℕ) (stop long_only : Bool)
+        → SayOptions bytes lens kinds stop long_only
+        → (options : Declared) → IsRequest bytes lens kinds stop long_only options
+        → MayBeDeclared options }
 {}
 
 /// Numbers and bytes tell one thing at most: a law to cite, which does nothing.
@@ -211,7 +219,7 @@ pub fn answers_say_one_thing()
     ensures matches { (names : List Text) (matches others : Matched)
         → matches_numbers names matches ≡ matches_numbers names others
         → matches_bytes matches ≡ matches_bytes others
-        → TellAlike names matches others }
+        → AreAlike names matches others }
     ensures fault { (fault other : Fault) → fault_status fault ≡ fault_status other
         → fault_name fault ≡ fault_name other → fault ≡ other }
     ensures texts { (words others : List Text) → text_numbers words ≡ text_numbers others

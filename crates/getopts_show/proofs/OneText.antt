@@ -5,7 +5,6 @@ use Rattle.getopts.specs.CanonAnswers.{HasOneAnswer, IsAcceptedWith, IsParseAnsw
 use Rattle.getopts.specs.Fail.{Fault}
 use Rattle.getopts.specs.Matches.{Matched}
 use Rattle.getopts.specs.Names.{Text}
-use Rattle.getopts.specs.Options.{grammar_of}
 use Rattle.getopts.specs.Parse.{IsAccepted, IsRefused}
 use Rattle.getopts_show.specs.Program.{IsProgramText, IsOnlyText, asks_help, fault_line, helped, program_options, refused, shown}
 
@@ -18,7 +17,7 @@ module _ (words : List Text) (one : HasOneAnswer (IsParseAnswer program_options 
   one_content : (content other : Content) → IsAcceptedWith program_options words content
       → IsAcceptedWith program_options words other → other ≡ content
   one_content content other is also =
-      also.content_is ∙ ap (content_of (grammar_of program_options)) ((is.only also.reading).0 ((also.only also.reading).1 refl)) ∙ sym is.content_is
+      also.content_is ∙ ap (content_of program_options) ((is.only also.reading).0 ((also.only also.reading).1 refl)) ∙ sym is.content_is
 
   -- words that are accepted are not refused
   pub accepted_not_refused : (matches : Matched) (fault : Fault) → IsAccepted program_options words matches

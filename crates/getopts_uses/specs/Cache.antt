@@ -5,7 +5,7 @@ use Rattle.getopts.specs.Options.{Declared}
 use Rattle.getopts.specs.CanonAnswers.{IsWritten}
 
 -- Two lines have the same key exactly if they say the same.
-abbrev pub KeysTell : Declared → Type 0
-KeysTell options = (words others key other : List Text)
+abbrev pub OneKeyOneContent : Declared → Type 0
+OneKeyOneContent options = (words others key other : List Text)
     → (said : IsWritten options words key) → (also : IsWritten options others other)
     → (key ≡ other) ↔ (said.content ≡ also.content)

@@ -18,15 +18,15 @@ use Rattle.getopts.specs.Parse.{Reads, IsAccepted, BreaksCounts, IsRefused}
 use Rattle.getopts.specs.Canon.{Content, IsCountKeeping, content_of, main_at, HasPlainMain, IsPlain}
 use Rattle.getopts.specs.Canon.{canonical_line, IsAcceptedWith, Says}
 use Rattle.getopts.specs.AcceptedLine.{IsAcceptedLine}
+use Rattle.std.specs.Str.{IsUtf8}
 use Rattle.getopts.specs.CanonAnswers.{IsWritten, IsUnwritable, IsParseAnswer}
-use Rattle.getopts.specs.CanonAnswers.{IsCanonicalAnswer, AnsweredLinesTell}
+use Rattle.getopts.specs.CanonAnswers.{IsCanonicalAnswer, OneAnswerOneContent, KeepsLineLaws}
 use Rattle.getopts.specs.declared.accepted.AcceptedLine.{AcceptedLine}
 use Rattle.getopts.proofs.Canonical.Lines.{is_plain-true, is_plain-false, HasCanonicalLine-says}
 use Rattle.getopts.proofs.Canonical.Lines.{Says-accepted, IsSound-says}
-use Rattle.getopts.proofs.Canonical.Lines.{HasUnwritable-content, CanonicalLinesTell-lawful}
+use Rattle.getopts.proofs.Canonical.Lines.{HasUnwritable-content, OneLineOneContent-lawful}
 use Rattle.getopts.proofs.Parsing.Only.{meets}
 use Rattle.getopts.proofs.Parsing.Parsed.{only_reads, named_here, groups_are, IsAccepted-reading}
-use Rattle.getopts.proofs.Reading.Turns.{IsNamed}
 use Rattle.getopts.proofs.Scanning.Words.{holds_equals-none}
 
 -- a test that finds `=` just where it is
@@ -63,10 +63,6 @@ count_keeping options words content is = record { reads = meets (Reads options w
 
 module _ (options : Declared) (words : List Text) (accepted : AcceptedLine)
     (is : IsAcceptedLine options words accepted) where
-  -- the names of the options are names
-  pub IsNamed-line : IsNamed (grammar_of options)
-  IsNamed-line = named_here options is.lawful is.shorts
-
   -- the matches of the line are accepted
   pub IsAccepted-line : IsAccepted options words (record {
     groups = matched 0 (knowns_of options.groups) accepted.line.found;
@@ -106,8 +102,6 @@ module _ (options : Declared) (words : List Text) (accepted : AcceptedLine)
     accepted = IsAcceptedWith-line;
     plain = plain-list_all options.groups accepted.line.found plain;
     line_is = answer_is;
-    laws = HasCanonicalLine-says options words (line_content accepted.line) is.lawful IsNamed-line
-        Says-line (plain-list_all options.groups accepted.line.found plain);
   }
 
   -- else some mention can't be written
@@ -124,13 +118,21 @@ module _ (options : Declared) (words : List Text) (accepted : AcceptedLine)
         unwritable = HasUnwritable-content options (line_content accepted.line) not_plain;
       }
 
+-- answered lines keep their laws
+pub KeepsLineLaws-lawful : (options : Declared) → AreLawfullyNamed options.groups
+    → AllByRecursion (λ group. IsUtf8 group.known.names.short) options.groups
+    → KeepsLineLaws options
+KeepsLineLaws-lawful options lawful shorts words line written =
+    HasCanonicalLine-says options words written.content lawful (named_here options lawful shorts)
+    (Says-accepted options options.style options.long_only words written.content written.accepted) written.plain
+
 -- the main theorem, of two answered lines
-pub AnsweredLinesTell-lawful : (options : Declared) → AreLawfullyNamed options.groups
-    → AnsweredLinesTell options
-AnsweredLinesTell-lawful options lawful style other_style long_only other_long_only words others line other written written_other =
+pub OneAnswerOneContent-lawful : (options : Declared) → AreLawfullyNamed options.groups
+    → OneAnswerOneContent options
+OneAnswerOneContent-lawful options lawful style other_style long_only other_long_only words others line other written written_other =
     let says = Says-accepted options style long_only words written.content written.accepted in
     let says_other = Says-accepted options other_style other_long_only others written_other.content written_other.accepted in
-    let tell = CanonicalLinesTell-lawful options lawful words others written.content written_other.content says
+    let tell = OneLineOneContent-lawful options lawful words others written.content written_other.content says
     written.plain says_other written_other.plain in (
       λ same. tell.0 (sym written.line_is ∙ same ∙ written_other.line_is),
       λ same. written.line_is ∙ tell.1 same ∙ sym written_other.line_is,
@@ -231,7 +233,7 @@ module _ (options : Declared) (words : List Text) where
   pub only_content : (content other : Content) → IsAcceptedWith options words content
       → IsAcceptedWith options words other → content ≡ other
   only_content content other is is_other =
-      is.content_is ∙ ap (content_of (grammar_of options))
+      is.content_is ∙ ap (content_of options)
       ((is_other.only is.reading).0 (count_keeping options words content is).reads) ∙ sym is_other.content_is
 
   pub only_line : (line other : List Text) → IsWritten options words line

@@ -25,7 +25,7 @@ use Rattle.getopts.specs.Canon.{IsPlain, IsSound, canonical_word, canonical_line
 use Rattle.getopts.specs.Canon.{canonical_item, canonical_reading, with_setting}
 use Rattle.getopts.specs.Canon.{IsAcceptedWith, Says, ReadsBack}
 use Rattle.getopts.specs.Canon.{HasCanonicalLine, HasNoItem, HasUnwritable}
-use Rattle.getopts.specs.Theorem.{CanonicalLinesTell}
+use Rattle.getopts.specs.Theorem.{OneLineOneContent}
 use Rattle.getopts.specs.declared.groups.HasArg.{HasArg}
 use Rattle.getopts.specs.declared.groups.HasArg.TheVariants.{Yes, No, Maybe}
 use Rattle.getopts.specs.declared.groups.ParsingStyle.{ParsingStyle}
@@ -144,7 +144,7 @@ IsGood-reading options reading lawful = rw (mentions_of-items (grammar_of option
 -- the content of any reading is sound
 pub IsSound-reading : (options : Declared) (reading : Reading) (words : List Text)
     → IsReading (grammar_of options) reading words
-    → IsSound options.groups (content_of (grammar_of options) reading)
+    → IsSound options.groups (content_of options reading)
 IsSound-reading options reading words reads =
     AllByRecursion-follows (IsGood options.groups) (λ m. AnswersMain options.groups m.group)
     (λ m good. good.own) _ (IsGood-reading options reading reads.items)
@@ -152,7 +152,7 @@ IsSound-reading options reading words reads =
 -- the content of any reading is fitting
 pub IsFitting-reading : (options : Declared) (reading : Reading) (words : List Text)
     → IsReading (grammar_of options) reading words
-    → IsFitting options.groups (content_of (grammar_of options) reading)
+    → IsFitting options.groups (content_of options reading)
 IsFitting-reading options reading words reads =
     AllByRecursion-follows (IsGood options.groups) (FitsGroup options.groups) (λ m good. good.fits) _ (IsGood-reading options reading reads.items)
 
@@ -249,7 +249,7 @@ IsReading-canonical options content good plain = record {
 -- and has the content
 content_of-canonical : (options : Declared) (content : Content)
     → AllByRecursion (IsGood options.groups) content.mentions
-    → content_of (grammar_of options) (canonical_reading options.groups content) ≡ content
+    → content_of options (canonical_reading options.groups content) ≡ content
 content_of-canonical options content good =
     rw (
       mentions_of-items (grammar_of options) (canonical_reading options.groups content),
@@ -343,8 +343,8 @@ says_nothing_else-reads_back : (options : Declared) (content : Content)
     → Says options (canonical_line options.groups content) other → other ≡ content
 says_nothing_else-reads_back options content named back other says =
     let there = back says.style says.long_only in
-    let set = grammar_of (with_setting options says.style says.long_only) in
-    let same = only_reading set (IsNamed-with_setting options says.style says.long_only named)
+    let set = with_setting options says.style says.long_only in
+    let same = only_reading (grammar_of set) (IsNamed-with_setting options says.style says.long_only named)
     (canonical_line options.groups content) says.reading _
     says.reads.reads there.reads.reads in
     says.content_is ∙ ap (content_of set) same ∙ there.same
@@ -434,9 +434,9 @@ HasCanonicalLine-says options words content lawful named says plain =
     }
 
 -- two canonical lines are equal exactly if they say the same
-pub CanonicalLinesTell-lawful : (options : Declared) → AreLawfullyNamed options.groups
-    → CanonicalLinesTell options
-CanonicalLinesTell-lawful options lawful words others content other says plain says_other plain_other =
+pub OneLineOneContent-lawful : (options : Declared) → AreLawfullyNamed options.groups
+    → OneLineOneContent options
+OneLineOneContent-lawful options lawful words others content other says plain says_other plain_other =
     canonical_line-same options.groups content other lawful (IsSound-says options words content says) plain
     (IsSound-says options others other says_other) plain_other
 

@@ -23,7 +23,8 @@ use Rattle.getopts.specs.Matches.{Found, MatchedGroup, found_at, matched}
 use Rattle.getopts.specs.Accessors.{AreHeldLawfully, found_in, place_of, values_of, pairs_of}
 use Rattle.getopts.specs.Same.{same_known, same_found, same_matched_group}
 use Rattle.getopts.specs.Held.Groups.{HaveLawfulNames}
-use Rattle.getopts.specs.Held.Occurrences.{found_part, pair_view}
+use Rattle.getopts.specs.Held.Occurrences.{pair_view}
+use Rattle.getopts.specs.Matches.{found_part}
 use Rattle.getopts.specs.Held.Accepted.{index_of}
 use Rattle.getopts.proofs.Parsing.Counts.{length-matched}
 use Rattle.getopts.proofs.Held.Index.{filter_map-places_of, places_of-within}
@@ -46,7 +47,7 @@ knowns-matched first (known ∷ knowns) occurrences = ap (λ (more : List Known)
 -- the occurrences of the group at a place
 found-matched : (first : ℕ) (knowns : List Known) (occurrences : List Occurrence) (i : ℕ)
     → i < length knowns
-    → found_in (matched first knowns occurrences) (Some i) ≡ found_at (first + i) occurrences
+    → found_in (matched first knowns occurrences) i ≡ found_at (first + i) occurrences
 found-matched first [] occurrences i within = absurd (omega arith)
 found-matched first (known ∷ knowns) occurrences zero within = ap (λ (n : ℕ). found_at n occurrences) (omega arith)
 found-matched first (known ∷ knowns) occurrences (suc i) within =
@@ -99,7 +100,7 @@ module _ (knowns : List Known) (occurrences : List Occurrence) (place : ℕ) whe
 
   -- they are the occurrences of that group
   pub held_places-found : map found_part (filter_map (λ p. slice_get occurrences p) held_places)
-      ≡ found_in (matched 0 knowns occurrences) (Some place)
+      ≡ found_in (matched 0 knowns occurrences) place
   held_places-found = elim (cases_lt place (length knowns)) [
     | inl there ↦
         ap (λ (ps : List ℕ). map found_part (filter_map (λ p. slice_get occurrences p) ps))
@@ -153,7 +154,7 @@ differ_known (a ∷ groups) (b ∷ others) differ = elim (and_cases (same_known 
 
 -- nor where the occurrences at some place aren't
 pub differ_found : (groups others : List MatchedGroup) (i : ℕ)
-    → pointwise same_found (found_in groups (Some i)) (found_in others (Some i)) ≡ false
+    → pointwise same_found (found_in groups i) (found_in others i) ≡ false
     → pointwise same_matched_group groups others ≡ false
 differ_found [] [] i differ = absurd (true≢false differ)
 differ_found [] (b ∷ others) i differ = refl
@@ -166,7 +167,7 @@ pub same_found_everywhere : (groups others : List MatchedGroup)
     → pointwise same_known (map (λ (group : MatchedGroup). group.known) groups)
     (map (λ (group : MatchedGroup). group.known) others) ≡ true
     → ((i : ℕ) → i < length groups
-    → pointwise same_found (found_in groups (Some i)) (found_in others (Some i))
+    → pointwise same_found (found_in groups i) (found_in others i)
     ≡ true) → pointwise same_matched_group groups others ≡ true
 same_found_everywhere [] [] known found = refl
 same_found_everywhere [] (b ∷ others) known found = known

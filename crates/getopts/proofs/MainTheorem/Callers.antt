@@ -4,6 +4,7 @@ use Rattle.std.proofs.Common.{map, Option, Some, None, Result, Ok, Err, refl, ap
 use Rattle.std.proofs.Common.{subst, ◌∙◌}
 use Rattle.std.specs.List.{filter, filter_map, cons_option}
 use Rattle.getopts.specs.Names.{Text, resolution}
+use Rattle.std.specs.Option.{option_map_or}
 use Rattle.getopts.specs.Options.{Known, Declared, MayBeDeclared, names_of, knowns_of}
 use Rattle.getopts.specs.Options.{grammar_of}
 use Rattle.getopts.specs.Scan.{Reading, Mention, Occurrence, occurrences_of, free_words}
@@ -16,7 +17,7 @@ use Rattle.getopts.specs.Theorem.{AcceptedExactlyWhen, HoldSame, OneContentHolds
 use Rattle.getopts.proofs.Canonical.Lines.{KeepsCounts-mentions}
 use Rattle.getopts.proofs.Held.Matches.{knowns-matched}
 use Rattle.getopts.proofs.MainTheorem.Refuted.{are_plain, lawful_groups}
-use Rattle.getopts.proofs.Parsing.Told.{place_of-groups}
+use Rattle.getopts.proofs.Parsing.Holds.{place_of-groups}
 
 -- what a value is read as by one reading, it is read as by another that asks for less
 pub IsReadAs-weaker : {T E : Type 0} (P Q : Text → Result T E → Type 0)
@@ -58,8 +59,8 @@ values-found_at place (o ∷ os) = here (o.mention.group == place) (values-found
 
 values-found_in : (knowns : List Known) (first i : ℕ) (old new : List Occurrence)
     → map (λ (o : Occurrence). o.mention) new ≡ map (λ (o : Occurrence). o.mention) old
-    → each_value (found_in (matched first knowns new) (Some i))
-    ≡ each_value (found_in (matched first knowns old) (Some i))
+    → each_value (found_in (matched first knowns new) i)
+    ≡ each_value (found_in (matched first knowns old) i)
 values-found_in [] first i old new same = refl
 values-found_in (known ∷ knowns) first zero old new same = values-found_at first new ∙ ap (values_at first) same ∙ sym (values-found_at first old)
 values-found_in (known ∷ knowns) first (suc i) old new same = values-found_in knowns (first + 1) i old new same
@@ -70,10 +71,11 @@ values-found_of : (options : Declared) (old new : Reading)
     → each_value (found_of (matches_of options new).groups name)
     ≡ each_value (found_of (matches_of options old).groups name)
 values-found_of options old new same name =
-    ap (λ (place : Option ℕ). each_value (found_in (matches_of options new).groups place))
+    ap (λ (place : Option ℕ). each_value (option_map_or (found_in (matches_of options new).groups) place []))
     (resolves new)
     ∙ here (resolution (names_of options.groups) name)
-    ∙ ap (λ (place : Option ℕ). each_value (found_in (matches_of options old).groups place)) (sym (resolves old)) where
+    ∙ ap (λ (place : Option ℕ). each_value (option_map_or (found_in (matches_of options old).groups) place []))
+    (sym (resolves old)) where
       resolves : (reading : Reading)
           → place_of (matches_of options reading).groups name
           ≡ resolution (names_of options.groups) name
@@ -81,8 +83,8 @@ values-found_of options old new same name =
           (knowns-matched 0 (knowns_of options.groups) (occurrences_of (grammar_of options) reading)) name)
 
       here : (place : Option ℕ)
-          → each_value (found_in (matches_of options new).groups place)
-          ≡ each_value (found_in (matches_of options old).groups place)
+          → each_value (option_map_or (found_in (matches_of options new).groups) place [])
+          ≡ each_value (option_map_or (found_in (matches_of options old).groups) place [])
       here None = refl
       here (Some i) = values-found_in (knowns_of options.groups) 0 i (occurrences_of (grammar_of options) old)
           (occurrences_of (grammar_of options) new) same

@@ -19,8 +19,8 @@ use Rattle.getopts.specs.Refuted.Forms.{EachLineHasAnswers}
 use Rattle.getopts.specs.declared.groups.Occur.{Occur}
 use Rattle.getopts.specs.declared.groups.Occur.TheVariants.{Req, Optional, Multi}
 use Rattle.getopts.proofs.Canonical.Lines.{is_plain, is_plain-true, is_plain-false}
-use Rattle.getopts.proofs.Canonical.Lines.{HasUnwritable-content, HasCanonicalLine-says}
-use Rattle.getopts.proofs.Canonical.Lines.{Says-accepted, IsSound-reading}
+use Rattle.getopts.proofs.Canonical.Lines.{HasUnwritable-content}
+use Rattle.getopts.proofs.Canonical.Lines.{IsSound-reading}
 use Rattle.getopts.proofs.Parsing.Parsed.{named_here, only_reads, HasNoReading-fault}
 use Rattle.getopts.proofs.Reading.Readings.{read_reading, read_fault}
 use Rattle.getopts.proofs.Reading.Turns.{read}
@@ -113,8 +113,8 @@ parse_answer options words = parsed_by options (read (grammar_of options) words)
 -- the canonical line of a reading, if it has one
 abbrev pub line_of : Declared → Reading → Option (List Text)
 line_of options reading =
-    if is_plain options.groups (content_of (grammar_of options) reading).mentions
-    then Some (canonical_line options.groups (content_of (grammar_of options) reading)) else None
+    if is_plain options.groups (content_of options reading).mentions
+    then Some (canonical_line options.groups (content_of options reading)) else None
 
 -- the answer of `canonical` to words that read so and have this count fault, if any
 abbrev pub written : Declared → Reading → Option Fault → Result (Option (List Text)) Fault
@@ -140,27 +140,25 @@ module _ (options : Declared) (lawful : AreLawfullyNamed options.groups)
     parsed-is (Some fault) is = inr (record { reading = reading; only = only_reads options lawful shorts words reading reads; breaks = is })
 
     module _ (kept : KeepsCounts (matches_of options reading).groups) where
-      accepted : IsAcceptedWith options words (content_of (grammar_of options) reading)
+      accepted : IsAcceptedWith options words (content_of options reading)
       accepted = record { reading = reading; only = only_reads options lawful shorts words reading reads; counts = kept; content_is = refl }
 
       line_of-is : (plain : Bool)
-          → is_plain options.groups (content_of (grammar_of options) reading).mentions ≡ plain
+          → is_plain options.groups (content_of options reading).mentions ≡ plain
           → IsCanonicalAnswer options words
           (Ok (if plain then Some
-          (canonical_line options.groups (content_of (grammar_of options) reading)) else None))
+          (canonical_line options.groups (content_of options reading)) else None))
       line_of-is true plain =
-          let content = content_of (grammar_of options) reading in
+          let content = content_of options reading in
           let is = is_plain-true options.groups content.mentions plain in
           record {
             content = content;
             accepted = accepted;
             plain = is;
             line_is = refl;
-            laws = HasCanonicalLine-says options words content lawful (named_here options lawful shorts)
-                (Says-accepted options options.style options.long_only words content accepted) is;
           }
       line_of-is false other =
-          let content = content_of (grammar_of options) reading in
+          let content = content_of options reading in
           let is = is_plain-false options.groups content.mentions other in
           record {
             content = content;
@@ -172,7 +170,7 @@ module _ (options : Declared) (lawful : AreLawfullyNamed options.groups)
 
     written-is : (fault : Option Fault) → HaveFault (matches_of options reading).groups fault
         → IsCanonicalAnswer options words (written options reading fault)
-    written-is None kept = line_of-is kept (is_plain options.groups (content_of (grammar_of options) reading).mentions) refl
+    written-is None kept = line_of-is kept (is_plain options.groups (content_of options reading).mentions) refl
     written-is (Some fault) is = inr (record { reading = reading; only = only_reads options lawful shorts words reading reads; breaks = is })
 
   module _ (texts : AreTexts words) where

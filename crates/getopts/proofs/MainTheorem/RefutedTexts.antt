@@ -14,7 +14,7 @@ use Rattle.getopts.specs.Fail.{fail_text}
 use Rattle.getopts.specs.declared.fail.Fail.TheVariants.{UnrecognizedOption}
 use Rattle.getopts.specs.Usage.{any_short, head, row_text, IsUsageRow, AreUsageRows, usage_text}
 use Rattle.getopts.specs.Usage.{IsUsageText}
-use Rattle.getopts.specs.Wrap.{Word, width_of, text_of, words_of_lines, IsTightBreaking}
+use Rattle.getopts.specs.Wrap.{width_of, text_of, words_of_lines, IsTightBreaking}
 use Rattle.getopts.specs.Wrap.{IsDescriptionRows}
 use Rattle.getopts.specs.Refuted.Forms.{Refutes}
 use Rattle.getopts.proofs.Parsing.Only.{meets}
@@ -46,7 +46,7 @@ text_of_x name is = ap (λ (x : Text). codes "Unrecognized option: '" ++ (x ++ c
 abbrev pub description_rows : ℕ → Text → List Text
 description_rows limit desc = map text_of (flat_map (λ runs. runs) (map (runs_of limit) (words_of_lines desc)))
 
-each_tight : (limit : ℕ) (lines : List (List Word))
+each_tight : (limit : ℕ) (lines : List (List Text))
     → AllZip (IsTightBreaking limit) lines (map (runs_of limit) lines)
 each_tight limit [] = tt
 each_tight limit (words ∷ lines) = (runs_of-tight limit words, each_tight limit lines)

@@ -11,14 +11,14 @@ use Rattle.getopts.specs.Parse.{IsAccepted, BreaksCounts, HasNoReading, IsRefuse
 use Rattle.getopts.specs.Canon.{content_of, IsPlain, canonical_line, IsCountKeeping}
 use Rattle.getopts.specs.Canon.{HasCanonicalLine}
 use Rattle.getopts.specs.Canon.{Content, IsAcceptedWith, Says}
-use Rattle.getopts.specs.CanonAnswers.{IsWritten, AnsweredLinesTell}
+use Rattle.getopts.specs.CanonAnswers.{IsWritten, OneAnswerOneContent}
 use Rattle.getopts.specs.Theorem.{IsFirstFault, OneReading, AcceptedExactlyWhen, RefusedExactlyWhen}
-use Rattle.getopts.specs.Theorem.{OneOfThree, OneReadingGivesAll, CanonicalLinesTell}
-use Rattle.getopts.proofs.Canonical.Lines.{Says-accepted, HasCanonicalLine-says}
-use Rattle.getopts.proofs.Canonical.Lines.{CanonicalLinesTell-lawful}
+use Rattle.getopts.specs.Theorem.{OneOfThree, OneReadingGivesAll, OneLineOneContent}
+use Rattle.getopts.proofs.Canonical.Lines.{HasCanonicalLine-says}
+use Rattle.getopts.proofs.Canonical.Lines.{OneLineOneContent-lawful}
 use Rattle.getopts.proofs.Canonical.Answered.{accepted_reads, breaking_reads, only_matches}
 use Rattle.getopts.proofs.Canonical.Answered.{not_refused, only_content, only_line}
-use Rattle.getopts.proofs.Canonical.Answered.{AnsweredLinesTell-lawful}
+use Rattle.getopts.proofs.Canonical.Answered.{OneAnswerOneContent-lawful}
 use Rattle.getopts.proofs.Parsing.Only.{IsTheOnly-from, meets}
 use Rattle.getopts.proofs.Parsing.Parsed.{only_reads, named_here, HasNoReading-fault}
 use Rattle.getopts.proofs.Reading.Readings.{only_reading, reading_or_fault}
@@ -54,7 +54,7 @@ module _ (options : Declared) (lawful : AreLawfullyNamed options.groups)
   }
 
   accepted_with : (words : List Text) (reading : Reading) → IsCountKeeping options reading words
-      → IsAcceptedWith options words (content_of (grammar_of options) reading)
+      → IsAcceptedWith options words (content_of options reading)
   accepted_with words reading keeps = record {
     reading = reading;
     only = only_reads options lawful shorts words reading keeps.reads;
@@ -69,17 +69,14 @@ module _ (options : Declared) (lawful : AreLawfullyNamed options.groups)
   HasCanonicalLine-options words content says plain = HasCanonicalLine-says options words content lawful named says plain
 
   written : (words : List Text) (reading : Reading) → IsCountKeeping options reading words
-      → IsPlain options.groups (content_of (grammar_of options) reading)
+      → IsPlain options.groups (content_of options reading)
       → IsWritten options words
-      (canonical_line options.groups (content_of (grammar_of options) reading))
+      (canonical_line options.groups (content_of options reading))
   written words reading keeps plain = record {
-    content = content_of (grammar_of options) reading;
+    content = content_of options reading;
     accepted = accepted_with words reading keeps;
     plain = plain;
     line_is = refl;
-    laws = HasCanonicalLine-options words (content_of (grammar_of options) reading)
-        (Says-accepted options options.style options.long_only words (content_of (grammar_of options) reading)
-            (accepted_with words reading keeps)) plain;
   }
 
   -- accepted exactly when a reading keeps the counts
@@ -145,18 +142,18 @@ module _ (options : Declared) (lawful : AreLawfullyNamed options.groups)
   OneReadingGivesAll-options words reading keeps = record {
     matches = IsTheOnly-from (IsAccepted options words) (matches_of options reading) (accepted words reading keeps)
         (λ other is. only_matches options words other (matches_of options reading) is (accepted words reading keeps));
-    content = IsTheOnly-from (IsAcceptedWith options words) (content_of (grammar_of options) reading) (accepted_with words reading keeps)
-        (λ other is. only_content options words other (content_of (grammar_of options) reading) is (accepted_with words reading keeps));
+    content = IsTheOnly-from (IsAcceptedWith options words) (content_of options reading) (accepted_with words reading keeps)
+        (λ other is. only_content options words other (content_of options reading) is (accepted_with words reading keeps));
     line = λ plain. IsTheOnly-from (IsWritten options words)
-        (canonical_line options.groups (content_of (grammar_of options) reading)) (written words reading keeps plain)
+        (canonical_line options.groups (content_of options reading)) (written words reading keeps plain)
         (λ other is. only_line options words other (canonical_line options.groups
-        (content_of (grammar_of options) reading)) is (written words reading keeps plain));
+        (content_of options reading)) is (written words reading keeps plain));
   }
 
   -- two canonical lines
-  pub CanonicalLinesTell-options : CanonicalLinesTell options
-  CanonicalLinesTell-options = CanonicalLinesTell-lawful options lawful
+  pub OneLineOneContent-options : OneLineOneContent options
+  OneLineOneContent-options = OneLineOneContent-lawful options lawful
 
   -- two answers
-  pub AnsweredLinesTell-options : AnsweredLinesTell options
-  AnsweredLinesTell-options = AnsweredLinesTell-lawful options lawful
+  pub OneAnswerOneContent-options : OneAnswerOneContent options
+  OneAnswerOneContent-options = OneAnswerOneContent-lawful options lawful

@@ -426,9 +426,7 @@ IsAfterStop-tail frees items (stop (word ∷ words)) start are at =
     let here : length frees ≡ start = cc at in
     record {
       below = rw (are, ← here) (omega (arith, length-append frees (word ∷ words)));
-      words = word ∷ words;
-      tail_is = refl;
-      free_from = rw (are, ← here) (drop-append_seam frees (word ∷ words));
+      tail_is = ap stop (sym (rw (are, ← here) (drop-append_seam frees (word ∷ words))));
     }
 
 -- the trailing start is after the stop

@@ -8,16 +8,16 @@ use Rattle.std.specs.Str.{IsUtf8, bytes_eq}
 use Rattle.std.proofs.lemmas.Slice.Eq.{bytes_eq-Decides}
 use Rattle.getopts.specs.Names.{Text}
 use Rattle.getopts.specs.Options.{Grammar}
-use Rattle.getopts.specs.Fail.{Fault, argument_missing, unrecognized_option, option_missing}
-use Rattle.getopts.specs.Fail.{option_duplicated, unexpected_argument}
+use Rattle.getopts.specs.Fail.{Fault, argument_missing, unrecognized_option}
 use Rattle.getopts.specs.Scan.{dash, is_dashed, holds_equals, stop_word, Argument, none, attached}
 use Rattle.getopts.specs.Scan.{separate, Dashes, one, two, End, flags, ends_in, Item, free, long}
 use Rattle.getopts.specs.Scan.{cluster, dash_text, with_equals, long_word, attached_argument}
 use Rattle.getopts.specs.Scan.{argument_words, end_text, end_words, MayStandBefore}
 use Rattle.getopts.specs.Scan.{FitsLong, FitsEnd, IsFlag, IsLawfulEnd, IsLawfulCluster}
 use Rattle.getopts.specs.Scan.{IsLawfulItem, is_bare, EndsOrIsDashed, stop, tail_words}
-use Rattle.getopts.specs.Scan.{IsLawfulTail, BeginsWith, IsLongForm, IsShortForm, HasUnknownFlag}
-use Rattle.getopts.specs.Scan.{EndsInYes, IsFaultAt}
+use Rattle.getopts.specs.Scan.{IsLawfulTail, BeginsWith, IsLongForm, IsShortForm, HasAfterFlags}
+use Rattle.getopts.specs.Scan.{IsFaultAt, unknown_name, unknown_character, unwanted_argument}
+use Rattle.getopts.specs.Scan.{long_unfinished, short_unfinished}
 use Rattle.getopts.specs.declared.groups.HasArg.{HasArg}
 use Rattle.getopts.specs.declared.groups.HasArg.TheVariants.{Yes, No, Maybe}
 use Rattle.getopts.specs.declared.groups.ParsingStyle.{ParsingStyle}
@@ -95,13 +95,13 @@ pub named_sound : (grammar : Grammar) (dashes : Dashes) (word name : Text) (argu
     → holds_equals name ≡ false → (kind : Option HasArg) → grammar.kind_of name ≡ kind
     → IsSoundTurn grammar word more (named_turn kind dashes name argument more)
 named_sound grammar dashes word name argument more form plain None resolved =
-    λ utf8. inl (argument, long_form grammar dashes word name argument form plain, resolved)
+    λ utf8. unknown_name name argument (long_form grammar dashes word name argument form plain) resolved
 named_sound grammar dashes word name None more form plain (Some No) resolved =
     begins_long grammar dashes word name none No more form plain resolved tt
 named_sound grammar dashes word name (Some argument) more form plain (Some No) resolved =
-    λ utf8. (argument, long_form grammar dashes word name (Some argument) form plain, resolved)
+    λ utf8. unwanted_argument name argument (long_form grammar dashes word name (Some argument) form plain) resolved
 named_sound grammar dashes word name None [] form plain (Some Yes) resolved =
-    λ utf8. (inl (long_form grammar dashes word name None form plain, resolved), refl)
+    λ utf8. long_unfinished name (long_form grammar dashes word name None form plain) resolved refl
 named_sound grammar dashes word name None (next ∷ others) form plain (Some Yes) resolved =
     (next, others, refl, begins_long grammar dashes word name (separate next) Yes others form plain resolved tt)
 named_sound grammar dashes word name (Some argument) more form plain (Some Yes) resolved =
@@ -173,7 +173,7 @@ option_sound grammar word names option (c ∷ text) more form each Maybe resolve
     begins_cluster grammar word names (ends_in option (attached (c ∷ text))) more form each
     (Maybe, resolved, λ e. cc e) (λ bare. absurd (false≢true bare))
 option_sound grammar word names option [] [] form each Yes resolved other =
-    λ utf8. (inr (record { names = names; option = option; short_form = form; each = each; name_is = refl; kind = resolved }), refl)
+    λ utf8. short_unfinished option (record { bytes = names; short_form = form; each = each }) resolved refl
 option_sound grammar word names option [] (next ∷ others) form each Yes resolved other = (
   next,
   others,
@@ -186,29 +186,23 @@ option_sound grammar word names option [] more form each Maybe resolved other =
 
 -- what doesn't resolve, after flags
 unknown_flag : (grammar : Grammar) → IsNamed grammar
-    → (word : Text) (names : List ℕ) (byte : ℕ) (text : Text)
+    → (word : Text) (names : List ℕ) (byte : ℕ) (text : Text) (more : List Text)
     → IsShortForm grammar word (names ++ byte ∷ text) → AllByRecursion (IsFlag grammar) names
     → grammar.kind_of (byte ∷ []) ≡ None → IsUtf8 word
-    → HasUnknownFlag grammar word (first_char (byte ∷ text))
-unknown_flag grammar named word names byte text form each resolved utf8 =
+    → IsFaultAt grammar word more (unrecognized_option (first_char (byte ∷ text)))
+unknown_flag grammar named word names byte text more form each resolved utf8 =
     let whole : IsUtf8 (dash ∷ (names ++ byte ∷ text)) = subst IsUtf8 form.word_is utf8 in
     let flags_first : IsUtf8 (names ++ byte ∷ text) = IsUtf8-past_ascii dash (names ++ byte ∷ text) (omega arith) whole in
     let from : IsUtf8 (byte ∷ text) = IsUtf8-past_asciis names (byte ∷ text) (flags_ascii grammar named names each) flags_first in
     let begins = begins_with_char byte text from in
-    let at : byte ∷ text ≡ first_char (byte ∷ text) ++ begins.1.rest = rw begins.1.first begins.1.text_is in
-    record {
-      names = names;
-      character = begins.0;
-      more = begins.1.rest;
-      short_form = subst (λ (t : Text). IsShortForm grammar word (names ++ t)) at form;
+    rw begins.1.first (unknown_character begins.0 begins.1.rest begins.1.scalar (record {
+      bytes = names;
+      short_form = subst (λ (t : Text). IsShortForm grammar word (names ++ t)) begins.1.text_is form;
       each = each;
-      scalar = begins.1.scalar;
-      name_is = begins.1.first;
-      unknown = rw begins.1.first (unknown_name begins.0 begins.1.rest begins.1.text_is);
-    } where
-      unknown_name : (c : ℕ) (others : Text) → byte ∷ text ≡ encode_utf8 c ++ others
+    }) (is_unknown begins.0 begins.1.rest begins.1.text_is)) where
+      is_unknown : (c : ℕ) (others : Text) → byte ∷ text ≡ encode_utf8 c ++ others
           → (1 < length (encode_utf8 c)) ⊎ (grammar.kind_of (encode_utf8 c) ≡ None)
-      unknown_name c others e = elim (cases_lt byte 128) [
+      is_unknown c others e = elim (cases_lt byte 128) [
         | inl ascii ↦ inr (rw (encode-ascii_byte c byte text others e ascii) resolved)
         | inr wide ↦ inl (length-encode-wide c byte text others e wide)
       ]
@@ -221,7 +215,7 @@ pub byte_sound : (grammar : Grammar) → IsNamed grammar
     → (kind ≡ Some No → IsSoundTurn grammar word more after)
     → IsSoundTurn grammar word more (byte_turn kind names byte text more after)
 byte_sound grammar named word names byte text more form each None resolved after flag =
-    λ utf8. inr (unknown_flag grammar named word names byte text form each resolved utf8)
+    λ utf8. unknown_flag grammar named word names byte text more form each resolved utf8
 byte_sound grammar named word names byte text more form each (Some No) resolved after flag = flag refl
 byte_sound grammar named word names byte text more form each (Some Yes) resolved after flag =
     option_sound grammar word names byte text more form each Yes resolved (λ e. cc e)
@@ -602,44 +596,48 @@ unknown_bytes_turn grammar named word names c (byte ∷ bytes) text more e utf8 
     ∙ ap (λ (t : Text). faults (unrecognized_option t)) first
 
 -- a word with an unknown flag
-unknown_turn : (grammar : Grammar) → IsNamed grammar → (word name : Text) (more : List Text)
-    → IsUtf8 word → HasUnknownFlag grammar word name
-    → turn grammar word more ≡ faults (unrecognized_option name)
-unknown_turn grammar named word name more utf8 has =
-    let whole : IsUtf8 (dash ∷ (has.names ++ (name ++ has.more))) = subst IsUtf8 has.short_form.word_is utf8 in
-    let from : IsUtf8 (name ++ has.more) = IsUtf8-past_asciis has.names (name ++ has.more) (flags_ascii grammar named has.names has.each)
-    (IsUtf8-past_ascii dash (has.names ++ (name ++ has.more)) (omega arith) whole) in
-    unknown_bytes_turn grammar named word has.names has.character name has.more more has.name_is from has.short_form has.each has.unknown
+unknown_turn : (grammar : Grammar) → IsNamed grammar
+    → (word : Text) (character : ℕ) (text : Text) (more : List Text) → IsUtf8 word
+    → HasAfterFlags grammar word (encode_utf8 character ++ text)
+    → (1 < length (encode_utf8 character)) ⊎ (grammar.kind_of (encode_utf8 character) ≡ None)
+    → turn grammar word more ≡ faults (unrecognized_option (encode_utf8 character))
+unknown_turn grammar named word character text more utf8 has unknown =
+    let name = encode_utf8 character in
+    let whole : IsUtf8 (dash ∷ (has.bytes ++ (name ++ text))) = subst IsUtf8 has.short_form.word_is utf8 in
+    let from : IsUtf8 (name ++ text) =
+    IsUtf8-past_asciis has.bytes (name ++ text) (flags_ascii grammar named has.bytes has.each)
+    (IsUtf8-past_ascii dash (has.bytes ++ (name ++ text)) (omega arith) whole) in
+    unknown_bytes_turn grammar named word has.bytes character name text more refl from has.short_form has.each unknown
 
 -- a word that ends in an option of kind Yes, at the end of the line
-missing_turn : (grammar : Grammar) (word name : Text) → EndsInYes grammar word name
-    → turn grammar word [] ≡ faults (argument_missing name)
-missing_turn grammar word name has =
-    let kind : grammar.kind_of (has.option ∷ []) ≡ Some Yes = rw has.name_is at has.kind in
-    short_turn_byte grammar word has.names has.option [] [] (Some Yes) has.short_form has.each kind
-    ∙ ap (λ (t : Text). faults (argument_missing t)) (sym has.name_is)
+missing_turn : (grammar : Grammar) (word : Text) (option : ℕ)
+    → HasAfterFlags grammar word (option ∷ []) → grammar.kind_of (option ∷ []) ≡ Some Yes
+    → turn grammar word [] ≡ faults (argument_missing (option ∷ []))
+missing_turn grammar word option has kind =
+    short_turn_byte grammar word has.bytes option [] [] (Some Yes) has.short_form has.each kind
 
 -- a word with a fault
 pub fault_turn : (grammar : Grammar) → IsNamed grammar
     → (word : Text) (more : List Text) (fault : Fault) → IsUtf8 word
     → IsFaultAt grammar word more fault → turn grammar word more ≡ faults fault
-fault_turn grammar named word more (unrecognized_option name) utf8 (inl at) = long_fault grammar word name at.0 more None at.1 at.2
-fault_turn grammar named word more (unrecognized_option name) utf8 (inr has) = unknown_turn grammar named word name more utf8 has
-fault_turn grammar named word more (unexpected_argument name) utf8 at = long_fault grammar word name (Some at.0) more (Some No) at.1 at.2
-fault_turn grammar named word [] (argument_missing name) utf8 (inl long_end, ended) =
-    long_fault grammar word name None [] (Some Yes) long_end.0 long_end.1
-fault_turn grammar named word [] (argument_missing name) utf8 (inr has, ended) = missing_turn grammar word name has
-fault_turn grammar named word (next ∷ others) (argument_missing name) utf8 at = cc at.1
-fault_turn grammar named word more (option_missing name) utf8 at = absurd at
-fault_turn grammar named word more (option_duplicated name) utf8 at = absurd at
+fault_turn grammar named word more fault utf8 (unknown_name name argument form unknown) =
+    long_fault grammar word name argument more None form unknown
+fault_turn grammar named word more fault utf8 (unknown_character character text scalar has unknown) =
+    unknown_turn grammar named word character text more utf8 has unknown
+fault_turn grammar named word more fault utf8 (unwanted_argument name argument form kind) =
+    long_fault grammar word name (Some argument) more (Some No) form kind
+fault_turn grammar named word more fault utf8 (long_unfinished name form kind ended) =
+    rw ended (long_fault grammar word name None [] (Some Yes) form kind)
+fault_turn grammar named word more fault utf8 (short_unfinished option has kind ended) =
+    rw ended (missing_turn grammar word option has kind)
 
 -- a word with a fault is dashed
 pub fault_dashed : (grammar : Grammar) (word : Text) (more : List Text) (fault : Fault)
     → IsFaultAt grammar word more fault → is_dashed word ≡ true
-fault_dashed grammar word more (unrecognized_option name) (inl at) = at.1.dashed
-fault_dashed grammar word more (unrecognized_option name) (inr has) = short_dashed grammar word (has.names ++ (name ++ has.more)) has.short_form
-fault_dashed grammar word more (unexpected_argument name) at = at.1.dashed
-fault_dashed grammar word more (argument_missing name) (inl long_end, ended) = long_end.0.dashed
-fault_dashed grammar word more (argument_missing name) (inr has, ended) = short_dashed grammar word (has.names ++ has.option ∷ []) has.short_form
-fault_dashed grammar word more (option_missing name) at = absurd at
-fault_dashed grammar word more (option_duplicated name) at = absurd at
+fault_dashed grammar word more fault (unknown_name name argument form unknown) = form.dashed
+fault_dashed grammar word more fault (unknown_character character text scalar has unknown) =
+    short_dashed grammar word (has.bytes ++ (encode_utf8 character ++ text)) has.short_form
+fault_dashed grammar word more fault (unwanted_argument name argument form kind) = form.dashed
+fault_dashed grammar word more fault (long_unfinished name form kind ended) = form.dashed
+fault_dashed grammar word more fault (short_unfinished option has kind ended) =
+    short_dashed grammar word (has.bytes ++ option ∷ []) has.short_form

@@ -16,6 +16,7 @@ use Rattle.getopts.specs.Options.{Grammar}
 use Rattle.getopts.specs.Fail.{argument_missing, unrecognized_option}
 use Rattle.getopts.specs.Scan.{dash, Argument, none, attached, separate, flags, ends_in, cluster}
 use Rattle.getopts.specs.Scan.{attached_argument, value_of, IsFlag, IsShortForm, IsFaultAt}
+use Rattle.getopts.specs.Scan.{unknown_character, short_unfinished}
 use Rattle.getopts.specs.Scan.{begins_with_dash, Occurrence, occurrence_at, mention, is_bare}
 use Rattle.getopts.specs.Line.{AddsItem, IsEnding}
 use Rattle.getopts.specs.declared.groups.HasArg.{HasArg}
@@ -177,38 +178,28 @@ module _ (grammar : Grammar) (position : ℕ) (text : Text) where
           → grammar.kind_of (slice_index text at ∷ []) ≡ None → IsScalar character
           → name ≡ encode_utf8 character → drop at text ≡ name ++ more
           → IsFaultAt grammar word after (unrecognized_option name)
-      IsFaultAt-unknown character name more unknown scalar name_is text_is = inr (record {
-        names = take at text;
-        character = character;
-        more = more;
-        short_form = subst (IsShortForm grammar word) (sym (take-append-drop at text) ∙ ap (λ t. take at text ++ t) text_is) form;
-        each = before.flags;
-        scalar = scalar;
-        name_is = name_is;
-        unknown =
-            let begins : slice_index text at ∷ drop (at + 1) text ≡ encode_utf8 character ++ more =
-            sym (text_from text at within) ∙ text_is ∙ ap (λ n. n ++ more) name_is in
-            elim (cases_lt (slice_index text at) 128) [
-              | inl ascii ↦ inr (subst (λ n. grammar.kind_of n ≡ None)
-                  (sym (name_is ∙ encode-ascii_byte character (slice_index text at)
-                  (drop (at + 1) text) more begins ascii)) unknown)
-              | inr wide ↦ inl (subst (λ n. 1 < length n) (sym name_is)
-                  (length-encode-wide character (slice_index text at) (drop (at + 1) text) more begins wide))
-            ];
-      })
+      IsFaultAt-unknown character name more unknown scalar name_is text_is =
+          let begins : drop at text ≡ encode_utf8 character ++ more = text_is ∙ ap (λ n. n ++ more) name_is in
+          let first : slice_index text at ∷ drop (at + 1) text ≡ encode_utf8 character ++ more =
+          sym (text_from text at within) ∙ begins in
+          rw name_is (unknown_character character more scalar (record {
+            bytes = take at text;
+            short_form = subst (IsShortForm grammar word)
+                (sym (take-append-drop at text) ∙ ap (λ t. take at text ++ t) begins) form;
+            each = before.flags;
+          }) (elim (cases_lt (slice_index text at) 128) [
+            | inl ascii ↦ inr (subst (λ n. grammar.kind_of n ≡ None)
+                (sym (encode-ascii_byte character (slice_index text at) (drop (at + 1) text) more first ascii)) unknown)
+            | inr wide ↦ inl (length-encode-wide character (slice_index text at) (drop (at + 1) text) more first wide)
+          ]))
 
       -- flags, and a last name of kind Yes without an argument
       pub IsFaultAt-missing : grammar.kind_of (slice_index text at ∷ []) ≡ Some Yes
           → drop (at + 1) text ≡ [] → after ≡ []
           → IsFaultAt grammar word after (argument_missing (slice_index text at ∷ []))
-      IsFaultAt-missing kind_is at_end line_ends = (
-        inr (record {
-          names = take at text;
-          option = slice_index text at;
-          short_form = subst (IsShortForm grammar word) (text_parts text at within ∙ ap (λ t. take at text ++ (slice_index text at ∷ t)) at_end) form;
-          each = before.flags;
-          name_is = refl;
-          kind = kind_is;
-        }),
-        line_ends,
-      )
+      IsFaultAt-missing kind_is at_end line_ends = short_unfinished (slice_index text at) (record {
+        bytes = take at text;
+        short_form = subst (IsShortForm grammar word)
+            (text_parts text at within ∙ ap (λ t. take at text ++ (slice_index text at ∷ t)) at_end) form;
+        each = before.flags;
+      }) kind_is line_ends

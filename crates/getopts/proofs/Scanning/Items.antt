@@ -5,13 +5,27 @@ use Rattle.getopts.specs.Names.{Text}
 use Rattle.getopts.specs.Options.{Grammar}
 use Rattle.getopts.specs.Scan.{Argument, none, attached, long, with_equals, attached_argument}
 use Rattle.getopts.specs.Scan.{argument_words, value_of, FitsLong, holds_equals, MayStandBefore}
-use Rattle.getopts.specs.Scan.{dash_text, long_word}
+use Rattle.getopts.specs.Scan.{dash_text, long_word, IsLongForm}
 use Rattle.getopts.specs.Names.{texts}
 use Rattle.getopts.specs.Scan.{Occurrence}
 use Rattle.getopts.specs.Line.{IsInLongForm, ReadsItem, AddsItem}
 use Rattle.getopts.specs.declared.groups.HasArg.{HasArg}
 use Rattle.getopts.specs.declared.groups.HasArg.TheVariants.{Maybe}
 use Rattle.getopts.proofs.Reading.Steps.{before_front}
+
+-- a word in long form, cut into its name and its attached argument
+pub IsLongForm-cut : (grammar : Grammar) (word text name : Text) (argument : Option Text)
+    → IsInLongForm grammar word text → text ≡ name ++ with_equals argument
+    → holds_equals name ≡ false → IsLongForm grammar word name argument
+IsLongForm-cut grammar word text name argument form text_is cut_once = record {
+  dashes = form.dashes;
+  before = before_front grammar.long_only form.dashes name (with_equals argument)
+      (subst (λ t. MayStandBefore grammar.long_only form.dashes t) text_is form.before);
+  cut_once = cut_once;
+  word_is = form.word_is ∙ ap (λ t. dash_text form.dashes ++ t) text_is;
+  dashed = form.dashed;
+  no_stop = form.no_stop;
+}
 
 -- a name and an argument that its kind may have make an item in long form
 pub ReadsItem-long : (grammar : Grammar) (word text name : Text) (argument : Argument)
@@ -94,3 +108,8 @@ texts-first [] word h = cc
 texts-first (x ∷ words) word h =
     let same : x ≡ word = cc in
     (omega arith, ap (λ (y : Bor Text). y.now ∷ texts words) same)
+
+-- a list of borrowed words that has no first one
+pub texts-none : (words : List (Bor Text)) → slice_get words 0 ≡ None → texts words ≡ []
+texts-none [] h = refl
+texts-none (x ∷ words) h = cc

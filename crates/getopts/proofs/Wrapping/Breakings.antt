@@ -8,29 +8,30 @@ use Rattle.std.specs.List.{flat_map}
 use Rattle.std.proofs.lemmas.Bool.{leb-true, le-leb}
 use Rattle.std.proofs.lemmas.List.Elements.{All-nil, All-cons, All-head, All-tail}
 use Rattle.std.proofs.lemmas.List.Sums.{sum_by-append}
-use Rattle.getopts.specs.Wrap.{Word, Run, width_of, columns_of, FitsIn, IsFittingBreaking}
+use Rattle.getopts.specs.Names.{Text}
+use Rattle.getopts.specs.Wrap.{Run, width_of, columns_of, FitsIn, IsFittingBreaking}
 use Rattle.getopts.specs.Wrap.{NoneTakesMore, IsTightBreaking, IsFewestBreaking}
 use Rattle.getopts.proofs.Lists.{Within, cuts}
 
 -- ---- filling one row after the other
 
 -- whether the word still fits in the row after the run
-abbrev pub has_room : ℕ → Run → Word → Bool
+abbrev pub has_room : ℕ → Run → Text → Bool
 has_room limit run word = nat_le (columns_of (run ++ word ∷ [])) limit
 
 -- the runs that come of a row begun with the run, and the words after it
-abbrev pub runs_from : ℕ → Run → List Word → List Run
+abbrev pub runs_from : ℕ → Run → List Text → List Run
 runs_from limit run [] = run ∷ []
 runs_from limit run (word ∷ words) = cond (has_room limit run word) (runs_from limit (run ++ word ∷ []) words)
     (run ∷ runs_from limit (word ∷ []) words)
 
 -- the words, broken by filling row after row
-abbrev pub runs_of : ℕ → List Word → List Run
+abbrev pub runs_of : ℕ → List Text → List Run
 runs_of limit [] = []
 runs_of limit (word ∷ words) = runs_from limit (word ∷ []) words
 
 -- one more word: it is taken, or begins a row
-runs_from-cases : (P : List Run → Type 0) (limit : ℕ) (run : Run) (word : Word) (words : List Word)
+runs_from-cases : (P : List Run → Type 0) (limit : ℕ) (run : Run) (word : Text) (words : List Text)
     → (has_room limit run word ≡ true → P (runs_from limit (run ++ word ∷ []) words))
     → (has_room limit run word ≡ false → P (run ∷ runs_from limit (word ∷ []) words))
     → P (runs_from limit run (word ∷ words))
@@ -42,13 +43,13 @@ runs_from-cases P limit run word words taken refused = by_answer (has_room limit
     by_answer true e = taken e
     by_answer false e = refused e
 
-pub runs_from-taken : (limit : ℕ) (run : Run) (word : Word) (words : List Word)
+pub runs_from-taken : (limit : ℕ) (run : Run) (word : Text) (words : List Text)
     → has_room limit run word ≡ true
     → runs_from limit run (word ∷ words) ≡ runs_from limit (run ++ word ∷ []) words
 runs_from-taken limit run word words e = ap (λ answer. cond answer (runs_from limit (run ++ word ∷ []) words)
     (run ∷ runs_from limit (word ∷ []) words)) e
 
-pub runs_from-refused : (limit : ℕ) (run : Run) (word : Word) (words : List Word)
+pub runs_from-refused : (limit : ℕ) (run : Run) (word : Text) (words : List Text)
     → has_room limit run word ≡ false
     → runs_from limit run (word ∷ words) ≡ run ∷ runs_from limit (word ∷ []) words
 runs_from-refused limit run word words e = ap (λ answer. cond answer (runs_from limit (run ++ word ∷ []) words)
@@ -77,11 +78,11 @@ FitsIn-inside limit front run back has_word fits =
 
 -- ---- a word is taken exactly where the run fits with it
 
-FitsIn-taken : (limit : ℕ) (run : Run) (word : Word) → has_room limit run word ≡ true
+FitsIn-taken : (limit : ℕ) (run : Run) (word : Text) → has_room limit run word ≡ true
     → FitsIn limit (run ++ word ∷ [])
 FitsIn-taken limit run word taken = inr (leb-true _ _ taken)
 
-room_where_fits : (limit : ℕ) (run : Run) (word : Word) → 0 < length run
+room_where_fits : (limit : ℕ) (run : Run) (word : Text) → 0 < length run
     → FitsIn limit (run ++ word ∷ []) → has_room limit run word ≡ true
 room_where_fits limit run word has_word fits =
     ⊎_elim
@@ -89,11 +90,11 @@ room_where_fits limit run word has_word fits =
     (λ (within : columns_of (run ++ word ∷ []) ≤ limit). le-leb _ _ within)
     fits
 
-refused_does_not_fit : (limit : ℕ) (run : Run) (word : Word) → 0 < length run
+refused_does_not_fit : (limit : ℕ) (run : Run) (word : Text) → 0 < length run
     → has_room limit run word ≡ false → ¬ FitsIn limit (run ++ word ∷ [])
 refused_does_not_fit limit run word has_word refused fits = let taken = room_where_fits limit run word has_word fits in cc
 
-does_not_fit_refused : (limit : ℕ) (run : Run) (word : Word) → ¬ FitsIn limit (run ++ word ∷ [])
+does_not_fit_refused : (limit : ℕ) (run : Run) (word : Text) → ¬ FitsIn limit (run ++ word ∷ [])
     → has_room limit run word ≡ false
 does_not_fit_refused limit run word too_long = by_answer (has_room limit run word) refl
   where
@@ -102,7 +103,7 @@ does_not_fit_refused limit run word too_long = by_answer (has_room limit run wor
     by_answer false refused = refused
 
 -- a word that follows some words in a fitting run is taken
-room-inside : (limit : ℕ) (front run : Run) (word : Word) (back : Run) → 0 < length run
+room-inside : (limit : ℕ) (front run : Run) (word : Text) (back : Run) → 0 < length run
     → FitsIn limit (front ++ (run ++ word ∷ back)) → has_room limit run word ≡ true
 room-inside limit front run word back has_word fits =
     let regrouped : FitsIn limit (front ++ ((run ++ word ∷ []) ++ back)) =
@@ -117,7 +118,7 @@ BeginsWith : Run → List Run → Type 0
 BeginsWith run runs = (more : Run) × (others : List Run) × (runs ≡ (run ++ more) ∷ others)
 
 -- the first of the runs goes on from the run
-runs_from-first : (limit : ℕ) (run : Run) (words : List Word)
+runs_from-first : (limit : ℕ) (run : Run) (words : List Text)
     → BeginsWith run (runs_from limit run words)
 unfolding BeginsWith
 runs_from-first limit run [] = ([], [], ap (λ (first : Run). first ∷ []) (sym (append-nil run)))
@@ -126,15 +127,15 @@ runs_from-first limit run (word ∷ words) =
     (λ _. let first = runs_from-first limit (run ++ word ∷ []) words in (word ∷ first.0, first.1, rw append_assoc at first.2))
     (λ _. ([], runs_from limit (word ∷ []) words, ap (λ (first : Run). first ∷ runs_from limit (word ∷ []) words) (sym (append-nil run))))
 
-runs_from-joined : (limit : ℕ) (run : Run) (words : List Word)
+runs_from-joined : (limit : ℕ) (run : Run) (words : List Text)
     → flat_map (λ run. run) (runs_from limit run words) ≡ run ++ words
 runs_from-joined limit run [] = refl
 runs_from-joined limit run (word ∷ words) =
     runs_from-cases (λ runs. flat_map (λ run. run) runs ≡ run ++ word ∷ words) limit run word words
     (λ _. runs_from-joined limit (run ++ word ∷ []) words ∙ append_assoc run (word ∷ []) words)
-    (λ _. ap (λ (rest : List Word). run ++ rest) (runs_from-joined limit (word ∷ []) words))
+    (λ _. ap (λ (rest : List Text). run ++ rest) (runs_from-joined limit (word ∷ []) words))
 
-runs_from-nonempty : (limit : ℕ) (run : Run) (words : List Word) → 0 < length run
+runs_from-nonempty : (limit : ℕ) (run : Run) (words : List Text) → 0 < length run
     → All (λ run. 0 < length run) (runs_from limit run words)
 runs_from-nonempty limit run [] has_word = All-cons (λ run. 0 < length run) run [] has_word (All-nil (λ run. 0 < length run))
 runs_from-nonempty limit run (word ∷ words) has_word =
@@ -142,7 +143,7 @@ runs_from-nonempty limit run (word ∷ words) has_word =
     (λ _. runs_from-nonempty limit (run ++ word ∷ []) words (omega (arith, length-append run (word ∷ []))))
     (λ _. All-cons (λ run. 0 < length run) run _ has_word (runs_from-nonempty limit (word ∷ []) words (omega arith)))
 
-runs_from-fits : (limit : ℕ) (run : Run) (words : List Word) → FitsIn limit run
+runs_from-fits : (limit : ℕ) (run : Run) (words : List Text) → FitsIn limit run
     → All (FitsIn limit) (runs_from limit run words)
 runs_from-fits limit run [] fits = All-cons (FitsIn limit) run [] fits (All-nil (FitsIn limit))
 runs_from-fits limit run (word ∷ words) fits =
@@ -151,7 +152,7 @@ runs_from-fits limit run (word ∷ words) fits =
     (λ _. All-cons (FitsIn limit) run _ fits (runs_from-fits limit (word ∷ []) words (inl refl)))
 
 -- a run that can't take a word stands tightly before runs that begin with it
-tight-cons : (limit : ℕ) (run : Run) (word : Word) (runs : List Run)
+tight-cons : (limit : ℕ) (run : Run) (word : Text) (runs : List Run)
     → ¬ FitsIn limit (run ++ word ∷ []) → BeginsWith (word ∷ []) runs → NoneTakesMore limit runs
     → NoneTakesMore limit (run ∷ runs)
 unfolding BeginsWith
@@ -160,7 +161,7 @@ tight-cons limit run word runs long first tight =
     subst (λ (runs : List Run). NoneTakesMore limit (run ∷ runs)) (sym as_cons)
     (long, subst (NoneTakesMore limit) as_cons tight)
 
-runs_from-tight : (limit : ℕ) (run : Run) (words : List Word) → 0 < length run
+runs_from-tight : (limit : ℕ) (run : Run) (words : List Text) → 0 < length run
     → NoneTakesMore limit (runs_from limit run words)
 runs_from-tight limit run [] has_word = tt
 runs_from-tight limit run (word ∷ words) has_word =
@@ -169,7 +170,7 @@ runs_from-tight limit run (word ∷ words) has_word =
     (λ e. tight-cons limit run word _ (refused_does_not_fit limit run word has_word e)
     (runs_from-first limit (word ∷ []) words) (runs_from-tight limit (word ∷ []) words (omega arith)))
 
-pub runs_of-tight : (limit : ℕ) (words : List Word)
+pub runs_of-tight : (limit : ℕ) (words : List Text)
     → IsTightBreaking limit words (runs_of limit words)
 runs_of-tight limit [] =
     record {
@@ -216,7 +217,7 @@ runs_from-only limit ((word ∷ next) ∷ runs) run [] has_word nonempty fits ti
     ∙ ap (λ (first : Run). first ∷ (word ∷ next) ∷ runs) (sym (append-nil run))
 
 -- every tight breaking is the one that filling gives
-pub runs_of-only : (limit : ℕ) (words : List Word) (others : List Run)
+pub runs_of-only : (limit : ℕ) (words : List Text) (others : List Run)
     → IsTightBreaking limit words others → others ≡ runs_of limit words
 runs_of-only limit words [] tight = ap (runs_of limit) tight.fitting.joined
 runs_of-only limit words ([] ∷ runs) tight = absurd (omega (arith, All-head (λ run. 0 < length run) [] runs tight.fitting.nonempty))
@@ -228,7 +229,7 @@ runs_of-only limit words ((word ∷ more) ∷ runs) tight =
 -- ---- no fitting breaking has fewer runs
 
 -- words that follow a run inside a fitting run are all taken
-runs_from-through : (limit : ℕ) (front run more : Run) (words : List Word) → 0 < length run
+runs_from-through : (limit : ℕ) (front run more : Run) (words : List Text) → 0 < length run
     → FitsIn limit (front ++ (run ++ more))
     → runs_from limit run (more ++ words) ≡ runs_from limit (run ++ more) words
 runs_from-through limit front run [] words has_word fits = ap (λ (run : Run). runs_from limit run words) (sym (append-nil run))
@@ -240,7 +241,7 @@ runs_from-through limit front run (word ∷ more) words has_word fits =
     ∙ ap (λ (run : Run). runs_from limit run words) regrouped
 
 -- the runs after the first break what is left of the words
-fitting-tail : (limit : ℕ) (words rest : List Word) (other : Run) (others : List Run)
+fitting-tail : (limit : ℕ) (words rest : List Text) (other : Run) (others : List Run)
     → IsFittingBreaking limit words (other ∷ others) → flat_map (λ run. run) others ≡ rest
     → IsFittingBreaking limit rest others
 fitting-tail limit words rest other others fitting joined = record {
@@ -252,14 +253,14 @@ fitting-tail limit words rest other others fitting joined = record {
 -- filling from a run takes at most one row more than any breaking of the words after it, also where
 -- that begins earlier
 AheadAfter : ℕ → List Run → Type 0
-AheadAfter limit others = (front : List Word) (run : Run) (words : List Word) → 0 < length run
+AheadAfter limit others = (front : List Text) (run : Run) (words : List Text) → 0 < length run
     → IsFittingBreaking limit (front ++ words) others
     → length (runs_from limit run words) ≤ 1 + length others
 
 -- filling from a run takes no more rows than any breaking of the run and the words after it, also
 -- where that begins earlier
 AheadFrom : ℕ → List Run → Type 0
-AheadFrom limit others = (front : List Word) (run : Run) (words : List Word) → 0 < length run
+AheadFrom limit others = (front : List Text) (run : Run) (words : List Text) → 0 < length run
     → IsFittingBreaking limit (front ++ (run ++ words)) others
     → length (runs_from limit run words) ≤ length others
 
@@ -270,7 +271,7 @@ after_from limit others ahead front run (word ∷ words) has_word fitting =
     runs_from-cases (λ runs. length runs ≤ 1 + length others) limit run word words
     (λ _. after_from limit others ahead (front ++ word ∷ []) (run ++ word ∷ []) words
     (omega (arith, length-append run (word ∷ [])))
-    (subst (λ (covered : List Word). IsFittingBreaking limit covered others)
+    (subst (λ (covered : List Text). IsFittingBreaking limit covered others)
     (sym (append_assoc front (word ∷ []) words)) fitting))
     (λ _. omega (arith, ahead front (word ∷ []) words (omega arith) fitting))
 
@@ -299,12 +300,12 @@ ahead_from limit [] front run words has_word fitting =
 ahead_from limit (other ∷ others) front run words has_word fitting = from_after limit other others
     (after_from limit others (ahead_from limit others)) front run words has_word fitting
 
-pub runs_of-fewest : (limit : ℕ) (words : List Word) (others : List Run)
+pub runs_of-fewest : (limit : ℕ) (words : List Text) (others : List Run)
     → IsFittingBreaking limit words others → length (runs_of limit words) ≤ length others
 unfolding AheadFrom
 runs_of-fewest limit [] others fitting = omega arith
 runs_of-fewest limit (word ∷ words) others fitting = ahead_from limit others [] (word ∷ []) words (omega arith) fitting
 
-pub runs_of-is_fewest : (limit : ℕ) (words : List Word)
+pub runs_of-is_fewest : (limit : ℕ) (words : List Text)
     → IsFewestBreaking limit words (runs_of limit words)
 runs_of-is_fewest limit words = record { tight = runs_of-tight limit words; fewest = runs_of-fewest limit words }

@@ -6,7 +6,8 @@ use Rattle.std.specs.List.{AllZip, flat_map}
 use Rattle.std.proofs.lemmas.Bool.Decides.{nat_tests}
 use Rattle.std.proofs.lemmas.List.{map-append}
 use Rattle.std.proofs.lemmas.List.Concat.{flat_map-append}
-use Rattle.getopts.specs.Wrap.{Word, Run, text_of, IsTightBreaking, IsFewestBreaking, words_of}
+use Rattle.getopts.specs.Names.{Text}
+use Rattle.getopts.specs.Wrap.{Run, text_of, IsTightBreaking, IsFewestBreaking, words_of}
 use Rattle.getopts.specs.Wrap.{words_of_lines, BreaksInto, IsDescriptionRows, joined, continued}
 use Rattle.getopts.specs.Wrap.{AddsDescription, AddsLine}
 use Rattle.getopts.proofs.Lists.{all_zip_push, all_zip_weaker}
@@ -47,7 +48,7 @@ lines_add limit separator lines line begun now_begun old text new_text so_far ad
     record {
       breakings = so_far.breakings ++ runs ∷ [];
       rows = rows ++ more;
-      each_line = subst (λ (words : List (List Word)). AllZip (IsTightBreaking limit) words
+      each_line = subst (λ (words : List (List Text)). AllZip (IsTightBreaking limit) words
           (so_far.breakings ++ runs ∷ [])) (sym (map-append words_of lines (line ∷ []))) (all_zip_push
           (IsTightBreaking limit) (map words_of lines) so_far.breakings (words_of line) runs so_far.each_line
           adds.1.1);
@@ -79,7 +80,7 @@ lines_end limit separator desc lines begun old text so_far all = (
   so_far.rows,
   record {
     breakings = so_far.breakings;
-    each_line = subst (λ (words : List (List Word)). AllZip (IsTightBreaking limit) words so_far.breakings) all so_far.each_line;
+    each_line = subst (λ (words : List (List Text)). AllZip (IsTightBreaking limit) words so_far.breakings) all so_far.each_line;
     texts = so_far.texts;
   },
   so_far.text_is,

@@ -7,18 +7,19 @@ use Rattle.std.specs.Str.{IsUtf8}
 use Rattle.std.proofs.lemmas.Bool.{le-leb}
 use Rattle.std.proofs.lemmas.Bool.Decides.{nat_tests}
 use Rattle.std.proofs.lemmas.List.Sums.{sum_by-append, sum_by-cons}
-use Rattle.getopts.specs.Wrap.{Word, Run, width_of, columns_of, text_of, IsTightBreaking, words_of}
+use Rattle.getopts.specs.Names.{Text}
+use Rattle.getopts.specs.Wrap.{Run, width_of, columns_of, text_of, IsTightBreaking, words_of}
 use Rattle.getopts.specs.Wrap.{joined, continued, parting, AddsLine}
 use Rattle.getopts.proofs.Wrapping.Breakings.{has_room, runs_from, runs_of, runs_from-taken}
 use Rattle.getopts.proofs.Wrapping.Breakings.{runs_from-refused, runs_of-tight}
 use Rattle.getopts.proofs.Wrapping.Texts.{joined-longer, joined-next, continued-some}
 
 -- one more word at the end of a run: its columns and its text
-columns_of-push : (run : Run) (word : Word) → 0 < length run
+columns_of-push : (run : Run) (word : Text) → 0 < length run
     → columns_of (run ++ word ∷ []) ≡ columns_of run + (1 + width_of word)
 columns_of-push run word has_word = omega (arith, sum_by-append width_of run (word ∷ []), length-append run (word ∷ []))
 
-text_of-push : (run : Run) (word : Word) → 0 < length run
+text_of-push : (run : Run) (word : Text) → 0 < length run
     → text_of (run ++ word ∷ []) ≡ (text_of run ++ 32 ∷ []) ++ word
 text_of-push [] word has_word = absurd (omega arith)
 text_of-push (first ∷ []) word has_word = sym (append_assoc first (32 ∷ []) word)
@@ -47,7 +48,7 @@ pub adds_none : (limit : ℕ) (separator line : List ℕ) (begun : Bool) (text :
     → words_of line ≡ [] → AddsLine limit separator line begun begun text text
 adds_none limit separator line begun text none = (
   [],
-  ([], subst (λ (words : List Word). IsTightBreaking limit words []) (sym none) (runs_of-tight limit []), refl),
+  ([], subst (λ (words : List Text). IsTightBreaking limit words []) (sym none) (runs_of-tight limit []), refl),
   unchanged begun,
   sym (ap (λ (more : List ℕ). text ++ more) (nothing begun) ∙ append-nil text),
 )
@@ -71,7 +72,7 @@ rows_begin limit separator line start text word columns rest next text_is column
   text_is = text_is ∙ ap (λ (row : List ℕ). start ++ row) (sym (append-nil word));
   columns_are = omega (arith, sum_by-cons width_of word []);
   utf8 = next.0;
-  to_come = ap (λ (words : List Word). map text_of (runs_of limit words)) (sym next.1);
+  to_come = ap (λ (words : List Text). map text_of (runs_of limit words)) (sym next.1);
 }
 
 module _ {limit : ℕ} {separator line start text : List ℕ} {columns : ℕ} {rest : List ℕ}
@@ -150,7 +151,7 @@ module _ {limit : ℕ} {separator line start text : List ℕ} {columns : ℕ} {r
         (
           runs_of limit (words_of line),
           runs_of-tight limit (words_of line),
-          ap (λ (words : List Word). so_far.rows ++ map text_of (runs_from limit so_far.run words))
+          ap (λ (words : List Text). so_far.rows ++ map text_of (runs_from limit so_far.run words))
               (sym none) ∙ so_far.to_come,
         ),
         has_begun begun (length rows) some,

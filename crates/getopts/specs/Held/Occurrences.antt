@@ -7,8 +7,7 @@ use Rattle.std.specs.String.{string_bytes}
 use Rattle.std.specs.declared.string.String.{String}
 use Rattle.std.specs.declared.alloc.Global.{Global}
 use Rattle.getopts.specs.Names.{Text}
-use Rattle.getopts.specs.Scan.{Occurrence}
-use Rattle.getopts.specs.Matches.{Found}
+use Rattle.getopts.specs.Matches.{Found, found_part}
 use Rattle.getopts.specs.declared.occurrences.Occurrences.TheInside.{Inside}
 
 -- a position and a value, borrowed
@@ -18,10 +17,6 @@ held_found pair = record { position = pair.0; value = option_copied pair.1 }
 -- a position and a value, copied
 abbrev pub pair_view : ℕ × String Global → ℕ × Text
 pair_view pair = (pair.0, string_bytes pair.1)
-
--- an occurrence of a group that is known
-abbrev pub found_part : Occurrence → Found
-found_part occurrence = record { position = occurrence.position; value = occurrence.mention.value }
 
 -- the occurrences of one group
 abbrev pub occurrences_view : Inside → List Found

@@ -140,6 +140,6 @@ free_trailing_start_follows_free =
 abbrev pub value_of_another_occurrence : Type 0
 value_of_another_occurrence =
     Refutes (Answers arguments (typed ("-a1" ∷ "-o2" ∷ []))
-    (λ matches lent. lent ≡ slice_get (found_in matches.groups (Some 1)) 0))
+    (λ matches lent. lent ≡ slice_get (found_in matches.groups 1) 0))
     (Ok (Some (record { position = 1; value = Some (codes "2") })))
     (Ok (Some (record { position = 1; value = Some (codes "1") })))

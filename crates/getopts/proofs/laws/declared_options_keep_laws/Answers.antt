@@ -2,10 +2,12 @@
 use Rattle.getopts.proofs.MainTheorem.Callers.{OneContentHoldsSame_lem}
 use Rattle.getopts.proofs.Parsing.Parsed.{keeps_laws}
 use Rattle.getopts.proofs.MainTheorem.Theorem.{AcceptedExactlyWhen-options}
+use Rattle.getopts.proofs.Canonical.Answered.{KeepsLineLaws-lawful}
 use Rattle.getopts.proofs.laws.declared_options_keep_laws.Goals as goal
 
 pub returns : goal.returns
 returns c = record {
   reading_laws = λ options may. keeps_laws options may.named may.shorts;
+  line_laws = λ options may. KeepsLineLaws-lawful options may.named may.shorts;
   holds_same = λ options may. OneContentHoldsSame_lem options (AcceptedExactlyWhen-options options may.named may.shorts);
 }

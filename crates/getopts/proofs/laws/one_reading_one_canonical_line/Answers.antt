@@ -6,8 +6,9 @@ use Rattle.getopts.proofs.Parsing.Parsed.{keeps_laws}
 use Rattle.getopts.proofs.MainTheorem.Theorem.{OneReading-options, AcceptedExactlyWhen-options}
 use Rattle.getopts.proofs.MainTheorem.Theorem.{RefusedExactlyWhen-options, OneOfThree-options}
 use Rattle.getopts.proofs.MainTheorem.Theorem.{OneReadingGivesAll-options}
-use Rattle.getopts.proofs.MainTheorem.Theorem.{CanonicalLinesTell-options}
-use Rattle.getopts.proofs.MainTheorem.Theorem.{AnsweredLinesTell-options, HasCanonicalLine-options}
+use Rattle.getopts.proofs.MainTheorem.Theorem.{OneLineOneContent-options}
+use Rattle.getopts.proofs.MainTheorem.Theorem.{OneAnswerOneContent-options, HasCanonicalLine-options}
+use Rattle.getopts.proofs.Canonical.Answered.{KeepsLineLaws-lawful}
 use Rattle.getopts.proofs.laws.one_reading_one_canonical_line.Goals as goal
 
 pub returns : goal.returns
@@ -23,9 +24,10 @@ returns c =
       one_of_three = OneOfThree-options options lawful shorts;
       gives_all = OneReadingGivesAll-options options lawful shorts;
       holds_same = OneContentHoldsSame_lem options (AcceptedExactlyWhen-options options lawful shorts);
-      canonical_lines_tell = CanonicalLinesTell-options options lawful shorts;
-      answered_lines_tell = AnsweredLinesTell-options options lawful shorts;
+      one_line_one_content = OneLineOneContent-options options lawful shorts;
+      one_answer_one_content = OneAnswerOneContent-options options lawful shorts;
       canonical_lines = HasCanonicalLine-options options lawful shorts;
+      line_laws = KeepsLineLaws-lawful options lawful shorts;
       reading_laws = keeps_laws options lawful shorts;
       sound = IsSound-says options;
     }

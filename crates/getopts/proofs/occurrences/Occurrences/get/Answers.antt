@@ -1,7 +1,7 @@
 -- The occurrence at a place of the group is the one at its place in the line.
 use Rattle.std.proofs.Common.{sym, ap, ◌∙◌}
 use Rattle.std.specs.Option.{option_map}
-use Rattle.getopts.specs.Held.Occurrences.{found_part}
+use Rattle.getopts.specs.Matches.{found_part}
 use Rattle.getopts.proofs.Lists.{slice_get-read}
 use Rattle.getopts.proofs.Held.Occurrences.{founds-past, founds-at}
 use Rattle.getopts.proofs.occurrences.Occurrences.get.Goals as goal

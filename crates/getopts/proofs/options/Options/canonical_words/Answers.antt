@@ -2,6 +2,7 @@
 use Rattle.std.proofs.Common.{◌∙◌, sym}
 use Rattle.getopts.specs.Names.{texts}
 use Rattle.getopts.proofs.Canonical.Answered.{IsWritten-line, IsUnwritable-line}
+use Rattle.getopts.proofs.Canonical.Answered.{KeepsLineLaws-lawful}
 use Rattle.getopts.proofs.options.Options.canonical_words.Goals as goal
 
 pub returns-in_ok-canonical_line-clause-written : goal.returns-in_ok-canonical_line-clause-written
@@ -13,3 +14,11 @@ pub returns-else-are_plain-clause-unwritable : goal.returns-else-are_plain-claus
 returns-else-are_plain-clause-unwritable c =
     IsUnwritable-line c.args.self.now (texts c.args.words.now) c.in_ok-accepted.accepted c.in_ok-accepted.ensures.accepted
     (sym c.are_plain.ensures ∙ c.if-are_plain.false)
+
+pub returns-in_ok-canonical_line-clause-laws : goal.returns-in_ok-canonical_line-clause-laws
+returns-in_ok-canonical_line-clause-laws c =
+    KeepsLineLaws-lawful c.args.self.now c.in_ok-accepted.ensures.accepted.lawful c.in_ok-accepted.ensures.accepted.shorts
+
+pub returns-else-are_plain-clause-laws : goal.returns-else-are_plain-clause-laws
+returns-else-are_plain-clause-laws c =
+    KeepsLineLaws-lawful c.args.self.now c.in_ok-accepted.ensures.accepted.lawful c.in_ok-accepted.ensures.accepted.shorts

@@ -6,10 +6,10 @@ use Rattle.getopts.specs.Fail.{Fault, Tells}
 use Rattle.getopts.specs.Names.{Text, texts}
 use Rattle.getopts.specs.Matches.{Matched}
 use Rattle.getopts.specs.Parse.{IsAccepted, IsRefused}
-use Rattle.getopts.specs.Told.{Accepts}
+use Rattle.getopts.specs.Holds.{Accepts}
 use Rattle.getopts.specs.declared.fail.Fail.{Fail}
 use Rattle.getopts.proofs.Parsing.Faults.{Tells-weaker}
-use Rattle.getopts.proofs.Parsing.Told.{Accepts-accepted}
+use Rattle.getopts.proofs.Parsing.Holds.{Accepts-accepted}
 use Rattle.getopts.proofs.options.Options.parse.Goals as goal
 
 pub returns-clause-accepted : goal.returns-clause-accepted

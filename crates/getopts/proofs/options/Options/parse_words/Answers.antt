@@ -6,10 +6,10 @@ use Rattle.getopts.specs.ScanLaws.{HavePositionsBelow}
 use Rattle.getopts.proofs.Canonical.Answered.{IsAccepted-line}
 use Rattle.getopts.proofs.Parsing.Parsed.{counts-accepted, positions_below-accepted, keeps_laws}
 use Rattle.getopts.proofs.Scanning.Loop.{length-texts}
-use Rattle.getopts.proofs.Parsing.Told.{AreGroupsOf-accepted, HaveValuesByKind-accepted}
-use Rattle.getopts.proofs.Parsing.Told.{HaveLastWordsFree-accepted}
-use Rattle.getopts.proofs.Parsing.Told.{DefineDeclared-groups, HoldRequiredOnce-groups}
-use Rattle.getopts.proofs.Parsing.Told.{HoldNeededValues-groups}
+use Rattle.getopts.proofs.Parsing.Holds.{AreGroupsOf-accepted, HaveValuesByKind-accepted}
+use Rattle.getopts.proofs.Parsing.Holds.{HaveLastWordsFree-accepted}
+use Rattle.getopts.proofs.Parsing.Holds.{DefineDeclared-groups, HoldRequiredOnce-groups}
+use Rattle.getopts.proofs.Parsing.Holds.{HoldNeededValues-groups}
 use Rattle.getopts.proofs.options.Options.parse_words.Goals as goal
 
 pub returns-clause-accepted : goal.returns-clause-accepted

@@ -1,14 +1,16 @@
 -- Each name of a cluster is a flag, ends it, or is a fault.
-use Rattle.std.proofs.Common.{sym, ◌∙◌, arith}
+use Rattle.std.proofs.Common.{sym, ◌∙◌, ap, arith}
 use Rattle.std.specs.Option.{option_copied}
 use Rattle.std.proofs.lemmas.Str.{IsCharBoundary-after_ascii}
-use Rattle.getopts.specs.Fail.{unrecognized_option}
+use Rattle.std.proofs.lemmas.Result.{err_from_is_err_and}
+use Rattle.getopts.specs.Fail.{argument_missing, unrecognized_option}
 use Rattle.getopts.specs.Scan.{IsFaultAt}
-use Rattle.getopts.proofs.Parsing.Faults.{Tells-one}
+use Rattle.getopts.proofs.Parsing.Faults.{Tells-one, Tells-weaker}
 use Rattle.getopts.specs.Names.{texts}
 use Rattle.getopts.specs.Line.{scanner_grammar}
 use Rattle.getopts.proofs.Scanning.Clusters.{FlagsRead-none, FlagsRead-more, AddsItem-flags}
-use Rattle.getopts.proofs.Scanning.Clusters.{AddsItem-ends, IsFaultAt-unknown}
+use Rattle.getopts.proofs.Scanning.Clusters.{AddsItem-ends, IsFaultAt-unknown, IsFaultAt-missing}
+use Rattle.getopts.proofs.Scanning.Words.{slice_range-one}
 use Rattle.getopts.proofs.scan.Scanner.cluster.Goals as goal
 
 pub names-init : goal.names-init
@@ -38,6 +40,19 @@ returns-in-Some-clause-ok c = λ word form.
     (texts c.args.after.now) form c.names.at _ _ (omega arith) c.names.invariant
     c.in-Some.group c.in-Some.hasarg (option_copied c.in_ok-value-in-Some.value) c.in_ok-value-in-Some.used _ named.0 named.1 (rw rest at ends)
     c.in_ok-push-in-Some.ensures
+
+pub returns-in_err-value-in-Some-clause-err : goal.returns-in_err-value-in-Some-clause-err
+returns-in_err-value-in-Some-clause-err c =
+    let left = err_from_is_err_and c.from_residual-in_err-value-in-Some.result
+    c.from_residual-in_err-value-in-Some.ensures.1 in
+    let name = c.range-name.ensures.value ∙ slice_range-one c.args.text.now c.names.at (omega arith) in
+    rw (left.1, left.2) (λ word form.
+    Tells-weaker c.in_err-value-in-Some.field-0.0 _
+    (IsFaultAt (scanner_grammar c.args.self.now) word (texts c.args.after.now)) c.in_err-value-in-Some.ensures.err
+    (λ fault told. rw (told.0 ∙ ap argument_missing name)
+    (IsFaultAt-missing (scanner_grammar c.args.self.now) c.args.position c.args.text.now word
+    (texts c.args.after.now) form c.names.at _ _ (omega arith) c.names.invariant
+    (rw told.1 at c.in-Some.ensures.option.1) (sym c.range_from-in-Some.ensures.value ∙ told.2) told.3)))
 
 pub names-preserved : goal.names-preserved
 names-preserved c =

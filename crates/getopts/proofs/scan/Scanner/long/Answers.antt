@@ -1,12 +1,15 @@
--- Each name of a known kind begins an item with its argument.
+-- Each name of a known kind begins an item with its argument, or is a fault.
 use Rattle.std.proofs.Common.{Some, None, rules}
 use Rattle.std.specs.Option.{option_copied}
-use Rattle.getopts.specs.Scan.{separate}
+use Rattle.getopts.specs.Fail.{argument_missing, unrecognized_option, unexpected_argument}
+use Rattle.getopts.specs.Scan.{separate, IsFaultAt, unknown_name, unwanted_argument}
+use Rattle.getopts.specs.Scan.{long_unfinished}
+use Rattle.getopts.proofs.Parsing.Faults.{Tells-one}
 use Rattle.getopts.specs.Names.{texts}
 use Rattle.getopts.specs.Line.{scanner_grammar}
 use Rattle.getopts.specs.declared.groups.HasArg.TheVariants.{Yes, No, Maybe}
 use Rattle.getopts.proofs.Scanning.Items.{AddsItem-long, AddsItem-attached, FitsLong-maybe}
-use Rattle.getopts.proofs.Scanning.Items.{texts-first}
+use Rattle.getopts.proofs.Scanning.Items.{IsLongForm-cut, texts-first, texts-none}
 use Rattle.getopts.proofs.scan.Scanner.long.Goals as goal
 use Rattle.getopts.proofs.scan.Scanner.long.Goals.{in-No-None, in-Yes-None+in-Some-first}
 use Rattle.getopts.proofs.scan.Scanner.long.Goals.{in-Yes-Some, in-Maybe-default}
@@ -38,3 +41,33 @@ returns-clause-ok c = λ word form.
           cut.text cut.name (rw w.in-Maybe-default.is-0 at named.1) named.0
           (FitsLong-maybe (option_copied c.name_and_argument.result.1)) (rw w.used-is at c.in_ok-push.ensures))
     ]
+
+pub returns-in_default-clause-err : goal.returns-in_default-clause-err
+returns-in_default-clause-err c = λ word form.
+    let name = c.name_and_argument.result.0.now in
+    let cut = c.name_and_argument.ensures in
+    Tells-one c.unrecognized_option.result (unrecognized_option name)
+    (IsFaultAt (scanner_grammar c.args.self.now) word (texts c.args.after.now)) c.unrecognized_option.ensures
+    (unknown_name name (option_copied c.name_and_argument.result.1)
+    (IsLongForm-cut (scanner_grammar c.args.self.now) word c.args.text.now name _ form cut.text cut.name)
+    c.in_default.ensures)
+
+pub returns-in-No-Some-clause-err : goal.returns-in-No-Some-clause-err
+returns-in-No-Some-clause-err c = λ word form.
+    let name = c.name_and_argument.result.0.now in
+    let cut = c.name_and_argument.ensures in
+    Tells-one c.unexpected_argument.result (unexpected_argument name)
+    (IsFaultAt (scanner_grammar c.args.self.now) word (texts c.args.after.now)) c.unexpected_argument.ensures
+    (unwanted_argument name c.in-No-Some.field-0-1.now
+    (IsLongForm-cut (scanner_grammar c.args.self.now) word c.args.text.now name _ form
+    (rw c.in-No-Some.is-1 at cut.text) cut.name) (rw c.in-No-Some.is-0 at c.in-Some.ensures.1))
+
+pub returns-in-None-clause-err : goal.returns-in-None-clause-err
+returns-in-None-clause-err c = λ word form.
+    let name = c.name_and_argument.result.0.now in
+    let cut = c.name_and_argument.ensures in
+    Tells-one c.argument_missing.result (argument_missing name)
+    (IsFaultAt (scanner_grammar c.args.self.now) word (texts c.args.after.now)) c.argument_missing.ensures
+    (long_unfinished name (IsLongForm-cut (scanner_grammar c.args.self.now) word c.args.text.now name _ form
+    (rw c.in-Yes-None.is-1 at cut.text) cut.name) (rw c.in-Yes-None.is-0 at c.in-Some.ensures.1)
+    (texts-none c.args.after.now (search rules)))

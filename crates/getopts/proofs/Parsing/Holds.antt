@@ -1,9 +1,9 @@
--- What accepted matches tell of the names that the options declare.
+-- What accepted matches hold of the names that the options declare.
 use Rattle.std.proofs.Common.{◌≡◌, ◌==◌, ◌<◌, ◌+◌, ℕ, zero, suc, Bool, true, false, cond, List, []}
 use Rattle.std.proofs.Common.{◌∷◌, ◌++◌, length, append_assoc, map, slice_get, Option, Some, None}
 use Rattle.std.proofs.Common.{IsSome, refl, ap, sym, subst, ◌∙◌, arith, add-zero, zero-add}
 use Rattle.std.specs.List.{AllByRecursion, filter}
-use Rattle.std.specs.Option.{option_map}
+use Rattle.std.specs.Option.{option_map, option_map_or}
 use Rattle.std.proofs.lemmas.Bool.{eqb-true}
 use Rattle.std.proofs.lemmas.Option.{option_and_then_some, same_Some}
 use Rattle.std.specs.Borrow.{Bor}
@@ -18,8 +18,8 @@ use Rattle.getopts.specs.Matches.{KeepsCounts}
 use Rattle.getopts.specs.Accessors.{place_of, found_of, found_in, first_value}
 use Rattle.getopts.specs.Canon.{FitsKind}
 use Rattle.getopts.specs.Parse.{IsAccepted}
-use Rattle.getopts.specs.Told.{HaveLastWordsFree, AreGroupsOf, HaveValuesByKind}
-use Rattle.getopts.specs.Told.{DefineDeclared, HoldRequiredOnce, HoldNeededValues, Accepts}
+use Rattle.getopts.specs.Holds.{HaveLastWordsFree, AreGroupsOf, HaveValuesByKind}
+use Rattle.getopts.specs.Holds.{DefineDeclared, HoldRequiredOnce, HoldNeededValues, Accepts}
 use Rattle.getopts.specs.ScanLaws.{EndIn, HavePositionsBelow}
 use Rattle.getopts.specs.declared.groups.ParsingStyle.TheVariants.{FloatingFrees, StopAtFirstFree}
 use Rattle.getopts.specs.declared.groups.HasArg.{HasArg}
@@ -68,7 +68,7 @@ module _ (P : Known → List Found → Type 0) where
       → map (λ (group : MatchedGroup). group.known) groups ≡ knowns
       → AllByRecursion (λ (group : MatchedGroup). P group.known group.found) groups
       → (place : ℕ) (known : Known) → slice_get knowns place ≡ Some known
-      → P known (found_in groups (Some place))
+      → P known (found_in groups place)
   at_place [] groups are each place known there = cc there
   at_place (first ∷ knowns) [] are each place known there = cc are
   at_place (first ∷ knowns) (group ∷ groups) are each zero known there =
@@ -106,10 +106,10 @@ module _ (options : Declared) (groups : List MatchedGroup) (are : AreGroupsOf op
         let known = occurrence-known options.groups place Req there in
         let fits = at_place (λ known found. FitsCount known.occurrence (length found))
         (knowns_of options.groups) groups are keeps place known.0 known.1 in
-        let once : FitsCount Req (length (found_in groups (Some place))) =
-        subst (λ (occurrence : Occur). FitsCount occurrence (length (found_in groups (Some place))))
+        let once : FitsCount Req (length (found_in groups place)) =
+        subst (λ (occurrence : Occur). FitsCount occurrence (length (found_in groups place)))
         known.2 fits in
-        ap (λ (at : Option ℕ). length (found_in groups at))
+        ap (λ (at : Option ℕ). length (option_map_or (found_in groups) at []))
         (sym (place_of-groups options groups are name) ∙ resolves) ∙ once
 
   -- occurrences that have values have a first
@@ -130,11 +130,11 @@ module _ (options : Declared) (groups : List MatchedGroup) (are : AreGroupsOf op
     by_place place resolves there =
         let known = kind-known options.groups place Yes there in
         let fits = at_place (λ known found. HaveValuesFor known.kind found) (knowns_of options.groups) groups are have place known.0 known.1 in
-        let values : HaveValuesFor Yes (found_in groups (Some place)) =
-        subst (λ (kind : HasArg). HaveValuesFor kind (found_in groups (Some place))) known.2 fits in
+        let values : HaveValuesFor Yes (found_in groups place) =
+        subst (λ (kind : HasArg). HaveValuesFor kind (found_in groups place)) known.2 fits in
         let here : Some place ≡ place_of groups name = sym resolves ∙ place_of-groups options groups are name in
         first_there (found_of groups name)
-        (subst (λ (at : Option ℕ). HaveValuesFor Yes (found_in groups at)) here values)
+        (subst (λ (at : Option ℕ). HaveValuesFor Yes (option_map_or (found_in groups) at [])) here values)
 
 -- an occurrence of a group of a kind
 FitsKind-place : (groups : List Group) (o : Occurrence) (place : ℕ) (kind : HasArg)

@@ -1,4 +1,4 @@
--- What accepted matches tell of the names that the options declare.
+-- What accepted matches hold of the names that the options declare.
 use Rattle.std.specs.Prelude.{◌≡◌, ◌<◌, List, length, map, Some, IsSome}
 use Rattle.std.specs.List.{AllByRecursion}
 use Rattle.std.specs.Borrow.{Bor}
