@@ -56,11 +56,6 @@ pub of_three : {T E : Type 0} (P Q R S : T → Type 0) (answer : Result T E) →
 of_three P Q R S (Ok t) is known shown follows = follows t is known shown
 of_three P Q R S (Err e) is known shown follows = tt
 
--- what holds where the answer is `Ok` gives what follows from it
-pub on_ok_so : {T E P Q : Type 0} (answer : Result T E) → OnOk answer P → (P → Q) → OnOk answer Q
-on_ok_so (Ok t) is so = so is
-on_ok_so (Err e) is so = tt
-
 -- what is added for the places of the first two of four texts is added for the two names
 pub two_added : (groups : List MatchedGroup) (old mid new : List ℕ) (group : List (Bor Text)) (d : Bor Text)
     (short long : Option ℕ) → length group ≡ 4

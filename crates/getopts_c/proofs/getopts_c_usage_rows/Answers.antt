@@ -1,11 +1,11 @@
 use Rattle.std.proofs.Common.{◌≡◌, false, string_bytes, inl}
-use Rattle.std.proofs.lemmas.Result.{IfErr-weaker}
+use Rattle.std.proofs.lemmas.Result.{IfErr-weaker, on_ok_weaker}
 use Rattle.std.specs.Prelude.{⊤, ◌⊎◌}
 use Rattle.getopts_c.specs.Answer.{IsRowsOf, fine_status}
 use Rattle.getopts_c.specs.Reply.{IsFine, rooms}
 use Rattle.getopts_c.specs.Request.{SayOptions}
 use Rattle.getopts_c.specs.declared.request.Refusal.TheVariants.{Bad}
-use Rattle.getopts_c.proofs.AnswerLemmas.{IsReply-handed_out, both_hold, on_ok_so}
+use Rattle.getopts_c.proofs.AnswerLemmas.{IsReply-handed_out, both_hold}
 use Rattle.getopts_c.proofs.getopts_c_usage_rows.Goals as goal
 
 pub returns : goal.returns
@@ -23,5 +23,5 @@ returns c =
     out.ensures.lawful out.ensures.bad
     (both_hold (λ answer. answer.status ≡ fine_status)
         (λ answer. AreSuch answer.body.numbers.items (string_bytes answer.body.bytes)) answer is.fine is.rows)
-    (on_ok_so answer is.lawful (λ says. (says, tt)))
+    (on_ok_weaker answer (λ says. (says, tt)) is.lawful)
     (IfErr-weaker answer (λ refusal. refusal ≡ Bad → ¬ Says) (λ refusal. refusal ≡ Bad → (¬ Says) ⊎ (¬ ⊤)) (λ refusal no bad. inl (no bad)) is.bad)

@@ -1,8 +1,7 @@
 use Rattle.std.proofs.Common.{inl, inr, string_bytes}
-use Rattle.std.proofs.lemmas.Result.{IfErr-weaker, IfOk-weaker}
+use Rattle.std.proofs.lemmas.Result.{IfErr-weaker, IfOk-weaker, on_ok_weaker}
 use Rattle.getopts.specs.Names.{texts}
 use Rattle.getopts_c.specs.Answer.{IsAnswered}
-use Rattle.getopts_c.proofs.AnswerLemmas.{on_ok_so}
 use Rattle.getopts_c.proofs.BadLemmas.{handed_on, no_options_of_count, no_options_of_groups, options_said}
 use Rattle.getopts_c.proofs.RequestLemmas.{as_many, names_are, request_is}
 use Rattle.getopts_c.proofs.answer.answer_from.Goals as goal
@@ -34,7 +33,7 @@ returns-clause-answered c =
 pub returns-clause-lawful : goal.returns-clause-lawful
 returns-clause-lawful c =
     let request = c.args.request in
-    on_ok_so c.words_by.result c.words_by.ensures.lawful (λ said. (
+    on_ok_weaker c.words_by.result (λ said. (
       options_said request.texts.now request.lens.now request.kinds.now request.stop request.long_only
           (texts c.args.pieces.now) c.in_ok-options.options c.requires.cut c.requires.utf8
           (request_is request.texts.now request.lens.now request.kinds.now request.stop request.long_only
@@ -43,6 +42,7 @@ returns-clause-lawful c =
           c.in_ok-options.ensures.named,
       said,
     ))
+    c.words_by.ensures.lawful
 
 pub returns-clause-bad : goal.returns-clause-bad
 returns-clause-bad c = IfErr-weaker c.words_by.result _ _ (λ refusal follows bad. inr (follows bad)) c.words_by.ensures.bad

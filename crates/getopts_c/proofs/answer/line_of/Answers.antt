@@ -1,7 +1,6 @@
 use Rattle.std.proofs.Common.{inr, string_bytes}
-use Rattle.std.proofs.lemmas.Result.{IfErr-weaker, IfOk-weaker}
+use Rattle.std.proofs.lemmas.Result.{IfErr-weaker, IfOk-weaker, on_ok_weaker}
 use Rattle.getopts_c.specs.Answer.{IsCanonicalOf}
-use Rattle.getopts_c.proofs.AnswerLemmas.{on_ok_so}
 use Rattle.getopts_c.proofs.answer.line_of.Goals as goal
 
 pub returns-clause-answered : goal.returns-clause-answered
@@ -21,7 +20,7 @@ returns-clause-answered c =
     c.line_to.ensures.answered
 
 pub returns-clause-lawful : goal.returns-clause-lawful
-returns-clause-lawful c = on_ok_so c.line_to.result c.line_to.ensures.lawful (λ said. (c.in_ok-options.ensures.lawful, said))
+returns-clause-lawful c = on_ok_weaker c.line_to.result (λ said. (c.in_ok-options.ensures.lawful, said)) c.line_to.ensures.lawful
 
 pub returns-clause-bad : goal.returns-clause-bad
 returns-clause-bad c = IfErr-weaker c.line_to.result _ _ (λ refusal follows bad. inr (follows bad)) c.line_to.ensures.bad
