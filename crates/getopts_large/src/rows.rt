@@ -62,11 +62,11 @@ fn compare_case<W: Write>(alloc: Global, case: &str, out: &mut W) -> Result<bool
 /// A case with a length in the place of each `$`.
 fn at_length(alloc: Global, case: &str, length: usize) -> Result<String, AllocError> {
     let mut text = String::new(alloc);
-    for (place, part) in case.split('$').enumerate() {
-        if place > 0 {
-            write!(text, "{length}")?;
+    for letter in case.chars() {
+        match letter {
+            '$' => write!(text, "{length}")?,
+            _ => text.push(letter)?,
         }
-        text.push_str(part)?;
     }
     Ok(text)
 }

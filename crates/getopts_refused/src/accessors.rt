@@ -30,12 +30,26 @@ fn of(
         "opt_positions" => alike(alloc, || matches.opt_positions(alloc, name)),
         "opt_strs" => alike(alloc, || matches.opt_strs(alloc, name)),
         "opt_strs_pos" => alike(alloc, || matches.opt_strs_pos(alloc, name)),
-        "opt_str" => alike(alloc, || matches.opt_str(alloc, name)),
-        "opt_default" => alike(alloc, || matches.opt_default(alloc, name, "other")),
         "opts_str" => opts_str(alloc, matches, name),
-        _ => alike(alloc, || matches.opts_str_first(alloc, &[name])),
+        _ => alike(alloc, || value(alloc, matches, call, name)),
     };
     Ok(became(answer, *matches == before))
+}
+
+/// The value that the accessor of this name answers.
+fn value(
+    alloc: Global,
+    matches: &Matches,
+    call: &str,
+    name: &str,
+) -> Result<Option<String>, AllocError>
+    requires { IsDefined matches.now.groups name.now }
+{
+    match call {
+        "opt_str" => matches.opt_str(alloc, name),
+        "opt_default" => matches.opt_default(alloc, name, "other"),
+        _ => matches.opts_str_first(alloc, &[name]),
+    }
 }
 
 /// The names are texts of their own, which are made before the call.

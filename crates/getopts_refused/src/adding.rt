@@ -1,8 +1,9 @@
 //! The calls that add a group.
 
 use crate::answer::{Answer, became};
+use crate::declared::{Row, declared};
 use crate::marks::{begin, end};
-use getopts::{HasArg, Occur, Options, ParsingStyle, names_lawful};
+use getopts::{HasArg, Occur, Options, ParsingStyle};
 use std::alloc::{AllocError, Global};
 
 /// The names of the calls.
@@ -17,9 +18,22 @@ pub const CALLS: [&str; 8] = [
     "reqopt",
 ];
 
-/// The long names of the groups that may stand before the one that is added.
-pub const NAMES: [&str; 8] = [
-    "first", "second", "third", "fourth", "fifth", "sixth", "seventh", "eighth",
+/// How many groups may stand before the one that is added.
+pub const GROUPS: [&str; 9] = ["0", "1", "2", "3", "4", "5", "6", "7", "8"];
+
+/// The description of a group that may stand before the one that is added.
+const DESC: &str = "stands before the new one";
+
+/// The groups that may stand before the one that is added.
+const BEFORE: [Row; 8] = [
+    ("", "first", DESC, "HINT", HasArg::Yes, Occur::Multi),
+    ("", "second", DESC, "HINT", HasArg::Yes, Occur::Multi),
+    ("", "third", DESC, "HINT", HasArg::Yes, Occur::Multi),
+    ("", "fourth", DESC, "HINT", HasArg::Yes, Occur::Multi),
+    ("", "fifth", DESC, "HINT", HasArg::Yes, Occur::Multi),
+    ("", "sixth", DESC, "HINT", HasArg::Yes, Occur::Multi),
+    ("", "seventh", DESC, "HINT", HasArg::Yes, Occur::Multi),
+    ("", "eighth", DESC, "HINT", HasArg::Yes, Occur::Multi),
 ];
 
 /// What became of the call of this name, after so many groups.
@@ -47,15 +61,10 @@ fn is_as_with_memory(alloc: Global, options: &Options, groups: usize, call: &str
 
 /// Options with so many groups, in a style and a mode that new options don't have.
 fn with_groups(alloc: Global, groups: usize) -> Result<Options, AllocError> {
-    let mut options = Options::new(alloc);
+    let mut options = declared(alloc, &BEFORE[..groups.min(BEFORE.len())])?;
     options
         .parsing_style(ParsingStyle::StopAtFirstFree)
         .long_only(true);
-    for name in NAMES.iter().take(groups) {
-        if names_lawful("", name) {
-            options.optmulti("", name, "stands before the new one", "HINT")?;
-        }
-    }
     Ok(options)
 }
 

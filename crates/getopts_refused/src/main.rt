@@ -9,12 +9,13 @@ mod accessors;
 mod adding;
 mod answer;
 mod clones;
+mod declared;
 mod marks;
 mod reading;
 mod rows;
 mod texts;
 
-use rows::{ROWS, outcome};
+use rows::{listed, outcome};
 use std::{env, io};
 
 /// Writes what became of the call of the row that the words name, or all rows where there are none.
@@ -22,25 +23,6 @@ fn main(rt: HostRuntime) -> io::Result<()> {
     let mut words = env::args(&rt)?.skip(1);
     match (words.next(), words.next()) {
         (Some(call), Some(on)) => rt.println(outcome(rt.alloc(), call.as_str(), on.as_str())?),
-        _ => list(&rt),
+        _ => rt.print(listed(rt.alloc())?),
     }
-}
-
-/// Writes each row on a line. The calls that add a group are made after no group and after some.
-fn list(rt: &impl Print) -> io::Result<()> {
-    for call in adding::CALLS {
-        list_adding(rt, call)?;
-    }
-    for (call, on) in ROWS {
-        println!(rt; "{call} {on}")?;
-    }
-    Ok(())
-}
-
-/// Writes the rows of a call that adds a group.
-fn list_adding(rt: &impl Print, call: &str) -> io::Result<()> {
-    for groups in 0..=adding::NAMES.len() {
-        println!(rt; "{call} {groups}")?;
-    }
-    Ok(())
 }

@@ -1,7 +1,8 @@
 //! `parse` and `canonical`, and the same of a list that is lent.
 
 use crate::answer::{alike, became};
-use getopts::{Fail, Options};
+use crate::declared::{Row, declared};
+use getopts::{Fail, HasArg, Occur, Options};
 use std::alloc::{AllocError, Global};
 
 /// A line that gives most options several times.
@@ -31,17 +32,47 @@ pub enum Given {
     Lent,
 }
 
-/// Options of all kinds. Where the last one is given, a line has no canonical line.
+/// Groups of all kinds. Where the last one is given, a line has no canonical line.
+const GROUPS: &[Row] = &[
+    (
+        "o",
+        "output",
+        "write to this file",
+        "NAME",
+        HasArg::Yes,
+        Occur::Optional,
+    ),
+    ("v", "verbose", "say more", "", HasArg::No, Occur::Multi),
+    ("L", "", "add a folder", "DIR", HasArg::Yes, Occur::Multi),
+    (
+        "c",
+        "color",
+        "colour the output",
+        "WHEN",
+        HasArg::Maybe,
+        Occur::Optional,
+    ),
+    (
+        "i",
+        "input",
+        "read this file",
+        "NAME",
+        HasArg::Yes,
+        Occur::Req,
+    ),
+    (
+        "p",
+        "p=x",
+        "take a point",
+        "POINT",
+        HasArg::Yes,
+        Occur::Optional,
+    ),
+];
+
+/// Options of all kinds.
 pub fn options_of(alloc: Global) -> Result<Options, AllocError> {
-    let mut options = Options::new(alloc);
-    options
-        .optopt("o", "output", "write to this file", "NAME")?
-        .optflagmulti("v", "verbose", "say more")?
-        .optmulti("L", "", "add a folder", "DIR")?
-        .optflagopt("c", "color", "colour the output", "WHEN")?
-        .reqopt("i", "input", "read this file", "NAME")?
-        .optopt("p", "p=x", "take a point", "POINT")?;
-    Ok(options)
+    declared(alloc, GROUPS)
 }
 
 /// The words of a line.
@@ -84,11 +115,16 @@ pub fn canonical(alloc: Global, line: &str, given: Given) -> Result<&'static str
     Ok(became(answer, options == before))
 }
 
+/// Each word is taken.
+fn is_taken(_word: &&str) -> bool {
+    true
+}
+
 /// Parses words.
 fn parsed(alloc: Global, options: &Options, words: &[&str], given: Given) -> getopts::Result {
     match given {
         Given::Counted => options.parse(alloc, words.iter().copied()),
-        Given::Uncounted => options.parse(alloc, words.iter().copied().filter(|_| true)),
+        Given::Uncounted => options.parse(alloc, words.iter().copied().filter(is_taken)),
         Given::Lent => options.parse_words(alloc, words),
     }
 }
@@ -102,7 +138,7 @@ fn written(
 ) -> Result<Option<Vec<String>>, Fail> {
     match given {
         Given::Counted => options.canonical(alloc, words.iter().copied()),
-        Given::Uncounted => options.canonical(alloc, words.iter().copied().filter(|_| true)),
+        Given::Uncounted => options.canonical(alloc, words.iter().copied().filter(is_taken)),
         Given::Lent => options.canonical_words(alloc, words),
     }
 }

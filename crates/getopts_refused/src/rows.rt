@@ -5,7 +5,7 @@ use crate::{accessors, adding, clones, texts};
 use std::alloc::{AllocError, Global};
 
 /// The rows but for those of the calls that add a group: what is called, and on what.
-pub const ROWS: [(&str, &str); 38] = [
+const ROWS: [(&str, &str); 38] = [
     ("clone", "options"),
     ("clone", "matches"),
     ("clone", "argument_missing"),
@@ -65,4 +65,27 @@ pub fn outcome(alloc: Global, call: &str, on: &str) -> Result<&'static str, Allo
         ),
         _ => adding::outcome(alloc, call, on),
     }
+}
+
+/// Each row on a line. The calls that add a group are made after no group and after some.
+pub fn listed(alloc: Global) -> Result<String, AllocError> {
+    let mut rows = String::new(alloc);
+    for call in &adding::CALLS {
+        for groups in &adding::GROUPS {
+            push_row(&mut rows, call, groups)?;
+        }
+    }
+    for (call, on) in &ROWS {
+        push_row(&mut rows, call, on)?;
+    }
+    Ok(rows)
+}
+
+/// Adds a row: what is called, and on what.
+fn push_row(rows: &mut String, call: &str, on: &str) -> Result<(), AllocError> {
+    rows.push_str(call)?;
+    rows.push(' ')?;
+    rows.push_str(on)?;
+    rows.push('\n')?;
+    Ok(())
 }

@@ -19,15 +19,22 @@ fn fault(alloc: Global, variant: &str) -> Result<Fail, AllocError> {
     })
 }
 
-/// Stops unless the fault prints this, whatever width and precision are asked for.
-fn expect_text(rt: &impl Abort, alloc: Global, fail: &Fail, text: &str) -> Result<(), AllocError> {
-    let printed = format!(in alloc;
-        "{fail}|{fail:#}|{fail:60}|{fail:>60}|{fail:^60}|{fail:.3}|{fail:<60.3}"
-    )?;
-    assert!(rt; printed.as_str().split('|').count() == 7);
-    for part in printed.as_str().split('|') {
+/// What the fault prints by formats of some widths and precisions, one after another.
+fn printed(alloc: Global, fail: &Fail) -> Result<String, AllocError> {
+    format!(in alloc; "{fail}|{fail:#}|{fail:60}|{fail:>60}|{fail:^60}|{fail:.3}|{fail:<60.3}")
+}
+
+/// Stops unless each of seven parts is this.
+fn expect_parts(rt: &impl Abort, printed: &str, text: &str) {
+    assert!(rt; printed.split('|').count() == 7);
+    for part in printed.split('|') {
         assert!(rt; part == text);
     }
+}
+
+/// Stops unless the fault prints this, whatever width and precision are asked for.
+fn expect_text(rt: &impl Abort, alloc: Global, fail: &Fail, text: &str) -> Result<(), AllocError> {
+    expect_parts(rt, printed(alloc, fail)?.as_str(), text);
     Ok(())
 }
 
