@@ -105,7 +105,7 @@ module _ {A : Type 0} (f : Found → List A) (founds : List Found) (i : ℕ) (ne
 -- one more group of a front, by its occurrences
 group_more : {A : Type 0} (f : List Found → List A) (groups : List MatchedGroup) (i : ℕ) → i < length groups
     → flat_map (λ (group : MatchedGroup). f group.found) (take (i + 1) groups)
-      ≡ flat_map (λ (group : MatchedGroup). f group.found) (take i groups) ++ f (found_in groups i)
+    ≡ flat_map (λ (group : MatchedGroup). f group.found) (take i groups) ++ f (found_in groups i)
 group_more f [] i within = absurd (omega arith)
 group_more f (group ∷ groups) zero within = append-nil (f group.found)
 group_more f (group ∷ groups) (suc i) within =

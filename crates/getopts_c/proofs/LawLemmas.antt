@@ -98,8 +98,13 @@ request_from bytes lens kinds stop long_only = record {
 request_is_from : (bytes : Text) (lens kinds : List ℕ) (stop long_only : Bool) (options : Declared)
     → IsRequest bytes lens kinds stop long_only options → request_from bytes lens kinds stop long_only ≡ options
 request_is_from bytes lens kinds stop long_only options is =
-    rw (cut_is bytes lens (flat_map group_texts options.groups) is.texts_are, is.kinds_are,
-        groups_are options.groups, ← is.style_is, ← is.mode_is) refl
+    rw (
+      cut_is bytes lens (flat_map group_texts options.groups) is.texts_are,
+      is.kinds_are,
+      groups_are options.groups,
+      ← is.style_is,
+      ← is.mode_is,
+    ) refl
 
 -- a request says one set of options
 pub request_once : (bytes : Text) (lens kinds : List ℕ) (stop long_only : Bool) (options others : Declared)

@@ -58,10 +58,10 @@ founds_back (found ∷ founds) (other ∷ others) rest left more after count num
     let behind : flat_map found_numbers founds ++ rest ≡ flat_map found_numbers others ++ left = cc in
     let value = value_back found.value other.value (flat_map found_bytes founds ++ more) (flat_map found_bytes others ++ after) size
     (sym (append_assoc (found_bytes found) (flat_map found_bytes founds) more) ∙ bytes
-        ∙ append_assoc (found_bytes other) (flat_map found_bytes others) after) in
+    ∙ append_assoc (found_bytes other) (flat_map found_bytes others) after) in
     let follow = founds_back founds others rest left more after (omega arith) behind value.1 in
     let first : found ≡ other = ap (λ (n : ℕ). record { position = n; value = found.value }) position
-        ∙ ap (λ (v : Option Text). record { position = other.position; value = v }) value.0 in
+    ∙ ap (λ (v : Option Text). record { position = other.position; value = v }) value.0 in
     (ap (λ (f : Found). f ∷ founds) first ∙ ap (λ (fs : List Found). other ∷ fs) follow.0, follow.1, follow.2)
 
 -- the occurrences of as many groups, from their numbers and their bytes, and what follows them
@@ -84,7 +84,7 @@ groups_back (group ∷ groups) (other ∷ others) rest left more after count num
     (sym (append_assoc (flat_map found_numbers group.found) (flat_map group_numbers groups) rest) ∙ behind
     ∙ append_assoc (flat_map found_numbers other.found) (flat_map group_numbers others) left)
     (sym (append_assoc (group_bytes group) (flat_map group_bytes groups) more) ∙ bytes
-        ∙ append_assoc (group_bytes other) (flat_map group_bytes others) after) in
+    ∙ append_assoc (group_bytes other) (flat_map group_bytes others) after) in
     let follow = groups_back groups others rest left more after (omega arith) first.1 first.2 in (
       ap (λ (fs : List Found). fs ∷ map (λ (group : MatchedGroup). group.found) groups) first.0
           ∙ ap (λ (lists : List (List Found)). other.found ∷ lists) follow.0,
@@ -102,7 +102,7 @@ texts_back words others numbers bytes =
 -- the free words and the trailing start, from their numbers and the words' bytes
 free_back : (matches others : Matched)
     → text_numbers matches.free ++ optional_number matches.trailing_start ∷ []
-      ≡ text_numbers others.free ++ optional_number others.trailing_start ∷ []
+    ≡ text_numbers others.free ++ optional_number others.trailing_start ∷ []
     → concatenated matches.free ≡ concatenated others.free
     → (matches.free ≡ others.free) × (matches.trailing_start ≡ others.trailing_start)
 free_back matches others numbers bytes =
@@ -122,13 +122,13 @@ pub matches_back : (names : List Text) (matches others : Matched)
     → AreAlike names matches others
 matches_back names matches others numbers bytes =
     let behind : Matched → List ℕ = λ m. (length m.groups ∷ flat_map group_numbers m.groups)
-        ++ (text_numbers m.free ++ optional_number m.trailing_start ∷ []) in
+    ++ (text_numbers m.free ++ optional_number m.trailing_start ∷ []) in
     let named = same_front (map (place_number matches.groups) names) (map (place_number others.groups) names) (behind matches) (behind others) numbers
     (length-map names (place_number matches.groups) ∙ sym (length-map names (place_number others.groups))) in
     let whole : length matches.groups ∷ (flat_map group_numbers matches.groups
-        ++ (text_numbers matches.free ++ optional_number matches.trailing_start ∷ []))
+    ++ (text_numbers matches.free ++ optional_number matches.trailing_start ∷ []))
     ≡ length others.groups ∷ (flat_map group_numbers others.groups
-        ++ (text_numbers others.free ++ optional_number others.trailing_start ∷ [])) = named.1 in
+    ++ (text_numbers others.free ++ optional_number others.trailing_start ∷ [])) = named.1 in
     let count : length matches.groups ≡ length others.groups = cc in
     let rest : flat_map group_numbers matches.groups ++ (text_numbers matches.free ++ optional_number matches.trailing_start ∷ [])
     ≡ flat_map group_numbers others.groups ++ (text_numbers others.free ++ optional_number others.trailing_start ∷ []) = cc in

@@ -148,7 +148,7 @@ fn push_canonical(
     requires accepted { AreAccepted (texts words.now) }
     ensures { OnOk result ((line : List Text) × IsWritten program_options (texts words.now) line
         × (string_bytes text.new
-            ≡ string_bytes text.old ++ flat_map (word_line (codes "line")) line)) }
+        ≡ string_bytes text.old ++ flat_map (word_line (codes "line")) line)) }
 {
     let line = canonical_line(alloc, options, words)?;
     push_words(text, "line", &line)

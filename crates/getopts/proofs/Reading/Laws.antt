@@ -181,7 +181,7 @@ module _ (grammar : Grammar) (item longer : Item)
       → Respells grammar longer (item ∷ []) (λ position old new. AreHigherAfter position new old)
   Respells-shorter fit front back tail words reads =
       ReadsAlike-in_place grammar (λ old new. AreHigherAfter (word_count front) new old) front (longer ∷ back)
-          (item ∷ back) tail words (fit back (tail_words tail))
+      (item ∷ back) tail words (fit back (tail_words tail))
       (ap (λ (told : List Mention). told ++ flat_map (mentions grammar) back) (sym same))
       (positions_in-one_higher grammar item longer back same one_more front tail)
       (free_items-append (item ∷ []) back ∙ ap (λ frees. frees ++ free_items back) (sym same_free) ∙ sym (free_items-append (longer ∷ []) back)) reads

@@ -22,6 +22,6 @@ returns c =
     out.ensures.known out.ensures.untouched out.ensures.untold out.ensures.within out.ensures.written out.ensures.small out.ensures.sizes_told
     out.ensures.lawful out.ensures.bad
     (both_hold (λ answer. answer.status ≡ fine_status)
-        (λ answer. AreSuch answer.body.numbers.items (string_bytes answer.body.bytes)) answer is.fine is.rows)
+    (λ answer. AreSuch answer.body.numbers.items (string_bytes answer.body.bytes)) answer is.fine is.rows)
     (on_ok_weaker answer (λ says. (says, tt)) is.lawful)
     (IfErr-weaker answer (λ refusal. refusal ≡ Bad → ¬ Says) (λ refusal. refusal ≡ Bad → (¬ Says) ⊎ (¬ ⊤)) (λ refusal no bad. inl (no bad)) is.bad)

@@ -27,7 +27,7 @@ returns-in-Err c =
     (λ answer. IsAnswer c.args.options.now (texts c.args.words.now) answer.status answer.body.numbers.items (string_bytes answer.body.bytes))
     (λ answer shown.
     told_fault _ (λ (fault : Fault). (answer.status ≡ fault_status fault)
-        × (answer.body.numbers.items ≡ length (fault_name fault) ∷ []) × (string_bytes answer.body.bytes ≡ fault_name fault))
+    × (answer.body.numbers.items ≡ length (fault_name fault) ∷ []) × (string_bytes answer.body.bytes ≡ fault_name fault))
     (IsAnswer c.args.options.now (texts c.args.words.now) answer.status answer.body.numbers.items (string_bytes answer.body.bytes))
     (fault_of c.in-Err.fail) c.in-Err.ensures.refused shown
     (λ fault told are.

@@ -66,8 +66,17 @@ rows_fit : IsRowsReply no_rows_told
 rows_fit = record {
   known = omega arith;
   within = λ _. (omega arith, omega arith);
-  answered = λ _. (refl, record { options = usual []; rows = []; options_are = no_request; rows_are = only_no_rows;
-      numbers_are = refl; bytes_are = refl });
+  answered = λ _. (
+    refl,
+    record {
+      options = usual [];
+      rows = [];
+      options_are = no_request;
+      rows_are = only_no_rows;
+      numbers_are = refl;
+      bytes_are = refl;
+    },
+  );
   untouched = λ big. absurd (omega (arith, big));
   untold = λ big _. absurd (omega (arith, big));
   lawful = λ _ _. (says_none, tt);

@@ -10,6 +10,6 @@ use Rattle.getopts_uses.proofs.search.help_rows.Goals as goal
 pub returns : goal.returns
 returns c =
     IfOk-weaker c.usage_rows.result (λ rows. IsTheOnly (AreUsageRows c.in_ok-options.field-0)
-        (map string_bytes rows.items)) (λ rows. AreSearchRows (map string_bytes rows.items))
+    (map string_bytes rows.items)) (λ rows. AreSearchRows (map string_bytes rows.items))
     (λ rows are. subst (λ (those : Declared). IsTheOnly (AreUsageRows those) (map string_bytes rows.items))
-        c.in_ok-options.ensures are) c.usage_rows.ensures
+    c.in_ok-options.ensures are) c.usage_rows.ensures

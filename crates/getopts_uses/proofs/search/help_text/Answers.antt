@@ -13,7 +13,7 @@ returns c =
     let options = c.in_ok-options.options in
     let brief : c.as_str.result.now ≡ short_usage_text options (codes "search") = c.as_str.ensures.value ∙ c.in_ok-brief.ensures.text in
     IfOk-weaker c.usage.result (λ text. IsTheOnly (IsUsageText options c.as_str.result.now) (string_bytes text))
-        (λ text. IsSearchHelp (string_bytes text))
+    (λ text. IsSearchHelp (string_bytes text))
     (λ text is. subst (λ (those : Declared). IsTheOnly (IsUsageText those (short_usage_text those (codes "search")))
-        (string_bytes text)) c.in_ok-options.ensures
+    (string_bytes text)) c.in_ok-options.ensures
     (subst (λ (line : Text). IsTheOnly (IsUsageText options line) (string_bytes text)) brief is)) c.usage.ensures.text

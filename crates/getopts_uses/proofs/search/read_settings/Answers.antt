@@ -36,5 +36,5 @@ pub returns-in_err-opt_get-clause-refused : goal.returns-in_err-opt_get-clause-r
 returns-in_err-opt_get-clause-refused c =
     let refusal = err_from_is_err_and c.from_residual-in_err-opt_get.result c.from_residual-in_err-opt_get.ensures.1 in
     let accepted = subst (λ (options : Declared). IsAccepted options (texts c.args.words.now)
-        c.in_ok-matches.matches) c.in_ok-options.ensures c.in_ok-matches.ensures.accepted in
+    c.in_ok-matches.matches) c.in_ok-options.ensures c.in_ok-matches.ensures.accepted in
     rw (refusal.1, refusal.2) (c.in_ok-matches.matches, accepted, as_read _ _ c.in_err-opt_get.ensures)

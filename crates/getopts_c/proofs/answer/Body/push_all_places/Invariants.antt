@@ -9,5 +9,5 @@ use Rattle.getopts_c.proofs.answer.Body.push_all_places.Given as goal
 abbrev pub invariant-loop-group : goal.invariant-loop-group
 invariant-loop-group l =
     (l.self.numbers.items ≡ l.initial.self.numbers.items
-        ++ map (place_number l.matches.groups) (flat_map four_names (map texts (take l.group-index l.groups))))
+    ++ map (place_number l.matches.groups) (flat_map four_names (map texts (take l.group-index l.groups))))
     × (string_bytes l.self.bytes ≡ string_bytes l.initial.self.bytes)

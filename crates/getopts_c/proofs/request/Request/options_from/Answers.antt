@@ -9,7 +9,7 @@ pub returns-clause-request : goal.returns-clause-request
 returns-clause-request c =
     let request = c.args.self.now in
     IfOk-weaker c.options_by.result _ (λ options. IsRequest request.texts.now request.lens.now request.kinds.now
-        request.stop request.long_only options)
+    request.stop request.long_only options)
     (λ options is. request_is request.texts.now request.lens.now request.kinds.now request.stop request.long_only
     c.args.pieces.now c.in_ok-in_fours.field-0.now options c.requires.cut c.in_ok-in_fours.ensures.same is)
     c.options_by.ensures.declared
