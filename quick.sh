@@ -14,14 +14,16 @@ tests() {
 
 # program CRATE: runs a crate's program on its stored input, and compares what it writes.
 program() {
-    local folder=crates/$1 input=/dev/null words=()
+    local folder=crates/$1 input=/dev/null wanted=0 status=0 words=()
+    [ -f "$folder/status" ] && wanted=$(cat "$folder/status")
     [ -f "$folder/stdin" ] && input=$folder/stdin
     [ -f "$folder/args" ] && mapfile -t words <"$folder/args"
     if [ "$1" = getopts_large ]; then
         # What `rt try` makes of it takes minutes.
         [ -x "$folder/out/$1" ] || { echo "passed over: the gate builds it"; return; }
-        "$folder/out/$1" <"$input" >"$room/$1.wrote" 2>"$room/$1.said" || return
-        cmp "$room/$1.wrote" "$folder/stdout" && echo "as stored, by the program that was built last"
+        "$folder/out/$1" <"$input" >"$room/$1.wrote" 2>"$room/$1.said" || status=$?
+        cmp "$room/$1.wrote" "$folder/stdout" && [ "$status" = "$wanted" ] &&
+            echo "as stored, by the program that was built last"
         return
     fi
     if [ "$1" = getopts_replay ]; then

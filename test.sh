@@ -2,10 +2,11 @@
 # Tests this repository.
 # usage: test.sh [--quick] [CRATE]
 #
-# It proves every crate and its tests and runs them, and beside that makes the archive again from the proved source
-# and tries each edit. Then it runs the programs with memory refused and as the system may, and tests the C layer and
-# the Rust crate. CRATE is a folder with the Rust crate getopts 0.2.24, to compare with. With --quick nothing is
-# proved: tests and programs run unproved, and what needs built programs runs where they are.
+# It proves every crate and its tests and runs them. Beside that it tries each edit, makes the archive again over the
+# library as it was proved, tests the C layer and the Rust crate, and runs each program, as soon as it is there, with
+# memory refused, as the system may, and against the rules. CRATE is a folder with the Rust crate getopts 0.2.24, to
+# compare with. With --quick nothing is proved: tests and programs run unproved, and what needs built programs runs
+# where they are.
 set -uo pipefail
 cd "$(dirname "$0")" || exit
 quick=
@@ -67,16 +68,51 @@ ended() {
     done
 }
 
-# In a copy, the archive is made again from the proved source, and over that proof each edit is tried, which the
-# prover has to refuse.
-again() {
-    tar --exclude=./.git --exclude=out --exclude=target -c . | tar -C "$room/copy" -x &&
-        bash "$room/copy/rust/archive.sh" check &&
-        bash "$room/copy/edits/try.sh"
+# proofs: the gate of the toolchain. What it says is kept, so that others begin once it has proved a crate.
+proofs() {
+    local status=0
+    { rt ci || echo $? >"$room/ci.failed"; } 2>&1 | tee "$room/ci"
+    [ ! -f "$room/ci.failed" ] || status=$(cat "$room/ci.failed")
+    touch "$room/ci.ended"
+    return "$status"
+}
+
+# once CRATE.. -- COMMAND..: does a command once the gate has proved these crates, and fails where it never does.
+once() {
+    local crate
+    while [ "$1" != -- ]; do
+        crate=$1
+        shift
+        until grep -qsx "rt: $crate proved" "$room/ci"; do
+            if [ -e "$room/ci.ended" ]; then
+                echo "$crate isn't proved"
+                return 1
+            fi
+            sleep 1
+        done
+    done
+    shift
+    "$@"
+}
+
+# over_proved: in a copy, makes the archive again over the library as it was proved, and tries the edit of its crate.
+over_proved() {
+    local rlib=crates/getopts/out/rlib/getopts.rlib
+    mkdir -p "$room/over/${rlib%/*}" &&
+        tar --exclude=./.git --exclude=out --exclude=target -c . | tar -C "$room/over" -x &&
+        cp -a "$rlib" "$room/over/${rlib%/*}/" &&
+        bash "$room/over/rust/over.sh" "$room/over/$rlib" archive &&
+        bash "$room/over/edits/try.sh" --jobs 1 --over "$room/over/$rlib" getopts_c
+}
+
+# edits: in a copy, tries the edits of the library.
+edits() {
+    mkdir "$room/copy" &&
+        tar --exclude=./.git --exclude=out --exclude=target -c . | tar -C "$room/copy" -x &&
+        bash "$room/copy/edits/try.sh" --jobs 1 getopts
 }
 
 room=$(mktemp -d)
-mkdir "$room/copy"
 trap 'kill $(jobs -p) 2>/dev/null || true; rm -rf "$room"' EXIT
 
 if [ -n "$quick" ]; then
@@ -89,15 +125,15 @@ if [ -n "$quick" ]; then
         echo "skipped: refused memory, and the program and the system: the whole test builds their programs"
     fi
 else
-    begin "the archive from the proved source, and edits over it" again
-    begin "C and Rust" bash rust/test.sh --quick --after "$room/built" "$@"
-    # What follows stands on the programs that this builds.
-    if part "proofs, tests and programs of all crates" rt ci; then
-        begin "refused memory" bash refused/run.sh
-        begin "the program and the system" python3 system/run.py
-        begin "recorded cases by the rules" python3 beside/rules.py
-    fi
-    touch "$room/built"
+    # Each of these begins beside the proofs, and waits for what it stands on.
+    begin "edits of the library" edits
+    begin "the archive over the proved library, and the edit of its crate" once getopts -- over_proved
+    begin "C and Rust" bash rust/test.sh --quick --after "$room/show" "$@"
+    (once getopts_show -- true >/dev/null; touch "$room/show") &
+    begin "refused memory" once getopts_refused getopts_show -- bash refused/run.sh
+    begin "the program and the system" once getopts_show -- python3 system/run.py
+    begin "recorded cases by the rules" once getopts_replay -- python3 beside/rules.py
+    part "proofs, tests and programs of all crates" proofs
 fi
 part "code on the pages for callers" bash docs/quotes.sh
 part "modules that use each other" bash docs/modules.sh

@@ -5,7 +5,7 @@ Changes the bodies of functions of crates/getopts/src in one place at a time, in
 All changes are built at once, without proof, in a copy of the repository: there each body is a choice among its
 changed copies, by a number in the environment. Changes that don't build are left out. Asked are the rows of
 getopts_vectors, and the recorded cases with what rules.py asks beyond them; a change is told where an answer isn't
-what it was. What isn't told there is given to the tests of getopts_vectors, and with --check the rest to the prover,
+what it was. What isn't told there is given to the tests of getopts_tests, and with --check the rest to the prover,
 whose work is kept in the copy's out/.
 
 usage: mutate_library.py [--work FOLDER] [--jobs N] [--only TEXT] [--check]
@@ -150,7 +150,7 @@ class Chosen:
         while wrong := self.wrong():
             self.changes = {number: this for number, this in self.changes.items() if number not in wrong}
         self.program = self.built("getopts_replay", "--steps", "1")
-        self.tests = self.built("getopts_vectors", "--test")
+        self.tests = self.built("getopts_tests", "--test")
 
     def wrong(self):
         """Writes the choices, and answers some of the changes that don't build."""

@@ -1,17 +1,19 @@
 #!/usr/bin/env bash
 # Tries the edits of this folder: each turns a body of its crate, and the prover has to refuse it.
-# usage: edits/try.sh [--jobs N] [--all | --plant] [CRATE..]
+# usage: edits/try.sh [--jobs N] [--over RLIB] [--all | --plant] [CRATE..]
 #
 # An edit names the function that it turns, which is checked alone, with those that it calls: a quarter of a minute of
-# a processor each. With --all those in private/ too, which turn bodies that no public sentence speaks of. With
-# --plant it plants wrong bodies in each crate instead, and prints what the contracts let through. Everything is done
-# on copies of the repository, N at once (2 if left out). The last line is 'N passed, M failed'.
+# a processor each, and somewhat more where no earlier check left its work. With --all those in private/ too, which
+# turn bodies that no public sentence speaks of. With --over the edits of the static library are checked over this
+# proved library. With --plant it plants wrong bodies in each crate instead, and prints what the contracts let through.
+# Everything is done on copies of the repository, N at once (2 if left out). The last line is 'N passed, M failed'.
 set -euo pipefail
 top=$(cd "$(dirname "$0")/.." && pwd)
-jobs=2 all= plant=
+jobs=2 over= all= plant=
 while [ $# -gt 0 ]; do
     case $1 in
         --jobs) jobs=${2:?--jobs takes a number}; shift 2 ;;
+        --over) over=$(realpath "${2:?--over takes a folder}"); shift 2 ;;
         --all) all=1; shift ;;
         --plant) plant=1; shift ;;
         -*) sed -n '3s/^# //p' "$0" >&2; exit 2 ;;
@@ -51,7 +53,11 @@ try_edit() {
     if ! function=$(apply "$edit" "$folder" 2>"$copy/said"); then
         echo "FAILED: $crate: $name: $(cat "$copy/said")"
     else
-        (cd "$folder" && rt check --jobs 1 --only "$function") >"$copy/said" 2>&1 || status=$?
+        if [ -n "$over" ] && [ "$crate" = getopts_c ]; then
+            bash "$copy/rust/over.sh" "$over" only "$function" >"$copy/said" 2>&1 || status=$?
+        else
+            (cd "$folder" && rt check --jobs 1 --only "$function") >"$copy/said" 2>&1 || status=$?
+        fi
         if [ $status = 1 ] && grep -qE "^fn $function: (not proved|no proof)" "$copy/said"; then
             echo "refused: $crate: $name: $(grep -m1 "^fn $function: " "$copy/said" | cut -c1-80)"
         else

@@ -3,28 +3,11 @@
 //! `getopts_cases` tells their form.
 //!
 //! The expected answers are known from outside: from the rules of the Rust crate and from its
-//! tests. What no line can say is said by the tests here.
+//! tests. What no line can say is said by the tests of `getopts_tests`.
 //!
 //! The statuses are 0 where no answer differs, 1 where one does, 2 for a line that can't be read,
 //! which the standard error names, 3 where memory was refused, and 4 where a write failed.
 #![tactic(auto)]
-
-#[cfg(test)]
-mod callers;
-#[cfg(test)]
-mod calls;
-#[cfg(test)]
-mod differences;
-#[cfg(test)]
-mod faults;
-#[cfg(test)]
-mod items;
-#[cfg(test)]
-mod large_lines;
-#[cfg(test)]
-mod usage_closures;
-#[cfg(test)]
-mod values;
 
 use getopts_cases::{Stop, compare};
 use std::io;

@@ -1,0 +1,42 @@
+#!/usr/bin/env bash
+# Builds or checks the static library over the library getopts as it was proved already.
+#
+#     rust/over.sh RLIB archive           says whether the archive that is there is the one that this gives
+#     rust/over.sh RLIB only FUNCTION     checks one function of the static library, with those that it calls
+#
+# RLIB is the folder getopts.rlib that a proof of the library left (`rt ci` leaves one in crates/getopts/out/rlib).
+# `rt lib` would prove the library once more for the same bytes.
+set -euo pipefail
+cd "$(dirname "$0")/.."
+if [ $# -lt 2 ] || [ ! -d "$1" ]; then
+    sed -n '4,5s/^# *//p' "$0" >&2
+    exit 2
+fi
+rlib=$(cd "$1" && pwd)
+here=$PWD/rust/getopts/native/libgetopts_c.a
+kit=$(cd "$(dirname "$(realpath "$(command -v rt)")")/.." && pwd)
+words=(--crate-name getopts_c src/lib.rt --crate-type staticlib --jobs "${JOBS:-1}"
+    --extern "std=$kit/rlibs/std.rlib" --extern "getopts=$rlib"
+    -L "dependency=$kit/rlibs" -L "dependency=$(dirname "$rlib")" --links getopts_c=
+    --antt-project "$kit/rattle/logic/antt-project.json" --logic-built "$kit/logic_built"
+    --incremental out/incremental)
+cd crates/getopts_c
+mkdir -p out
+case $2 in
+archive)
+    made=out/libgetopts_c.a
+    "$kit/bin/rattle" build "${words[@]}" --toolchain "$kit/toolchain" --backend llvm -o "$made"
+    if ! cmp "$made" "$here"; then
+        echo "rust/getopts/native/libgetopts_c.a isn't what the proved source gives: rust/archive.sh makes it anew"
+        exit 1
+    fi
+    echo "rust/getopts/native/libgetopts_c.a is what the proved source gives"
+    ;;
+only)
+    "$kit/bin/rattle" check "${words[@]}" --only "$3"
+    ;;
+*)
+    sed -n '4,5s/^# *//p' "$0" >&2
+    exit 2
+    ;;
+esac
