@@ -116,7 +116,7 @@ room=$(mktemp -d)
 trap 'kill $(jobs -p) 2>/dev/null || true; rm -rf "$room"' EXIT
 
 if [ -n "$quick" ]; then
-    begin "C and Rust" bash rust/test.sh --quick "$@"
+    begin "C and Rust" bash rust/test.sh --short "$@"
     part "tests and programs of all crates, unproved" bash quick.sh
     if [ -x crates/getopts_refused/out/getopts_refused ] && [ -x crates/getopts_show/out/getopts_show ]; then
         begin "refused memory" bash refused/run.sh

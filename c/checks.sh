@@ -4,12 +4,13 @@ room=$(mktemp -d)
 trap 'rm -rf "$room"' EXIT
 passed=0 failed=0 skipped=0
 
-# check WHAT COMMAND..: counts a command, whose output is shown where it failed.
+# check WHAT COMMAND..: counts a command, whose output is shown where it failed, and its time where it took long.
 check() {
-    local what=$1
+    local what=$1 start=$SECONDS
     shift
     if "$@" >"$room/said" 2>&1; then
         passed=$((passed + 1))
+        [ $((SECONDS - start)) -lt 5 ] || echo "$what: $((SECONDS - start)) s"
     else
         failed=$((failed + 1))
         echo "FAILED: $what"

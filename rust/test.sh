@@ -1,24 +1,26 @@
 #!/usr/bin/env bash
 # Tests the archive, the C layer and the Rust crate.
 #
-#     rust/test.sh [--quick] [--after FILE] [CRATE]
+#     rust/test.sh [--quick | --short] [--after FILE] [CRATE]
 #
 # CRATE is a folder that holds the crate getopts 0.2.24; without it cargo fetches that crate. CARGO_FLAGS
-# are handed to each cargo. With --quick nothing is proved. With --after it waits at its end, until FILE is there,
+# are handed to each cargo. With --quick nothing is proved, and with --short the C side is built twice in place of four
+# times besides, and the Rust crate's form, pages and package are passed over. With --after it waits at its end, until FILE is there,
 # before it asks the program getopts_show what it answers. What that or this machine leaves out is skipped with a
 # line that says so. The last line is 'N passed, M failed, K skipped'.
 set -uo pipefail
 top=$(cd "$(dirname "$0")/.." && pwd)
-quick='' after=''
+quick='' short='' after=''
 while [ $# -gt 0 ]; do
     case $1 in
         --quick) quick=yes; shift ;;
+        --short) quick=yes short=--short; shift ;;
         --after) after=${2:?--after takes a file}; shift 2 ;;
         *) break ;;
     esac
 done
 if [ $# -gt 1 ] || { [ $# = 1 ] && [ ! -f "$1/Cargo.toml" ]; }; then
-    echo "usage: rust/test.sh [--quick] [--after FILE] [CRATE], where CRATE is a folder with the crate getopts" >&2
+    echo "usage: rust/test.sh [--quick | --short] [--after FILE] [CRATE], where CRATE is a folder with the crate getopts" >&2
     exit 2
 fi
 crate=${1:+$(cd "$1" && pwd)}
@@ -113,7 +115,7 @@ ask_show() {
 }
 
 # The exports, the layer and the installation are tested by a script of their own.
-"$top/c/test.sh" "$room/requests" >"$room/of_c"
+"$top/c/test.sh" $short "$room/requests" >"$room/of_c"
 sed '$d' "$room/of_c"
 read -r more_passed _ more_failed _ more_skipped _ <<<"$(tail -n 1 "$room/of_c")"
 passed=$((passed + more_passed)) failed=$((failed + more_failed)) skipped=$((skipped + ${more_skipped:-0}))
@@ -151,26 +153,15 @@ if [ -n "$preload" ]; then
     says "the Rust crate under refused memory" refused "$room/target/release/examples/refused" 134 1
 fi
 
-# Its form.
+# Its form, its pages and its package.
 formatted() {
     local folder
     for folder in rust/getopts beside/twin; do
         (cd "$top/$folder" && cargo fmt --check) || return 1
     done
 }
-if cargo fmt --version >/dev/null 2>&1; then
-    check "cargo fmt" formatted
-else
-    skip "cargo fmt: it isn't there"
-fi
-if cargo clippy --version >/dev/null 2>&1; then
-    linted() { in_crate clippy "${flags[@]}" --all-targets --all-features -- -D warnings; }
-    check "cargo clippy" linted
-else
-    skip "cargo clippy: it isn't there"
-fi
+linted() { in_crate clippy "${flags[@]}" --all-targets --all-features -- -D warnings; }
 documented() { (cd "$1" && RUSTDOCFLAGS="-D warnings" cargo doc "${flags[@]}" --no-deps --all-features); }
-check "cargo doc" documented "$here"
 packaged() {
     local file
     in_crate package "${flags[@]}" --allow-dirty --list >"$room/list" || return 1
@@ -179,7 +170,24 @@ packaged() {
     done
     in_crate package "${flags[@]}" --allow-dirty
 }
-check "cargo package" packaged
+clippy=
+if [ -n "$short" ]; then
+    skip "the form of the Rust crate, its pages and its package: the whole test has them"
+else
+    if cargo fmt --version >/dev/null 2>&1; then
+        check "cargo fmt" formatted
+    else
+        skip "cargo fmt: it isn't there"
+    fi
+    if cargo clippy --version >/dev/null 2>&1; then
+        clippy=yes
+        check "cargo clippy" linted
+    else
+        skip "cargo clippy: it isn't there"
+    fi
+    check "cargo doc" documented "$here"
+    check "cargo package" packaged
+fi
 
 # twin NAME CRATE FLAG..: builds the twin of beside over the crate in a folder.
 twin() {
@@ -196,7 +204,7 @@ recorded() {
 twin_linted() { (cd "$room/ours/twin" && cargo clippy --offline "${with[@]}" -- -D warnings); }
 with=(--features canonical,getopts/canonical)
 if check "the twin over the crate here" twin ours "$here" --offline "${with[@]}"; then
-    ! cargo clippy --version >/dev/null 2>&1 || check "cargo clippy of the twin" twin_linted
+    [ -z "$clippy" ] || check "cargo clippy of the twin" twin_linted
     says "recorded rows (the drop-in)" recorded
     while read -r file; do
         says "${file#"$top/crates/"} (the drop-in)" "$ours" check "$file"
