@@ -1,6 +1,5 @@
--- The main theorem, lemmas for callers, and the wrong answers that are refuted.
+-- The main theorem, and lemmas for callers.
+pub mod Plain
 pub mod Callers
 pub mod Theorem
-pub mod Computed
-pub mod Refuted
-pub mod RefutedTexts
+pub mod FirstFault

@@ -16,7 +16,7 @@ use Rattle.getopts.specs.Accessors.{values_of}
 use Rattle.getopts.specs.Theorem.{AcceptedExactlyWhen, HoldSame, OneContentHoldsSame}
 use Rattle.getopts.proofs.Canonical.Lines.{KeepsCounts-mentions}
 use Rattle.getopts.proofs.Held.Matches.{knowns-matched}
-use Rattle.getopts.proofs.MainTheorem.Refuted.{are_plain, lawful_groups}
+use Rattle.getopts.proofs.MainTheorem.Plain.{are_plain, lawful_groups}
 use Rattle.getopts.proofs.Parsing.Holds.{place_of-groups}
 
 -- what a value is read as by one reading, it is read as by another that asks for less

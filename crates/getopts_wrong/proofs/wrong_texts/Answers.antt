@@ -5,12 +5,12 @@ use Rattle.std.specs.Cmp.Lexicographic.{pointwise}
 use Rattle.std.specs.List.{flat_map}
 use Rattle.std.specs.Str.{bytes_eq}
 use Rattle.getopts.specs.Refuted.Forms.{typed}
-use Rattle.getopts.specs.Refuted.Printing.{accented, a_alone, a_and_b, a_and_bee}
-use Rattle.getopts.proofs.MainTheorem.Refuted.{differ}
-use Rattle.getopts.proofs.MainTheorem.RefutedTexts.{rows_on_literals, refutes_usage_rows}
-use Rattle.getopts.proofs.MainTheorem.RefutedTexts.{refutes_usage}
-use Rattle.getopts.proofs.MainTheorem.RefutedTexts.{refutes_made, text_of_x}
-use Rattle.getopts.proofs.refuted.wrong_texts.Goals as goal
+use Rattle.getopts_wrong.specs.Printing.{accented, a_alone, a_and_b, a_and_bee}
+use Rattle.getopts_wrong.proofs.Literals.{differ}
+use Rattle.getopts_wrong.proofs.Texts.{rows_on_literals, refutes_usage_rows}
+use Rattle.getopts_wrong.proofs.Texts.{refutes_usage}
+use Rattle.getopts_wrong.proofs.Texts.{refutes_made, text_of_x}
+use Rattle.getopts_wrong.proofs.wrong_texts.Goals as goal
 
 pub returns-clause-unrecognized_text_without_its_colon :
     goal.returns-clause-unrecognized_text_without_its_colon

@@ -1,7 +1,7 @@
 -- Refused words have no matches and no line, and a contract can't let through what it refuses.
 use Rattle.std.proofs.Common.{refl}
-use Rattle.getopts.proofs.MainTheorem.Refuted.{read_on_literals, not_accepted, not_written}
-use Rattle.getopts.proofs.refuted.controls.Goals as goal
+use Rattle.getopts_wrong.proofs.Literals.{read_on_literals, not_accepted, not_written}
+use Rattle.getopts_wrong.proofs.controls.Goals as goal
 
 pub returns-clause-no_row_of_refused_words : goal.returns-clause-no_row_of_refused_words
 unfolding read_on_literals

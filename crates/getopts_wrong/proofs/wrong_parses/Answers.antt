@@ -1,8 +1,8 @@
 -- What each line of words is answered, computed.
 use Rattle.std.proofs.Common.{refl}
-use Rattle.getopts.proofs.MainTheorem.Refuted.{read_on_literals, refutes_parse, refutes_texts}
-use Rattle.getopts.proofs.MainTheorem.Refuted.{e_acute_text}
-use Rattle.getopts.proofs.refuted.wrong_parses.Goals as goal
+use Rattle.getopts_wrong.proofs.Literals.{read_on_literals, refutes_parse, refutes_texts}
+use Rattle.getopts_wrong.proofs.Literals.{e_acute_text}
+use Rattle.getopts_wrong.proofs.wrong_parses.Goals as goal
 
 pub returns-clause-every_word_is_free : goal.returns-clause-every_word_is_free
 unfolding read_on_literals

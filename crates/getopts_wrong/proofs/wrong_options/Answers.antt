@@ -1,8 +1,8 @@
 -- The options that each call makes.
 use Rattle.std.proofs.Common.{refl}
 use Rattle.getopts.specs.Same.{same_options}
-use Rattle.getopts.proofs.MainTheorem.Refuted.{differ}
-use Rattle.getopts.proofs.refuted.wrong_options.Goals as goal
+use Rattle.getopts_wrong.proofs.Literals.{differ}
+use Rattle.getopts_wrong.proofs.wrong_options.Goals as goal
 
 pub returns-clause-new_is_long_only : goal.returns-clause-new_is_long_only
 returns-clause-new_is_long_only c = record { lets_through = refl; refuses = differ same_options _ _ refl refl }

@@ -1,100 +1,27 @@
 -- What `parse` and `canonical` answer to words, computed: each line has an answer of both, and no
 -- other.
-use Rattle.std.proofs.Common.{◌≡◌, ◌==◌, ℕ, Bool, true, false, nat_lt, List, [], ◌∷◌, length, arith}
-use Rattle.std.proofs.Common.{Option, Some, None, Result, Ok, Err, MatchOption, refl, ap, inl, inr}
+use Rattle.std.proofs.Common.{◌≡◌, List, Option, Some, None, Result, Ok, Err, refl}
+use Rattle.std.proofs.Common.{Bool, true, false, inl, inr}
 use Rattle.std.specs.Prelude.{if◌then◌else◌}
 use Rattle.std.specs.List.{AllByRecursion}
 use Rattle.std.specs.Str.{IsUtf8}
-use Rattle.std.proofs.lemmas.Bool.Decides.{nat_tests}
 use Rattle.getopts.specs.Names.{Text, AreTexts}
 use Rattle.getopts.specs.Options.{Declared, AreLawfullyNamed, grammar_of}
 use Rattle.getopts.specs.Fail.{Fault}
 use Rattle.getopts.specs.Scan.{Reading, IsReading}
-use Rattle.getopts.specs.Matches.{Matched, MatchedGroup, matches_of, FitsCount, KeepsCount}
-use Rattle.getopts.specs.Matches.{KeepsCounts, broken_count, IsCountFault}
+use Rattle.getopts.specs.Matches.{Matched, matches_of, KeepsCounts}
 use Rattle.getopts.specs.Canon.{content_of, canonical_line}
 use Rattle.getopts.specs.Canon.{IsAcceptedWith}
 use Rattle.getopts.specs.CanonAnswers.{IsParseAnswer, IsCanonicalAnswer}
-use Rattle.getopts.specs.Refuted.Forms.{EachLineHasAnswers}
-use Rattle.getopts.specs.declared.groups.Occur.{Occur}
-use Rattle.getopts.specs.declared.groups.Occur.TheVariants.{Req, Optional, Multi}
+use Rattle.getopts_wrong.specs.Forms.{EachLineHasAnswers}
 use Rattle.getopts.proofs.Canonical.Lines.{is_plain, is_plain-true, is_plain-false}
 use Rattle.getopts.proofs.Canonical.Lines.{HasUnwritable-content}
 use Rattle.getopts.proofs.Canonical.Lines.{IsSound-reading}
+use Rattle.getopts.proofs.MainTheorem.FirstFault.{HaveFault, first_count_fault}
+use Rattle.getopts.proofs.MainTheorem.FirstFault.{first_count_fault-is}
 use Rattle.getopts.proofs.Parsing.Parsed.{named_here, only_reads, HasNoReading-fault}
 use Rattle.getopts.proofs.Reading.Readings.{read_reading, read_fault}
 use Rattle.getopts.proofs.Reading.Turns.{read}
-
--- ---- counts
-
--- whether a group may have so many occurrences
-abbrev pub fits_count : Occur → ℕ → Bool
-fits_count Req count = count == 1
-fits_count Optional count = nat_lt count 2
-fits_count Multi count = true
-
-fits_count-true : (occurrence : Occur) (count : ℕ) → fits_count occurrence count ≡ true
-    → FitsCount occurrence count
-fits_count-true Req count fits = grind (arith, nat_tests)
-fits_count-true Optional count fits = grind (arith, nat_tests)
-fits_count-true Multi count fits = tt
-
-fits_count-false : (occurrence : Occur) (count : ℕ) → fits_count occurrence count ≡ false
-    → ¬ (FitsCount occurrence count)
-fits_count-false Req count breaks = λ fits. grind (arith, nat_tests)
-fits_count-false Optional count breaks = λ fits. grind (arith, nat_tests)
-fits_count-false Multi count breaks = cc
-
--- the fault of the first group that breaks its count
-abbrev pub first_count_fault : List MatchedGroup → Option Fault
-first_count_fault [] = None
-first_count_fault (group ∷ groups) = if fits_count group.known.occurrence (length group.found) then first_count_fault
-    groups else Some (broken_count group)
-
--- the groups keep their counts, or this is their fault
-abbrev pub HaveFault : List MatchedGroup → Option Fault → Type 0
-HaveFault groups fault = MatchOption fault (KeepsCounts groups) (IsCountFault groups)
-
--- one more group, which keeps its count
-HaveFault-more : (group : MatchedGroup) (groups : List MatchedGroup) (fault : Option Fault)
-    → KeepsCount group → HaveFault groups fault → HaveFault (group ∷ groups) fault
-HaveFault-more group groups None kept others = (kept, others)
-HaveFault-more group groups (Some fault) kept is = record {
-  before = group ∷ is.before;
-  group = is.group;
-  after = is.after;
-  groups_are = ap (λ (gs : List MatchedGroup). group ∷ gs) is.groups_are;
-  kept = (kept, is.kept);
-  broken = is.broken;
-  fault_is = is.fault_is;
-}
-
--- one more group, which keeps its count or doesn't
-HaveFault-first : (group : MatchedGroup) (groups : List MatchedGroup)
-    → HaveFault groups (first_count_fault groups) → (fits : Bool)
-    → fits_count group.known.occurrence (length group.found) ≡ fits
-    → HaveFault (group ∷ groups)
-    (if fits then first_count_fault groups else Some (broken_count group))
-HaveFault-first group groups others true fits = HaveFault-more group groups (first_count_fault groups)
-    (fits_count-true group.known.occurrence (length group.found) fits) others
-HaveFault-first group groups others false breaks = record {
-  before = [];
-  group = group;
-  after = groups;
-  groups_are = refl;
-  kept = tt;
-  broken = fits_count-false group.known.occurrence (length group.found) breaks;
-  fault_is = refl;
-}
-
--- what is computed is the fault of groups
-pub first_count_fault-is : (groups : List MatchedGroup)
-    → HaveFault groups (first_count_fault groups)
-first_count_fault-is [] = tt
-first_count_fault-is (group ∷ groups) = HaveFault-first group groups (first_count_fault-is groups)
-    (fits_count group.known.occurrence (length group.found)) refl
-
--- ---- answers
 
 -- the answer of `parse` to words that read so and have this count fault, if any
 abbrev pub parsed : Declared → Reading → Option Fault → Result Matched Fault

@@ -5,7 +5,8 @@ use Rattle.getopts.specs.Names.{Text}
 use Rattle.getopts.specs.Fail.{Fault}
 use Rattle.getopts.specs.Matches.{Matched}
 use Rattle.getopts.specs.CanonAnswers.{IsCanonicalAnswer}
-use Rattle.getopts.specs.Refuted.Forms.{Refutes, Answers, optflagopt, usual, typed}
+use Rattle.getopts.specs.Refuted.Forms.{Refutes, typed}
+use Rattle.getopts_wrong.specs.Forms.{Answers, optflagopt, usual}
 use Rattle.getopts.specs.Options.{Declared}
 
 -- the option `c`/`color`

@@ -8,8 +8,10 @@ use Rattle.getopts.specs.Fail.{fault_of}
 use Rattle.getopts.specs.Matches.{Matched}
 use Rattle.getopts.specs.Accessors.{values_of}
 use Rattle.getopts.specs.Parse.{IsAccepted}
-use Rattle.getopts.specs.Refuted.Forms.{Refutes, Answers, optflag, optmulti, usual, only_long}
-use Rattle.getopts.specs.Refuted.Forms.{typed, found_by}
+use Rattle.getopts.specs.Refuted.Forms.{Refutes}
+use Rattle.getopts_wrong.specs.Forms.{Answers, optflag, optmulti, usual, only_long}
+use Rattle.getopts.specs.Refuted.Forms.{typed}
+use Rattle.getopts_wrong.specs.Forms.{found_by}
 use Rattle.getopts.specs.declared.fail.Fail.TheVariants.{UnrecognizedOption, OptionMissing}
 use Rattle.getopts.specs.declared.fail.Fail.TheVariants.{OutOfMemory}
 use Rattle.getopts.specs.declared.groups.HasArg.TheVariants.{Yes}

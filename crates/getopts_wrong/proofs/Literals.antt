@@ -1,26 +1,27 @@
 -- Answers to words that are written out: what is computed of them is their answer, and no other is.
-use Rattle.std.proofs.Common.{◌≡◌, ◌≢◌, ◌==◌, ◌≤◌, ◌+◌, zero, suc, Bool, true, false, ◌&&◌, not}
-use Rattle.std.proofs.Common.{nat_lt, List, [], ◌∷◌, length, arith, refl, sym, ap, ◌∙◌, subst}
+use Rattle.std.proofs.Common.{◌≡◌, ◌≢◌, zero, suc, Bool, true, false}
+use Rattle.std.proofs.Common.{nat_lt, List, [], ◌∷◌, arith, refl, sym, ap, ◌∙◌, subst}
 use Rattle.std.proofs.Common.{Option, Result, Ok, Err}
 use Rattle.std.specs.Prelude.{◌↔◌, IsTrue}
-use Rattle.std.specs.List.{AllByRecursion, list_all}
+use Rattle.std.specs.List.{list_all}
 use Rattle.std.specs.Str.{chars, IsAscii, IsUtf8}
 use Rattle.std.specs.Char.{encode_utf8}
 use Rattle.std.proofs.lemmas.Bool.{and_parts, ltb-true, true≢false}
-use Rattle.std.proofs.lemmas.Bool.Decides.{nat_tests}
 use Rattle.std.proofs.lemmas.Str.{IsUtf8-from_ascii}
-use Rattle.getopts.specs.Names.{AreTexts, Text, Names, IsLawfullyNamed}
-use Rattle.getopts.specs.Options.{Group, Declared, AreLawfullyNamed}
+use Rattle.getopts.specs.Names.{AreTexts, Text}
+use Rattle.getopts.specs.Options.{Declared}
 use Rattle.getopts.specs.Fail.{Fault}
 use Rattle.getopts.specs.Scan.{dash}
 use Rattle.getopts.specs.Matches.{Matched}
 use Rattle.getopts.specs.Parse.{IsAccepted}
 use Rattle.getopts.specs.CanonAnswers.{IsParseAnswer, IsCanonicalAnswer}
-use Rattle.getopts.specs.Refuted.Forms.{Refutes, Answers, e_acute}
-use Rattle.getopts.proofs.MainTheorem.Computed.{parse_answer, parse_answer-is, canonical_answer}
-use Rattle.getopts.proofs.MainTheorem.Computed.{canonical_answer-is}
+use Rattle.getopts.specs.Refuted.Forms.{Refutes}
+use Rattle.getopts_wrong.specs.Forms.{Answers, e_acute}
+use Rattle.getopts_wrong.proofs.Computed.{parse_answer, parse_answer-is, canonical_answer}
+use Rattle.getopts_wrong.proofs.Computed.{canonical_answer-is}
 use Rattle.getopts.proofs.Canonical.Answered.{only_matches, only_parse_answer}
 use Rattle.getopts.proofs.Canonical.Answered.{only_canonical_answer}
+use Rattle.getopts.proofs.MainTheorem.Plain.{are_plain, lawful_groups}
 use Rattle.getopts.proofs.Reading.Turns.{read, read_both, turn, item_turn, cluster_turn}
 
 -- what a test tells apart isn't equal
@@ -32,51 +33,6 @@ differ same x y apart self = λ equal. true≢false (sym self ∙ ap (λ z. same
 unfoldable pub read_on_literals : Unit {0}
 unfolding read read_both turn item_turn cluster_turn chars encode_utf8
 read_on_literals = tt
-
--- whether a short name is empty, or one byte of ASCII
-abbrev pub is_plain_short : Text → Bool
-is_plain_short [] = true
-is_plain_short (byte ∷ []) = nat_lt byte 128
-is_plain_short (byte ∷ other ∷ more) = false
-
--- whether names are lawful, the short one of ASCII
-abbrev pub are_plain_names : Names → Bool
-are_plain_names names = is_plain_short names.short && (not (length names.long == 1) && nat_lt 0 (length names.short + length names.long))
-
-short_length : (short : Text) → is_plain_short short ≡ true → length short ≤ 1
-short_length [] plain = omega arith
-short_length (byte ∷ []) plain = omega arith
-short_length (byte ∷ other ∷ more) plain = cc
-
-short_ascii : (short : Text) → is_plain_short short ≡ true → IsAscii short
-short_ascii [] plain i = omega arith
-short_ascii (byte ∷ []) plain zero = ltb-true byte 128 plain
-short_ascii (byte ∷ []) plain (suc i) = omega arith
-short_ascii (byte ∷ other ∷ more) plain i = cc
-
-plain_lawful : (names : Names) → are_plain_names names ≡ true → IsLawfullyNamed names
-plain_lawful names plain =
-    let parts = and_parts (is_plain_short names.short) (not (length names.long == 1) && nat_lt 0 (length names.short + length names.long)) plain in
-    let more = and_parts (not (length names.long == 1)) (nat_lt 0 (length names.short + length names.long)) parts.1 in
-    record {
-      short_fits = short_length names.short parts.0;
-      long_fits = grind (arith, nat_tests);
-      named = ltb-true 0 (length names.short + length names.long) more.1;
-    }
-
--- whether all options have such names
-abbrev pub are_plain : List Group → Bool
-are_plain groups = list_all (λ group. are_plain_names group.known.names) groups
-
-pub lawful_groups : (groups : List Group) → are_plain groups ≡ true
-    → AreLawfullyNamed groups × AllByRecursion (λ group. IsUtf8 group.known.names.short) groups
-lawful_groups [] plain = (tt, tt)
-lawful_groups (group ∷ groups) plain =
-    let names = group.known.names in
-    let parts = and_parts (are_plain_names group.known.names) (are_plain groups) plain in
-    let short = and_parts (is_plain_short names.short) (not (length names.long == 1) && nat_lt 0 (length names.short + length names.long)) parts.0 in
-    let others = lawful_groups groups parts.1 in
-    ((plain_lawful names parts.0, others.0), (IsUtf8-from_ascii names.short (short_ascii names.short short.0), others.1))
 
 -- whether words are of ASCII
 abbrev pub are_ascii : List Text → Bool

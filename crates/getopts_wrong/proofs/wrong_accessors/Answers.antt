@@ -4,8 +4,8 @@ use Rattle.std.specs.Cmp.Lexicographic.{pointwise}
 use Rattle.std.specs.Option.{option_eq}
 use Rattle.std.proofs.lemmas.Bool.{true≢false}
 use Rattle.getopts.specs.Same.{same_found}
-use Rattle.getopts.proofs.MainTheorem.Refuted.{read_on_literals, refutes_parse, differ}
-use Rattle.getopts.proofs.refuted.wrong_accessors.Goals as goal
+use Rattle.getopts_wrong.proofs.Literals.{read_on_literals, refutes_parse, differ}
+use Rattle.getopts_wrong.proofs.wrong_accessors.Goals as goal
 
 pub returns-clause-separate_argument_not_counted : goal.returns-clause-separate_argument_not_counted
 unfolding read_on_literals

@@ -8,9 +8,11 @@ use Rattle.getopts.specs.Fail.{option_duplicated}
 use Rattle.getopts.specs.Scan.{dash}
 use Rattle.getopts.specs.Matches.{Matched}
 use Rattle.getopts.specs.Accessors.{first_value}
-use Rattle.getopts.specs.Refuted.Forms.{Refutes, Answers, optflag, optflagopt, optopt, reqopt}
-use Rattle.getopts.specs.Refuted.Forms.{usual}
-use Rattle.getopts.specs.Refuted.Forms.{stopping, only_long, typed, e_acute, found_by}
+use Rattle.getopts.specs.Refuted.Forms.{Refutes}
+use Rattle.getopts_wrong.specs.Forms.{Answers, optflag, optflagopt, optopt, reqopt}
+use Rattle.getopts_wrong.specs.Forms.{usual}
+use Rattle.getopts.specs.Refuted.Forms.{typed}
+use Rattle.getopts_wrong.specs.Forms.{stopping, only_long, e_acute, found_by}
 use Rattle.getopts.specs.declared.groups.HasArg.TheVariants.{No}
 use Rattle.getopts.specs.declared.groups.Occur.TheVariants.{Optional}
 

@@ -1,7 +1,7 @@
 -- What each line of words is answered, computed.
 use Rattle.std.proofs.Common.{refl}
-use Rattle.getopts.proofs.MainTheorem.Refuted.{read_on_literals, refutes_canonical}
-use Rattle.getopts.proofs.refuted.wrong_canonicals.Goals as goal
+use Rattle.getopts_wrong.proofs.Literals.{read_on_literals, refutes_canonical}
+use Rattle.getopts_wrong.proofs.wrong_canonicals.Goals as goal
 
 pub returns-clause-canonical_value_apart : goal.returns-clause-canonical_value_apart
 unfolding read_on_literals

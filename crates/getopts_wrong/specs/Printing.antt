@@ -9,7 +9,8 @@ use Rattle.getopts.specs.Names.{Text}
 use Rattle.getopts.specs.Options.{Declared, group_of}
 use Rattle.getopts.specs.Fail.{fail_text}
 use Rattle.getopts.specs.Usage.{short_usage_text, spaces, AreUsageRows, IsUsageText}
-use Rattle.getopts.specs.Refuted.Forms.{Refutes, optflag, optflagmulti, usual, typed, e_acute}
+use Rattle.getopts.specs.Refuted.Forms.{Refutes, typed}
+use Rattle.getopts_wrong.specs.Forms.{optflag, optflagmulti, usual, e_acute}
 use Rattle.getopts.specs.declared.fail.Fail.TheVariants.{UnrecognizedOption}
 use Rattle.getopts.specs.declared.groups.HasArg.TheVariants.{Yes, No}
 use Rattle.getopts.specs.declared.groups.Occur.TheVariants.{Req, Optional}

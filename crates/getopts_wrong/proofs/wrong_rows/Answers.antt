@@ -2,9 +2,9 @@
 use Rattle.std.proofs.Common.{refl}
 use Rattle.std.specs.Cmp.Lexicographic.{pointwise}
 use Rattle.std.specs.Str.{bytes_eq}
-use Rattle.getopts.proofs.MainTheorem.Refuted.{differ}
-use Rattle.getopts.proofs.MainTheorem.RefutedTexts.{rows_on_literals, refutes_rows}
-use Rattle.getopts.proofs.refuted.wrong_rows.Goals as goal
+use Rattle.getopts_wrong.proofs.Literals.{differ}
+use Rattle.getopts_wrong.proofs.Texts.{rows_on_literals, refutes_rows}
+use Rattle.getopts_wrong.proofs.wrong_rows.Goals as goal
 
 pub returns-clause-one_word_a_row : goal.returns-clause-one_word_a_row
 unfolding rows_on_literals

@@ -7,9 +7,9 @@ use Rattle.std.proofs.lemmas.Bool.{true≢false}
 use Rattle.getopts.specs.Fail.{fault_of}
 use Rattle.getopts.specs.declared.fail.Fail.TheVariants.{OptionMissing}
 use Rattle.getopts.specs.Same.{same_options, fault_name}
-use Rattle.getopts.proofs.MainTheorem.Refuted.{read_on_literals, refutes_parse, refutes_unequal}
-use Rattle.getopts.proofs.MainTheorem.Refuted.{differ}
-use Rattle.getopts.proofs.refuted.wrong_comparisons.Goals as goal
+use Rattle.getopts_wrong.proofs.Literals.{read_on_literals, refutes_parse, refutes_unequal}
+use Rattle.getopts_wrong.proofs.Literals.{differ}
+use Rattle.getopts_wrong.proofs.wrong_comparisons.Goals as goal
 
 pub returns-clause-clone_forgets_the_groups : goal.returns-clause-clone_forgets_the_groups
 unfolding read_on_literals

@@ -2,7 +2,8 @@
 use Rattle.std.specs.Prelude.{[], ◌∷◌, Some, None, Ok}
 use Rattle.getopts.specs.CanonAnswers.{IsCanonicalAnswer}
 use Rattle.getopts.specs.Options.{Declared}
-use Rattle.getopts.specs.Refuted.Forms.{Refutes, optflag, optflagopt, usual, only_long, typed}
+use Rattle.getopts.specs.Refuted.Forms.{Refutes, typed}
+use Rattle.getopts_wrong.specs.Forms.{optflag, optflagopt, usual, only_long}
 
 -- the option `v`/`verbose`
 abbrev pub one_flag : Declared

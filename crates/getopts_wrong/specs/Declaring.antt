@@ -2,7 +2,8 @@
 use Prim.Native.String.{String}
 use Rattle.std.specs.Prelude.{◌≡◌, true, [], ◌∷◌, codes}
 use Rattle.getopts.specs.Options.{Group, group_of, with_group}
-use Rattle.getopts.specs.Refuted.Forms.{Refutes, usual, stopping, only_long}
+use Rattle.getopts.specs.Refuted.Forms.{Refutes}
+use Rattle.getopts_wrong.specs.Forms.{usual, stopping, only_long}
 use Rattle.getopts.specs.declared.groups.HasArg.{HasArg}
 use Rattle.getopts.specs.declared.groups.HasArg.TheVariants.{Yes, No, Maybe}
 use Rattle.getopts.specs.declared.groups.Occur.{Occur}
