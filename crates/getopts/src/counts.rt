@@ -23,7 +23,7 @@ fn fits_count(occur: Occur, count: usize) -> bool
 }
 
 /// The fault of an option that came so many times.
-fn broken_count(alloc: Global, main: &str, count: usize) -> Fail
+fn count_fault(alloc: Global, main: &str, count: usize) -> Fail
     ensures { Tells result (λ fault. fault ≡ count_fault main.now count) }
 {
     if count == 0 {
@@ -53,7 +53,7 @@ pub(crate) fn counted(alloc: Global, groups: &Groups, found: &Found) -> Result<I
         if let Some(kinds) = groups.kinds_at(place) {
             let count = index.count(place);
             if !fits_count(kinds.occur, count) {
-                return Err(broken_count(alloc, groups.main(place), count));
+                return Err(count_fault(alloc, groups.main(place), count));
             }
         }
     }

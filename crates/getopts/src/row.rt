@@ -66,7 +66,7 @@ fn push_short(text: &mut String, layout: Layout, names: Names<'_>) -> Result<(),
     } else {
         text.push('-')?;
         text.push_str(names.short)?;
-        text.push_str(if columns(names.long) > 0 { ", " } else { " " })
+        text.push_str(if width_of(names.long) > 0 { ", " } else { " " })
     }
 }
 
@@ -75,7 +75,7 @@ fn push_long(text: &mut String, layout: Layout, long: &str) -> Result<(), AllocE
     ensures { OnOk result (string_bytes text.new ≡ string_bytes text.old
         ++ long_part layout.long_only long.now) }
 {
-    if columns(long) == 0 {
+    if width_of(long) == 0 {
         return Ok(());
     }
     text.push_str(if layout.long_only { "-" } else { "--" })?;
@@ -103,7 +103,7 @@ pub(crate) fn push_argument(text: &mut String, hasarg: HasArg, hint: &str) -> Re
 fn padding_after(head: &str) -> &'static str
     ensures { result.now ≡ padding head.now }
 {
-    let columns = columns(head);
+    let columns = width_of(head);
     if columns < MARGIN {
         &NEXT_ROW[1 + columns..]
     } else {
@@ -113,7 +113,7 @@ fn padding_after(head: &str) -> &'static str
 
 /// The columns that a text takes.
 #[tactic(auto, unfolding(crate::specs::Wrap::width_of))]
-fn columns(text: &str) -> usize
+fn width_of(text: &str) -> usize
     ensures { result ≡ width_of text.now }
 {
     text.width()

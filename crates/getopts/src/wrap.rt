@@ -42,11 +42,11 @@ pub fn each_split_within(alloc: Global, desc: &str, lim: usize) -> Result<Vec<St
     // A row holds no line end, and all rows together are no longer than the description.
     let mut text = String::with_capacity(alloc, desc.len())?;
     push_description(&mut text, desc, lim, "\n")?;
-    lines_of(alloc, text.as_str())
+    rows_in(alloc, text.as_str())
 }
 
 /// The lines of a text.
-fn lines_of(alloc: Global, text: &str) -> Result<Vec<String>, AllocError>
+fn rows_in(alloc: Global, text: &str) -> Result<Vec<String>, AllocError>
     ensures { IfOk result (λ rows. map string_bytes rows.items ≡ lines text.now) }
 {
     let mut rows = Vec::new(alloc);

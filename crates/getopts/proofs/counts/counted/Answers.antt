@@ -50,8 +50,8 @@ returns-then-not-fits_count-clause-err c =
       c.fits_count.ensures.1 (subst (λ (occur : Occur). FitsCount occur count) there.2 fits),
       c.if-not-fits_count.true,
     )) in
-    Tells-weaker c.broken_count.result (λ fault. fault ≡ count_fault c.main.result.now count)
-    (IsCountFault (matched 0 c.args.groups.now c.args.found.now)) c.broken_count.ensures
+    Tells-weaker c.count_fault.result (λ fault. fault ≡ count_fault c.main.result.now count)
+    (IsCountFault (matched 0 c.args.groups.now c.args.found.now)) c.count_fault.ensures
     (λ fault told. IsCountFault-at c.args.groups.now c.args.found.now c.loop-place.place there.0 there.1
     c.loop-place.invariant count counted fault broken
     (told ∙ ap (λ (text : Text). count_fault text count) main ∙ ap (count_fault (main_name there.0.names)) counted))

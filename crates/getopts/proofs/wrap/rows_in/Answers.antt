@@ -2,7 +2,7 @@ use Rattle.std.proofs.Common.{ap, ◌∙◌}
 use Rattle.std.proofs.lemmas.Iterator.Consumers.{YieldsList-end}
 use Rattle.std.proofs.lemmas.Iterator.Splits.{YieldsList-from_lines}
 use Rattle.std.specs.Str.Iter.{lines_rest}
-use Rattle.getopts.proofs.wrap.lines_of.Goals as goal
+use Rattle.getopts.proofs.wrap.rows_in.Goals as goal
 
 -- all lines were taken
 pub returns : goal.returns
