@@ -1,9 +1,11 @@
 //! What a line gives: options in the order of the line, with their values, and free words.
 
-ghost use Rattle.std.specs.Prelude.{◌≡◌, ◌∷◌, ◌++◌, [], None, Some, IfOk, OnOk, length, slice_get};
+ghost use Rattle.std.specs.Prelude.{◌≡◌, ◌==◌, ◌<◌, ◌^◌, ◌*◌, ◌+◌, ◌/◌, ◌%◌, ◌∷◌, ◌++◌, [], None, Some};
+ghost use Rattle.std.specs.Prelude.{IfOk, OnOk, OnErr, ◌≤◌, length, get_or, slice_get};
 ghost use Rattle.std.specs.Option.{option_map};
+ghost use Rattle.std.specs.String.{string_bytes};
+ghost use Rattle.getopts.specs.Held.Found.{ends_of};
 
-use crate::texts::Texts;
 use std::alloc::{AllocError, Global};
 use std::marker::Model;
 
@@ -16,20 +18,82 @@ pub(crate) struct Occurrence<'w> {
     pub value: Option<&'w str>,
 }
 
-/// One option that a line gives. Its value is told by its number among the values of the line, the first
-/// of which has number 1; an option without a value has 0.
+/// One option that a line gives. One number says where the values of the line end up to this option's
+/// own, and whether it has one.
 #[derive(Clone, Copy, Debug)]
 pub(crate) struct Given {
     pub group: usize,
     pub position: usize,
-    pub value: usize,
+    packed: usize,
 }
 
-/// The options that a line gives, in order, and their values.
+impl Given {
+    ghost use Rattle.getopts.specs.Held.Found.{values_end, has_value};
+
+    /// Where the values end, up to this option's own.
+    #[inline(always)]
+    fn values_end(&self) -> usize
+        ensures { result ≡ values_end self.now }
+    {
+        self.packed / 2
+    }
+
+    /// Whether it has a value.
+    #[inline(always)]
+    fn has_value(&self) -> bool
+        ensures { result ≡ has_value self.now }
+    {
+        self.packed % 2 == 1
+    }
+}
+
+/// Where the values of the options before a place end.
+#[inline(always)]
+fn values_start(given: &[Given], place: usize) -> usize
+    requires { place ≤ length given.now }
+    ensures { result ≡ get_or (0 ∷ ends_of given.now) place 0 }
+{
+    if place == 0 {
+        return 0;
+    }
+    given[place - 1].values_end()
+}
+
+/// Where the values end and whether an option has one, as one number. A text has less than 2^63 bytes, so
+/// there is room for both.
+#[inline(always)]
+fn packed(end: usize, has_value: bool) -> usize
+    requires { end < 2 ^ 63 }
+    ensures end { result / 2 ≡ end }
+    ensures value { (result % 2 == 1) ≡ has_value }
+{
+    if has_value { 2 * end + 1 } else { 2 * end }
+}
+
+/// The bytes that there is room for with each option, once one has a value: so few values grow nothing
+/// again.
+const VALUE_BYTES: usize = 8;
+
+/// Adds a value, the first with room for so many.
+#[inline]
+fn push_value(values: &mut String, value: &str, room: usize) -> Result<(), AllocError>
+    ensures ok { OnOk result (string_bytes values.new ≡ string_bytes values.old ++ value.now) }
+    ensures err { OnErr result (string_bytes values.new ≡ string_bytes values.old) }
+{
+    if value.is_empty() {
+        return Ok(());
+    }
+    if values.is_empty() {
+        values.reserve(room.saturating_mul(VALUE_BYTES))?;
+    }
+    values.push_str(value)
+}
+
+/// The options that a line gives, in order, and their values as one text.
 #[derive(Debug)]
 pub(crate) struct Found {
     pub given: Vec<Given>,
-    values: Texts,
+    values: String,
 }
 
 impl Drop for Found {
@@ -62,7 +126,7 @@ impl Found {
     {
         Ok(Found {
             given: Vec::with_capacity(alloc, room)?,
-            values: Texts::new(alloc),
+            values: String::new(alloc),
         })
     }
 
@@ -73,14 +137,15 @@ impl Found {
     }
 
     /// The occurrence at a place.
+    #[inline]
     pub(crate) fn get(&self, place: usize) -> Option<Occurrence<'_>>
         ensures { option_map occurrence_view result ≡ slice_get self.now place }
     {
         let given = *self.given.get(place)?;
-        let value = if given.value == 0 {
-            None
+        let value = if given.has_value() {
+            Some(&self.values[values_start(&self.given, place)..given.values_end()])
         } else {
-            self.values.get(given.value - 1)
+            None
         };
         Some(Occurrence {
             group: given.group,
@@ -90,21 +155,18 @@ impl Found {
     }
 
     /// Adds an occurrence as the last.
+    #[inline]
     pub(crate) fn push(&mut self, occurrence: Occurrence<'_>) -> Result<(), AllocError>
         ensures { OnOk result (self.new ≡ self.old ++ occurrence_view occurrence.entry ∷ []) }
     {
-        let value = match occurrence.value {
-            Some(value) => {
-                self.values.push(value, self.given.capacity())?;
-                self.values.len()
-            }
-            None => 0,
-        };
-        self.given.push(Given {
+        self.given.reserve(1)?;
+        let value = occurrence.value.unwrap_or("");
+        push_value(&mut self.values, value, self.given.capacity())?;
+        self.given.push_reserved(Given {
             group: occurrence.group,
             position: occurrence.position,
-            value,
-        })?;
+            packed: packed(self.values.len(), occurrence.value.is_some()),
+        });
         Ok(())
     }
 }

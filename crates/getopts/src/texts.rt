@@ -16,9 +16,6 @@ const FIRST_TEXTS: usize = 16;
 
 const FIRST_BYTES: usize = 64;
 
-/// The bytes that there is room for with each text, where there is room for several.
-const TEXT_BYTES: usize = 8;
-
 /// A list of texts, held as one text and the places where each of them ends.
 ///
 /// So a copy of the list is two requests for memory.
@@ -105,22 +102,6 @@ impl Texts {
             self.ends.truncate(len);
             self.text.truncate(end);
         }
-    }
-
-    /// Adds a text as the last, the first with room for so many. An error leaves the list as it was.
-    pub(crate) fn push(&mut self, text: &str, room: usize) -> Result<(), AllocError>
-        ensures ok { OnOk result (self.new ≡ self.old ++ text.now ∷ []) }
-        ensures err { OnErr result (self.new ≡ self.old) }
-    {
-        if self.ends.is_empty() {
-            self.ends.reserve(room.max(1))?;
-            self.text.reserve(room.saturating_mul(TEXT_BYTES))?;
-        } else {
-            self.ends.reserve(1)?;
-        }
-        self.text.push_str(text)?;
-        self.ends.push_reserved(self.text.len());
-        Ok(())
     }
 
     /// Adds two texts as the last. An error leaves the list as it was.

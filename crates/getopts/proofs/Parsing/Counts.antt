@@ -11,12 +11,9 @@ use Rattle.getopts.specs.Fail.{Fault}
 use Rattle.getopts.specs.Scan.{Occurrence}
 use Rattle.getopts.specs.Matches.{Found, MatchedGroup, found_at, matched, KeepsCount, KeepsCounts}
 use Rattle.getopts.specs.Matches.{FitsCount, broken_count, IsCountFault}
-use Rattle.getopts.specs.Names.{Text}
 use Rattle.getopts.specs.Held.Accepted.{index_of}
-use Rattle.getopts.specs.Held.Found.{given_view}
 use Rattle.getopts.specs.Held.Groups.{kinds_of}
 use Rattle.getopts.specs.declared.groups.Kinds.{Kinds}
-use Rattle.getopts.specs.declared.line.Given.{Given}
 use Rattle.getopts.proofs.Lists.{AllByRecursion-append}
 use Rattle.getopts.proofs.Held.Index.{length-places_of, slice_get-places_by_group}
 
@@ -125,13 +122,6 @@ pub none_known : (knowns : List Known) (i : ℕ)
 none_known [] i none = zero-le
 none_known (known ∷ knowns) zero none = cc none
 none_known (known ∷ knowns) (suc i) none = omega (arith, none_known knowns i none)
-
--- the groups of occurrences, whatever their values
-pub groups-given : (values : List Text) (given : List Given)
-    → map (λ (g : Given). g.group) given
-    ≡ map (λ (o : Occurrence). o.mention.group) (map (given_view values) given)
-groups-given values [] = refl
-groups-given values (g ∷ given) = ap (λ (more : List ℕ). g.group ∷ more) (groups-given values given)
 
 -- a test of groups that passes for each group with occurrences passes for each occurrence
 pub list_all-by_group : (p : ℕ → Bool) (occurrences : List Occurrence)

@@ -1,35 +1,44 @@
 -- What is seen of the occurrences of a line.
-use Rattle.std.specs.Prelude.{◌≤◌, ℕ, zero, suc, List, length, map, slice_get, Option, None}
-use Rattle.std.specs.List.{AllByRecursion}
+use Rattle.std.specs.Prelude.{◌==◌, if◌then◌else◌, ◌/◌, ◌%◌, ℕ, Bool, List, map, Some, None}
+use Rattle.std.specs.List.{zip}
+use Rattle.std.specs.String.{string_bytes}
 use Rattle.getopts.specs.Names.{Text}
 use Rattle.getopts.specs.Scan.{Occurrence}
+use Rattle.getopts.specs.Pieces.{pieces}
+use Rattle.getopts.specs.Texts.{IsWellCut}
 use Rattle.getopts.specs.declared.line.Given.{Given}
 use Rattle.getopts.specs.declared.line.Found.TheInside.{Inside}
 
--- the value of this number among these, the first of which has number 1; 0 is no value
-abbrev pub numbered : List Text → ℕ → Option Text
-numbered values zero = None
-numbered values (suc place) = slice_get values place
+-- where the values end up to that of an occurrence
+abbrev pub values_end : Given → ℕ
+values_end given = given.packed / 2
 
--- an occurrence whose value has its number among these
-abbrev pub given_view : List Text → Given → Occurrence
-given_view values given = record {
+-- whether an occurrence has a value
+abbrev pub has_value : Given → Bool
+has_value given = given.packed % 2 == 1
+
+-- an occurrence, beside the piece of the values that is its own
+abbrev pub given_view : Given × Text → Occurrence
+given_view (given, text) = record {
   mention = record {
     group = given.group;
-    value = numbered values given.value;
+    value = if has_value given then Some text else None;
   };
   position = given.position;
 }
 
+-- where the values of each occurrence end
+abbrev pub ends_of : List Given → List ℕ
+ends_of given = map values_end given
+
+-- occurrences, each with its own of these values
+abbrev pub with_values : Text → List Given → List Occurrence
+with_values values given = map given_view (zip given (pieces values 0 (ends_of given)))
+
 -- the occurrences of a line
 abbrev pub found_view : Inside → List Occurrence
-found_view inside = map (given_view inside.values) inside.given.items
+found_view inside = with_values (string_bytes inside.values) inside.given.items
 
--- the number of an occurrence's value is among so many
-abbrev pub HasItsValue : ℕ → Given → Type 0
-HasItsValue size given = given.value ≤ size
-
--- each occurrence of a line has its value among those of the line
+-- the text of all values is cut where those of the occurrences end
 abbrev pub HaveTheirValues : Inside → Type 0
-HaveTheirValues inside =
-    AllByRecursion (HasItsValue (length inside.values)) inside.given.items
+HaveTheirValues inside = IsWellCut (string_bytes inside.values) (ends_of inside.given.items)

@@ -1,53 +1,52 @@
--- An occurrence with a value is seen with it, and one without has none.
-use Rattle.std.proofs.Common.{◌≡◌, ◌++◌, ◌∷◌, [], suc, map, length, sym, ap, ◌∙◌, arith}
-use Rattle.std.proofs.Common.{length-append}
-use Rattle.std.proofs.lemmas.List.{map-append}
-use Rattle.std.specs.Option.{option_copied}
-use Rattle.getopts.specs.Held.Found.{given_view}
-use Rattle.getopts.proofs.Held.Line.{given-value}
+-- The occurrence is the last one, and its values end where the text of all does.
+use Rattle.std.proofs.Common.{◌≡◌, ◌/◌, ◌++◌, ◌∷◌, [], cond, length, Option}
+use Rattle.std.proofs.Common.{Some, None, refl, ap, ◌∙◌, arith}
+use Rattle.std.proofs.lemmas.Grind.{common_steps}
+use Rattle.std.specs.Borrow.{Bor}
+use Rattle.std.specs.Option.{option_copied, is_some, unwrap_or}
+use Rattle.std.specs.String.{string_bytes}
+use Rattle.getopts.specs.Names.{Text}
+use Rattle.getopts.specs.Texts.{IsWellCut}
+use Rattle.getopts.specs.Held.Found.{ends_of, with_values, given_view}
+use Rattle.getopts.specs.declared.line.Given.{Given}
+use Rattle.getopts.proofs.Held.Line.{with_values-push}
 use Rattle.getopts.proofs.line.Found.push.Goals as goal
-use Rattle.getopts.proofs.line.Found.push.Goals.{in-Some+in_ok-push-in-Some, in-None}
+
+abbrev last : goal.After-push_reserved → Given
+last c = record {
+  group = c.args.occurrence.group;
+  position = c.args.occurrence.position;
+  packed = c.packed.result;
+}
+
+added : (c : goal.After-push_reserved)
+    → IsWellCut (string_bytes c.push_value.new.values) (ends_of c.push_reserved.new.self.items)
+    × (with_values (string_bytes c.push_value.new.values) c.push_reserved.new.self.items
+    ≡ with_values (string_bytes c.self.inside.values) c.self.inside.given.items
+    ++ given_view (last c, c.unwrap_or-value.result.now) ∷ [])
+added c =
+    let ends : c.packed.result / 2 ≡ length (string_bytes c.push_value.new.values) = grind (arith, common_steps) in
+    with_values-push (string_bytes c.self.inside.values) c.unwrap_or-value.result.now
+    (string_bytes c.push_value.new.values) c.self.inside.given.items c.push_reserved.new.self.items (last c)
+    (grind (arith, common_steps))
+    (c.push_reserved.ensures.items ∙ ap (λ items. items ++ last c ∷ []) c.reserve.ensures.items)
+    ends c.unwrap_or-value.utf8 c.self.invariant
+
+pub invariant_of-self-2 : goal.invariant_of-self-2
+invariant_of-self-2 c = (added c).0
+
+value_seen : (value : Option (Bor Text)) (empty : Bor Text)
+    → cond (is_some value) (Some (unwrap_or value empty).now) None ≡ option_copied value
+value_seen (Some text) empty = refl
+value_seen None empty = refl
 
 pub returns : goal.returns
 returns c =
-    let before = c.self.inside.values in
-    let group = c.args.occurrence.group in
-    let position = c.args.occurrence.position in
-    elim c.match-occurrence.branch [
-      | in-Some+in_ok-push-in-Some w ↦
-          let values : c.match-occurrence.self-inside.values ≡ before ++ w.in-Some.value.now ∷ [] =
-          ap (λ inside. inside.values) w.self-inside-is ∙ w.in_ok-push-in-Some.ensures.ok in
-          let number : c.match-occurrence.value ≡ suc (length before) =
-          w.value-is ∙ w.len-value.ensures ∙ ap length w.in_ok-push-in-Some.ensures.ok
-          ∙ omega (arith, length-append before (w.in-Some.value.now ∷ [])) in
-          let items : c.push-2.new.self.items ≡ c.self.inside.given.items ++ record
-          { group = group; position = position; value = suc (length before) } ∷ [] =
-          c.in_ok-push.ensures.items
-          ∙ (λ i. (w.self-inside-is i).given.items ++ record {
-            group = group;
-            position = position;
-            value = number i;
-          } ∷ []) in
-          (λ i. map (given_view (values i)) (items i))
-          ∙ given-value before c.self.inside.given.items group position w.in-Some.value.now c.self.invariant
-          ∙ (λ i. c.self.view_is i ++ record {
-            mention =
-                record { group = group; value = option_copied (sym w.in-Some.is i) };
-            position = position;
-          } ∷ [])
-      | in-None w ↦
-          let items : c.push-2.new.self.items ≡ c.self.inside.given.items ++ record { group = group; position = position; value = 0 } ∷ [] =
-          c.in_ok-push.ensures.items
-          ∙ (λ i. (w.self-inside-is i).given.items ++ record {
-            group = group;
-            position = position;
-            value = w.value-is i;
-          } ∷ []) in
-          (λ i. map (given_view ((w.self-inside-is i).values)) (items i))
-          ∙ map-append (given_view before) c.self.inside.given.items (record { group = group; position = position; value = 0 } ∷ [])
-          ∙ (λ i. c.self.view_is i ++ record {
-            mention =
-                record { group = group; value = option_copied (sym w.in-None.is i) };
-            position = position;
-          } ∷ [])
-    ]
+    let has = c.packed.ensures.value ∙ c.is_some.ensures in
+    let text = c.unwrap_or-value.ensures in
+    let value : (given_view (last c, c.unwrap_or-value.result.now)).mention.value ≡ option_copied c.args.occurrence.value =
+    (λ i. cond (has i) (Some (text i).now) None) ∙ value_seen c.args.occurrence.value _ in
+    (added c).1 ∙ (λ i. c.self.view_is i ++ record {
+      mention = record { group = c.args.occurrence.group; value = value i };
+      position = c.args.occurrence.position;
+    } ∷ [])
