@@ -3,6 +3,7 @@ pub mod Pieces
 pub mod Texts
 pub mod Pairs
 pub mod Options
+pub mod Groups
 pub mod Index
 pub mod Line
 pub mod Matches

@@ -4,9 +4,8 @@ use Rattle.std.specs.Prelude.{Option}
 use Rattle.std.specs.Option.{option_copied, unwrap_or}
 use Rattle.std.specs.String.{string_bytes}
 use Rattle.getopts.specs.Names.{Text}
-use Rattle.getopts.specs.Options.{Grammar, AreLawfullyNamed, knowns_of, grammar_of}
+use Rattle.getopts.specs.Options.{Grammar, AreLawfullyNamed, names_of, grammar_of}
 use Rattle.getopts.specs.Held.Groups.{HaveTextsForShorts}
-use Rattle.getopts.specs.Pairs.{name_texts}
 use Rattle.getopts.specs.Table.{IsTableOf}
 use Rattle.getopts.specs.Canon.{Content}
 use Rattle.getopts.specs.Scan.{dash_text, Dashes, MayStandBefore, Argument, none, FitsEnd, value_of}
@@ -36,7 +35,7 @@ scanner_grammar scanner = grammar_of scanner.options.now
 pub record IsLawfulScanner (scanner : Scanner) : Type 0 where
   pub lawful : AreLawfullyNamed scanner.options.now.groups
   pub shorts : HaveTextsForShorts scanner.options.now.groups
-  pub table : IsTableOf (name_texts (knowns_of scanner.options.now.groups)) scanner.table.now
+  pub table : IsTableOf (names_of scanner.options.now.groups) scanner.table.now
 
 -- a word in long form, which is its dashes and this text
 pub record IsInLongForm (grammar : Grammar) (word text : Text) : Type 0 where

@@ -13,7 +13,3 @@ pub record IsWellCut (text : Text) (ends : List ℕ) : Type 0 where
 -- each element is a byte
 abbrev pub IsOfBytes : Text → Type 0
 IsOfBytes text = All (λ byte. byte < 256) text
-
--- each text is of bytes
-abbrev pub AreOfBytes : List Text → Type 0
-AreOfBytes texts = All IsOfBytes texts

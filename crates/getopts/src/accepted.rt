@@ -34,7 +34,7 @@ impl Options {
     {
         are_texts(words);
         let groups = self.groups();
-        let table = Table::of(alloc, self.names())?;
+        let table = Table::of(alloc, groups)?;
         let scanner = Scanner {
             options: self,
             table: &table,

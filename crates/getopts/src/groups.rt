@@ -1,20 +1,23 @@
 //! Option groups: their kinds, and what reading asks of them.
 
-ghost use Rattle.std.specs.Prelude.{◌≡◌, ◌++◌, ◌∷◌, [], ◌*◌, length, map, slice_get, OnOk, OnErr};
+ghost use Rattle.std.specs.Prelude.{◌≡◌, ◌++◌, ◌∷◌, [], ◌*◌, ◌<◌, ◌^◌, length, slice_get, OnOk, OnErr};
 ghost use Rattle.std.specs.Option.{option_map, option_map_or};
 ghost use Rattle.std.specs.Cmp.Lexicographic.{pointwise};
 ghost use Rattle.std.specs.Cmp.Rules.{comparing};
 ghost use Rattle.std.proofs.Common.{rules};
 ghost use Rattle.getopts.specs.Names.{main_name};
-ghost use Rattle.getopts.specs.Pairs.{name_texts};
+ghost use Rattle.getopts.specs.Table.{name_at, HaveNamesOfBytes};
 
 use crate::names::Names;
-use crate::texts::Texts;
+use crate::texts::is_of_bytes;
 use std::alloc::{AllocError, Global};
 use std::marker::Model;
 
 /// The groups that there is room for once the first was added: so few grow nothing again.
 const FIRST_GROUPS: usize = 8;
+
+/// The bytes of their names, likewise.
+const FIRST_BYTES: usize = 64;
 
 /// What the first free word does to the words after it.
 #[derive(Debug, Clone, Copy, PartialEq, Eq)]
@@ -55,11 +58,9 @@ pub(crate) struct Kinds {
 }
 
 impl PartialEq for Kinds {
-    ghost use Rattle.std.specs.Ordering.{on};
-    ghost use Rattle.getopts.specs.Held.Groups.{known_with};
-    ghost use Rattle.getopts.specs.Same.{same_known};
+    ghost use Rattle.getopts.specs.Held.Groups.{same_kinds};
 
-    ghost eq = { on (λ kinds. known_with kinds [] []) same_known };
+    ghost eq = { same_kinds };
 
     ghost laws = { Prim.search (comparing, rules) depth 12 };
 
@@ -83,63 +84,84 @@ pub(crate) struct Group<'g> {
     pub desc: &'g str,
 }
 
-/// What reading asks of groups: the names of each, the short one first, and its kinds.
+/// A group among others: where its two names end in the text of all names, and its kinds.
+#[derive(Debug, Clone, Copy)]
+struct GroupRecord {
+    short_end: usize,
+    long_end: usize,
+    kinds: Kinds,
+}
+
+impl PartialEq for GroupRecord {
+    ghost use Rattle.getopts.specs.Held.Groups.{same_record};
+
+    ghost eq = { same_record };
+
+    ghost laws = { Prim.search (comparing, rules) depth 12 };
+
+    fn eq(&self, other: &GroupRecord) -> bool {
+        self.short_end == other.short_end
+            && self.long_end == other.long_end
+            && self.kinds == other.kinds
+    }
+}
+
+/// What reading asks of groups: one text of all names, for each group the short and then the long
+/// one, and a record of each group.
 #[derive(Debug)]
 pub(crate) struct Groups {
-    names: Texts,
-    kinds: Vec<Kinds>,
+    names: String,
+    records: Vec<GroupRecord>,
 }
 
 impl Drop for Groups {
     fn drop(self) {
-        let Groups { names: _, kinds: _ } = self;
+        let Groups {
+            names: _,
+            records: _,
+        } = self;
     }
 }
 
 impl Model for Groups {
-    ghost use Rattle.std.specs.Prelude.{◌≡◌, ◌*◌, List, length};
+    ghost use Rattle.std.specs.Prelude.{List};
+    ghost use Rattle.std.specs.String.{string_bytes};
     ghost use Rattle.getopts.specs.Options.{Known};
-    ghost use Rattle.getopts.specs.Pairs.{beside_pairs};
-    ghost use Rattle.getopts.specs.Held.Groups.{known_with};
+    ghost use Rattle.getopts.specs.Texts.{IsWellCut};
+    ghost use Rattle.getopts.specs.Held.Groups.{name_ends, knowns_in};
 
     ghost Value = { List Known };
 
-    ghost view = { λ a. beside_pairs known_with a.kinds.items a.names };
+    ghost view = { λ a. knowns_in (string_bytes a.names) a.records.items };
 
-    ghost invariant = { λ a. length a.names ≡ 2 * length a.kinds.items };
+    ghost invariant = { λ a. IsWellCut (string_bytes a.names) (name_ends a.records.items) };
 }
 
 impl Groups {
-    ghost use Rattle.getopts.specs.Held.Groups.{kinds_of, known_view, known_with};
+    ghost use Rattle.getopts.specs.Held.Groups.{kinds_of, known_view, known_with, names_in};
 
     /// No groups. Takes no memory.
     pub(crate) fn new(alloc: Global) -> Groups
         ensures { result ≡ [] }
     {
         Groups {
-            names: Texts::new(alloc),
-            kinds: Vec::new(alloc),
+            names: String::new(alloc),
+            records: Vec::new(alloc),
         }
     }
 
     pub(crate) fn len(&self) -> usize
-        ensures { result ≡ length self.now }
+        ensures len { result ≡ length self.now }
+        ensures small { 2 * result < 2 ^ 64 }
     {
-        self.kinds.len()
-    }
-
-    /// The names of all groups, two of each.
-    pub(crate) fn names(&self) -> &Texts
-        ensures { result.now ≡ name_texts self.now }
-    {
-        &self.names
+        self.records.len()
     }
 
     /// The kinds of the group at a place.
     pub(crate) fn kinds_at(&self, place: usize) -> Option<Kinds>
         ensures { result ≡ option_map kinds_of (slice_get self.now place) }
     {
-        Some(*self.kinds.get(place)?)
+        Some(self.records.get(place)?.kinds)
     }
 
     /// The main name of the group at a place. Past the last group it is empty.
@@ -147,19 +169,51 @@ impl Groups {
         ensures { result.now
             ≡ option_map_or (λ known. main_name known.names) (slice_get self.now place) [] }
     {
-        match self.names.pair(place) {
-            Some((short, long)) => Names { short, long }.main(),
+        match self.get(place) {
+            Some(known) => known.names.main(),
             None => "",
         }
     }
 
-    /// The group at a place.
+    /// The name of this number, where each group in turn has two, the short one first. Past the last
+    /// it is empty.
+    pub(crate) fn name(&self, number: usize) -> &str
+        ensures { result.now ≡ name_at (names_in self.now) number }
+    {
+        match self.get(number / 2) {
+            Some(known) => {
+                if number % 2 == 0 {
+                    known.names.short
+                } else {
+                    known.names.long
+                }
+            }
+            None => "",
+        }
+    }
+
+    /// Each name is of bytes: a law to cite, of which nothing is left once built.
+    pub(crate) fn are_of_bytes(&self)
+        ensures { HaveNamesOfBytes (names_in self.now) }
+    {
+        is_of_bytes(&self.names);
+    }
+
+    /// The group at a place: its names start where those of the one before it end.
+    #[inline]
     pub(crate) fn get(&self, place: usize) -> Option<Known<'_>>
         ensures { option_map known_view result ≡ slice_get self.now place }
     {
-        let kinds = *self.kinds.get(place)?;
-        let (short, long) = self.names.pair(place)?;
+        let group = *self.records.get(place)?;
+        let start = if place == 0 {
+            0
+        } else {
+            self.records[place - 1].long_end
+        };
+        let short = &self.names[start..group.short_end];
+        let long = &self.names[group.short_end..group.long_end];
         let names = Names { short, long };
+        let kinds = group.kinds;
         Some(Known { names, kinds })
     }
 
@@ -168,14 +222,23 @@ impl Groups {
         ensures ok { OnOk result (self.new ≡ self.old ++ known_with kinds short.now long.now ∷ []) }
         ensures err { OnErr result (self.new ≡ self.old) }
     {
-        let groups = if self.kinds.is_empty() {
-            FIRST_GROUPS
+        let bytes = short.len().checked_add(long.len()).ok_or(AllocError)?;
+        if self.records.is_empty() {
+            self.records.reserve(FIRST_GROUPS)?;
+            self.names.reserve(bytes.max(FIRST_BYTES))?;
         } else {
-            1
-        };
-        self.kinds.reserve(groups)?;
-        self.names.push_pair(short, long)?;
-        self.kinds.push(kinds)?;
+            self.records.reserve(1)?;
+            self.names.reserve(bytes)?;
+        }
+        self.names.push_str(short)?;
+        let short_end = self.names.len();
+        self.names.push_str(long)?;
+        let long_end = self.names.len();
+        self.records.push_reserved(GroupRecord {
+            short_end,
+            long_end,
+            kinds,
+        });
         Ok(())
     }
 }
@@ -186,7 +249,7 @@ impl Clone for Groups {
     fn clone(&self) -> Result<Groups, AllocError> {
         Ok(Groups {
             names: self.names.clone()?,
-            kinds: self.kinds.clone()?,
+            records: self.records.clone()?,
         })
     }
 }
@@ -199,6 +262,6 @@ impl PartialEq for Groups {
     ghost laws = { Prim.search (comparing, rules) depth 12 };
 
     fn eq(&self, other: &Groups) -> bool {
-        self.kinds == other.kinds && self.names == other.names
+        self.names == other.names && self.records == other.records
     }
 }

@@ -4,7 +4,7 @@ ghost use Rattle.std.specs.Prelude.{◌≡◌, ◌==◌, ◌<◌, ◌^◌, ◌*�
 ghost use Rattle.std.specs.Prelude.{IfOk, OnOk, OnErr, ◌≤◌, length, get_or, slice_get};
 ghost use Rattle.std.specs.Option.{option_map};
 ghost use Rattle.std.specs.String.{string_bytes};
-ghost use Rattle.getopts.specs.Held.Found.{ends_of};
+ghost use Rattle.getopts.specs.Held.Found.{value_ends};
 
 use std::alloc::{AllocError, Global};
 use std::marker::Model;
@@ -51,7 +51,7 @@ impl Given {
 #[inline(always)]
 fn values_start(given: &[Given], place: usize) -> usize
     requires { place ≤ length given.now }
-    ensures { result ≡ get_or (0 ∷ ends_of given.now) place 0 }
+    ensures { result ≡ get_or (0 ∷ value_ends given.now) place 0 }
 {
     if place == 0 {
         return 0;

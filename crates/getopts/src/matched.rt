@@ -3,10 +3,9 @@
 ghost use Rattle.std.specs.Prelude.{◌≡◌, Some};
 ghost use Rattle.std.specs.Cmp.Lexicographic.{pointwise};
 ghost use Rattle.getopts.specs.Matches.{matched};
-ghost use Rattle.getopts.specs.Pairs.{name_texts};
 ghost use Rattle.getopts.specs.Table.{IsTableOf};
 ghost use Rattle.getopts.specs.Held.Accepted.{index_of};
-ghost use Rattle.getopts.specs.Held.Groups.{HaveLawfulNames};
+ghost use Rattle.getopts.specs.Held.Groups.{HaveLawfulNames, names_in};
 
 use crate::groups::Groups;
 use crate::index::Index;
@@ -55,7 +54,7 @@ impl MatchedGroups {
     /// Groups with what was found of each, by their table and by where it stands.
     pub(crate) fn of(groups: Groups, table: Table, found: Found, index: Index) -> MatchedGroups
         requires lawful { HaveLawfulNames groups }
-        requires table { IsTableOf (name_texts groups) table }
+        requires table { IsTableOf (names_in groups) table }
         requires index { index ≡ index_of groups found }
         ensures { result ≡ matched 0 groups found }
     {
@@ -71,7 +70,7 @@ impl MatchedGroups {
     pub(crate) fn place_of(&self, name: &str) -> Option<usize>
         ensures { result ≡ place_of self.now name.now }
     {
-        self.table.resolve(self.groups.names(), name)
+        self.table.resolve(&self.groups, name)
     }
 
     /// The groups are lawfully named: a law to cite, of which nothing is left once built.

@@ -7,7 +7,6 @@ ghost use Rattle.std.specs.Cmp.Rules.{comparing};
 ghost use Rattle.std.proofs.Common.{rules};
 ghost use Rattle.getopts.specs.Names.{AreLawful};
 ghost use Rattle.getopts.specs.Options.{group_of, with_group, knowns_of, AreLawfullyNamed};
-ghost use Rattle.getopts.specs.Pairs.{name_texts};
 
 use crate::groups::{Group, Groups, HasArg, Kinds, Occur, ParsingStyle};
 use crate::texts::Texts;
@@ -159,13 +158,6 @@ impl Options {
         ensures shorts { HaveTextsForShorts self.now.groups }
     {
         &self.groups
-    }
-
-    /// The names of all groups, two of each.
-    pub(crate) fn names(&self) -> &Texts
-        ensures { result.now ≡ name_texts (knowns_of self.now.groups) }
-    {
-        self.groups.names()
     }
 
     /// The kinds of the group at a place.

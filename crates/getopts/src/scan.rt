@@ -154,7 +154,7 @@ impl<'o> Scanner<'o> {
             (λ option. (grammar.place_of name.now ≡ Some option.0)
             × (grammar.kind_of name.now ≡ Some option.1)) }
     {
-        let place = self.table.resolve(self.options.names(), name)?;
+        let place = self.table.resolve(self.options.groups(), name)?;
         Some((place, self.options.kinds_at(place)?.hasarg))
     }
 

@@ -46,8 +46,6 @@ impl Model for Texts {
 }
 
 impl Texts {
-    ghost use Rattle.getopts.specs.Texts.{AreOfBytes};
-
     /// No texts. Takes no memory.
     pub(crate) fn new(alloc: Global) -> Texts
         ensures { result ≡ [] }
@@ -84,13 +82,6 @@ impl Texts {
             return None;
         }
         Some((self.get(2 * place)?, self.get(2 * place + 1)?))
-    }
-
-    /// Each text is of bytes: a law to cite, of which nothing is left once built.
-    pub(crate) fn are_of_bytes(&self)
-        ensures { AreOfBytes self.now }
-    {
-        is_of_bytes(&self.text);
     }
 
     /// Leaves the first so many texts.

@@ -15,21 +15,18 @@ use Rattle.std.proofs.lemmas.List.Elements.{recursion_from_All}
 use Rattle.std.proofs.lemmas.Option.{slice_get_past}
 use Rattle.getopts.specs.Names.{Text, Names, resolution}
 use Rattle.getopts.specs.Options.{Known}
-use Rattle.getopts.specs.Pairs.{name_texts}
-use Rattle.getopts.specs.Table.{names_in}
 use Rattle.getopts.specs.Index.{places_of}
 use Rattle.getopts.specs.Scan.{Occurrence}
 use Rattle.getopts.specs.Matches.{Found, MatchedGroup, found_at, matched}
 use Rattle.getopts.specs.Accessors.{AreHeldLawfully, found_in, place_of, values_of, pairs_of}
 use Rattle.getopts.specs.Same.{same_known, same_found, same_matched_group}
-use Rattle.getopts.specs.Held.Groups.{HaveLawfulNames}
+use Rattle.getopts.specs.Held.Groups.{HaveLawfulNames, names_in}
 use Rattle.getopts.specs.Held.Occurrences.{pair_view}
 use Rattle.getopts.specs.Matches.{found_part}
 use Rattle.getopts.specs.Held.Accepted.{index_of}
 use Rattle.getopts.proofs.Parsing.Counts.{length-matched}
 use Rattle.getopts.proofs.Held.Index.{filter_map-places_of, places_of-within}
 use Rattle.getopts.proofs.Held.Index.{slice_get-places_by_group, length-places_by_group}
-use Rattle.getopts.proofs.Held.Pairs.{names_in-name_texts}
 
 -- the names of the groups that matches hold
 names-matched : (first : ℕ) (knowns : List Known) (occurrences : List Occurrence)
@@ -60,11 +57,11 @@ pub AreHeldLawfully-matched : (first : ℕ) (knowns : List Known) (occurrences :
 AreHeldLawfully-matched first [] occurrences lawful = tt
 AreHeldLawfully-matched first (known ∷ knowns) occurrences lawful = (lawful.0, AreHeldLawfully-matched (first + 1) knowns occurrences lawful.1)
 
--- a name resolves among the groups that matches hold as among the texts of their names
+-- a name resolves among the groups that matches hold as among their names
 pub place_of-matched : (knowns : List Known) (occurrences : List Occurrence) (name : Text)
-    → resolution (names_in (name_texts knowns)) name ≡ place_of (matched 0 knowns occurrences) name
+    → resolution (names_in knowns) name ≡ place_of (matched 0 knowns occurrences) name
 place_of-matched knowns occurrences name = ap (λ (groups : List Names). resolution groups name)
-    (names_in-name_texts knowns ∙ sym (names-matched 0 knowns occurrences))
+    (sym (names-matched 0 knowns occurrences))
 
 module _ (knowns : List Known) (occurrences : List Occurrence) (place : ℕ) where
   -- where the occurrences of the group at this place stand

@@ -1,17 +1,15 @@
 -- Lemmas on texts that stand in pairs beside a list.
 use Rattle.std.proofs.Common.{◌≡◌, ◌≤◌, ℕ, zero, suc, ◌+◌, ◌*◌, List, [], ◌∷◌, ◌++◌, map}
-use Rattle.std.proofs.Common.{length, slice_get, Some, None, option_map, refl, ap, sym, ◌∙◌}
+use Rattle.std.proofs.Common.{length, slice_get, Some, None, option_map, refl, ap, sym}
 use Rattle.std.proofs.Common.{subst, arith}
 use Rattle.std.specs.List.{AllByRecursion}
 use Rattle.std.specs.Option.{option_map_or}
 use Rattle.getopts.specs.Names.{Text, Names, main_name}
 use Rattle.getopts.specs.Canon.{main_at}
 use Rattle.getopts.specs.Options.{Known, Group, knowns_of, names_of, AreLawfullyNamed}
-use Rattle.getopts.specs.Pairs.{beside_pairs, name_texts}
-use Rattle.getopts.specs.Table.{names_in}
-use Rattle.getopts.specs.Held.Groups.{known_with, HaveLawfulNames}
+use Rattle.getopts.specs.Pairs.{beside_pairs}
+use Rattle.getopts.specs.Held.Groups.{HaveLawfulNames}
 use Rattle.getopts.specs.Held.Options.{group_with}
-use Rattle.getopts.specs.declared.groups.Kinds.{Kinds}
 use Rattle.getopts.proofs.Lists.{AllByRecursion-unmap}
 
 module _ {X Y : Type 0} (make : X → Text → Text → Y) where
@@ -70,6 +68,23 @@ module _ {X Y : Type 0} (make : X → Text → Text → Y) where
   beside_pairs-map view same (x ∷ xs) (a ∷ []) fits = absurd (omega arith)
   beside_pairs-map view same (x ∷ xs) (a ∷ b ∷ texts) fits = λ i. same x a b i ∷ beside_pairs-map view same xs texts (omega arith) i
 
+-- the two texts of each element in turn
+abbrev pub texts_of : {Y : Type 0} → (Y → Text) → (Y → Text) → List Y → List Text
+texts_of first second [] = []
+texts_of first second (y ∷ ys) = first y ∷ second y ∷ texts_of first second ys
+
+-- they are those that the elements were made of
+pub beside_pairs-texts : {X Y : Type 0} (make : X → Text → Text → Y) (first second : Y → Text)
+    → ((x : X) (a b : Text) → first (make x a b) ≡ a)
+    → ((x : X) (a b : Text) → second (make x a b) ≡ b) → (xs : List X) (texts : List Text)
+    → length texts ≡ 2 * length xs → texts_of first second (beside_pairs make xs texts) ≡ texts
+beside_pairs-texts make first second one other [] [] fits = refl
+beside_pairs-texts make first second one other [] (t ∷ texts) fits = absurd (omega arith)
+beside_pairs-texts make first second one other (x ∷ xs) [] fits = absurd (omega arith)
+beside_pairs-texts make first second one other (x ∷ xs) (a ∷ []) fits = absurd (omega arith)
+beside_pairs-texts make first second one other (x ∷ xs) (a ∷ b ∷ texts) fits =
+    λ i. one x a b i ∷ other x a b i ∷ beside_pairs-texts make first second one other xs texts (omega arith) i
+
 -- what is seen of a made element without its texts
 pub beside_pairs-through : {X Y Z : Type 0} (make : X → Text → Text → Y) (view : Y → Z) (of : X → Z)
     → ((x : X) (a b : Text) → view (make x a b) ≡ of x) → (xs : List X) (texts : List Text) (i : ℕ)
@@ -80,48 +95,6 @@ beside_pairs-through make view of same (x ∷ xs) [] i fits = absurd (omega arit
 beside_pairs-through make view of same (x ∷ xs) (a ∷ []) i fits = absurd (omega arith)
 beside_pairs-through make view of same (x ∷ xs) (a ∷ b ∷ texts) zero fits = ap (λ z. Some z) (same x a b)
 beside_pairs-through make view of same (x ∷ xs) (a ∷ b ∷ texts) (suc i) fits = beside_pairs-through make view of same xs texts i (omega arith)
-
--- the main name of the group that was made of two names
-pub main-beside : (kinds : List Kinds) (texts : List Text) (i : ℕ) (a b : Text)
-    → length texts ≡ 2 * length kinds → slice_get texts (2 * i) ≡ Some a
-    → slice_get texts (2 * i + 1) ≡ Some b
-    → option_map_or (λ (known : Known). main_name known.names)
-    (slice_get (beside_pairs known_with kinds texts) i) []
-    ≡ main_name (record { short = a; long = b })
-main-beside [] [] i a b fits first second = cc first
-main-beside [] (c ∷ texts) i a b fits first second = absurd (omega arith)
-main-beside (x ∷ kinds) [] i a b fits first second = absurd (omega arith)
-main-beside (x ∷ kinds) (c ∷ []) i a b fits first second = absurd (omega arith)
-main-beside (x ∷ kinds) (c ∷ d ∷ texts) zero a b fits first second =
-    let short : c ≡ a = cc first in
-    let long : d ≡ b = cc second in
-    λ i. main_name (record { short = short i; long = long i })
-main-beside (x ∷ kinds) (c ∷ d ∷ texts) (suc i) a b fits first second =
-    let twice : 2 * suc i ≡ suc (suc (2 * i)) = omega arith in
-    let more : 2 * suc i + 1 ≡ suc (suc (2 * i + 1)) = omega arith in
-    main-beside kinds texts i a b (omega arith) (rw twice at first) (rw more at second)
-
--- the kinds of groups are those that they were made of
-pub kinds-beside : (kinds : List Kinds) (texts : List Text) → length texts ≡ 2 * length kinds
-    → map (λ (known : Known). let k : Kinds = record
-    { hasarg = known.kind; occur = known.occurrence } in
-    k) (beside_pairs known_with kinds texts) ≡ kinds
-kinds-beside = beside_pairs-map known_with (λ known. record { hasarg = known.kind; occur = known.occurrence }) (λ kinds short long. refl)
-
--- the names of groups are the texts that they were made of
-pub name_texts-beside : (kinds : List Kinds) (texts : List Text) → length texts ≡ 2 * length kinds
-    → name_texts (beside_pairs known_with kinds texts) ≡ texts
-name_texts-beside [] [] fits = refl
-name_texts-beside [] (t ∷ texts) fits = absurd (omega arith)
-name_texts-beside (x ∷ kinds) [] fits = absurd (omega arith)
-name_texts-beside (x ∷ kinds) (a ∷ []) fits = absurd (omega arith)
-name_texts-beside (x ∷ kinds) (a ∷ b ∷ texts) fits = ap (λ (more : List Text). a ∷ b ∷ more) (name_texts-beside kinds texts (omega arith))
-
--- the names of groups, from their texts
-pub names_in-name_texts : (knowns : List Known)
-    → names_in (name_texts knowns) ≡ map (λ (known : Known). known.names) knowns
-names_in-name_texts [] = refl
-names_in-name_texts (known ∷ knowns) = ap (λ (more : List Names). known.names ∷ more) (names_in-name_texts knowns)
 
 -- the names of what is known of groups
 pub names-knowns_of : (groups : List Group)
@@ -139,11 +112,6 @@ pub all_known : (P : Known → Type 0) (knowns : List Known) (groups : List Grou
     → knowns_of groups ≡ knowns → AllByRecursion P knowns
     → AllByRecursion (λ group. P group.known) groups
 all_known P knowns groups same all = AllByRecursion-unmap P (λ group. group.known) groups (subst (AllByRecursion P) (sym same) all)
-
--- a look-up among the texts of groups' names is one among the groups' names
-pub names_in-groups : (groups : List Group)
-    → names_in (name_texts (knowns_of groups)) ≡ names_of groups
-names_in-groups groups = names_in-name_texts (knowns_of groups) ∙ names-knowns_of groups
 
 -- the main name at a place, from what is known of the groups
 pub main_at-held : (knowns : List Known) (help : List Text) (place : ℕ)

@@ -1,5 +1,5 @@
 -- The tests of `==` say exactly that what they compare is equal.
-use Rattle.std.proofs.Common.{◌≡◌, ◌==◌, ◌&&◌, ◌*◌, Bool, List, [], ◌∷◌, map, length, arith, Option}
+use Rattle.std.proofs.Common.{◌≡◌, ◌==◌, ◌&&◌, ◌*◌, Bool, List, length, Option}
 use Rattle.std.proofs.Common.{Some, None, refl, ap, sym, ◌∙◌}
 use Rattle.std.specs.Bool.{Decides}
 use Rattle.std.specs.Cmp.Lexicographic.{pointwise, pointwise_decides, bytes_decides}
@@ -10,38 +10,17 @@ use Rattle.std.proofs.lemmas.Bool.Decides.{same_from_decides}
 use Rattle.getopts.specs.Names.{Text}
 use Rattle.getopts.specs.Options.{Known, Group, knowns_of}
 use Rattle.getopts.specs.Matches.{Found, MatchedGroup, Matched}
-use Rattle.getopts.specs.Pairs.{beside_pairs, name_texts}
-use Rattle.getopts.specs.Held.Groups.{kinds_of, known_with}
+use Rattle.getopts.specs.Pairs.{beside_pairs}
 use Rattle.getopts.specs.Held.Options.{group_with}
 use Rattle.getopts.specs.Same.{same_known, same_group, same_found, same_matched_group, same_matches}
-use Rattle.getopts.specs.declared.groups.Kinds.{Kinds}
 use Rattle.getopts.proofs.Held.Options.{same_known-decides, same_group-decides}
-use Rattle.getopts.proofs.Held.Pairs.{kinds-beside, name_texts-beside, knowns_of-held}
+use Rattle.getopts.proofs.Held.Pairs.{knowns_of-held, beside_pairs-texts, texts_of}
 
--- the test of two groups' kinds
-abbrev pub same_kinds : Kinds → Kinds → Bool
-same_kinds kinds other = same_known (known_with kinds [] []) (known_with other [] [])
-
-same_kinds-decides : (a b : Kinds) → Decides (same_kinds a b) (a ≡ b)
-same_kinds-decides a b = Decides-like (same_kinds a b) (λ e. ap kinds_of e)
-    (λ e. ap (λ (k : Kinds). known_with k [] []) e) (same_known-decides (known_with a [] []) (known_with b [] []))
-
--- groups are the same where their kinds and the texts of their names are
-pub same_groups : (kinds others : List Kinds) (texts other_texts : List Text)
-    → length texts ≡ 2 * length kinds → length other_texts ≡ 2 * length others
-    → (pointwise same_kinds kinds others && pointwise (pointwise ◌==◌) texts other_texts)
-    ≡ pointwise same_known (beside_pairs known_with kinds texts)
-    (beside_pairs known_with others other_texts)
-same_groups kinds others texts other_texts fits other_fits =
-    let by_parts : Decides (pointwise same_kinds kinds others && pointwise (pointwise ◌==◌) texts other_texts)
-    ((kinds ≡ others) × (texts ≡ other_texts)) =
-    Decides-and _ _ (pointwise_decides same_kinds-decides kinds others) (pointwise_decides bytes_decides texts other_texts) in
-    same_from_decides _ _
-    (Decides-like _ (λ same i. beside_pairs known_with (same.0 i) (same.1 i)) (λ e. (
-      sym (kinds-beside kinds texts fits) ∙ ap (map kinds_of) e ∙ kinds-beside others other_texts other_fits,
-      sym (name_texts-beside kinds texts fits) ∙ ap name_texts e ∙ name_texts-beside others other_texts other_fits,
-    )) by_parts)
-    (pointwise_decides same_known-decides (beside_pairs known_with kinds texts) (beside_pairs known_with others other_texts))
+-- the hints and the descriptions of groups are those that they were made of
+help-beside : (knowns : List Known) (help : List Text) → length help ≡ 2 * length knowns
+    → texts_of (λ (group : Group). group.hint) (λ group. group.description) (beside_pairs group_with knowns help) ≡ help
+help-beside = beside_pairs-texts group_with (λ group. group.hint) (λ group. group.description)
+    (λ known hint description. refl) (λ known hint description. refl)
 
 -- groups with their help texts are the same where what is known of them and the texts are
 pub same_helped : (knowns others : List Known) (help other_help : List Text)
@@ -56,20 +35,10 @@ same_helped knowns others help other_help fits other_fits =
     same_from_decides _ _
     (Decides-like _ (λ same i. beside_pairs group_with (same.0 i) (same.1 i)) (λ e. (
       sym (knowns_of-held knowns help fits) ∙ ap knowns_of e ∙ knowns_of-held others other_help other_fits,
-      sym (help-beside knowns help fits) ∙ ap help_texts e ∙ help-beside others other_help other_fits,
+      sym (help-beside knowns help fits) ∙ ap (texts_of (λ group. group.hint) (λ group. group.description)) e
+          ∙ help-beside others other_help other_fits,
     )) by_parts)
-    (pointwise_decides same_group-decides (beside_pairs group_with knowns help) (beside_pairs group_with others other_help)) where
-      help_texts : List Group → List Text
-      help_texts [] = []
-      help_texts (group ∷ groups) = group.hint ∷ group.description ∷ help_texts groups
-
-      help-beside : (ks : List Known) (texts : List Text) → length texts ≡ 2 * length ks
-          → help_texts (beside_pairs group_with ks texts) ≡ texts
-      help-beside [] [] texts_fit = refl
-      help-beside [] (t ∷ texts) texts_fit = absurd (omega arith)
-      help-beside (k ∷ ks) [] texts_fit = absurd (omega arith)
-      help-beside (k ∷ ks) (a ∷ []) texts_fit = absurd (omega arith)
-      help-beside (k ∷ ks) (a ∷ b ∷ texts) texts_fit = ap (λ (more : List Text). a ∷ b ∷ more) (help-beside ks texts (omega arith))
+    (pointwise_decides same_group-decides (beside_pairs group_with knowns help) (beside_pairs group_with others other_help))
 
 -- a test of options says exactly that they are equal, where that of their values does
 options_decide : {X : Type 0} (E : X → X → Bool) → ((a b : X) → Decides (E a b) (a ≡ b))

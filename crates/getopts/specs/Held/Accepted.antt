@@ -3,9 +3,8 @@ use Rattle.std.specs.Prelude.{◌≡◌, ℕ, List, length, map}
 use Rattle.getopts.specs.Options.{Known}
 use Rattle.getopts.specs.Scan.{Occurrence}
 use Rattle.getopts.specs.Index.{places_by_group}
-use Rattle.getopts.specs.Pairs.{name_texts}
 use Rattle.getopts.specs.Table.{IsTableOf}
-use Rattle.getopts.specs.Held.Groups.{HaveLawfulNames}
+use Rattle.getopts.specs.Held.Groups.{HaveLawfulNames, names_in}
 use Rattle.getopts.specs.declared.accepted.AcceptedLine.{AcceptedLine}
 
 -- where the occurrences of each group stand
@@ -16,5 +15,5 @@ index_of knowns occurrences =
 -- an accepted line stands beside the table and the index of these groups
 pub record IsHeldLine (knowns : List Known) (accepted : AcceptedLine) : Type 0 where
   pub lawful : HaveLawfulNames knowns
-  pub table : IsTableOf (name_texts knowns) accepted.table
+  pub table : IsTableOf (names_in knowns) accepted.table
   pub index : accepted.index ≡ index_of knowns accepted.line.found

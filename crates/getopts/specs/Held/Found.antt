@@ -28,12 +28,12 @@ given_view (given, text) = record {
 }
 
 -- where the values of each occurrence end
-abbrev pub ends_of : List Given → List ℕ
-ends_of given = map values_end given
+abbrev pub value_ends : List Given → List ℕ
+value_ends given = map values_end given
 
 -- occurrences, each with its own of these values
 abbrev pub with_values : Text → List Given → List Occurrence
-with_values values given = map given_view (zip given (pieces values 0 (ends_of given)))
+with_values values given = map given_view (zip given (pieces values 0 (value_ends given)))
 
 -- the occurrences of a line
 abbrev pub found_view : Inside → List Occurrence
@@ -41,4 +41,4 @@ found_view inside = with_values (string_bytes inside.values) inside.given.items
 
 -- the text of all values is cut where those of the occurrences end
 abbrev pub HaveTheirValues : Inside → Type 0
-HaveTheirValues inside = IsWellCut (string_bytes inside.values) (ends_of inside.given.items)
+HaveTheirValues inside = IsWellCut (string_bytes inside.values) (value_ends inside.given.items)

@@ -1,9 +1,8 @@
 -- What is seen of groups with what a line gave to each, and what they keep.
 use Rattle.std.specs.Prelude.{◌≡◌, List}
 use Rattle.getopts.specs.Matches.{MatchedGroup, matched}
-use Rattle.getopts.specs.Pairs.{name_texts}
 use Rattle.getopts.specs.Table.{IsTableOf}
-use Rattle.getopts.specs.Held.Groups.{HaveLawfulNames}
+use Rattle.getopts.specs.Held.Groups.{HaveLawfulNames, names_in}
 use Rattle.getopts.specs.Held.Accepted.{index_of}
 use Rattle.getopts.specs.declared.matched.MatchedGroups.TheInside.{Inside}
 
@@ -14,5 +13,5 @@ groups_view inside = matched 0 inside.groups inside.found
 -- they keep lawful names, their table, and where the occurrences of each group stand
 pub record KeepsGroups (inside : Inside) : Type 0 where
   pub lawful : HaveLawfulNames inside.groups
-  pub table : IsTableOf (name_texts inside.groups) inside.table
+  pub table : IsTableOf (names_in inside.groups) inside.table
   pub index : inside.index ≡ index_of inside.groups inside.found

@@ -15,7 +15,7 @@ returns c =
     ap (map (λ (g : Given). g.group)) c.deref.ensures.value
     ∙ groups-with_values (string_bytes c.found.inside.values) c.found.inside.given.items ∙ ap (map (λ (o : Occurrence). o.mention.group)) c.found.view_is in
     let same : places_by_group c.len.result (map (λ (g : Given). g.group) c.deref.result.now) ≡ index_of c.args.groups.now c.args.found.now =
-    (λ i. places_by_group (c.len.ensures i) (listed i)) in
+    (λ i. places_by_group (c.len.ensures.len i) (listed i)) in
     IfOk-weaker c.of.result (λ (index : List (List ℕ)). index ≡ places_by_group c.len.result
     (map (λ (g : Given). g.group) c.deref.result.now)) (λ (index : List (List ℕ)).
     index ≡ index_of c.args.groups.now c.args.found.now)

@@ -5,7 +5,7 @@ use Rattle.std.specs.List.Sorted.{IsStrictlySortedBy}
 use Rattle.std.specs.Str.{bytes_eq}
 use Rattle.std.proofs.lemmas.Bool.{true≢false}
 use Rattle.getopts.specs.Names.{resolution}
-use Rattle.getopts.specs.Table.{entry_at, names_in, group_by_name, Finds, IsTableOf}
+use Rattle.getopts.specs.Table.{entry_at, group_by_name, Finds, IsTableOf}
 use Rattle.getopts.specs.Refuted.Naming.{a_apple, two_apples}
 use Rattle.getopts.proofs.Lookup.Entries.{AreKeyed-none, AreKeyed-push, IsTableOf-found}
 use Rattle.getopts.proofs.Lookup.Entries.{Finds-table}
@@ -20,12 +20,12 @@ returns-clause-long_name_of_one_byte_is_lawful c = record {
 
 -- each name is found in the table of `a`/`apple`
 finds_a_apple : Finds a_apple (entry_at a_apple 0 0 ∷ entry_at a_apple 1 0 ∷ [])
-    (resolution (names_in a_apple))
+    (resolution a_apple)
 finds_a_apple name = by_tests (bytes_eq (codes "a") name) (bytes_eq (codes "apple") name) refl refl where
   by_tests : (alias main : Bool) → bytes_eq (codes "a") name ≡ alias
       → bytes_eq (codes "apple") name ≡ main
       → group_by_name a_apple (entry_at a_apple 0 0 ∷ entry_at a_apple 1 0 ∷ []) name
-      ≡ resolution (names_in a_apple) name
+      ≡ resolution a_apple name
   by_tests true true is_alias is_main = rw (is_alias, is_main) refl
   by_tests true false is_alias is_main = rw (is_alias, is_main) refl
   by_tests false true is_alias is_main = rw (is_alias, is_main) refl
@@ -51,11 +51,11 @@ returns-clause-table_out_of_order c = record {
 }
 
 -- each name is found in the table of two groups of one name
-finds_apple : Finds two_apples (entry_at two_apples 1 0 ∷ []) (resolution (names_in two_apples))
+finds_apple : Finds two_apples (entry_at two_apples 1 0 ∷ []) (resolution two_apples)
 finds_apple name = by_test (bytes_eq (codes "apple") name) refl where
   by_test : (main : Bool) → bytes_eq (codes "apple") name ≡ main
       → group_by_name two_apples (entry_at two_apples 1 0 ∷ []) name
-      ≡ resolution (names_in two_apples) name
+      ≡ resolution two_apples name
   by_test true is_main = rw is_main refl
   by_test false is_main = rw is_main refl
 

@@ -1,5 +1,5 @@
--- Groups are the same where their kinds and names are.
-use Rattle.getopts.proofs.Held.Same.{same_groups}
+-- Groups are the same where the text of their names and their records are.
+use Rattle.getopts.proofs.Held.Groups.{same_groups}
 use Rattle.getopts.proofs.groups.GroupsPartialEq.eq.Goals as goal
 
 pub returns-then-eq : goal.returns-then-eq
@@ -7,11 +7,12 @@ returns-then-eq c =
     rw (
       ← c.self.view_is,
       ← c.other.view_is,
-      ← same_groups _ _ _ _ c.self.invariant c.other.invariant,
+      ← same_groups _ _ _ _ c.self.invariant.in_order
+          c.other.invariant.in_order,
       ← c.eq.ensures,
       c.if-eq.true,
     ) c.eq-then-eq.ensures
 
 pub returns-else-eq : goal.returns-else-eq
 returns-else-eq c =
-    rw (← c.self.view_is, ← c.other.view_is, ← same_groups _ _ _ _ c.self.invariant c.other.invariant, ← c.eq.ensures, c.if-eq.false)
+    rw (← c.self.view_is, ← c.other.view_is, ← same_groups _ _ _ _ c.self.invariant.in_order c.other.invariant.in_order, ← c.eq.ensures, c.if-eq.false)

@@ -8,7 +8,7 @@ use Rattle.std.specs.Option.{option_copied}
 use Rattle.std.specs.Str.{IsCharBoundary}
 use Rattle.std.specs.String.{string_bytes}
 use Rattle.getopts.specs.Names.{Text}
-use Rattle.getopts.specs.Held.Found.{values_end, has_value, ends_of, with_values}
+use Rattle.getopts.specs.Held.Found.{values_end, has_value, value_ends, with_values}
 use Rattle.getopts.specs.declared.line.Given.{Given}
 use Rattle.getopts.proofs.Lists.{slice_get-read}
 use Rattle.getopts.proofs.Held.Pieces.{AreEnds-at}
@@ -17,9 +17,9 @@ use Rattle.getopts.proofs.line.Found.get.Goals as goal
 use Rattle.getopts.proofs.line.Found.get.Goals.{then-has_value, else-has_value}
 
 ends_at : (given items : List Given) (place : ℕ) (g : Given) → items ≡ given → place < length items
-    → ((d : Given) → g ≡ get_or items place d) → get_or (ends_of given) place 0 ≡ values_end g
+    → ((d : Given) → g ≡ get_or items place d) → get_or (value_ends given) place 0 ≡ values_end g
 ends_at given items place g same within read =
-    ap (λ gs. get_or (ends_of gs) place 0) (sym same) ∙ get_or-map values_end items place g 0 within ∙ ap values_end (sym (read g))
+    ap (λ gs. get_or (value_ends gs) place 0) (sym same) ∙ get_or-map values_end items place g 0 within ∙ ap values_end (sym (read g))
 
 pub returns-in_err-given : goal.returns-in_err-given
 returns-in_err-given c =
@@ -33,9 +33,9 @@ pub range-requires-clause-start_le_end : goal.range-requires-clause-start_le_end
 range-requires-clause-start_le_end c =
     let read = c.in_ok-given.ensures.lookup.3 in
     let there = ends_at c.self.inside.given.items c.deref.result.now c.args.place c.in_ok-given.field-0.now c.deref.ensures.value read.0 read.1 in
-    let ordered = AreEnds-at (string_bytes c.self.inside.values) 0 (ends_of c.self.inside.given.items) c.args.place c.self.invariant.in_order
+    let ordered = AreEnds-at (string_bytes c.self.inside.values) 0 (value_ends c.self.inside.given.items) c.args.place c.self.invariant.in_order
     (omega (arith, read.0, ap length c.deref.ensures.value, length-map c.self.inside.given.items values_end)) in
-    let starts = ap (λ items. get_or (0 ∷ ends_of items) c.args.place 0) c.deref-then-has_value-2.ensures.value in
+    let starts = ap (λ items. get_or (0 ∷ value_ends items) c.args.place 0) c.deref-then-has_value-2.ensures.value in
     omega (arith, c.values_end.ensures, c.values_start.ensures, there, ordered, starts)
 
 pub range-requires-clause-end_boundary : goal.range-requires-clause-end_boundary
@@ -43,7 +43,7 @@ range-requires-clause-end_boundary c =
     let read = c.in_ok-given.ensures.lookup.3 in
     let there = ends_at c.self.inside.given.items c.deref.result.now c.args.place c.in_ok-given.field-0.now c.deref.ensures.value read.0 read.1 in
     rw (c.deref-then-has_value.ensures, c.values_end.ensures, ← there)
-    (All-get_or (IsCharBoundary (string_bytes c.self.inside.values)) (ends_of c.self.inside.given.items) c.args.place 0
+    (All-get_or (IsCharBoundary (string_bytes c.self.inside.values)) (value_ends c.self.inside.given.items) c.args.place 0
     (omega (arith, read.0, ap length c.deref.ensures.value, length-map c.self.inside.given.items values_end)) c.self.invariant.between_characters)
 
 pub returns : goal.returns
@@ -59,8 +59,8 @@ returns c =
     elim c.if-has_value.branch [
       | then-has_value w ↦
           let start : ℕ = w.values_start.result in
-          let starts : get_or (0 ∷ ends_of items) c.args.place 0 ≡ start =
-          ap (λ gs. get_or (0 ∷ ends_of gs) c.args.place 0) (sym w.deref-then-has_value-2.ensures.value) ∙ sym w.values_start.ensures in
+          let starts : get_or (0 ∷ value_ends items) c.args.place 0 ≡ start =
+          ap (λ gs. get_or (0 ∷ value_ends gs) c.args.place 0) (sym w.deref-then-has_value-2.ensures.value) ∙ sym w.values_start.ensures in
           let piece : w.range.result.now ≡ take (values_end g - start) (drop start values) =
           w.range.ensures.value ∙ (λ i. take (w.values_end.ensures i - start) (drop start (w.deref-then-has_value.ensures i))) in
           let has = sym c.has_value.ensures ∙ w.if-has_value.true in
@@ -69,7 +69,7 @@ returns c =
           ∙ ap (λ b. cond b (Some (take (values_end g - start) (drop start values))) None) (sym has) in
           rw (← c.self.view_is) ((λ i. Some (record { mention = record { group = g.group; value = value i }; position = g.position })) ∙ sym (at start starts))
       | else-has_value w ↦
-          let start : ℕ = get_or (0 ∷ ends_of items) c.args.place 0 in
+          let start : ℕ = get_or (0 ∷ value_ends items) c.args.place 0 in
           let has = sym c.has_value.ensures ∙ w.if-has_value.false in
           let value : option_copied c.if-has_value.value ≡ cond (has_value g) (Some (take (values_end g - start) (drop start values))) None =
           ap option_copied w.value-is ∙ ap (λ b. cond b (Some (take (values_end g - start) (drop start values))) None) (sym has) in

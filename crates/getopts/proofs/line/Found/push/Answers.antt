@@ -7,7 +7,7 @@ use Rattle.std.specs.Option.{option_copied, is_some, unwrap_or}
 use Rattle.std.specs.String.{string_bytes}
 use Rattle.getopts.specs.Names.{Text}
 use Rattle.getopts.specs.Texts.{IsWellCut}
-use Rattle.getopts.specs.Held.Found.{ends_of, with_values, given_view}
+use Rattle.getopts.specs.Held.Found.{value_ends, with_values, given_view}
 use Rattle.getopts.specs.declared.line.Given.{Given}
 use Rattle.getopts.proofs.Held.Line.{with_values-push}
 use Rattle.getopts.proofs.line.Found.push.Goals as goal
@@ -20,7 +20,7 @@ last c = record {
 }
 
 added : (c : goal.After-push_reserved)
-    → IsWellCut (string_bytes c.push_value.new.values) (ends_of c.push_reserved.new.self.items)
+    → IsWellCut (string_bytes c.push_value.new.values) (value_ends c.push_reserved.new.self.items)
     × (with_values (string_bytes c.push_value.new.values) c.push_reserved.new.self.items
     ≡ with_values (string_bytes c.self.inside.values) c.self.inside.given.items
     ++ given_view (last c, c.unwrap_or-value.result.now) ∷ [])

@@ -1,4 +1,4 @@
--- A name resolves among the groups held as among the texts of their names.
+-- A name resolves among the groups held as among their names.
 use Rattle.getopts.proofs.Held.Matches.{place_of-matched}
 use Rattle.getopts.proofs.matched.MatchedGroups.place_of.Goals as goal
 
@@ -7,5 +7,4 @@ returns c =
     rw (
       ← c.self.view_is,
       ← place_of-matched c.self.inside.groups c.self.inside.found c.args.name.now,
-      ← c.names.ensures,
     ) c.resolve.ensures
