@@ -1,7 +1,7 @@
 //! What a line gives: options in the order of the line, with their values, and free words.
 
-ghost use Rattle.std.specs.Prelude.{◌≡◌, ◌==◌, ◌<◌, ◌^◌, ◌*◌, ◌+◌, ◌/◌, ◌%◌, ◌∷◌, ◌++◌, [], None, Some};
-ghost use Rattle.std.specs.Prelude.{IfOk, OnOk, OnErr, ◌≤◌, length, get_or, slice_get};
+ghost use Rattle.std.specs.Prelude.{◌≡◌, ◌==◌, ◌<◌, ◌≤◌, ◌^◌, ◌*◌, ◌+◌, ◌/◌, ◌%◌, ◌∷◌, ◌++◌, []};
+ghost use Rattle.std.specs.Prelude.{None, Some, IfOk, OnOk, OnErr, length, get_or, slice_get};
 ghost use Rattle.std.specs.Option.{option_map};
 ghost use Rattle.std.specs.String.{string_bytes};
 ghost use Rattle.getopts.specs.Held.Found.{value_ends};
@@ -59,8 +59,8 @@ fn values_start(given: &[Given], place: usize) -> usize
     given[place - 1].values_end()
 }
 
-/// Where the values end and whether an option has one, as one number. A text has less than 2^63 bytes, so
-/// there is room for both.
+/// Where the values end and whether an option has one, as one number. A text has less than 2^63
+/// bytes, so there is room for both.
 #[inline(always)]
 fn packed(end: usize, has_value: bool) -> usize
     requires { end < 2 ^ 63 }

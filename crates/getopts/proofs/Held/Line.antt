@@ -58,7 +58,8 @@ beside-push : (given : List Given) (texts : List Text) (g : Given) (text : Text)
 beside-push [] [] g text fits = refl
 beside-push [] (other ∷ texts) g text fits = absurd (omega arith)
 beside-push (h ∷ given) [] g text fits = absurd (omega arith)
-beside-push (h ∷ given) (other ∷ texts) g text fits = ap (λ (more : List Occurrence). given_view (h, other) ∷ more) (beside-push given texts g text (omega arith))
+beside-push (h ∷ given) (other ∷ texts) g text fits =
+    ap (λ (more : List Occurrence). given_view (h, other) ∷ more) (beside-push given texts g text (omega arith))
 
 -- one more occurrence has what the values grew by
 pub with_values-push : (values value grown : Text) (given more : List Given) (g : Given)

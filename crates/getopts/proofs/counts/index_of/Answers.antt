@@ -13,7 +13,8 @@ pub returns : goal.returns
 returns c =
     let listed : map (λ (g : Given). g.group) c.deref.result.now ≡ map (λ (o : Occurrence). o.mention.group) c.args.found.now =
     ap (map (λ (g : Given). g.group)) c.deref.ensures.value
-    ∙ groups-with_values (string_bytes c.found.inside.values) c.found.inside.given.items ∙ ap (map (λ (o : Occurrence). o.mention.group)) c.found.view_is in
+    ∙ groups-with_values (string_bytes c.found.inside.values) c.found.inside.given.items
+    ∙ ap (map (λ (o : Occurrence). o.mention.group)) c.found.view_is in
     let same : places_by_group c.len.result (map (λ (g : Given). g.group) c.deref.result.now) ≡ index_of c.args.groups.now c.args.found.now =
     (λ i. places_by_group (c.len.ensures.len i) (listed i)) in
     IfOk-weaker c.of.result (λ (index : List (List ℕ)). index ≡ places_by_group c.len.result

@@ -1,6 +1,6 @@
 -- The value of the occurrence at a place starts where the values end up to the one before.
 use Rattle.std.proofs.Common.{◌≡◌, ◌<◌, ◌-◌, ◌∷◌, length, get_or, List, ℕ, take, drop}
-use Rattle.std.proofs.Common.{slice_get, Some, None, cond, refl, sym, ap, ◌∙◌, arith}
+use Rattle.std.proofs.Common.{slice_get, Option, Some, None, cond, refl, sym, ap, ◌∙◌, arith}
 use Rattle.std.proofs.lemmas.List.{get_or-map, length-map}
 use Rattle.std.proofs.lemmas.List.Elements.{All-get_or}
 use Rattle.std.proofs.lemmas.Option.{slice_get_past}
@@ -8,6 +8,7 @@ use Rattle.std.specs.Option.{option_copied}
 use Rattle.std.specs.Str.{IsCharBoundary}
 use Rattle.std.specs.String.{string_bytes}
 use Rattle.getopts.specs.Names.{Text}
+use Rattle.getopts.specs.Scan.{Occurrence}
 use Rattle.getopts.specs.Held.Found.{values_end, has_value, value_ends, with_values}
 use Rattle.getopts.specs.declared.line.Given.{Given}
 use Rattle.getopts.proofs.Lists.{slice_get-read}
@@ -54,7 +55,11 @@ returns c =
     let items : List Given = c.self.inside.given.items in
     let there = ends_at items c.deref.result.now c.args.place g c.deref.ensures.value read.0 read.1 in
     let within : c.args.place < length items = omega (arith, read.0, ap length c.deref.ensures.value) in
-    let is : slice_get items c.args.place ≡ Some g = ap (λ gs. slice_get gs c.args.place) (sym c.deref.ensures.value) ∙ slice_get-read c.deref.result.now c.args.place g read.0 read.1 in
+    let is : slice_get items c.args.place ≡ Some g =
+    ap (λ gs. slice_get gs c.args.place) (sym c.deref.ensures.value)
+    ∙ slice_get-read c.deref.result.now c.args.place g read.0 read.1 in
+    let seen : Option Text → Option Occurrence =
+    λ value. Some (record { mention = record { group = g.group; value = value }; position = g.position }) in
     let at = λ (start : ℕ). with_values-at values items c.args.place start g within is there in
     elim c.if-has_value.branch [
       | then-has_value w ↦
@@ -67,11 +72,11 @@ returns c =
           let value : option_copied c.if-has_value.value ≡ cond (has_value g) (Some (take (values_end g - start) (drop start values))) None =
           ap option_copied w.value-is ∙ ap (λ text. Some text) piece
           ∙ ap (λ b. cond b (Some (take (values_end g - start) (drop start values))) None) (sym has) in
-          rw (← c.self.view_is) ((λ i. Some (record { mention = record { group = g.group; value = value i }; position = g.position })) ∙ sym (at start starts))
+          rw (← c.self.view_is) ((λ i. seen (value i)) ∙ sym (at start starts))
       | else-has_value w ↦
           let start : ℕ = get_or (0 ∷ value_ends items) c.args.place 0 in
           let has = sym c.has_value.ensures ∙ w.if-has_value.false in
           let value : option_copied c.if-has_value.value ≡ cond (has_value g) (Some (take (values_end g - start) (drop start values))) None =
           ap option_copied w.value-is ∙ ap (λ b. cond b (Some (take (values_end g - start) (drop start values))) None) (sym has) in
-          rw (← c.self.view_is) ((λ i. Some (record { mention = record { group = g.group; value = value i }; position = g.position })) ∙ sym (at start refl))
+          rw (← c.self.view_is) ((λ i. seen (value i)) ∙ sym (at start refl))
     ]
