@@ -221,6 +221,12 @@ same_record-decides a b = Decides-like (same_record a b)
     (Decides-and _ _ (Decides-eqb a.short_end b.short_end)
     (Decides-and _ _ (Decides-eqb a.long_end b.long_end) (same_kinds-decides a.kinds b.kinds)))
 
+-- the names of groups, the short one first, are those that they were made of
+names-in : (groups : List GroupRecord) (texts : List Text) → length texts ≡ 2 * length groups
+    → texts_of (λ (known : Known). known.names.short) (λ known. known.names.long) (beside_pairs known_by groups texts) ≡ texts
+names-in = beside_pairs-texts known_by (λ known. known.names.short) (λ known. known.names.long)
+    (λ group short long. refl) (λ group short long. refl)
+
 -- groups are the same where their records and the texts of all their names are
 pub same_groups : (text other : Text) (groups others : List GroupRecord)
     → AreEnds text 0 (name_ends groups) → AreEnds other 0 (name_ends others)
@@ -232,9 +238,8 @@ same_groups text other groups others cut other_cut =
     let fits = length-names text groups in
     let other_fits = length-names other others in
     let told : knowns_in text groups ≡ knowns_in other others → (text ≡ other) × (groups ≡ others) = λ e.
-    let names = sym (beside_pairs-texts known_by (λ known. known.names.short) (λ known. known.names.long) (λ group short long. refl) (λ group short long. refl) groups _ fits)
-    ∙ ap (texts_of (λ known. known.names.short) (λ known. known.names.long)) e
-    ∙ beside_pairs-texts known_by (λ known. known.names.short) (λ known. known.names.long) (λ group short long. refl) (λ group short long. refl) others _ other_fits in
+    let names = sym (names-in groups _ fits)
+    ∙ ap (texts_of (λ known. known.names.short) (λ known. known.names.long)) e ∙ names-in others _ other_fits in
     let parts : (text ≡ other) × (name_ends groups ≡ name_ends others) = pieces_tell text other 0 (name_ends groups) (name_ends others) cut other_cut names in
     (parts.0, records_told groups others _ _ fits other_fits parts.1 e) in
     same_from_decides _ _

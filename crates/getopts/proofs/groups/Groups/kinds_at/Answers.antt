@@ -30,4 +30,5 @@ returns c =
           (λ group short long. refl) c.self.inside.records.items _ c.args.place
           (length-names _ c.self.inside.records.items),
     )
-    (ap (option_map (λ (group : GroupRecord). group.kinds)) (sym (slice_get-read c.self.inside.records.items c.args.place c.in_ok-get.field-0.now there.0 there.1)))
+    (ap (option_map (λ (group : GroupRecord). group.kinds))
+    (sym (slice_get-read c.self.inside.records.items c.args.place c.in_ok-get.field-0.now there.0 there.1)))
