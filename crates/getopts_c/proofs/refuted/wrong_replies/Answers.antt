@@ -4,27 +4,32 @@ use Rattle.std.specs.Str.{IsUtf8}
 use Rattle.std.specs.Char.{encode_utf8}
 use Rattle.getopts.specs.Names.{Text}
 use Rattle.getopts.specs.Only.{IsTheOnly}
-use Rattle.getopts.specs.Refuted.Forms.{usual}
+use Rattle.getopts.specs.Options.{Declared}
+use Rattle.getopts.specs.declared.groups.ParsingStyle.TheVariants.{FloatingFrees}
 use Rattle.getopts.specs.Usage.{AreUsageRows, IsUsageText}
 use Rattle.getopts_c.specs.Refuted.{IsUsageReply, usage_told, IsShortUsageReply, line_told, IsRowsReply, no_rows_told}
 use Rattle.getopts_c.specs.Request.{IsRequest, SayOptions}
 use Rattle.getopts_c.proofs.refuted.wrong_replies.Goals as goal
 
-no_request : IsRequest [] [] [] false false (usual [])
+-- options with no groups
+abbrev no_options : Declared
+no_options = record { groups = []; style = FloatingFrees; long_only = false }
+
+no_request : IsRequest [] [] [] false false no_options
 no_request = record { texts_are = record { bytes_are = refl; lens_are = refl }; kinds_are = refl; style_is = refl; mode_is = refl }
 
 says_none : SayOptions [] [] [] false false
-says_none = record { options = usual []; options_are = no_request; named = tt; utf8 = tt }
+says_none = record { options = no_options; options_are = no_request; named = tt; utf8 = tt }
 
 -- no options have no rows
-no_rows : (rows : List Text) → AreUsageRows (usual []) rows → rows ≡ []
+no_rows : (rows : List Text) → AreUsageRows no_options rows → rows ≡ []
 no_rows [] are = refl
 no_rows (row ∷ rows) are = absurd are
 
-only_no_rows : IsTheOnly (AreUsageRows (usual [])) []
+only_no_rows : IsTheOnly (AreUsageRows no_options) []
 only_no_rows rows = (no_rows rows, λ same. rw same tt)
 
-only_usage : IsTheOnly (IsUsageText (usual []) (codes "B")) (codes "B\n\nOptions:\n\n")
+only_usage : IsTheOnly (IsUsageText no_options (codes "B")) (codes "B\n\nOptions:\n\n")
 only_usage text = (λ is. let none = no_rows is.0 is.1 in rw (is.2, none) refl, λ same. ([], tt, same))
 
 ascii_B : IsUtf8 (codes "B")
@@ -40,7 +45,7 @@ usage_fits : IsUsageReply usage_told
 usage_fits = record {
   known = omega arith;
   within = λ _. (omega arith, omega arith);
-  answered = λ _. (refl, refl, record { options = usual []; options_are = no_request; text_is = only_usage });
+  answered = λ _. (refl, refl, record { options = no_options; options_are = no_request; text_is = only_usage });
   untouched = λ big. absurd (omega (arith, big));
   untold = λ big _. absurd (omega (arith, big));
   lawful = λ _ _. (says_none, ascii_B);
@@ -53,7 +58,7 @@ line_fits : IsShortUsageReply line_told
 line_fits = record {
   known = omega arith;
   within = λ _. (omega arith, omega arith);
-  answered = λ _. (refl, refl, record { options = usual []; options_are = no_request; text_is = refl });
+  answered = λ _. (refl, refl, record { options = no_options; options_are = no_request; text_is = refl });
   untouched = λ big. absurd (omega (arith, big));
   untold = λ big _. absurd (omega (arith, big));
   lawful = λ _ _. (says_none, ascii_p);
@@ -69,7 +74,7 @@ rows_fit = record {
   answered = λ _. (
     refl,
     record {
-      options = usual [];
+      options = no_options;
       rows = [];
       options_are = no_request;
       rows_are = only_no_rows;
