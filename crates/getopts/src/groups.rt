@@ -180,15 +180,17 @@ impl Groups {
     pub(crate) fn name(&self, number: usize) -> &str
         ensures { result.now ≡ name_at (names_in self.now) number }
     {
-        match self.get(number / 2) {
-            Some(known) => {
-                if number % 2 == 0 {
-                    known.names.short
-                } else {
-                    known.names.long
-                }
+        let place = number / 2;
+        if number % 2 == 0 {
+            match self.get(place) {
+                Some(known) => known.names.short,
+                None => "",
             }
-            None => "",
+        } else {
+            match self.get(place) {
+                Some(known) => known.names.long,
+                None => "",
+            }
         }
     }
 

@@ -4,13 +4,17 @@ use Rattle.getopts.specs.Held.Groups.{known_view}
 use Rattle.getopts.proofs.Held.Groups.{name_at-short, name_at-long, name_at-past}
 use Rattle.getopts.proofs.groups.Groups.name.Goals as goal
 
-pub returns-then-number-eq0 : goal.returns-then-number-eq0
-returns-then-number-eq0 c =
+pub returns-in-Some : goal.returns-in-Some
+returns-in-Some c =
     sym (name_at-short c.args.self.now c.args.number (known_view c.in-Some.known) (sym c.in-Some.ensures) c.if-number-eq0.true)
-
-pub returns-else-number-eq0 : goal.returns-else-number-eq0
-returns-else-number-eq0 c =
-    sym (name_at-long c.args.self.now c.args.number (known_view c.in-Some.known) (sym c.in-Some.ensures) (omega (arith, c.if-number-eq0.false)))
 
 pub returns-in-None : goal.returns-in-None
 returns-in-None c = sym (name_at-past c.args.self.now c.args.number (sym c.in-None.ensures))
+
+pub returns-in-Some-get : goal.returns-in-Some-get
+returns-in-Some-get c =
+    sym (name_at-long c.args.self.now c.args.number (known_view c.in-Some-get.known) (sym c.in-Some-get.ensures)
+    (omega (arith, c.if-number-eq0.false)))
+
+pub returns-in-None-get : goal.returns-in-None-get
+returns-in-None-get c = sym (name_at-past c.args.self.now c.args.number (sym c.in-None-get.ensures))
