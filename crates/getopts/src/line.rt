@@ -75,7 +75,7 @@ fn packed(end: usize, has_value: bool) -> usize
 const VALUE_BYTES: usize = 8;
 
 /// Adds a value, the first with room for so many.
-#[inline]
+#[inline(always)]
 fn push_value(values: &mut String, value: &str, room: usize) -> Result<(), AllocError>
     ensures ok { OnOk result (string_bytes values.new ≡ string_bytes values.old ++ value.now) }
     ensures err { OnErr result (string_bytes values.new ≡ string_bytes values.old) }
@@ -155,7 +155,7 @@ impl Found {
     }
 
     /// Adds an occurrence as the last.
-    #[inline]
+    #[inline(always)]
     pub(crate) fn push(&mut self, occurrence: Occurrence<'_>) -> Result<(), AllocError>
         ensures { OnOk result (self.new ≡ self.old ++ occurrence_view occurrence.entry ∷ []) }
     {
