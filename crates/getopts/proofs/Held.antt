@@ -1,11 +1,12 @@
 -- What is held, and what is seen of it.
 pub mod Pieces
 pub mod Texts
-pub mod Pairs
 pub mod Options
+pub mod Known
 pub mod Groups
 pub mod Index
 pub mod Line
 pub mod Matches
 pub mod Occurrences
 pub mod Same
+pub mod Fails

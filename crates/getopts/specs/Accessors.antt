@@ -1,8 +1,13 @@
 -- What the accessors of matches answer, over the groups that matches hold.
 use Rattle.std.specs.Prelude.{◌≡◌, ℕ, Bool, List, [], ◌∷◌, map, length, nat_lt, IsSome, Option}
-use Rattle.std.specs.Prelude.{Some, None, Result, Ok, Err, slice_get, unwrap_or}
+use Rattle.std.specs.Prelude.{Some, None, MatchOption, IsSomeAnd, Result, Ok, slice_get, unwrap_or}
+use Rattle.std.specs.Result.{result_transpose}
 use Rattle.std.specs.List.{AllByRecursion, filter_map}
-use Rattle.std.specs.Option.{option_map, option_map_or, option_or}
+use Rattle.std.specs.Option.{option_copied, option_map, option_map_or, option_or}
+use Rattle.std.specs.Borrow.{Bor}
+use Rattle.std.specs.String.{string_bytes}
+use Rattle.std.specs.declared.string.String.{String}
+use Rattle.std.specs.declared.alloc.Global.{Global}
 use Rattle.getopts.specs.Names.{Text, Names, IsLawfullyNamed, resolution}
 use Rattle.getopts.specs.Matches.{Found, MatchedGroup}
 
@@ -37,6 +42,14 @@ found_of groups name = option_map_or (found_in groups) (place_of groups name) []
 -- whether there is an occurrence
 abbrev pub is_present : List MatchedGroup → Text → Bool
 is_present groups name = nat_lt 0 (length (found_of groups name))
+
+-- a position and a value, borrowed
+abbrev pub held_found : ℕ × Option (Bor Text) → Found
+held_found pair = record { position = pair.0; value = option_copied pair.1 }
+
+-- a position and a value, copied
+abbrev pub pair_view : ℕ × String Global → ℕ × Text
+pair_view pair = (pair.0, string_bytes pair.1)
 
 -- the positions of occurrences
 abbrev pub positions_of : List Found → List ℕ
@@ -74,20 +87,12 @@ first_value_among groups [] = None
 first_value_among groups (name ∷ names) =
     option_or (first_value (found_of groups name)) (first_value_among groups names)
 
--- What a value is read as: where there is one, what this reading gives for it, and never nothing;
+-- What a value is read as: where there is one, a value or an error that this reading gives for it;
 -- else nothing.
 abbrev pub IsReadAs : {T E : Type 0} → (Text → Result T E → Type 0)
     → Option Text → Result (Option T) E → Type 0
-IsReadAs gives None answer = answer ≡ Ok None
-IsReadAs gives (Some text) (Ok None) = ⊥
-IsReadAs gives (Some text) (Ok (Some value)) = gives text (Ok value)
-IsReadAs gives (Some text) (Err error) = gives text (Err error)
-
--- What a value is read as: where there is one, what this reading gives for it; else this default.
-abbrev pub IsReadOr : {T E : Type 0} → (Text → Result T E → Type 0)
-    → Option Text → T → Result T E → Type 0
-IsReadOr gives None default answer = answer ≡ Ok default
-IsReadOr gives (Some text) default answer = gives text answer
+IsReadAs gives value answer =
+    MatchOption value (answer ≡ Ok None) (λ text. IsSomeAnd (result_transpose answer) (gives text))
 
 -- One group, one answer: a name that resolves to the same group has the same occurrences.
 abbrev pub OneGroupOneAnswer : List MatchedGroup → Text → Type 0

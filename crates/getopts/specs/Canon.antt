@@ -1,6 +1,6 @@
 -- The canonical line: what a line says, written again with main names alone; the laws of such a
 -- line, and where there is none.
-use Rattle.std.specs.Prelude.{◌≡◌, ◌≢◌, ◌↔◌, ⊤, ℕ, Bool, false, List, [], ◌∷◌, ◌++◌, map, Option}
+use Rattle.std.specs.Prelude.{◌≡◌, ◌≢◌, ◌↔◌, ℕ, Bool, false, List, [], ◌∷◌, ◌++◌, map, Option}
 use Rattle.std.specs.Prelude.{Some, None, slice_get}
 use Rattle.std.specs.List.{AllByRecursion, Contains}
 use Rattle.std.specs.Option.{option_map_or}
@@ -13,8 +13,6 @@ use Rattle.getopts.specs.Scan.{Mention, mentions, free_words}
 use Rattle.getopts.specs.ScanLaws.{mentions_of}
 use Rattle.getopts.specs.Matches.{matches_of, KeepsCounts}
 use Rattle.getopts.specs.Parse.{Reads}
-use Rattle.getopts.specs.declared.groups.HasArg.{HasArg}
-use Rattle.getopts.specs.declared.groups.HasArg.TheVariants.{Yes, No, Maybe}
 use Rattle.getopts.specs.declared.groups.ParsingStyle.{ParsingStyle}
 
 -- what a line may say: mentions in order, and free words
@@ -41,14 +39,6 @@ HasPlainMain groups place = holds_equals (main_at groups place) ≡ false
 -- the group at this place is what its own main name resolves to
 abbrev pub AnswersMain : List Group → ℕ → Type 0
 AnswersMain groups place = resolution (names_of groups) (main_at groups place) ≡ Some place
-
--- the values that a kind may have: none for No, one for Yes, at most one for Maybe
-abbrev pub FitsKind : HasArg → Option Text → Type 0
-FitsKind No None = ⊤
-FitsKind No (Some value) = ⊥
-FitsKind Yes None = ⊥
-FitsKind Yes (Some value) = ⊤
-FitsKind Maybe value = ⊤
 
 -- plain content: no mentioned group has a main name that holds `=`
 abbrev pub IsPlain : List Group → Content → Type 0

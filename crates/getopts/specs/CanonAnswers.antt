@@ -43,10 +43,6 @@ abbrev pub KeepsLineLaws : Declared → Type 0
 KeepsLineLaws options = (words line : List Text) → (written : IsWritten options words line)
     → HasCanonicalLine options written.content
 
--- two answers are one
-abbrev pub HasOneAnswer : {X : Type 0} → (X → Type 0) → Type 0
-HasOneAnswer {X} P = (answer other : X) → P answer → P other → answer ≡ other
-
 -- Two lines that `canonical` answers by the same groups, in styles and modes that may differ, are
 -- equal exactly if the words that they were made of are accepted with the same content.
 abbrev pub OneAnswerOneContent : Declared → Type 0

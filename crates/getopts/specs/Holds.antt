@@ -7,7 +7,7 @@ use Rattle.getopts.specs.Options.{Declared, Declares, knowns_of, kind_of, occurr
 use Rattle.getopts.specs.Matches.{Matched, MatchedGroup}
 use Rattle.getopts.specs.Parse.{IsAccepted}
 use Rattle.getopts.specs.Accessors.{IsDefined, found_of, first_value}
-use Rattle.getopts.specs.Canon.{FitsKind}
+use Rattle.getopts.specs.Scan.{FitsKind}
 use Rattle.getopts.specs.ScanLaws.{HavePositionsBelow, EndIn}
 use Rattle.getopts.specs.declared.groups.HasArg.TheVariants.{Yes}
 use Rattle.getopts.specs.declared.groups.Occur.TheVariants.{Req}

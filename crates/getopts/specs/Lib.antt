@@ -32,24 +32,9 @@ pub mod Same
 pub mod Wrap
 -- usage texts
 pub mod Usage
--- Cited by private clauses, and by the views of what is held; public clauses cite of these alone
--- `held_found` and `pair_view`, of `Held`.
+-- Cited by private clauses alone, and by the views of private types.
 
--- lists cut at places
-pub mod Pieces
--- texts held as one
-pub mod Texts
--- the table of names
-pub mod Table
--- where the occurrences of groups stand
-pub mod Index
--- texts in pairs beside a list
-pub mod Pairs
--- what is seen of what is held
+-- what the code holds and what is seen of it, and what its functions find
 pub mod Held
--- what scanning finds
-pub mod Line
--- what is found in accepted words
-pub mod AcceptedLine
 -- wrong answers, which the public clauses refute
 pub mod Refuted

@@ -66,10 +66,6 @@ KeepsCounts groups = AllByRecursion KeepsCount groups
 abbrev pub count_fault : Text → ℕ → Fault
 count_fault main count = if count == 0 then option_missing main else option_duplicated main
 
--- the fault of a group that breaks its count
-abbrev pub broken_count : MatchedGroup → Fault
-broken_count group = count_fault (main_name group.known.names) (length group.found)
-
 -- the count fault: that of the first group in order of definition that breaks its count
 pub record IsCountFault (groups : List MatchedGroup) (fault : Fault) : Type 0 where
   pub before : List MatchedGroup
@@ -78,4 +74,4 @@ pub record IsCountFault (groups : List MatchedGroup) (fault : Fault) : Type 0 wh
   pub groups_are : groups ≡ before ++ group ∷ after
   pub kept : KeepsCounts before
   pub broken : ¬ (KeepsCount group)
-  pub fault_is : fault ≡ broken_count group
+  pub fault_is : fault ≡ count_fault (main_name group.known.names) (length group.found)

@@ -68,13 +68,11 @@ pub record Grammar : Type 0 where
   pub style : ParsingStyle
   pub long_only : Bool
 
--- the kind of argument of the group at this place
-abbrev pub kind_at : List Group → ℕ → Option HasArg
-kind_at groups place = option_map (λ group. group.known.kind) (slice_get groups place)
-
 -- the kind of argument of the group that a name resolves to
 abbrev pub kind_of : List Group → Text → Option HasArg
-kind_of groups name = option_and_then (kind_at groups) (resolution (names_of groups) name)
+kind_of groups name =
+    option_and_then (λ place. option_map (λ group. group.known.kind) (slice_get groups place))
+    (resolution (names_of groups) name)
 
 -- the kind of occurrence of the group that a name resolves to
 abbrev pub occurrence_of : List Group → Text → Option Occur

@@ -4,10 +4,9 @@ use Rattle.std.specs.Bool.{beq}
 use Rattle.std.specs.Cmp.Lexicographic.{pointwise}
 use Rattle.std.specs.Option.{option_eq}
 use Rattle.std.specs.Ordering.{on, eq_of_both}
-use Rattle.getopts.specs.Names.{Text, Names}
+use Rattle.getopts.specs.Names.{Names}
 use Rattle.getopts.specs.Options.{Known, Group, Declared}
-use Rattle.getopts.specs.Fail.{Fault, argument_missing, unrecognized_option, option_missing}
-use Rattle.getopts.specs.Fail.{option_duplicated, unexpected_argument, fault_of}
+use Rattle.getopts.specs.Fail.{fail_text}
 use Rattle.getopts.specs.Matches.{Found, MatchedGroup, Matched}
 use Rattle.getopts.specs.declared.fail.Fail.{Fail}
 use Rattle.getopts.specs.declared.groups.HasArg.{HasArg}
@@ -57,26 +56,9 @@ same_options = eq_of_both (on (λ options. options.groups) (pointwise same_group
     (eq_of_both (on (λ options. style_index options.style) ◌==◌)
     (on (λ options. options.long_only) beq))
 
--- a number for each kind of fault
-abbrev pub fault_index : Fault → ℕ
-fault_index (argument_missing name) = 0
-fault_index (unrecognized_option name) = 1
-fault_index (option_missing name) = 2
-fault_index (option_duplicated name) = 3
-fault_index (unexpected_argument name) = 4
-
--- the name that a fault tells
-abbrev pub fault_name : Fault → Text
-fault_name (argument_missing name) = name
-fault_name (unrecognized_option name) = name
-fault_name (option_missing name) = name
-fault_name (option_duplicated name) = name
-fault_name (unexpected_argument name) = name
-
--- whether two refusals tell the same fault, or both want of memory
+-- whether two refusals print the same text
 abbrev pub same_fail : Fail → Fail → Bool
-same_fail = on fault_of
-    (option_eq (eq_of_both (on fault_index ◌==◌) (on fault_name (pointwise ◌==◌))))
+same_fail = on fail_text (pointwise ◌==◌)
 
 -- whether the positions and the values of two occurrences are the same
 abbrev pub same_found : Found → Found → Bool

@@ -4,7 +4,7 @@ use Rattle.std.specs.Prelude.{◌≡◌, ◌≢◌, ◌==◌, ◌⊎◌, ⊤, �
 use Rattle.std.specs.Prelude.{◌++◌, length, map, Option, Some, None, encode_utf8}
 use Rattle.std.specs.Char.{IsScalar}
 use Rattle.std.specs.List.{AllByRecursion, list_any}
-use Rattle.std.specs.Option.{unwrap_or}
+use Rattle.std.specs.Option.{option_map_or, unwrap_or}
 use Rattle.getopts.specs.Names.{Text}
 use Rattle.getopts.specs.Options.{Grammar}
 use Rattle.getopts.specs.Fail.{Fault, argument_missing, unrecognized_option}
@@ -67,14 +67,10 @@ abbrev pub dash_text : Dashes → Text
 dash_text one = dash ∷ []
 dash_text two = dash ∷ dash ∷ []
 
--- `=` and the attached argument, if there is one
-abbrev pub with_equals : Option Text → Text
-with_equals None = []
-with_equals (Some argument) = equals_sign ∷ argument
-
 -- a word in long form: dashes, a name, and perhaps `=` and an attached argument
 abbrev pub long_word : Dashes → Text → Option Text → Text
-long_word dashes name argument = dash_text dashes ++ (name ++ with_equals argument)
+long_word dashes name argument =
+    dash_text dashes ++ (name ++ option_map_or (λ text. equals_sign ∷ text) argument [])
 
 -- the attached argument
 abbrev pub attached_argument : Argument → Option Text
@@ -120,26 +116,25 @@ abbrev pub MayStandBefore : Bool → Dashes → Text → Type 0
 MayStandBefore long_only one name = (long_only ≡ true) × (begins_with_dash name ≡ false)
 MayStandBefore long_only two name = ⊤
 
--- The arguments that a kind may have in long form: none for No; one, attached or separate, for Yes;
--- at most an attached one for Maybe.
-abbrev pub FitsLong : HasArg → Argument → Type 0
-FitsLong No none = ⊤
-FitsLong No argument = ⊥
-FitsLong Yes none = ⊥
-FitsLong Yes argument = ⊤
-FitsLong Maybe (separate word) = ⊥
-FitsLong Maybe argument = ⊤
+-- the values that a kind may have: none for No, one for Yes, at most one for Maybe
+abbrev pub FitsKind : HasArg → Option Text → Type 0
+FitsKind No (Some value) = ⊥
+FitsKind Yes None = ⊥
+FitsKind kind value = ⊤
 
--- The arguments that a kind may have at the end of a cluster: an attached one is not empty; for Yes
--- a separate one is any word; for Maybe it isn't dashed, and there may be none.
+-- The arguments that a kind may have in long form: those whose value it may have, but no separate
+-- one for Maybe.
+abbrev pub FitsLong : HasArg → Argument → Type 0
+FitsLong Maybe (separate word) = ⊥
+FitsLong kind argument = FitsKind kind (value_of argument)
+
+-- The arguments that a kind may have at the end of a cluster, where No doesn't stand: those whose
+-- value it may have, but an attached one isn't empty, and for Maybe a separate one isn't dashed.
 abbrev pub FitsEnd : HasArg → Argument → Type 0
 FitsEnd No argument = ⊥
-FitsEnd Yes none = ⊥
-FitsEnd Yes (attached argument) = argument ≢ []
-FitsEnd Yes (separate word) = ⊤
-FitsEnd Maybe none = ⊤
-FitsEnd Maybe (attached argument) = argument ≢ []
+FitsEnd kind (attached argument) = argument ≢ []
 FitsEnd Maybe (separate word) = is_dashed word ≡ false
+FitsEnd kind argument = FitsKind kind (value_of argument)
 
 -- the name is a flag: one byte that resolves to a group of kind No
 abbrev pub IsFlag : Grammar → ℕ → Type 0
@@ -195,11 +190,16 @@ pub data Tail : Type 0 where
   stop : List Text → Tail
   rest : List Text → Tail
 
--- the words that a tail spells
+-- the free words of a tail
+abbrev pub tail_frees : Tail → List Text
+tail_frees line_end = []
+tail_frees (stop words) = words
+tail_frees (rest words) = words
+
+-- the words that a tail spells: the stop, if there is one, and its free words
 abbrev pub tail_words : Tail → List Text
-tail_words line_end = []
 tail_words (stop words) = stop_word ∷ words
-tail_words (rest words) = words
+tail_words tail = tail_frees tail
 
 -- words that begin with one that isn't dashed
 abbrev pub BeginsFree : List Text → Type 0
@@ -239,21 +239,21 @@ pub record Mention : Type 0 where
 
 -- What a name with this value mentions. The options of a lawful item resolve, so the 0 is never
 -- taken.
-abbrev pub mention : Grammar → Text → Option Text → Mention
-mention grammar name value = record { group = unwrap_or (grammar.place_of name) 0; value = value }
+abbrev pub mention_of : Grammar → Text → Option Text → Mention
+mention_of grammar name value = record { group = unwrap_or (grammar.place_of name) 0; value = value }
 
 -- what the end of a cluster mentions
 abbrev pub end_mentions : Grammar → End → List Mention
 end_mentions grammar flags = []
 end_mentions grammar (ends_in option argument) =
-    mention grammar (option ∷ []) (value_of argument) ∷ []
+    mention_of grammar (option ∷ []) (value_of argument) ∷ []
 
 -- what an item mentions, in the order of its spelling
 abbrev pub mentions : Grammar → Item → List Mention
 mentions grammar (free word) = []
-mentions grammar (long dashes name argument) = mention grammar name (value_of argument) ∷ []
+mentions grammar (long dashes name argument) = mention_of grammar name (value_of argument) ∷ []
 mentions grammar (cluster bytes end) =
-    map (λ byte. mention grammar (byte ∷ []) None) bytes ++ end_mentions grammar end
+    map (λ byte. mention_of grammar (byte ∷ []) None) bytes ++ end_mentions grammar end
 
 -- an occurrence: what is mentioned, and the position in the line, which is the index of the word in
 -- which its item begins
@@ -262,8 +262,8 @@ pub record Occurrence : Type 0 where
   pub position : ℕ
 
 -- a mention at a position
-abbrev pub occurrence_at : ℕ → Mention → Occurrence
-occurrence_at position m = record { mention = m; position = position }
+abbrev pub at_position : ℕ → Mention → Occurrence
+at_position position m = record { mention = m; position = position }
 
 -- the number of words that items spell
 abbrev pub word_count : List Item → ℕ
@@ -274,7 +274,7 @@ word_count items = length (spelled_all items [])
 abbrev pub occurrences_after : ℕ → Grammar → List Item → List Occurrence
 occurrences_after before grammar [] = []
 occurrences_after before grammar (item ∷ items) =
-    map (occurrence_at before) (mentions grammar item)
+    map (at_position before) (mentions grammar item)
     ++ occurrences_after (before + word_count (item ∷ [])) grammar items
 
 -- the occurrences of a reading
@@ -286,12 +286,6 @@ abbrev pub free_items : List Item → List Text
 free_items [] = []
 free_items (free word ∷ items) = word ∷ free_items items
 free_items (item ∷ items) = free_items items
-
--- the free words of a tail
-abbrev pub tail_frees : Tail → List Text
-tail_frees line_end = []
-tail_frees (stop words) = words
-tail_frees (rest words) = words
 
 -- the free words of a reading
 abbrev pub free_words : Reading → List Text

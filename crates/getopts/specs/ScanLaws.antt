@@ -1,15 +1,16 @@
 -- Laws of readings: which items may stand for others, how lines compose, and what free words, the
 -- trailing start and positions keep to. Each is about every reading of every line.
 use Rattle.std.specs.Prelude.{◌≡◌, ◌≢◌, ℕ, ◌+◌, ◌<◌, nat_le, if◌then◌else◌, ⊤, Bool, false, true}
-use Rattle.std.specs.Prelude.{List, [], ◌∷◌, ◌++◌, length, map, drop, slice_get, Contains, Some}
-use Rattle.std.specs.List.{AllByRecursion}
+use Rattle.std.specs.Prelude.{List, [], ◌∷◌, ◌++◌, length, map, drop, slice_get, Contains, Some, None}
+use Rattle.std.specs.List.{AllByRecursion, filter, last_or, zip}
+use Rattle.std.specs.Option.{option_map_or}
 use Rattle.std.specs.List.Sorted.{IsNonDecreasingBy}
 use Rattle.getopts.specs.Names.{Text}
 use Rattle.getopts.specs.Options.{Grammar}
 use Rattle.getopts.specs.Scan.{begins_with_dash, Argument, attached, separate, Dashes, End, flags}
 use Rattle.getopts.specs.Scan.{ends_in, Item, long, cluster, end_text, item_words, spelled_all}
 use Rattle.getopts.specs.Scan.{is_bare, Tail, line_end, stop, tail_words, Reading, IsReading}
-use Rattle.getopts.specs.Scan.{Mention, mentions, Occurrence, occurrence_at, word_count}
+use Rattle.getopts.specs.Scan.{Mention, mentions, Occurrence, at_position, word_count}
 use Rattle.getopts.specs.Scan.{occurrences_of, free_words, trailing_start}
 use Rattle.getopts.specs.Matches.{MatchedGroup}
 use Rattle.getopts.specs.declared.groups.HasArg.TheVariants.{Yes}
@@ -105,9 +106,7 @@ pub record OneDashOrTwo (grammar : Grammar) : Type 0 where
 
 -- whether the last item is a bare cluster
 abbrev pub is_last_bare : List Item → Bool
-is_last_bare [] = false
-is_last_bare (item ∷ []) = is_bare item
-is_last_bare (item ∷ next ∷ items) = is_last_bare (next ∷ items)
+is_last_bare items = option_map_or is_bare (last_or None items) false
 
 -- the items of two readings one after the other, and the second's tail
 abbrev pub joined_reading : Reading → Reading → Reading
@@ -144,13 +143,10 @@ pub record TrailingStartIsAfterStop (grammar : Grammar) : Type 0 where
       → trailing_start reading ≡ Some start
       → IsAfterStop reading start
 
--- the texts are the words with some left out, in the same order
-pub data IsSubsequence : List Text → List Text → Type 0 where
-  empty : IsSubsequence [] []
-  kept : {texts words : List Text} (word : Text)
-      → IsSubsequence texts words → IsSubsequence (word ∷ texts) (word ∷ words)
-  left_out : {texts words : List Text} (word : Text)
-      → IsSubsequence texts words → IsSubsequence texts (word ∷ words)
+-- the texts are the words that are kept, in the same order, where others are left out
+abbrev pub IsSubsequence : List Text → List Text → Type 0
+IsSubsequence texts words = (kept : List Bool)
+    × (texts ≡ map (λ pair. pair.1) (filter (λ pair. pair.0) (zip kept words)))
 
 -- Free words are a subsequence of the words.
 pub record FreeWordsAreSubsequence (grammar : Grammar) : Type 0 where
@@ -172,7 +168,7 @@ pub record StandsInItem (grammar : Grammar) (reading : Reading) (words : List Te
   pub after : List Item
   pub items_are : reading.items ≡ before ++ item ∷ after
   pub mentioned :
-      Contains (map (occurrence_at (word_count before)) (mentions grammar item)) occurrence
+      Contains (map (at_position (word_count before)) (mentions grammar item)) occurrence
   pub below : occurrence.position < length words
   pub first_word : slice_get words occurrence.position ≡ slice_get (item_words item) 0
 

@@ -1,7 +1,7 @@
 -- The main theorem: what `parse` answers to which words, and when two canonical lines are equal.
 use Rattle.std.specs.Prelude.{◌≡◌, ◌↔◌, ◌⊎◌, List}
 use Rattle.getopts.specs.Accessors.{found_of, each_value}
-use Rattle.getopts.specs.Only.{IsTheOnly}
+use Rattle.getopts.specs.Only.{IsTheOnly, AtMostOne}
 use Rattle.getopts.specs.Names.{Text, AreTexts}
 use Rattle.getopts.specs.Options.{Declared, grammar_of}
 use Rattle.getopts.specs.Fail.{Fault}
@@ -11,16 +11,9 @@ use Rattle.getopts.specs.Parse.{Reads, IsAccepted, BreaksCounts, HasNoReading, I
 use Rattle.getopts.specs.Canon.{Content, content_of, IsPlain, canonical_line, IsCountKeeping, Says}
 use Rattle.getopts.specs.CanonAnswers.{IsAcceptedWith, IsWritten}
 
--- the first fault: the scan fault of the words, or the count fault of a reading of them
-abbrev pub IsFirstFault : Declared → List Text → Fault → Type 0
-IsFirstFault options words fault = IsScanFault (grammar_of options) words fault
-    ⊎ ((reading : Reading) × Reads options words reading
-    × IsCountFault (matches_of options reading).groups fault)
-
 -- words have one reading at most
 abbrev pub OneReading : Declared → Type 0
-OneReading options = (words : List Text) (reading other : Reading)
-    → Reads options words reading → Reads options words other → other ≡ reading
+OneReading options = (words : List Text) → AtMostOne (Reads options words)
 
 -- Words are accepted exactly when they have a reading that keeps the counts, with what it gives.
 abbrev pub AcceptedExactlyWhen : Declared → Type 0
@@ -29,12 +22,15 @@ AcceptedExactlyWhen options = (words : List Text) (matches : Matched)
     ↔ ((reading : Reading) × IsCountKeeping options reading words
     × (matches ≡ matches_of options reading))
 
--- Words are refused exactly when no reading of them keeps the counts, with the first fault.
+-- Words are refused exactly when no reading of them keeps the counts, with the first fault: their
+-- scan fault, or the count fault of a reading of them.
 abbrev pub RefusedExactlyWhen : Declared → Type 0
 RefusedExactlyWhen options = (words : List Text) (fault : Fault) → AreTexts words
     → IsRefused options words fault
     ↔ (((reading : Reading) → ¬ (IsCountKeeping options reading words))
-    × IsFirstFault options words fault)
+    × (IsScanFault (grammar_of options) words fault
+    ⊎ ((reading : Reading) × Reads options words reading
+    × IsCountFault (matches_of options reading).groups fault)))
 
 -- one of three holds, and no two of them
 abbrev pub ExactlyOne : Type 0 → Type 0 → Type 0 → Type 0
@@ -48,20 +44,16 @@ OneOfThree options = (words : List Text) → AreTexts words → ExactlyOne
     ((fault : Fault) × BreaksCounts options words fault)
     ((fault : Fault) × HasNoReading options words fault)
 
--- What one reading of the words gives: the only matches, the only content, and, where that is
+-- A reading that keeps the counts gives the only matches, the only content, and, where that is
 -- plain, the only canonical line.
-pub record GivesAll (options : Declared) (words : List Text) (reading : Reading) : Type 0 where
-  pub matches : IsTheOnly (IsAccepted options words) (matches_of options reading)
-  pub content : IsTheOnly (IsAcceptedWith options words) (content_of options reading)
-  pub line : IsPlain options.groups (content_of options reading)
-      → IsTheOnly (IsWritten options words)
-      (canonical_line options.groups (content_of options reading))
-
--- a reading that keeps the counts gives the answers of `parse` and of `canonical`
 abbrev pub OneReadingGivesAll : Declared → Type 0
 OneReadingGivesAll options = (words : List Text) (reading : Reading)
     → IsCountKeeping options reading words
-    → GivesAll options words reading
+    → IsTheOnly (IsAccepted options words) (matches_of options reading)
+    × IsTheOnly (IsAcceptedWith options words) (content_of options reading)
+    × (IsPlain options.groups (content_of options reading)
+    → IsTheOnly (IsWritten options words)
+    (canonical_line options.groups (content_of options reading)))
 
 -- two matches hold the same but for positions: each occurrence of each name has the same value, or
 -- none in both, and the free words are the same

@@ -33,7 +33,7 @@ FitsIn limit run = (length run ≡ 1) ⊎ (columns_of run ≤ limit)
 
 -- the words are cut into runs: none is empty, and each fits
 pub record IsFittingBreaking (limit : ℕ) (words : List Text) (runs : List Run) : Type 0 where
-  pub joined : flat_map (λ run. run) runs ≡ words
+  pub all_words : flat_map (λ run. run) runs ≡ words
   pub nonempty : All (λ run. 0 < length run) runs
   pub fits : All (FitsIn limit) runs
 
@@ -77,7 +77,7 @@ pub record BreaksInto (IsBroken : List Text → List Run → Type 0) (desc : Tex
     (rows : List Text) : Type 0 where
   pub breakings : List (List Run)
   pub each_line : AllZip IsBroken (words_of_lines desc) breakings
-  pub texts : rows ≡ map text_of (flat_map (λ runs. runs) breakings)
+  pub rows_are : rows ≡ map text_of (flat_map (λ runs. runs) breakings)
 
 -- the rows of a description for a limit: those of each line's tight breaking
 abbrev pub IsDescriptionRows : ℕ → Text → List Text → Type 0

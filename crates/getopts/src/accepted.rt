@@ -24,7 +24,7 @@ pub(crate) struct AcceptedLine {
 
 impl Options {
     ghost use Rattle.getopts.specs.Parse.{IsRefused};
-    ghost use Rattle.getopts.specs.AcceptedLine.{IsAcceptedLine};
+    ghost use Rattle.getopts.specs.Held.AcceptedLine.{IsAcceptedLine};
 
     /// Reads a line, and checks its counts.
     pub(crate) fn accepted_line(&self, alloc: Global, words: &[&str]) -> Result<AcceptedLine, Fail>

@@ -1,6 +1,6 @@
 //! What matches answer when they are asked for an option by a name.
 
-ghost use Rattle.std.specs.Prelude.{◌≡◌, ◌↔◌, Some, IsTrue, map, length, vec_len, ◌<◌, IfOk};
+ghost use Rattle.std.specs.Prelude.{◌≡◌, ◌↔◌, Some, Ok, IsTrue, map, length, vec_len, ◌<◌, IfOk, MatchOption};
 ghost use Rattle.std.specs.List.{list_any};
 ghost use Rattle.std.specs.Option.{option_copied, option_map};
 ghost use Rattle.std.specs.String.{string_bytes};
@@ -23,8 +23,8 @@ fn copied(alloc: Global, text: Option<&str>) -> Result<Option<String>, AllocErro
 }
 
 impl Matches {
-    ghost use Rattle.getopts.specs.Held.Occurrences.{pair_view};
-    ghost use Rattle.getopts.specs.Accessors.{IsDefined, AreDefined, AreHeldLawfully, OneGroupOneAnswer, IsReadAs, IsReadOr, place_of, found_in, found_of, is_present, positions_of, values_of, pairs_of, first_value, first_value_or, first_value_among};
+    ghost use Rattle.getopts.specs.Accessors.{pair_view};
+    ghost use Rattle.getopts.specs.Accessors.{IsDefined, AreDefined, AreHeldLawfully, OneGroupOneAnswer, IsReadAs, place_of, found_in, found_of, is_present, positions_of, values_of, pairs_of, first_value, first_value_or, first_value_among};
 
     /// The place of the option group that a name resolves to, from 0, in the order of declaration.
     ///
@@ -204,8 +204,8 @@ impl Matches {
     /// tests. The text is lent to the reading, where the Rust copies it first.
     pub fn opt_get_default<T: FromStr + Drop>(&self, name: &str, def: T) -> Result<T, T::Err>
         requires { IsDefined self.now.groups name.now }
-        ensures { IsReadOr T.from_str_gives
-            (first_value (found_of self.now.groups name.now)) def result }
+        ensures { MatchOption (first_value (found_of self.now.groups name.now))
+            (result ≡ Ok def) (λ text. T.from_str_gives text result) }
     {
         match self.groups.occurrences_of(name).first_value() {
             Some(text) => text.parse(),

@@ -5,10 +5,9 @@ ghost use Rattle.std.specs.List.{list_all};
 ghost use Rattle.std.specs.Option.{option_copied};
 ghost use Rattle.std.specs.String.{string_bytes};
 ghost use Rattle.getopts.specs.Fail.{Tells};
-ghost use Rattle.getopts.specs.Options.{knowns_of};
 ghost use Rattle.getopts.specs.Held.Accepted.{IsHeldLine};
 ghost use Rattle.getopts.specs.Names.{texts};
-ghost use Rattle.getopts.specs.Line.{line_content};
+ghost use Rattle.getopts.specs.Held.Line.{line_content};
 ghost use Rattle.getopts.specs.Scan.{holds_equals, long_word, two};
 ghost use Rattle.getopts.specs.Canon.{main_at, canonical_line};
 
@@ -28,7 +27,7 @@ fn holds_equals(text: &str) -> bool
 
 /// Whether no group with an occurrence has a main name that holds `=`.
 fn are_plain(options: &Options, accepted: &AcceptedLine) -> bool
-    requires { IsHeldLine (knowns_of options.now.groups) accepted.now }
+    requires { IsHeldLine options.now.groups accepted.now }
     ensures { result
         ≡ list_all (λ o. not (holds_equals (main_at options.now.groups o.mention.group)))
         accepted.now.line.found }

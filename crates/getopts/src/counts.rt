@@ -1,21 +1,22 @@
 //! How often options came: the counts of an accepted line.
 
-ghost use Rattle.std.specs.Prelude.{◌≡◌, ◌↔◌, IsTrue, IfOk, IfErr};
+ghost use Rattle.std.specs.Prelude.{◌≡◌, ◌↔◌, IsTrue, IfOk, IfErr, length};
 ghost use Rattle.getopts.specs.Fail.{Tells};
 ghost use Rattle.getopts.specs.Matches.{matched, count_fault, FitsCount, KeepsCounts, IsCountFault};
+ghost use Rattle.getopts.specs.Options.{knowns_of};
 ghost use Rattle.getopts.specs.Held.Accepted.{index_of};
 
 use crate::fail::Fail;
 use crate::groups::{Groups, Occur};
 use crate::index::Index;
-use crate::line::Found;
+use crate::line::LineOccurrences;
 use std::alloc::{AllocError, Global};
 
 /// Whether an option may come so many times.
-fn fits_count(occur: Occur, count: usize) -> bool
-    ensures { IsTrue result ↔ FitsCount occur count }
+fn fits_count(occurrence: Occur, count: usize) -> bool
+    ensures { IsTrue result ↔ FitsCount occurrence count }
 {
-    match occur {
+    match occurrence {
         Occur::Req => count == 1,
         Occur::Optional => count <= 1,
         Occur::Multi => true,
@@ -34,27 +35,29 @@ fn count_fault(alloc: Global, main: &str, count: usize) -> Fail
 }
 
 /// Where each group's occurrences stand.
-fn index_of(alloc: Global, groups: &Groups, found: &Found) -> Result<Index, AllocError>
-    ensures { IfOk result (λ index. index ≡ index_of groups.now found.now) }
+fn index_of(alloc: Global, groups: &Groups, found: &LineOccurrences) -> Result<Index, AllocError>
+    ensures { IfOk result (λ index. index ≡ index_of (length groups.now) found.now) }
 {
-    Index::of(alloc, groups.len(), &found.given)
+    Index::of(alloc, groups.len(), &found.records)
 }
 
 /// Where each group's occurrences stand, once their counts are tested, group by group in order of
 /// definition.
-pub(crate) fn counted(alloc: Global, groups: &Groups, found: &Found) -> Result<Index, Fail>
-    ensures ok { IfOk result (λ index. (index ≡ index_of groups.now found.now)
-        × KeepsCounts (matched 0 groups.now found.now)) }
+pub(crate) fn counted(
+    alloc: Global,
+    groups: &Groups,
+    found: &LineOccurrences,
+) -> Result<Index, Fail>
+    ensures ok { IfOk result (λ index. (index ≡ index_of (length groups.now) found.now)
+        × KeepsCounts (matched 0 (knowns_of groups.now) found.now)) }
     ensures err { IfErr result (λ fail. Tells fail
-        (IsCountFault (matched 0 groups.now found.now))) }
+        (IsCountFault (matched 0 (knowns_of groups.now) found.now))) }
 {
     let index = index_of(alloc, groups, found)?;
     for place in 0..groups.len() {
-        if let Some(kinds) = groups.kinds_at(place) {
-            let count = index.count(place);
-            if !fits_count(kinds.occur, count) {
-                return Err(count_fault(alloc, groups.main(place), count));
-            }
+        let count = index.count(place);
+        if !fits_count(groups.kinds_at(place).occurrence, count) {
+            return Err(count_fault(alloc, groups.main(place), count));
         }
     }
     Ok(index)

@@ -1,23 +1,26 @@
-//! Option groups: their kinds, and what reading asks of them.
+//! Option groups: their kinds, and the texts and kinds of many held together.
 
-ghost use Rattle.std.specs.Prelude.{◌≡◌, ◌++◌, ◌∷◌, [], ◌*◌, ◌<◌, ◌^◌, length, slice_get, OnOk, OnErr};
-ghost use Rattle.std.specs.Option.{option_map, option_map_or};
+ghost use Rattle.std.specs.Prelude.{◌≡◌, ◌++◌, ◌∷◌, [], Some, ◌+◌, ◌*◌, ◌≤◌, ◌<◌, ◌^◌, length, map, get_or, slice_get, OnOk, OnErr};
+ghost use Rattle.std.specs.Option.{option_map};
+ghost use Rattle.std.specs.String.{string_bytes, string_len, string_capacity};
 ghost use Rattle.std.specs.Cmp.Lexicographic.{pointwise};
 ghost use Rattle.std.specs.Cmp.Rules.{comparing};
 ghost use Rattle.std.proofs.Common.{rules};
-ghost use Rattle.getopts.specs.Names.{main_name};
-ghost use Rattle.getopts.specs.Table.{name_at, HaveNamesOfBytes};
+ghost use Rattle.getopts.specs.Names.{AreLawful};
+ghost use Rattle.getopts.specs.Options.{AreLawfullyNamed, group_of, knowns_of, names_of};
+ghost use Rattle.getopts.specs.Canon.{main_at};
+ghost use Rattle.getopts.specs.Held.Groups.{known_view};
+ghost use Rattle.getopts.specs.Held.Table.{name_at, HaveNamesOfBytes};
 
-use crate::names::Names;
-use crate::texts::is_of_bytes;
+use crate::names::{Names, is_of_bytes};
 use std::alloc::{AllocError, Global};
 use std::marker::Model;
 
 /// The groups that there is room for once the first was added: so few grow nothing again.
 const FIRST_GROUPS: usize = 8;
 
-/// The bytes of their names, likewise.
-const FIRST_BYTES: usize = 64;
+/// The bytes of their texts, likewise.
+const FIRST_BYTES: usize = 256;
 
 /// What the first free word does to the words after it.
 #[derive(Debug, Clone, Copy, PartialEq, Eq)]
@@ -53,8 +56,8 @@ pub enum Occur {
 /// Whether a group takes an argument, and how often it may come.
 #[derive(Debug, Clone, Copy)]
 pub(crate) struct Kinds {
-    pub hasarg: HasArg,
-    pub occur: Occur,
+    pub kind: HasArg,
+    pub occurrence: Occur,
 }
 
 impl PartialEq for Kinds {
@@ -65,7 +68,7 @@ impl PartialEq for Kinds {
     ghost laws = { Prim.search (comparing, rules) depth 12 };
 
     fn eq(&self, other: &Kinds) -> bool {
-        self.hasarg == other.hasarg && self.occur == other.occur
+        self.kind == other.kind && self.occurrence == other.occurrence
     }
 }
 
@@ -76,6 +79,20 @@ pub(crate) struct Known<'g> {
     pub kinds: Kinds,
 }
 
+impl<'g> PartialEq for Known<'g> {
+    ghost use Rattle.getopts.specs.Held.Groups.{same_known_view};
+
+    ghost eq = { same_known_view };
+
+    ghost laws = { Prim.search (comparing, rules) depth 12 };
+
+    fn eq(&self, other: &Known<'g>) -> bool {
+        self.names.short == other.names.short
+            && self.names.long == other.names.long
+            && self.kinds == other.kinds
+    }
+}
+
 /// A group with its texts for usage, borrowed.
 #[derive(Clone, Copy)]
 pub(crate) struct Group<'g> {
@@ -84,11 +101,13 @@ pub(crate) struct Group<'g> {
     pub desc: &'g str,
 }
 
-/// A group among others: where its two names end in the text of all names, and its kinds.
+/// A group among others: where its texts end in the text of all, and its kinds.
 #[derive(Debug, Clone, Copy)]
 struct GroupRecord {
     short_end: usize,
     long_end: usize,
+    hint_end: usize,
+    desc_end: usize,
     kinds: Kinds,
 }
 
@@ -97,27 +116,55 @@ impl PartialEq for GroupRecord {
 
     ghost eq = { same_record };
 
-    ghost laws = { Prim.search (comparing, rules) depth 12 };
+    ghost laws = { Prim.search (comparing, rules) depth 14 };
 
     fn eq(&self, other: &GroupRecord) -> bool {
         self.short_end == other.short_end
             && self.long_end == other.long_end
+            && self.hint_end == other.hint_end
+            && self.desc_end == other.desc_end
             && self.kinds == other.kinds
     }
 }
 
-/// What reading asks of groups: one text of all names, for each group the short and then the long
-/// one, and a record of each group.
+/// Where the texts of the groups before a place end.
+#[inline(always)]
+fn start_of(records: &[GroupRecord], place: usize) -> usize
+    requires { place ≤ length records.now }
+    ensures { result ≡ get_or (0 ∷ map (λ r. r.desc_end) records.now) place 0 }
+{
+    if place == 0 {
+        return 0;
+    }
+    records[place - 1].desc_end
+}
+
+/// Adds a text that there is room for, and answers where it ends.
+#[inline(always)]
+fn push_reserved(texts: &mut String, text: &str) -> usize
+    requires { string_len texts.old + length text.now ≤ string_capacity texts.old }
+    ensures bytes { string_bytes texts.new ≡ string_bytes texts.old ++ text.now }
+    ensures end { result ≡ length (string_bytes texts.new) }
+    ensures room { string_capacity texts.old ≤ string_capacity texts.new }
+{
+    match texts.push_str(text) {
+        Ok(()) => texts.len(),
+        Err(_) => unreachable!(),
+    }
+}
+
+/// Lawfully named groups: one text of all their texts, for each group the short name, the long name,
+/// the hint and the description, and a record of each group.
 #[derive(Debug)]
 pub(crate) struct Groups {
-    names: String,
+    text: String,
     records: Vec<GroupRecord>,
 }
 
 impl Drop for Groups {
     fn drop(self) {
         let Groups {
-            names: _,
+            text: _,
             records: _,
         } = self;
     }
@@ -125,27 +172,26 @@ impl Drop for Groups {
 
 impl Model for Groups {
     ghost use Rattle.std.specs.Prelude.{List};
-    ghost use Rattle.std.specs.String.{string_bytes};
-    ghost use Rattle.getopts.specs.Options.{Known};
-    ghost use Rattle.getopts.specs.Texts.{IsWellCut};
-    ghost use Rattle.getopts.specs.Held.Groups.{name_ends, knowns_in};
+    ghost use Rattle.getopts.specs.Options.{Group};
+    ghost use Rattle.getopts.specs.Held.Groups.{groups_view, HoldGroups};
 
-    ghost Value = { List Known };
+    ghost Value = { List Group };
 
-    ghost view = { λ a. knowns_in (string_bytes a.names) a.records.items };
+    ghost view = { groups_view };
 
-    ghost invariant = { λ a. IsWellCut (string_bytes a.names) (name_ends a.records.items) };
+    ghost invariant = { HoldGroups };
 }
 
 impl Groups {
-    ghost use Rattle.getopts.specs.Held.Groups.{kinds_of, known_view, known_with, names_in};
+    ghost use Rattle.getopts.specs.Held.Groups.{HaveTextsForShorts, group_view, kinds_of};
+    ghost use Rattle.getopts.specs.Same.{same_known};
 
     /// No groups. Takes no memory.
     pub(crate) fn new(alloc: Global) -> Groups
         ensures { result ≡ [] }
     {
         Groups {
-            names: String::new(alloc),
+            text: String::new(alloc),
             records: Vec::new(alloc),
         }
     }
@@ -157,19 +203,30 @@ impl Groups {
         self.records.len()
     }
 
-    /// The kinds of the group at a place.
-    pub(crate) fn kinds_at(&self, place: usize) -> Option<Kinds>
-        ensures { result ≡ option_map kinds_of (slice_get self.now place) }
+    /// The groups are lawfully named, and their short names are texts: a law to cite, of which nothing
+    /// is left once built.
+    pub(crate) fn are_lawful(&self)
+        ensures lawful { AreLawfullyNamed self.now }
+        ensures shorts { HaveTextsForShorts self.now }
     {
-        Some(self.records.get(place)?.kinds)
+        let _records = &self.records;
+    }
+
+    /// The kinds of the group at a place, where there is one.
+    #[inline(always)]
+    pub(crate) fn kinds_at(&self, place: usize) -> Kinds
+        requires { place < length self.now }
+        ensures { Some result
+            ≡ option_map (λ group. kinds_of group.known) (slice_get self.now place) }
+    {
+        self.records[place].kinds
     }
 
     /// The main name of the group at a place. Past the last group it is empty.
     pub(crate) fn main(&self, place: usize) -> &str
-        ensures { result.now
-            ≡ option_map_or (λ known. main_name known.names) (slice_get self.now place) [] }
+        ensures { result.now ≡ main_at self.now place }
     {
-        match self.get(place) {
+        match self.known(place) {
             Some(known) => known.names.main(),
             None => "",
         }
@@ -178,16 +235,16 @@ impl Groups {
     /// The name of this number, where each group in turn has two, the short one first. Past the last
     /// it is empty.
     pub(crate) fn name(&self, number: usize) -> &str
-        ensures { result.now ≡ name_at (names_in self.now) number }
+        ensures { result.now ≡ name_at (names_of self.now) number }
     {
         let place = number / 2;
         if number % 2 == 0 {
-            match self.get(place) {
+            match self.known(place) {
                 Some(known) => known.names.short,
                 None => "",
             }
         } else {
-            match self.get(place) {
+            match self.known(place) {
                 Some(known) => known.names.long,
                 None => "",
             }
@@ -196,49 +253,93 @@ impl Groups {
 
     /// Each name is of bytes: a law to cite, of which nothing is left once built.
     pub(crate) fn are_of_bytes(&self)
-        ensures { HaveNamesOfBytes (names_in self.now) }
+        ensures { HaveNamesOfBytes (names_of self.now) }
     {
-        is_of_bytes(&self.names);
+        is_of_bytes(&self.text);
     }
 
-    /// The group at a place: its names start where those of the one before it end.
+    /// What is known of the group at a place: its texts start where those of the one before it end.
     #[inline]
-    pub(crate) fn get(&self, place: usize) -> Option<Known<'_>>
-        ensures { option_map known_view result ≡ slice_get self.now place }
+    pub(crate) fn known(&self, place: usize) -> Option<Known<'_>>
+        ensures { option_map known_view result
+            ≡ option_map (λ group. group.known) (slice_get self.now place) }
     {
         let group = *self.records.get(place)?;
-        let start = if place == 0 {
-            0
-        } else {
-            self.records[place - 1].long_end
-        };
-        let short = &self.names[start..group.short_end];
-        let long = &self.names[group.short_end..group.long_end];
+        let start = start_of(&self.records, place);
+        let short = &self.text[start..group.short_end];
+        let long = &self.text[group.short_end..group.long_end];
         let names = Names { short, long };
         let kinds = group.kinds;
         Some(Known { names, kinds })
     }
 
+    /// The group at a place.
+    pub(crate) fn get(&self, place: usize) -> Option<Group<'_>>
+        ensures { option_map group_view result ≡ slice_get self.now place }
+    {
+        let group = *self.records.get(place)?;
+        let known = self.known(place)?;
+        let hint = &self.text[group.long_end..group.hint_end];
+        let desc = &self.text[group.hint_end..group.desc_end];
+        Some(Group { known, hint, desc })
+    }
+
+    /// Whether the names and the kinds of each group in order are the same, whatever their help.
+    pub(crate) fn same_knowns(&self, other: &Groups) -> bool
+        ensures { result ≡ pointwise same_known (knowns_of self.now) (knowns_of other.now) }
+    {
+        self == other || self.same_each(other)
+    }
+
+    /// The same, group by group.
+    #[cold]
+    fn same_each(&self, other: &Groups) -> bool
+        ensures { result ≡ pointwise same_known (knowns_of self.now) (knowns_of other.now) }
+    {
+        if self.len() != other.len() {
+            return false;
+        }
+        for place in 0..self.len() {
+            if self.known(place) != other.known(place) {
+                return false;
+            }
+        }
+        true
+    }
+
     /// Adds a group as the last. An error leaves the groups as they were.
-    pub(crate) fn push(&mut self, short: &str, long: &str, kinds: Kinds) -> Result<(), AllocError>
-        ensures ok { OnOk result (self.new ≡ self.old ++ known_with kinds short.now long.now ∷ []) }
+    #[inline]
+    pub(crate) fn push(
+        &mut self,
+        short: &str,
+        long: &str,
+        hint: &str,
+        desc: &str,
+        kinds: Kinds,
+    ) -> Result<(), AllocError>
+        requires { AreLawful short.now long.now }
+        ensures ok { OnOk result (self.new ≡ self.old
+            ++ group_of short.now long.now desc.now hint.now kinds.kind kinds.occurrence ∷ []) }
         ensures err { OnErr result (self.new ≡ self.old) }
     {
-        let bytes = short.len().checked_add(long.len()).ok_or(AllocError)?;
+        let names = short.len().saturating_add(long.len());
+        let bytes = names.saturating_add(hint.len()).saturating_add(desc.len());
         if self.records.is_empty() {
             self.records.reserve(FIRST_GROUPS)?;
-            self.names.reserve(bytes.max(FIRST_BYTES))?;
+            self.text.reserve(bytes.max(FIRST_BYTES))?;
         } else {
             self.records.reserve(1)?;
-            self.names.reserve(bytes)?;
+            self.text.reserve(bytes)?;
         }
-        self.names.push_str(short)?;
-        let short_end = self.names.len();
-        self.names.push_str(long)?;
-        let long_end = self.names.len();
+        let short_end = push_reserved(&mut self.text, short);
+        let long_end = push_reserved(&mut self.text, long);
+        let hint_end = push_reserved(&mut self.text, hint);
+        let desc_end = push_reserved(&mut self.text, desc);
         self.records.push_reserved(GroupRecord {
             short_end,
             long_end,
+            hint_end,
+            desc_end,
             kinds,
         });
         Ok(())
@@ -250,20 +351,20 @@ impl Clone for Groups {
 
     fn clone(&self) -> Result<Groups, AllocError> {
         Ok(Groups {
-            names: self.names.clone()?,
+            text: self.text.clone()?,
             records: self.records.clone()?,
         })
     }
 }
 
 impl PartialEq for Groups {
-    ghost use Rattle.getopts.specs.Same.{same_known};
+    ghost use Rattle.getopts.specs.Same.{same_group};
 
-    ghost eq = { pointwise same_known };
+    ghost eq = { pointwise same_group };
 
     ghost laws = { Prim.search (comparing, rules) depth 12 };
 
     fn eq(&self, other: &Groups) -> bool {
-        self.names == other.names && self.records == other.records
+        self.text == other.text && self.records == other.records
     }
 }

@@ -4,8 +4,9 @@ ghost use Rattle.getopts.specs.Canon.{Content, Says, IsSound, IsPlain, HasCanoni
 ghost use Rattle.getopts.specs.declared.groups.ParsingStyle.{ParsingStyle};
 ghost use Rattle.std.specs.Prelude.{List, Bool};
 ghost use Rattle.getopts.specs.Accessors.{held_names};
-ghost use Rattle.getopts.specs.CanonAnswers.{IsParseAnswer, IsCanonicalAnswer, HasOneAnswer, OneAnswerOneContent, KeepsLineLaws};
+ghost use Rattle.getopts.specs.CanonAnswers.{IsParseAnswer, IsCanonicalAnswer, OneAnswerOneContent, KeepsLineLaws};
 ghost use Rattle.getopts.specs.Names.{Text, MainNameResolves, OneByteIsShort, EmptyResolvesNot};
+ghost use Rattle.getopts.specs.Only.{AtMostOne};
 ghost use Rattle.getopts.specs.Options.{Declared, MayBeDeclared, names_of, grammar_of};
 ghost use Rattle.getopts.specs.Parse.{KeepsReadingLaws};
 ghost use Rattle.getopts.specs.Theorem.{OneReading, AcceptedExactlyWhen, RefusedExactlyWhen, OneOfThree, OneReadingGivesAll, OneContentHoldsSame, OneLineOneContent};
@@ -95,7 +96,7 @@ pub fn held_names_resolve(matches: &Matches)
 /// This is a law to cite, which does nothing.
 pub fn equal_input_equal_answers()
     ensures parse { (options : Declared) (words : List Text)
-        → HasOneAnswer (IsParseAnswer options words) }
+        → AtMostOne (IsParseAnswer options words) }
     ensures canonical { (options : Declared) (words : List Text)
-        → HasOneAnswer (IsCanonicalAnswer options words) }
+        → AtMostOne (IsCanonicalAnswer options words) }
 {}

@@ -22,7 +22,6 @@ mod refuted;
 mod row;
 mod scan;
 mod table;
-mod texts;
 mod usage;
 mod words;
 pub mod wrap;

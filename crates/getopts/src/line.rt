@@ -4,7 +4,7 @@ ghost use Rattle.std.specs.Prelude.{◌≡◌, ◌==◌, ◌<◌, ◌≤◌, ◌
 ghost use Rattle.std.specs.Prelude.{None, Some, IfOk, OnOk, OnErr, length, get_or, slice_get};
 ghost use Rattle.std.specs.Option.{option_map};
 ghost use Rattle.std.specs.String.{string_bytes};
-ghost use Rattle.getopts.specs.Held.Found.{value_ends};
+ghost use Rattle.getopts.specs.Held.Occurrences.{value_ends};
 
 use std::alloc::{AllocError, Global};
 use std::marker::Model;
@@ -21,14 +21,14 @@ pub(crate) struct Occurrence<'w> {
 /// One option that a line gives. One number says where the values of the line end up to this option's
 /// own, and whether it has one.
 #[derive(Clone, Copy, Debug)]
-pub(crate) struct Given {
+pub(crate) struct OccurrenceRecord {
     pub group: usize,
     pub position: usize,
     packed: usize,
 }
 
-impl Given {
-    ghost use Rattle.getopts.specs.Held.Found.{values_end, has_value};
+impl OccurrenceRecord {
+    ghost use Rattle.getopts.specs.Held.Occurrences.{values_end, has_value};
 
     /// Where the values end, up to this option's own.
     #[inline(always)]
@@ -49,14 +49,14 @@ impl Given {
 
 /// Where the values of the options before a place end.
 #[inline(always)]
-fn values_start(given: &[Given], place: usize) -> usize
-    requires { place ≤ length given.now }
-    ensures { result ≡ get_or (0 ∷ value_ends given.now) place 0 }
+fn values_start(records: &[OccurrenceRecord], place: usize) -> usize
+    requires { place ≤ length records.now }
+    ensures { result ≡ get_or (0 ∷ value_ends records.now) place 0 }
 {
     if place == 0 {
         return 0;
     }
-    given[place - 1].values_end()
+    records[place - 1].values_end()
 }
 
 /// Where the values end and whether an option has one, as one number. A text has less than 2^63
@@ -91,24 +91,24 @@ fn push_value(values: &mut String, value: &str, room: usize) -> Result<(), Alloc
 
 /// The options that a line gives, in order, and their values as one text.
 #[derive(Debug)]
-pub(crate) struct Found {
-    pub given: Vec<Given>,
+pub(crate) struct LineOccurrences {
+    pub records: Vec<OccurrenceRecord>,
     values: String,
 }
 
-impl Drop for Found {
+impl Drop for LineOccurrences {
     fn drop(self) {
-        let Found {
-            given: _,
+        let LineOccurrences {
+            records: _,
             values: _,
         } = self;
     }
 }
 
-impl Model for Found {
+impl Model for LineOccurrences {
     ghost use Rattle.std.specs.Prelude.{List};
     ghost use Rattle.getopts.specs.Scan.{Occurrence};
-    ghost use Rattle.getopts.specs.Held.Found.{found_view, HaveTheirValues};
+    ghost use Rattle.getopts.specs.Held.Occurrences.{found_view, HaveTheirValues};
 
     ghost Value = { List Occurrence };
 
@@ -117,15 +117,15 @@ impl Model for Found {
     ghost invariant = { HaveTheirValues };
 }
 
-impl Found {
-    ghost use Rattle.getopts.specs.Line.{occurrence_view};
+impl LineOccurrences {
+    ghost use Rattle.getopts.specs.Held.Line.{occurrence_view};
 
     /// No options, with room for so many.
-    pub(crate) fn with_capacity(alloc: Global, room: usize) -> Result<Found, AllocError>
+    pub(crate) fn with_capacity(alloc: Global, room: usize) -> Result<LineOccurrences, AllocError>
         ensures { IfOk result (λ found. found ≡ []) }
     {
-        Ok(Found {
-            given: Vec::with_capacity(alloc, room)?,
+        Ok(LineOccurrences {
+            records: Vec::with_capacity(alloc, room)?,
             values: String::new(alloc),
         })
     }
@@ -133,7 +133,26 @@ impl Found {
     pub(crate) fn len(&self) -> usize
         ensures { result ≡ length self.now }
     {
-        self.given.len()
+        self.records.len()
+    }
+
+    /// The occurrence at a place, where there is one.
+    #[inline(always)]
+    pub(crate) fn at(&self, place: usize) -> Occurrence<'_>
+        requires { place < length self.now }
+        ensures { slice_get self.now place ≡ Some (occurrence_view result) }
+    {
+        let held = self.records[place];
+        let value = if held.has_value() {
+            Some(&self.values[values_start(&self.records, place)..held.values_end()])
+        } else {
+            None
+        };
+        Occurrence {
+            group: held.group,
+            position: held.position,
+            value,
+        }
     }
 
     /// The occurrence at a place.
@@ -141,17 +160,10 @@ impl Found {
     pub(crate) fn get(&self, place: usize) -> Option<Occurrence<'_>>
         ensures { option_map occurrence_view result ≡ slice_get self.now place }
     {
-        let given = *self.given.get(place)?;
-        let value = if given.has_value() {
-            Some(&self.values[values_start(&self.given, place)..given.values_end()])
-        } else {
-            None
-        };
-        Some(Occurrence {
-            group: given.group,
-            position: given.position,
-            value,
-        })
+        if place >= self.len() {
+            return None;
+        }
+        Some(self.at(place))
     }
 
     /// Adds an occurrence as the last.
@@ -159,10 +171,10 @@ impl Found {
     pub(crate) fn push(&mut self, occurrence: Occurrence<'_>) -> Result<(), AllocError>
         ensures { OnOk result (self.new ≡ self.old ++ occurrence_view occurrence.entry ∷ []) }
     {
-        self.given.reserve(1)?;
+        self.records.reserve(1)?;
         let value = occurrence.value.unwrap_or("");
-        push_value(&mut self.values, value, self.given.capacity())?;
-        self.given.push_reserved(Given {
+        push_value(&mut self.values, value, self.records.capacity())?;
+        self.records.push_reserved(OccurrenceRecord {
             group: occurrence.group,
             position: occurrence.position,
             packed: packed(self.values.len(), occurrence.value.is_some()),
@@ -171,12 +183,12 @@ impl Found {
     }
 }
 
-impl Clone for Found {
+impl Clone for LineOccurrences {
     ghost is_clone = { λ a b. b ≡ a };
 
-    fn clone(&self) -> Result<Found, AllocError> {
-        Ok(Found {
-            given: self.given.clone()?,
+    fn clone(&self) -> Result<LineOccurrences, AllocError> {
+        Ok(LineOccurrences {
+            records: self.records.clone()?,
             values: self.values.clone()?,
         })
     }
@@ -185,20 +197,20 @@ impl Clone for Found {
 /// What a line gives.
 #[derive(Drop)]
 pub(crate) struct Line {
-    pub found: Found,
+    pub found: LineOccurrences,
     pub free: Vec<String>,
     pub trailing_start: Option<usize>,
 }
 
 impl Line {
-    ghost use Rattle.getopts.specs.Line.{IsEmptyLine};
+    ghost use Rattle.getopts.specs.Held.Line.{IsEmptyLine};
 
     /// A line that gives nothing, with room for so many options and so many free words.
     pub(crate) fn with_capacity(alloc: Global, room: usize) -> Result<Line, AllocError>
         ensures { IfOk result IsEmptyLine }
     {
         Ok(Line {
-            found: Found::with_capacity(alloc, room)?,
+            found: LineOccurrences::with_capacity(alloc, room)?,
             free: Vec::with_capacity(alloc, room)?,
             trailing_start: None,
         })

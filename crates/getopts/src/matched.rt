@@ -1,15 +1,15 @@
 //! Groups with what a line gave to each: looked up by name, and lent by place.
 
-ghost use Rattle.std.specs.Prelude.{◌≡◌, Some};
+ghost use Rattle.std.specs.Prelude.{◌≡◌, length};
 ghost use Rattle.std.specs.Cmp.Lexicographic.{pointwise};
 ghost use Rattle.getopts.specs.Matches.{matched};
-ghost use Rattle.getopts.specs.Table.{IsTableOf};
+ghost use Rattle.getopts.specs.Held.Table.{IsTableOf};
 ghost use Rattle.getopts.specs.Held.Accepted.{index_of};
-ghost use Rattle.getopts.specs.Held.Groups.{HaveLawfulNames, names_in};
+ghost use Rattle.getopts.specs.Options.{knowns_of, names_of};
 
 use crate::groups::Groups;
 use crate::index::Index;
-use crate::line::Found;
+use crate::line::LineOccurrences;
 use crate::occurrences::Occurrences;
 use crate::table::Table;
 use std::alloc::AllocError;
@@ -20,7 +20,7 @@ use std::marker::Model;
 pub(crate) struct MatchedGroups {
     groups: Groups,
     table: Table,
-    found: Found,
+    found: LineOccurrences,
     index: Index,
 }
 
@@ -52,11 +52,15 @@ impl MatchedGroups {
     ghost use Rattle.getopts.specs.Same.{same_matched_group};
 
     /// Groups with what was found of each, by their table and by where it stands.
-    pub(crate) fn of(groups: Groups, table: Table, found: Found, index: Index) -> MatchedGroups
-        requires lawful { HaveLawfulNames groups }
-        requires table { IsTableOf (names_in groups) table }
-        requires index { index ≡ index_of groups found }
-        ensures { result ≡ matched 0 groups found }
+    pub(crate) fn of(
+        groups: Groups,
+        table: Table,
+        found: LineOccurrences,
+        index: Index,
+    ) -> MatchedGroups
+        requires table { IsTableOf (names_of groups) table }
+        requires index { index ≡ index_of (length groups) found }
+        ensures { result ≡ matched 0 (knowns_of groups) found }
     {
         MatchedGroups {
             groups,
@@ -77,17 +81,14 @@ impl MatchedGroups {
     pub(crate) fn are_lawful(&self)
         ensures { AreHeldLawfully self.now }
     {
-        let _groups = &self.groups;
+        self.groups.are_lawful();
     }
 
     /// The occurrences of the group at a place.
     pub(crate) fn occurrences_at(&self, place: usize) -> Occurrences<'_>
         ensures { result ≡ found_in self.now place }
     {
-        Occurrences {
-            found: &self.found,
-            places: self.index.places(place),
-        }
+        Occurrences::of(&self.found, self.index.places(place))
     }
 
     /// The occurrences of the group that a name resolves to. Of an undefined name there are none.
@@ -96,10 +97,7 @@ impl MatchedGroups {
     {
         match self.place_of(name) {
             Some(place) => self.occurrences_at(place),
-            None => Occurrences {
-                found: &self.found,
-                places: &[],
-            },
+            None => Occurrences::of(&self.found, &[]),
         }
     }
 
@@ -107,7 +105,7 @@ impl MatchedGroups {
     pub(crate) fn same(&self, other: &MatchedGroups) -> bool
         ensures { result ≡ pointwise same_matched_group self.now other.now }
     {
-        if self.groups != other.groups {
+        if !self.groups.same_knowns(&other.groups) {
             return false;
         }
         for place in 0..self.groups.len() {

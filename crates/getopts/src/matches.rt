@@ -2,6 +2,7 @@
 
 ghost use Rattle.std.specs.Prelude.{◌≡◌, map, IfOk};
 ghost use Rattle.std.specs.String.{string_bytes};
+ghost use Rattle.getopts.specs.Options.{knowns_of};
 ghost use Rattle.getopts.specs.Matches.{matched};
 ghost use Rattle.getopts.specs.Held.Accepted.{IsHeldLine};
 
@@ -24,11 +25,16 @@ pub struct Matches {
 
 impl Model for Matches {
     ghost use Rattle.getopts.specs.Matches.{Matched};
-    ghost use Rattle.getopts.specs.Held.Matches.{matches_view};
+    ghost use Rattle.std.specs.Prelude.{map};
+    ghost use Rattle.std.specs.String.{string_bytes};
 
     ghost Value = { Matched };
 
-    ghost view = { matches_view };
+    ghost view = { λ a. record {
+      groups = a.groups;
+      free = map string_bytes a.free.items;
+      trailing_start = a.trailing_start;
+    } };
 }
 
 impl Matches {
@@ -36,7 +42,7 @@ impl Matches {
     pub(crate) fn of_line(groups: Groups, accepted: AcceptedLine) -> Matches
         requires { IsHeldLine groups accepted }
         ensures { result ≡ record {
-          groups = matched 0 groups accepted.line.found;
+          groups = matched 0 (knowns_of groups) accepted.line.found;
           free = map string_bytes accepted.line.free.items;
           trailing_start = accepted.line.trailing_start;
         } }

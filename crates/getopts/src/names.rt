@@ -2,6 +2,7 @@
 
 ghost use Rattle.std.specs.Prelude.{◌≡◌, ◌↔◌, IsTrue};
 ghost use Rattle.getopts.specs.Names.{AreLawful};
+ghost use Rattle.getopts.specs.Held.Texts.{IsOfBytes};
 
 /// Whether an option group may have these two names.
 ///
@@ -39,3 +40,8 @@ impl<'g> Names<'g> {
         }
     }
 }
+
+/// A `&str` is of bytes: a law to cite, of which nothing is left once built.
+pub(crate) fn is_of_bytes(text: &str)
+    ensures { IsOfBytes text.now }
+{}

@@ -5,40 +5,85 @@ ghost use Rattle.std.specs.Cmp.Lexicographic.{pointwise};
 ghost use Rattle.std.specs.Option.{option_copied, option_map};
 ghost use Rattle.std.specs.String.{string_bytes};
 ghost use Rattle.getopts.specs.Accessors.{positions_of, values_of, pairs_of, first_value, first_value_or};
-ghost use Rattle.getopts.specs.Held.Occurrences.{held_found, pair_view};
+ghost use Rattle.getopts.specs.Held.Occurrences.{founds_at, ArePlacesOf};
+ghost use Rattle.getopts.specs.Accessors.{held_found, pair_view};
 ghost use Rattle.getopts.specs.Same.{same_found};
 
-use crate::line::Found;
+use crate::line::LineOccurrences;
 use std::alloc::{AllocError, Global};
 use std::marker::Model;
+
+/// Occurrences of a line, by the places where they stand.
+#[derive(Debug, Drop)]
+struct Placed<'m> {
+    found: &'m LineOccurrences,
+    places: &'m [usize],
+}
+
+impl<'m> Model for Placed<'m> {
+    ghost use Rattle.std.specs.Prelude.{List};
+    ghost use Rattle.getopts.specs.Matches.{Found};
+    ghost use Rattle.getopts.specs.Held.Occurrences.{founds_at, ArePlacesOf};
+
+    ghost Value = { List Found };
+
+    ghost view = { λ a. founds_at a.found.now a.places.now };
+
+    ghost invariant = { λ a. ArePlacesOf a.found.now a.places.now };
+}
+
+impl<'m> Placed<'m> {
+    #[inline]
+    fn len(&self) -> usize
+        ensures { result ≡ length self.now }
+    {
+        self.places.len()
+    }
+
+    #[inline]
+    fn get(&self, nth: usize) -> Option<(usize, Option<&'m str>)>
+        ensures { option_map held_found result ≡ slice_get self.now nth }
+    {
+        let occurrence = self.found.at(*self.places.get(nth)?);
+        Some((occurrence.position, occurrence.value))
+    }
+}
 
 /// The occurrences of one option group, in the order of the line, lent by the matches.
 ///
 /// `Matches::occurrences_at` answers them. No text is copied.
 #[derive(Debug, Drop)]
 pub struct Occurrences<'m> {
-    pub(crate) found: &'m Found,
-    pub(crate) places: &'m [usize],
+    placed: Placed<'m>,
 }
 
 impl<'m> Model for Occurrences<'m> {
     ghost use Rattle.std.specs.Prelude.{List};
     ghost use Rattle.getopts.specs.Matches.{Found};
-    ghost use Rattle.getopts.specs.Held.Occurrences.{occurrences_view, ArePlacesOf};
 
     ghost Value = { List Found };
 
-    ghost view = { occurrences_view };
-
-    ghost invariant = { ArePlacesOf };
+    ghost view = { λ a. a.placed };
 }
 
 impl<'m> Occurrences<'m> {
+    /// The occurrences of a line at these places.
+    #[inline]
+    pub(crate) fn of(found: &'m LineOccurrences, places: &'m [usize]) -> Occurrences<'m>
+        requires { ArePlacesOf found.now places.now }
+        ensures { result ≡ founds_at found.now places.now }
+    {
+        Occurrences {
+            placed: Placed { found, places },
+        }
+    }
+
     /// How many they are.
+    #[inline]
     pub fn len(&self) -> usize
         ensures { result ≡ length self.now }
     {
-        self.places.len()
+        self.placed.len()
     }
 
     /// Whether there are none.
@@ -50,11 +95,11 @@ impl<'m> Occurrences<'m> {
 
     /// The position of one of them, counted from 0, and its value if it has one. Past the last there is
     /// none.
+    #[inline]
     pub fn get(&self, nth: usize) -> Option<(usize, Option<&'m str>)>
         ensures { option_map held_found result ≡ slice_get self.now nth }
     {
-        let occurrence = self.found.get(*self.places.get(nth)?)?;
-        Some((occurrence.position, occurrence.value))
+        self.placed.get(nth)
     }
 
     pub(crate) fn positions(&self, alloc: Global) -> Result<Vec<usize>, AllocError>

@@ -9,7 +9,6 @@ ghost use Rattle.getopts.specs.Names.{AreLawful};
 ghost use Rattle.getopts.specs.Options.{group_of, with_group, knowns_of, AreLawfullyNamed};
 
 use crate::groups::{Group, Groups, HasArg, Kinds, Occur, ParsingStyle};
-use crate::texts::Texts;
 use std::alloc::{AllocError, Global};
 use std::marker::Model;
 
@@ -18,7 +17,6 @@ use std::marker::Model;
 pub struct Options {
     alloc: Global,
     groups: Groups,
-    help: Texts,
     style: ParsingStyle,
     long_only: bool,
 }
@@ -28,7 +26,6 @@ impl Drop for Options {
         let Options {
             alloc: _,
             groups: _,
-            help: _,
             style: _,
             long_only: _,
         } = self;
@@ -37,13 +34,14 @@ impl Drop for Options {
 
 impl Model for Options {
     ghost use Rattle.getopts.specs.Options.{Declared};
-    ghost use Rattle.getopts.specs.Held.Options.{options_view, KeepsOptions};
 
     ghost Value = { Declared };
 
-    ghost view = { options_view };
-
-    ghost invariant = { KeepsOptions };
+    ghost view = { λ a. record {
+      groups = a.groups;
+      style = a.style;
+      long_only = a.long_only;
+    } };
 }
 
 impl Options {
@@ -59,7 +57,6 @@ impl Options {
         Options {
             alloc,
             groups: Groups::new(alloc),
-            help: Texts::new(alloc),
             style: ParsingStyle::FloatingFrees,
             long_only: false,
         }
@@ -87,16 +84,11 @@ impl Options {
             (group_of short_name.now long_name.now desc.now hint.now hasarg occur)) }
         ensures unchanged { OnErr result (self.new ≡ self.old) }
     {
-        let kinds = Kinds { hasarg, occur };
-        let texts = self.help.len();
-        self.help.push_pair(hint, desc)?;
-        match self.groups.push(short_name, long_name, kinds) {
-            Ok(()) => Ok(()),
-            Err(error) => {
-                self.help.truncate(texts);
-                Err(error)
-            }
-        }
+        let kinds = Kinds {
+            kind: hasarg,
+            occurrence: occur,
+        };
+        self.groups.push(short_name, long_name, hint, desc, kinds)
     }
 
     /// Sets what the first free word does to the words after it. The groups and the mode stay.
@@ -129,15 +121,7 @@ impl Options {
 // What the other modules read of options.
 impl Options {
     ghost use Rattle.getopts.specs.Canon.{main_at};
-    ghost use Rattle.getopts.specs.Held.Groups.{HaveTextsForShorts, group_view, kinds_of};
-    ghost use Rattle.getopts.specs.Same.{same_group};
-
-    /// Whether all six parts of each group in order are the same.
-    fn same_groups(&self, other: &Options) -> bool
-        ensures { result ≡ pointwise same_group self.now.groups other.now.groups }
-    {
-        self.groups == other.groups && self.help == other.help
-    }
+    ghost use Rattle.getopts.specs.Held.Groups.{HaveTextsForShorts, group_view};
 
     pub(crate) fn style(&self) -> ParsingStyle
         ensures { result ≡ self.now.style }
@@ -151,21 +135,14 @@ impl Options {
         self.long_only
     }
 
-    /// What reading asks of the groups. They are lawfully named, by texts.
+    /// The groups. They are lawfully named, by texts.
     pub(crate) fn groups(&self) -> &Groups
-        ensures groups { result.now ≡ knowns_of self.now.groups }
+        ensures groups { result.now ≡ self.now.groups }
         ensures lawful { AreLawfullyNamed self.now.groups }
         ensures shorts { HaveTextsForShorts self.now.groups }
     {
+        self.groups.are_lawful();
         &self.groups
-    }
-
-    /// The kinds of the group at a place.
-    pub(crate) fn kinds_at(&self, place: usize) -> Option<Kinds>
-        ensures { result
-            ≡ option_map (λ group. kinds_of group.known) (slice_get self.now.groups place) }
-    {
-        self.groups.kinds_at(place)
     }
 
     /// How many groups there are.
@@ -179,9 +156,7 @@ impl Options {
     pub(crate) fn group(&self, place: usize) -> Option<Group<'_>>
         ensures { option_map group_view result ≡ slice_get self.now.groups place }
     {
-        let known = self.groups.get(place)?;
-        let (hint, desc) = self.help.pair(place)?;
-        Some(Group { known, hint, desc })
+        self.groups.get(place)
     }
 
     /// The main name of the group at a place. Past the last group it is empty.
@@ -203,7 +178,6 @@ impl Clone for Options {
         Ok(Options {
             alloc: self.alloc,
             groups: self.groups.clone()?,
-            help: self.help.clone()?,
             style: self.style,
             long_only: self.long_only,
         })
@@ -222,7 +196,9 @@ impl PartialEq for Options {
         ensures answer { result ≡ same_options self.now other.now }
         ensures same { IsTrue result ↔ (self.now ≡ other.now) }
     {
-        self.same_groups(other) && self.style == other.style && self.long_only == other.long_only
+        self.groups == other.groups
+            && self.style == other.style
+            && self.long_only == other.long_only
     }
 }
 

@@ -15,7 +15,7 @@ impl Options {
     ghost use Rattle.std.specs.Iterator.{IsFinite};
     ghost use Rattle.std.specs.Iterator.Runs.{WholeRun};
     ghost use Rattle.getopts.specs.Options.{grammar_of};
-    ghost use Rattle.getopts.specs.ScanLaws.{LongAttachedOrSeparate, ShortAttachedOrSeparate, ClusterSplits, OneDashOrTwo, LinesCompose, TrailingStartIsAfterStop, FreeWordsAreSubsequence, PositionsAreWords, HavePositionsInOrder, HavePositionsBelow};
+    ghost use Rattle.getopts.specs.ScanLaws.{HavePositionsInOrder, HavePositionsBelow};
     ghost use Rattle.getopts.specs.Parse.{IsAccepted, IsRefused, KeepsReadingLaws};
     ghost use Rattle.getopts.specs.Holds.{AreGroupsOf, HaveValuesByKind, DefineDeclared, HoldRequiredOnce, HoldNeededValues, HaveLastWordsFree, Accepts};
 
@@ -58,19 +58,9 @@ impl Options {
         ensures required { IfOk result (λ matches. HoldRequiredOnce self.now matches.groups) }
         ensures needed { IfOk result (λ matches. HoldNeededValues self.now matches.groups) }
 
-        // A position is the index of a word, the first one of the item that the occurrence stands in.
-        ensures positions_are_words { OnOk result (PositionsAreWords (grammar_of self.now)) }
-
-        // Other spellings of an accepted line, and lines one after the other, by these options.
-        ensures long_argument { OnOk result (LongAttachedOrSeparate (grammar_of self.now)) }
-        ensures short_argument { OnOk result (ShortAttachedOrSeparate (grammar_of self.now)) }
-        ensures cluster_splits { OnOk result (ClusterSplits (grammar_of self.now)) }
-        ensures one_dash_or_two { OnOk result (OneDashOrTwo (grammar_of self.now)) }
-        ensures lines_compose { OnOk result (LinesCompose (grammar_of self.now)) }
-
-        // Where free words stand.
-        ensures trailing_start { OnOk result (TrailingStartIsAfterStop (grammar_of self.now)) }
-        ensures free_words { OnOk result (FreeWordsAreSubsequence (grammar_of self.now)) }
+        // By these options: other spellings of a line, lines one after the other, and where free words and
+        // occurrences stand.
+        ensures laws { OnOk result (KeepsReadingLaws (grammar_of self.now)) }
     {
         let words = words_from(alloc, args)?;
         self.parse_words(alloc, &words)

@@ -53,7 +53,7 @@ fn push_head(text: &mut String, layout: Layout, group: Group<'_>) -> Result<(), 
     let Known { names, kinds } = group.known;
     push_short(text, layout, names)?;
     push_long(text, layout, names.long)?;
-    push_argument(text, kinds.hasarg, group.hint)
+    push_argument(text, kinds.kind, group.hint)
 }
 
 /// Adds the short name with its dash, or what stands in its place.
@@ -84,11 +84,11 @@ fn push_long(text: &mut String, layout: Layout, long: &str) -> Result<(), AllocE
 }
 
 /// Adds the hint, in brackets where the argument may be left out.
-pub(crate) fn push_argument(text: &mut String, hasarg: HasArg, hint: &str) -> Result<(), AllocError>
+pub(crate) fn push_argument(text: &mut String, kind: HasArg, hint: &str) -> Result<(), AllocError>
     ensures { OnOk result (string_bytes text.new ≡ string_bytes text.old
-        ++ argument_part hasarg hint.now) }
+        ++ argument_part kind hint.now) }
 {
-    match hasarg {
+    match kind {
         HasArg::Yes => text.push_str(hint),
         HasArg::No => Ok(()),
         HasArg::Maybe => {

@@ -1,22 +1,20 @@
 //! Reading words as items, from the first to the last.
 
-ghost use Rattle.std.specs.Prelude.{◌≡◌, ◌≢◌, ◌↔◌, IsTrue, ◌<◌, ◌∷◌, ◌++◌, [], ℕ, length, MatchOption, OnSome, Some, None, true, false, IfOk, IfErr, slice_index, encode_utf8, OnOk, map};
+ghost use Rattle.std.specs.Prelude.{◌≡◌, ◌≢◌, ◌<◌, ◌∷◌, ◌++◌, [], length, MatchOption, OnSome, Some, None, Err, false, IfOk, IfErr, slice_index, OnOk, map};
 ghost use Rattle.std.specs.String.{string_bytes};
-ghost use Rattle.std.specs.Char.{IsScalar};
 ghost use Rattle.std.specs.Str.{IsCharBoundary};
 ghost use Rattle.std.specs.Option.{option_copied};
-ghost use Rattle.getopts.specs.Fail.{Tells, argument_missing};
-ghost use Rattle.getopts.specs.Names.{texts};
-ghost use Rattle.getopts.specs.Line.{IsEnding};
-ghost use Rattle.getopts.specs.Names.{Text};
-ghost use Rattle.getopts.specs.Scan.{dash, is_dashed, holds_equals, with_equals, IsFaultAt, IsShortForm, IsScanFault};
+ghost use Rattle.getopts.specs.Fail.{Tells};
+ghost use Rattle.getopts.specs.Names.{Text, texts};
+ghost use Rattle.getopts.specs.Scan.{dash, is_dashed, holds_equals, IsScanFault};
+ghost use Rattle.getopts.specs.Held.Turn.{with_equals, first_char, chosen_end, Chooses};
 
 use crate::fail::Fail;
 use crate::groups::{HasArg, ParsingStyle};
-use crate::line::{Found, Line, Occurrence};
+use crate::line::{Line, LineOccurrences, Occurrence};
 use crate::options::Options;
 use crate::table::Table;
-use crate::words::FIRST_ROOM;
+use crate::words::{FIRST_ROOM, are_texts};
 use std::alloc::{AllocError, Global};
 
 /// The options by which words are read, and the table of their names.
@@ -98,10 +96,7 @@ fn is_dashed(word: &str) -> bool
 
 /// The first character of a text, as a text.
 fn first_character(text: &str) -> &str
-    requires { text.now ≢ [] }
-    ensures { (character : ℕ) × (more : Text)
-        × IsScalar character × (result.now ≡ encode_utf8 character)
-        × (text.now ≡ result.now ++ more) }
+    ensures { result.now ≡ first_char text.now }
 {
     match text.chars().next() {
         Some(character) => &text[..character.len_utf8()],
@@ -113,21 +108,21 @@ fn first_character(text: &str) -> &str
 /// after that, and how many of those it uses.
 fn ending<'w>(
     alloc: Global,
-    hasarg: HasArg,
+    kind: HasArg,
     name: &str,
     rest: &'w str,
     after: &[&'w str],
 ) -> Result<(Option<&'w str>, usize), Fail>
-    requires { hasarg ≢ HasArg.No }
-    ensures ok { IfOk result (λ found.
-        IsEnding hasarg rest.now (texts after.now) (option_copied found.0) found.1) }
-    ensures err { IfErr result (λ fail. Tells fail (λ fault. (fault ≡ argument_missing name.now)
-        × (hasarg ≡ HasArg.Yes) × (rest.now ≡ []) × (texts after.now ≡ []))) }
+    requires { kind ≢ HasArg.No }
+    ensures ok { IfOk result (λ found. Chooses
+        (chosen_end kind name.now rest.now (texts after.now)) (option_copied found.0) found.1) }
+    ensures err { IfErr result (λ fail. Tells fail (λ fault.
+        chosen_end kind name.now rest.now (texts after.now) ≡ Err fault)) }
 {
     if !rest.is_empty() {
         return Ok((Some(rest), 0));
     }
-    match (hasarg, after.first().copied()) {
+    match (kind, after.first().copied()) {
         (HasArg::Yes, Some(word)) => Ok((Some(word), 1)),
         (HasArg::Yes, None) => Err(Fail::argument_missing(alloc, name)),
         (HasArg::Maybe, Some(word)) => {
@@ -143,8 +138,9 @@ fn ending<'w>(
 }
 
 impl<'o> Scanner<'o> {
-    ghost use Rattle.std.specs.Prelude.{drop};
-    ghost use Rattle.getopts.specs.Line.{occurrence_view, scanner_grammar, IsLawfulScanner, IsInLongForm, HasShape, AddsItem, ReadsLine};
+    ghost use Rattle.getopts.specs.Held.Line.{scanner_grammar, IsLawfulScanner, HasShape, ReadsLine};
+    ghost use Rattle.getopts.specs.Scan.{Dashes};
+    ghost use Rattle.getopts.specs.Held.Turn.{faults, long_turn, cluster_turn, AddsItem};
 
     /// The place and the kind of argument of the option that a name resolves to.
     fn option(&self, name: &str) -> Option<(usize, HasArg)>
@@ -154,8 +150,9 @@ impl<'o> Scanner<'o> {
             (λ option. (grammar.place_of name.now ≡ Some option.0)
             × (grammar.kind_of name.now ≡ Some option.1)) }
     {
-        let place = self.table.resolve(self.options.groups(), name)?;
-        Some((place, self.options.kinds_at(place)?.hasarg))
+        let groups = self.options.groups();
+        let place = self.table.resolve(groups, name)?;
+        Some((place, groups.kinds_at(place).kind))
     }
 
     /// Reads an item in long form, by its text after the dashes and the words after its first. Adds
@@ -166,22 +163,22 @@ impl<'o> Scanner<'o> {
         text: &'w str,
         after: &[&'w str],
         position: usize,
-        found: &mut Found,
+        found: &mut LineOccurrences,
     ) -> Result<usize, Fail>
         requires lawful { IsLawfulScanner self.now }
-        ensures ok { IfOk result (λ used. (word : Text)
-            → IsInLongForm (scanner_grammar self.now) word text.now
-            → AddsItem (scanner_grammar self.now) word (texts after.now) position used
+        ensures ok { let grammar = scanner_grammar self.now in
+            IfOk result (λ used. (dashes : Dashes)
+            → AddsItem grammar (long_turn grammar dashes text.now (texts after.now)) position used
             found.old found.new) }
-        ensures err { IfErr result (λ fail. (word : Text)
-            → IsInLongForm (scanner_grammar self.now) word text.now
-            → Tells fail (IsFaultAt (scanner_grammar self.now) word (texts after.now))) }
+        ensures err { let grammar = scanner_grammar self.now in
+            IfErr result (λ fail. (dashes : Dashes) → Tells fail (λ fault.
+            long_turn grammar dashes text.now (texts after.now) ≡ faults fault)) }
     {
         let (name, argument) = name_and_argument(text);
-        let Some((group, hasarg)) = self.option(name) else {
+        let Some((group, kind)) = self.option(name) else {
             return Err(Fail::unrecognized_option(alloc, name));
         };
-        let (value, used) = match (hasarg, argument) {
+        let (value, used) = match (kind, argument) {
             (HasArg::No, None) => (None, 0),
             (HasArg::No, Some(_)) => return Err(Fail::unexpected_argument(alloc, name)),
             (HasArg::Yes, None) => match after.first() {
@@ -226,16 +223,16 @@ impl<'o> Scanner<'o> {
         text: &str,
         after: &[&str],
         position: usize,
-        found: &mut Found,
+        found: &mut LineOccurrences,
     ) -> Result<usize, Fail>
         requires lawful { IsLawfulScanner self.now }
-        ensures ok { IfOk result (λ used. (word : Text)
-            → IsShortForm (scanner_grammar self.now) word text.now
-            → AddsItem (scanner_grammar self.now) word (texts after.now) position used
+        ensures ok { let grammar = scanner_grammar self.now in
+            IfOk result (λ used.
+            AddsItem grammar (cluster_turn grammar [] text.now (texts after.now)) position used
             found.old found.new) }
-        ensures err { IfErr result (λ fail. (word : Text)
-            → IsShortForm (scanner_grammar self.now) word text.now
-            → Tells fail (IsFaultAt (scanner_grammar self.now) word (texts after.now))) }
+        ensures err { let grammar = scanner_grammar self.now in
+            IfErr result (λ fail. Tells fail (λ fault.
+            cluster_turn grammar [] text.now (texts after.now) ≡ faults fault)) }
     {
         'names: for at in 0..text.len() {
             match self.option_at(text, at) {
@@ -248,9 +245,9 @@ impl<'o> Scanner<'o> {
                     position,
                     value: None,
                 })?,
-                Some((group, hasarg)) => {
+                Some((group, kind)) => {
                     let name = &text[at..at + 1];
-                    let (value, used) = ending(alloc, hasarg, name, &text[at + 1..], after)?;
+                    let (value, used) = ending(alloc, kind, name, &text[at + 1..], after)?;
                     found.push(Occurrence {
                         group,
                         position,
@@ -287,6 +284,7 @@ impl<'o> Scanner<'o> {
         ensures err { IfErr result (λ fail. Tells fail
             (IsScanFault (scanner_grammar self.now) (texts words.now))) }
     {
+        are_texts(words);
         let stops = self.options.style() == ParsingStyle::StopAtFirstFree;
         let mut line = Line::with_capacity(alloc, words.len().min(FIRST_ROOM))?;
         let mut at = 0;

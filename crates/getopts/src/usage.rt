@@ -206,7 +206,7 @@ impl Options {
         let groups = self.groups();
         let mut any_short = false;
         for place in 0..groups.len() {
-            if let Some(known) = groups.get(place) {
+            if let Some(known) = groups.known(place) {
                 any_short |= !known.names.short.is_empty();
             }
         }
@@ -229,17 +229,17 @@ fn push_option(text: &mut String, group: Group<'_>) -> Result<(), AllocError>
         ++ option_text (group_view group.entry)) }
 {
     let Known { names, kinds } = group.known;
-    let (before, after) = match kinds.occur {
+    let (before, after) = match kinds.occurrence {
         Occur::Req => ("", ""),
         Occur::Optional => ("[", "]"),
         Occur::Multi => ("[", "].."),
     };
     text.push_str(before)?;
     push_name(text, names)?;
-    if kinds.hasarg != HasArg::No {
+    if kinds.kind != HasArg::No {
         text.push(' ')?;
     }
-    push_argument(text, kinds.hasarg, group.hint)?;
+    push_argument(text, kinds.kind, group.hint)?;
     text.push_str(after)
 }
 

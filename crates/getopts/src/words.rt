@@ -21,7 +21,8 @@ pub(crate) fn words_from<'a, I: Iterator<Item = &'a str> + Drop>(
     requires ends { IsFinite (I.remaining args) }
     ensures { IfOk result (λ words. WholeRun I.next_gives args (λ run. words.items ≡ run.items)) }
 {
-    let mut words = Vec::with_capacity(alloc, args.size_hint().0.min(FIRST_ROOM))?;
+    let room = args.size_hint().0.min(FIRST_ROOM);
+    let mut words = Vec::with_capacity(alloc, room)?;
     for word in args {
         words.push(word)?;
     }

@@ -1,9 +1,10 @@
 //! Descriptions in rows: the lines of a text, each broken into as few rows as its words allow.
-ghost use Rattle.std.specs.Prelude.{◌≡◌, ◌++◌, map, string_bytes, IfOk, OnOk};
+ghost use Rattle.std.specs.Prelude.{◌≡◌, ◌+◌, ◌<◌, ◌≤◌, ◌∷◌, ◌++◌, map, string_bytes};
+ghost use Rattle.std.specs.Prelude.{IfOk, OnOk};
 ghost use Rattle.std.specs.Str.Lines.{lines};
 ghost use Rattle.getopts.specs.Only.{IsTheOnly};
 ghost use Rattle.getopts.specs.Wrap.{BreaksInto, IsDescriptionRows, IsFewestBreaking};
-ghost use Rattle.getopts.specs.Wrap.{AddsDescription, AddsLine, parting};
+ghost use Rattle.getopts.specs.Wrap.{AddsDescription, AddsLine, parting, width_of};
 
 use std::alloc::{AllocError, Global};
 use unicode_width::UnicodeWidthStr;
@@ -51,7 +52,8 @@ fn rows_in(alloc: Global, text: &str) -> Result<Vec<String>, AllocError>
 {
     let mut rows = Vec::new(alloc);
     for line in text.lines() {
-        rows.push(String::from_str(alloc, line)?)?;
+        let row = String::from_str(alloc, line)?;
+        rows.push(row)?;
     }
     Ok(rows)
 }
@@ -94,17 +96,38 @@ fn push_line(
     text.push_str(first)?;
     let mut columns = first.width();
     for word in words {
-        let width = word.width();
-        if columns < lim && width < lim - columns {
-            text.push(' ')?;
-            columns += 1 + width;
-        } else {
-            text.push_str(separator)?;
-            columns = width;
-        }
-        text.push_str(word)?;
+        columns = push_word(text, columns, word, lim, separator)?;
     }
     Ok(true)
+}
+
+/// Adds a word after a row of so many columns: to that row where it has room, and else to a new one.
+/// The answer is the columns of the row that the word stands in.
+#[tactic(auto, unfolding(crate::specs::Wrap::width_of))]
+fn push_word(
+    text: &mut String,
+    columns: usize,
+    word: &str,
+    lim: usize,
+    separator: &str,
+) -> Result<usize, AllocError>
+    ensures joins { columns + (1 + width_of word.now) ≤ lim → IfOk result (λ now.
+        (now ≡ columns + (1 + width_of word.now))
+        × (string_bytes text.new ≡ string_bytes text.old ++ 32 ∷ word.now)) }
+    ensures begins { lim < columns + (1 + width_of word.now) → IfOk result (λ now.
+        (now ≡ width_of word.now)
+        × (string_bytes text.new ≡ string_bytes text.old ++ (separator.now ++ word.now))) }
+{
+    let width = word.width();
+    let mut now = width;
+    if columns < lim && width < lim - columns {
+        text.push(' ')?;
+        now += 1 + columns;
+    } else {
+        text.push_str(separator)?;
+    }
+    text.push_str(word)?;
+    Ok(now)
 }
 
 /// Adds the separator, where `begun` tells that anything came before.

@@ -1,5 +1,6 @@
 -- What a request says is one thing: it can be read back.
-use Rattle.std.proofs.Common.{◌≡◌, ℕ, Bool, List, [], ◌∷◌, ◌++◌, take, drop, length, map, refl, sym, ap, ◌∙◌, subst}
+use Rattle.std.proofs.Common.{[], ◌≡◌, ℕ, Bool, List, ◌∷◌, ◌++◌, take, drop, length, map, refl, sym}
+use Rattle.std.proofs.Common.{ap, ◌∙◌, subst}
 use Rattle.std.proofs.Math.Seq.{take-append_seam, drop-append_seam}
 use Rattle.std.specs.Prelude.{◌==◌, ◌%◌, if◌then◌else◌, nat_lt}
 use Rattle.std.specs.List.{flat_map, AllByRecursion}
@@ -10,15 +11,17 @@ use Rattle.getopts.specs.declared.groups.HasArg.{HasArg}
 use Rattle.getopts.specs.declared.groups.Occur.{Occur}
 use Rattle.getopts.specs.declared.groups.HasArg.TheVariants.{Yes, No, Maybe}
 use Rattle.getopts.specs.declared.groups.Occur.TheVariants.{Req, Optional, Multi}
-use Rattle.getopts_c.specs.Request.{concatenated, IsCut, IsRequest, group_number, group_texts, kind_number, style_of}
-use Rattle.getopts_c.specs.Request.{SayOptions}
+use Rattle.getopts_c.specs.Request.{concatenated, IsCut, IsRequest, group_number, group_texts}
+use Rattle.getopts_c.specs.Request.{kind_number, style_of, SayOptions}
 
 -- fronts of one length are the same, and so is what follows them
-pub same_front : {A : Type 0} (front other rest left : List A) → front ++ rest ≡ other ++ left → length front ≡ length other
-    → (front ≡ other) × (rest ≡ left)
+pub same_front : {A : Type 0} (front other rest left : List A) → front ++ rest ≡ other ++ left
+    → length front ≡ length other → (front ≡ other) × (rest ≡ left)
 same_front front other rest left same size = (
-  sym (take-append_seam front rest) ∙ ap (take (length front)) same ∙ ap (λ n. take n (other ++ left)) size ∙ take-append_seam other left,
-  sym (drop-append_seam front rest) ∙ ap (drop (length front)) same ∙ ap (λ n. drop n (other ++ left)) size ∙ drop-append_seam other left,
+  sym (take-append_seam front rest) ∙ ap (take (length front)) same
+      ∙ ap (λ n. take n (other ++ left)) size ∙ take-append_seam other left,
+  sym (drop-append_seam front rest) ∙ ap (drop (length front)) same
+      ∙ ap (λ n. drop n (other ++ left)) size ∙ drop-append_seam other left,
 )
 
 -- the texts of these lengths
@@ -27,19 +30,24 @@ cut_from bytes [] = []
 cut_from bytes (n ∷ ns) = take n bytes ∷ cut_from (drop n bytes) ns
 
 -- texts are cut again from what they are joined to
-cut_from_joined : (words : List Text) → cut_from (concatenated words) (map length words) ≡ words
-cut_from_joined [] = refl
-cut_from_joined (word ∷ words) =
-    rw (take-append_seam word (concatenated words), drop-append_seam word (concatenated words), cut_from_joined words) refl
+cut_from_concatenated : (words : List Text) → cut_from (concatenated words) (map length words) ≡ words
+cut_from_concatenated [] = refl
+cut_from_concatenated (word ∷ words) =
+    rw (
+      take-append_seam word (concatenated words),
+      drop-append_seam word (concatenated words),
+      cut_from_concatenated words,
+    ) refl
 
 -- the texts of bytes and lengths
-cut_is : (bytes : Text) (lens : List ℕ) (words : List Text) → IsCut bytes lens words → cut_from bytes lens ≡ words
-cut_is bytes lens words cut = rw (cut.bytes_are, cut.lens_are) (cut_from_joined words)
+cut_is : {bytes : Text} {lens : List ℕ} {words : List Text} → IsCut bytes lens words
+    → cut_from bytes lens ≡ words
+cut_is {words = words} cut = rw (cut.bytes_are, cut.lens_are) (cut_from_concatenated words)
 
 -- bytes and lengths say one list of texts
-pub cut_once : (bytes : Text) (lens : List ℕ) (words others : List Text)
-    → IsCut bytes lens words → IsCut bytes lens others → words ≡ others
-cut_once bytes lens words others cut other = sym (cut_is bytes lens words cut) ∙ cut_is bytes lens others other
+pub cut_once : {bytes : Text} {lens : List ℕ} {words others : List Text} → IsCut bytes lens words
+    → IsCut bytes lens others → words ≡ others
+cut_once cut other = sym (cut_is cut) ∙ cut_is other
 
 -- the kind of argument that a number says
 abbrev arg_from : ℕ → HasArg
@@ -50,27 +58,18 @@ abbrev occur_from : ℕ → Occur
 occur_from n = if n % 3 == 0 then Req else (if n % 3 == 1 then Optional else Multi)
 
 -- a number says its kinds
-arg_is : (kind : HasArg) (occurrence : Occur) → arg_from (kind_number kind occurrence) ≡ kind
-arg_is Yes Req = refl
-arg_is Yes Optional = refl
-arg_is Yes Multi = refl
-arg_is No Req = refl
-arg_is No Optional = refl
-arg_is No Multi = refl
-arg_is Maybe Req = refl
-arg_is Maybe Optional = refl
-arg_is Maybe Multi = refl
-
-occur_is : (kind : HasArg) (occurrence : Occur) → occur_from (kind_number kind occurrence) ≡ occurrence
-occur_is Yes Req = refl
-occur_is Yes Optional = refl
-occur_is Yes Multi = refl
-occur_is No Req = refl
-occur_is No Optional = refl
-occur_is No Multi = refl
-occur_is Maybe Req = refl
-occur_is Maybe Optional = refl
-occur_is Maybe Multi = refl
+kinds_are : (kind : HasArg) (occurrence : Occur)
+    → (arg_from (kind_number kind occurrence) ≡ kind)
+    × (occur_from (kind_number kind occurrence) ≡ occurrence)
+kinds_are Yes Req = (refl, refl)
+kinds_are Yes Optional = (refl, refl)
+kinds_are Yes Multi = (refl, refl)
+kinds_are No Req = (refl, refl)
+kinds_are No Optional = (refl, refl)
+kinds_are No Multi = (refl, refl)
+kinds_are Maybe Req = (refl, refl)
+kinds_are Maybe Optional = (refl, refl)
+kinds_are Maybe Multi = (refl, refl)
 
 -- the groups that texts and kinds say
 abbrev groups_from : List Text → List ℕ → List Group
@@ -82,10 +81,12 @@ groups_from (short ∷ long ∷ hint ∷ description ∷ texts) (kind ∷ kinds)
 groups_from texts kinds = []
 
 -- groups are read again from their texts and kinds
-groups_are : (groups : List Group) → groups_from (flat_map group_texts groups) (map group_number groups) ≡ groups
+groups_are : (groups : List Group)
+    → groups_from (flat_map group_texts groups) (map group_number groups) ≡ groups
 groups_are [] = refl
 groups_are (group ∷ groups) =
-    rw (arg_is group.known.kind group.known.occurrence, occur_is group.known.kind group.known.occurrence, groups_are groups) refl
+    let kinds = kinds_are group.known.kind group.known.occurrence in
+    rw (kinds.0, kinds.1, groups_are groups) refl
 
 -- the options of a request
 abbrev request_from : (bytes : Text) (lens kinds : List ℕ) (stop long_only : Bool) → Declared
@@ -95,11 +96,12 @@ request_from bytes lens kinds stop long_only = record {
   long_only = long_only;
 }
 
-request_is_from : (bytes : Text) (lens kinds : List ℕ) (stop long_only : Bool) (options : Declared)
-    → IsRequest bytes lens kinds stop long_only options → request_from bytes lens kinds stop long_only ≡ options
-request_is_from bytes lens kinds stop long_only options is =
+request_is_from : {bytes : Text} {lens kinds : List ℕ} {stop long_only : Bool} {options : Declared}
+    → IsRequest bytes lens kinds stop long_only options
+    → request_from bytes lens kinds stop long_only ≡ options
+request_is_from {options = options} is =
     rw (
-      cut_is bytes lens (flat_map group_texts options.groups) is.texts_are,
+      cut_is is.texts_are,
       is.kinds_are,
       groups_are options.groups,
       ← is.style_is,
@@ -107,11 +109,10 @@ request_is_from bytes lens kinds stop long_only options is =
     ) refl
 
 -- a request says one set of options
-pub request_once : (bytes : Text) (lens kinds : List ℕ) (stop long_only : Bool) (options others : Declared)
-    → IsRequest bytes lens kinds stop long_only options → IsRequest bytes lens kinds stop long_only others
-    → options ≡ others
-request_once bytes lens kinds stop long_only options others is other =
-    sym (request_is_from bytes lens kinds stop long_only options is) ∙ request_is_from bytes lens kinds stop long_only others other
+pub request_once : {bytes : Text} {lens kinds : List ℕ} {stop long_only : Bool}
+    {options others : Declared} → IsRequest bytes lens kinds stop long_only options
+    → IsRequest bytes lens kinds stop long_only others → options ≡ others
+request_once is other = sym (request_is_from is) ∙ request_is_from other
 
 -- the short names among UTF-8 texts are UTF-8
 shorts_are : (groups : List Group) → AreTexts (flat_map group_texts groups)
@@ -120,10 +121,10 @@ shorts_are [] utf8 = tt
 shorts_are (group ∷ groups) utf8 = (utf8.0, shorts_are groups utf8.1.1.1.1)
 
 -- the options of a request that says options may be declared
-pub request_declared : (bytes : Text) (lens kinds : List ℕ) (stop long_only : Bool)
+pub request_declared : {bytes : Text} {lens kinds : List ℕ} {stop long_only : Bool}
     → SayOptions bytes lens kinds stop long_only
     → (options : Declared) → IsRequest bytes lens kinds stop long_only options
     → MayBeDeclared options
-request_declared bytes lens kinds stop long_only said options is =
-    subst MayBeDeclared (request_once bytes lens kinds stop long_only said.options options said.options_are is)
+request_declared said options is =
+    subst MayBeDeclared (request_once said.options_are is)
     (record { named = said.named; shorts = shorts_are said.options.groups said.utf8 })

@@ -1,18 +1,21 @@
 -- An answer says one thing: it can be read back.
-use Rattle.std.proofs.Common.{◌≡◌, ℕ, List, [], ◌∷◌, ◌++◌, Option, Some, None, length, map, refl, sym, ap, append_assoc, ◌∙◌, arith}
+use Rattle.std.proofs.Common.{[], ◌≡◌, ℕ, List, ◌∷◌, ◌++◌, Option, Some, None, length, map, refl}
+use Rattle.std.proofs.Common.{sym, ap, append_assoc, ◌∙◌, arith}
 use Rattle.std.proofs.lemmas.List.{length-map}
 use Rattle.std.specs.List.{flat_map}
 use Rattle.std.specs.Option.{option_map}
 use Rattle.std.specs.Prelude.{◌==◌, if◌then◌else◌, unwrap_or}
 use Rattle.getopts.specs.Accessors.{place_of}
-use Rattle.getopts.specs.Fail.{Fault, argument_missing, unrecognized_option, option_missing, option_duplicated, unexpected_argument}
+use Rattle.getopts.specs.Fail.{Fault, argument_missing, unrecognized_option, option_missing}
+use Rattle.getopts.specs.Fail.{option_duplicated, unexpected_argument}
 use Rattle.getopts.specs.Matches.{Found, Matched, MatchedGroup}
 use Rattle.getopts.specs.Names.{Text}
-use Rattle.getopts.specs.Same.{fault_name}
+use Rattle.getopts_c.specs.Answer.{fault_name}
 use Rattle.getopts_c.proofs.LawLemmas.{cut_once, same_front}
-use Rattle.getopts_c.specs.Answer.{AreAlike, fault_status, found_bytes, found_numbers, group_bytes, group_numbers}
-use Rattle.getopts_c.specs.Answer.{matches_bytes, matches_numbers, optional_number, place_number, text_numbers}
-use Rattle.getopts_c.specs.Request.{concatenated}
+use Rattle.getopts_c.specs.Answer.{AreAlike, fault_status, found_bytes, found_numbers, group_bytes}
+use Rattle.getopts_c.specs.Answer.{group_numbers, matches_bytes, matches_numbers, optional_number}
+use Rattle.getopts_c.specs.Answer.{place_number, text_numbers}
+use Rattle.getopts_c.specs.Request.{IsCut, concatenated}
 
 -- one that may be there, from its number
 optional_back : (one other : Option ℕ) → optional_number one ≡ optional_number other → one ≡ other
@@ -22,17 +25,20 @@ optional_back (Some one) None same = absurd (omega arith)
 optional_back (Some one) (Some other) same = ap Some (let e : one ≡ other = omega arith in e)
 
 -- where names stand, from their numbers
-places_back : (groups others : List MatchedGroup) (names : List Text) → map (place_number groups) names ≡ map (place_number others) names
+places_back : (groups others : List MatchedGroup) (names : List Text)
+    → map (place_number groups) names ≡ map (place_number others) names
     → map (place_of groups) names ≡ map (place_of others) names
 places_back groups others [] same = refl
 places_back groups others (name ∷ names) same =
     let first : place_number groups name ≡ place_number others name = cc in
     let more : map (place_number groups) names ≡ map (place_number others) names = cc in
-    ap (λ place. place ∷ map (place_of groups) names) (optional_back (place_of groups name) (place_of others name) first)
+    ap (λ place. place ∷ map (place_of groups) names)
+    (optional_back (place_of groups name) (place_of others name) first)
     ∙ ap (λ places. place_of others name ∷ places) (places_back groups others names more)
 
 -- a value, from its number and its bytes, and the bytes that follow
-value_back : (value other : Option Text) (more after : Text) → optional_number (option_map length value) ≡ optional_number (option_map length other)
+value_back : (value other : Option Text) (more after : Text)
+    → optional_number (option_map length value) ≡ optional_number (option_map length other)
     → unwrap_or value [] ++ more ≡ unwrap_or other [] ++ after → (value ≡ other) × (more ≡ after)
 value_back None None more after size bytes = (refl, bytes)
 value_back None (Some other) more after size bytes = absurd (omega arith)
@@ -43,7 +49,8 @@ value_back (Some value) (Some other) more after size bytes =
     (ap Some both.0, both.1)
 
 -- as many occurrences, from their numbers and their bytes, and what follows them
-founds_back : (founds others : List Found) (rest left : List ℕ) (more after : Text) → length founds ≡ length others
+founds_back : (founds others : List Found) (rest left : List ℕ) (more after : Text)
+    → length founds ≡ length others
     → flat_map found_numbers founds ++ rest ≡ flat_map found_numbers others ++ left
     → flat_map found_bytes founds ++ more ≡ flat_map found_bytes others ++ after
     → (founds ≡ others) × (rest ≡ left) × (more ≡ after)
@@ -51,12 +58,15 @@ founds_back [] [] rest left more after count numbers bytes = (refl, numbers, byt
 founds_back [] (other ∷ others) rest left more after count numbers bytes = absurd (omega arith)
 founds_back (found ∷ founds) [] rest left more after count numbers bytes = absurd (omega arith)
 founds_back (found ∷ founds) (other ∷ others) rest left more after count numbers bytes =
-    let whole : found.position ∷ optional_number (option_map length found.value) ∷ (flat_map found_numbers founds ++ rest)
-    ≡ other.position ∷ optional_number (option_map length other.value) ∷ (flat_map found_numbers others ++ left) = numbers in
+    let whole : found.position ∷ optional_number (option_map length found.value)
+    ∷ (flat_map found_numbers founds ++ rest)
+    ≡ other.position ∷ optional_number (option_map length other.value)
+    ∷ (flat_map found_numbers others ++ left) = numbers in
     let position : found.position ≡ other.position = cc in
     let size : optional_number (option_map length found.value) ≡ optional_number (option_map length other.value) = cc in
     let behind : flat_map found_numbers founds ++ rest ≡ flat_map found_numbers others ++ left = cc in
-    let value = value_back found.value other.value (flat_map found_bytes founds ++ more) (flat_map found_bytes others ++ after) size
+    let value = value_back found.value other.value
+    (flat_map found_bytes founds ++ more) (flat_map found_bytes others ++ after) size
     (sym (append_assoc (found_bytes found) (flat_map found_bytes founds) more) ∙ bytes
     ∙ append_assoc (found_bytes other) (flat_map found_bytes others) after) in
     let follow = founds_back founds others rest left more after (omega arith) behind value.1 in
@@ -65,10 +75,12 @@ founds_back (found ∷ founds) (other ∷ others) rest left more after count num
     (ap (λ (f : Found). f ∷ founds) first ∙ ap (λ (fs : List Found). other ∷ fs) follow.0, follow.1, follow.2)
 
 -- the occurrences of as many groups, from their numbers and their bytes, and what follows them
-groups_back : (groups others : List MatchedGroup) (rest left : List ℕ) (more after : Text) → length groups ≡ length others
+groups_back : (groups others : List MatchedGroup) (rest left : List ℕ) (more after : Text)
+    → length groups ≡ length others
     → flat_map group_numbers groups ++ rest ≡ flat_map group_numbers others ++ left
     → flat_map group_bytes groups ++ more ≡ flat_map group_bytes others ++ after
-    → (map (λ (group : MatchedGroup). group.found) groups ≡ map (λ (group : MatchedGroup). group.found) others) × (rest ≡ left) × (more ≡ after)
+    → (map (λ (group : MatchedGroup). group.found) groups
+    ≡ map (λ (group : MatchedGroup). group.found) others) × (rest ≡ left) × (more ≡ after)
 groups_back [] [] rest left more after count numbers bytes = (refl, numbers, bytes)
 groups_back [] (other ∷ others) rest left more after count numbers bytes = absurd (omega arith)
 groups_back (group ∷ groups) [] rest left more after count numbers bytes = absurd (omega arith)
@@ -93,11 +105,12 @@ groups_back (group ∷ groups) (other ∷ others) rest left more after count num
     )
 
 -- texts, from their numbers and their bytes
-pub texts_back : (words others : List Text) → text_numbers words ≡ text_numbers others → concatenated words ≡ concatenated others → words ≡ others
+pub texts_back : (words others : List Text) → text_numbers words ≡ text_numbers others
+    → concatenated words ≡ concatenated others → words ≡ others
 texts_back words others numbers bytes =
     let lens : map length words ≡ map length others = cc in
-    cut_once (concatenated words) (map length words) words others
-    (record { bytes_are = refl; lens_are = refl }) (record { bytes_are = bytes; lens_are = lens })
+    let own : IsCut (concatenated words) (map length words) words = record { bytes_are = refl; lens_are = refl } in
+    cut_once own (record { bytes_are = bytes; lens_are = lens })
 
 -- the free words and the trailing start, from their numbers and the words' bytes
 free_back : (matches others : Matched)
@@ -113,26 +126,33 @@ free_back matches others numbers bytes =
     ≡ map length others.free ++ optional_number others.trailing_start ∷ [] = cc in
     let split = same_front (map length matches.free) (map length others.free) _ _ rest
     (length-map matches.free length ∙ count ∙ sym (length-map others.free length)) in
-    let start : optional_number matches.trailing_start ≡ optional_number others.trailing_start = let e = split.1 in cc in
-    (texts_back matches.free others.free (let lens = split.0 in cc) bytes, optional_back matches.trailing_start others.trailing_start start)
+    let start : optional_number matches.trailing_start ≡ optional_number others.trailing_start =
+    let e = split.1 in cc in (
+      texts_back matches.free others.free (let lens = split.0 in cc) bytes,
+      optional_back matches.trailing_start others.trailing_start start,
+    )
 
 -- what matches tell, from their numbers and their bytes
 pub matches_back : (names : List Text) (matches others : Matched)
-    → matches_numbers names matches ≡ matches_numbers names others → matches_bytes matches ≡ matches_bytes others
-    → AreAlike names matches others
+    → matches_numbers names matches ≡ matches_numbers names others
+    → matches_bytes matches ≡ matches_bytes others → AreAlike names matches others
 matches_back names matches others numbers bytes =
     let behind : Matched → List ℕ = λ m. (length m.groups ∷ flat_map group_numbers m.groups)
     ++ (text_numbers m.free ++ optional_number m.trailing_start ∷ []) in
-    let named = same_front (map (place_number matches.groups) names) (map (place_number others.groups) names) (behind matches) (behind others) numbers
+    let named = same_front (map (place_number matches.groups) names)
+    (map (place_number others.groups) names) (behind matches) (behind others) numbers
     (length-map names (place_number matches.groups) ∙ sym (length-map names (place_number others.groups))) in
     let whole : length matches.groups ∷ (flat_map group_numbers matches.groups
     ++ (text_numbers matches.free ++ optional_number matches.trailing_start ∷ []))
     ≡ length others.groups ∷ (flat_map group_numbers others.groups
     ++ (text_numbers others.free ++ optional_number others.trailing_start ∷ [])) = named.1 in
     let count : length matches.groups ≡ length others.groups = cc in
-    let rest : flat_map group_numbers matches.groups ++ (text_numbers matches.free ++ optional_number matches.trailing_start ∷ [])
-    ≡ flat_map group_numbers others.groups ++ (text_numbers others.free ++ optional_number others.trailing_start ∷ []) = cc in
-    let found = groups_back matches.groups others.groups _ _ (concatenated matches.free) (concatenated others.free) count rest bytes in
+    let rest : flat_map group_numbers matches.groups
+    ++ (text_numbers matches.free ++ optional_number matches.trailing_start ∷ [])
+    ≡ flat_map group_numbers others.groups
+    ++ (text_numbers others.free ++ optional_number others.trailing_start ∷ []) = cc in
+    let found = groups_back matches.groups others.groups _ _
+    (concatenated matches.free) (concatenated others.free) count rest bytes in
     let free = free_back matches others found.1 found.2 in
     record {
       places = places_back matches.groups others.groups names named.0;
@@ -143,8 +163,11 @@ matches_back names matches others numbers bytes =
 
 -- the fault that a status and a name say
 abbrev fault_from : ℕ → Text → Fault
-fault_from status name = if status == 1 then argument_missing name else (if status == 2 then unrecognized_option name
-    else (if status == 3 then option_missing name else (if status == 4 then option_duplicated name else unexpected_argument name)))
+fault_from status name =
+    if status == 1 then argument_missing name
+    else (if status == 2 then unrecognized_option name
+    else (if status == 3 then option_missing name
+    else (if status == 4 then option_duplicated name else unexpected_argument name)))
 
 fault_is : (fault : Fault) → fault_from (fault_status fault) (fault_name fault) ≡ fault
 fault_is (argument_missing name) = refl
@@ -154,6 +177,8 @@ fault_is (option_duplicated name) = refl
 fault_is (unexpected_argument name) = refl
 
 -- a fault, from its status and its name
-pub fault_back : (fault other : Fault) → fault_status fault ≡ fault_status other → fault_name fault ≡ fault_name other → fault ≡ other
+pub fault_back : (fault other : Fault) → fault_status fault ≡ fault_status other
+    → fault_name fault ≡ fault_name other → fault ≡ other
 fault_back fault other status name =
-    sym (fault_is fault) ∙ ap (λ n. fault_from n (fault_name fault)) status ∙ ap (fault_from (fault_status other)) name ∙ fault_is other
+    sym (fault_is fault) ∙ ap (λ n. fault_from n (fault_name fault)) status
+    ∙ ap (fault_from (fault_status other)) name ∙ fault_is other

@@ -1,20 +1,27 @@
 -- The numbers and the bytes that tell what words give.
-use Rattle.std.specs.Prelude.{◌≡◌, ℕ, ◌+◌, Bool, List, [], ◌∷◌, ◌++◌, length, map, take}
-use Rattle.std.specs.Prelude.{Option, Some, None, false, unwrap_or}
+use Rattle.std.specs.Prelude.{◌≡◌, ℕ, ◌+◌, Bool, List, [], ◌∷◌, ◌++◌, length, map, take, Option}
+use Rattle.std.specs.Prelude.{Some, None, false, unwrap_or}
 use Rattle.std.specs.List.{flat_map}
 use Rattle.std.specs.Option.{option_map}
 use Rattle.getopts.specs.Accessors.{place_of}
-use Rattle.getopts.specs.Fail.{Fault, argument_missing, unrecognized_option}
-use Rattle.getopts.specs.Fail.{option_missing, option_duplicated, unexpected_argument}
+use Rattle.getopts.specs.Fail.{Fault, argument_missing, unrecognized_option, option_missing}
+use Rattle.getopts.specs.Fail.{option_duplicated, unexpected_argument}
 use Rattle.getopts.specs.Matches.{Found, Matched, MatchedGroup}
 use Rattle.getopts.specs.Names.{Text}
 use Rattle.getopts.specs.Options.{Group, Declared}
 use Rattle.getopts.specs.Parse.{IsAccepted, IsRefused}
 use Rattle.getopts.specs.CanonAnswers.{IsWritten as IsCanonicalLine, IsUnwritable}
 use Rattle.getopts.specs.Only.{IsTheOnly}
-use Rattle.getopts.specs.Same.{fault_name}
 use Rattle.getopts.specs.Usage.{AreUsageRows, IsUsageText, short_usage_text}
 use Rattle.getopts_c.specs.Request.{concatenated, IsCut, IsRequest}
+
+-- the name that a fault tells
+abbrev pub fault_name : Fault → Text
+fault_name (argument_missing name) = name
+fault_name (unrecognized_option name) = name
+fault_name (option_missing name) = name
+fault_name (option_duplicated name) = name
+fault_name (unexpected_argument name) = name
 
 -- a number for one that may be there: one more than it, or nought
 abbrev pub optional_number : Option ℕ → ℕ

@@ -6,7 +6,7 @@
 
 ghost use Rattle.std.specs.Prelude.{◌≡◌, ◌≢◌, ⊤, ℕ, Bool, false, List, []};
 ghost use Rattle.std.specs.Str.{IsUtf8};
-ghost use Rattle.getopts.specs.CanonAnswers.{HasOneAnswer};
+ghost use Rattle.getopts.specs.Only.{AtMostOne};
 ghost use Rattle.getopts.specs.Fail.{Fault};
 ghost use Rattle.getopts.specs.Matches.{Matched};
 ghost use Rattle.getopts.specs.Names.{Text};
@@ -15,7 +15,7 @@ ghost use Rattle.getopts_c.specs.Request.{IsCut, IsRequest, SayOptions, SayTexts
 ghost use Rattle.getopts_c.specs.Answer.{IsAnswered, IsCanonicalOf, IsRowsOf};
 ghost use Rattle.getopts_c.specs.Answer.{IsShortUsageOf, IsUsageOf, AreAlike};
 ghost use Rattle.getopts_c.specs.Reply.{IsReply, IsFine, IsFineText, rooms, byte_rooms};
-ghost use Rattle.getopts.specs.Same.{fault_name};
+ghost use Rattle.getopts_c.specs.Answer.{fault_name};
 ghost use Rattle.getopts_c.specs.Answer.{fault_status, matches_bytes, matches_numbers};
 ghost use Rattle.getopts_c.specs.Answer.{text_numbers};
 
@@ -203,8 +203,8 @@ pub extern "C" fn getopts_c_canonical(
 /// (`declared_options_keep_laws`): those of readings, and those of canonical lines.
 pub fn requests_say_one_thing()
     ensures options { (bytes : Text) (lens kinds : List ℕ) (stop long_only : Bool)
-        → HasOneAnswer (IsRequest bytes lens kinds stop long_only) }
-    ensures line { (bytes : Text) (lens : List ℕ) → HasOneAnswer (IsCut bytes lens) }
+        → AtMostOne (IsRequest bytes lens kinds stop long_only) }
+    ensures line { (bytes : Text) (lens : List ℕ) → AtMostOne (IsCut bytes lens) }
     ensures declared { (bytes : Text) (lens kinds : List ℕ) (stop long_only : Bool)
         → SayOptions bytes lens kinds stop long_only
         → (options : Declared) → IsRequest bytes lens kinds stop long_only options

@@ -1,6 +1,7 @@
 -- What the program's names and groups give.
-use Rattle.std.proofs.Common.{◌≡◌, ℕ, false, zero, suc, ◌+◌, ◌<◌, List, [], ◌∷◌, ◌++◌, length, take, slice_get}
-use Rattle.std.proofs.Common.{codes, get_or, map, refl, ap, ◌∙◌, sym, subst, arith, zero-le}
+use Rattle.std.proofs.Common.{◌≡◌, ℕ, false, zero, suc, ◌+◌, ◌<◌, List, [], ◌∷◌, ◌++◌, length, take}
+use Rattle.std.proofs.Common.{slice_get, codes, get_or, map, refl, ap, ◌∙◌, sym, subst, arith}
+use Rattle.std.proofs.Common.{zero-le}
 use Rattle.std.specs.Prelude.{Option}
 use Rattle.std.specs.Borrow.{Bor}
 use Rattle.std.specs.List.{AllByRecursion, cons_option, flat_map}
@@ -9,19 +10,21 @@ use Rattle.std.proofs.lemmas.List.{map-append, take_all}
 use Rattle.std.proofs.lemmas.List.Elements.{filter_map-append}
 use Rattle.getopts.specs.Accessors.{pair_of, pairs_of, positions_of}
 use Rattle.getopts.specs.Canon.{HasPlainMain}
-use Rattle.getopts.specs.CanonAnswers.{HasOneAnswer, IsParseAnswer, IsUnwritable, IsWritten}
+use Rattle.getopts.specs.Only.{AtMostOne}
+use Rattle.getopts.specs.CanonAnswers.{IsParseAnswer, IsUnwritable, IsWritten}
 use Rattle.getopts.specs.Fail.{Fault, Tells}
 use Rattle.getopts.specs.declared.fail.Fail.{Fail}
 use Rattle.getopts.specs.declared.fail.Fail.TheVariants as fail
-use Rattle.getopts.specs.Held.Occurrences.{held_found}
+use Rattle.getopts.specs.Accessors.{held_found}
 use Rattle.getopts.specs.Matches.{Found, Matched, MatchedGroup}
 use Rattle.getopts.specs.Names.{Text, main_name, texts}
 use Rattle.getopts.specs.Options.{Declared, Group}
 use Rattle.getopts.specs.Parse.{IsAccepted, IsRefused}
 use Rattle.getopts.specs.Scan.{Mention}
 use Rattle.getopts_show.proofs.OneText.{accepted_not_refused}
-use Rattle.getopts_show.specs.Program.{AreAccepted, HasProgramGroups, IsProgramText, asks_help, group_lines}
-use Rattle.getopts_show.specs.Program.{matches_text, named_lines, program_groups, program_options, shown, word_line}
+use Rattle.getopts_show.specs.Program.{AreAccepted, HasProgramGroups, IsProgramText, asks_help}
+use Rattle.getopts_show.specs.Program.{group_lines, matches_text, named_lines, program_groups}
+use Rattle.getopts_show.specs.Program.{program_options, shown, word_line}
 
 -- what holds of each text holds of the text at a place
 pub text_at : (P : Text → Type 0) (words : List (Bor Text)) → AllByRecursion P (texts words)
@@ -31,7 +34,8 @@ text_at P (word ∷ words) each zero default below = each.0
 text_at P (word ∷ words) each (suc k) default below = text_at P words each.1 k default (omega arith)
 
 -- one more element of a front, if there is one
-take-more : {X : Type 0} (xs : List X) (i : ℕ) → take (i + 1) xs ≡ take i xs ++ cons_option (slice_get xs i) []
+take-more : {X : Type 0} (xs : List X) (i : ℕ)
+    → take (i + 1) xs ≡ take i xs ++ cons_option (slice_get xs i) []
 take-more {X} [] i =
     let none : (n : ℕ) → take {A = X} n [] ≡ [] = λ n. take_all n [] zero-le in
     none (i + 1) ∙ sym (ap (λ (xs : List X). xs ++ []) (none i))
@@ -40,19 +44,23 @@ take-more (x ∷ xs) (suc i) =
     let later : suc i + 1 ≡ suc (i + 1) = omega arith in
     ap (λ n. take n (x ∷ xs)) later ∙ ap (λ more. x ∷ more) (take-more xs i)
 
-module _ (founds : List Found) (i : ℕ) (next : Option (ℕ × Option (Bor Text))) (is : option_map held_found next ≡ slice_get founds i) where
+module _ (founds : List Found) (i : ℕ) (next : Option (ℕ × Option (Bor Text)))
+    (is : option_map held_found next ≡ slice_get founds i) where
   -- one more occurrence of a front, as it is read
   founds-more : take (i + 1) founds ≡ take i founds ++ cons_option (option_map held_found next) []
   founds-more = take-more founds i ∙ ap (λ (o : Option Found). take i founds ++ cons_option o []) (sym is)
 
   -- its position
-  pub positions-more : positions_of (take (i + 1) founds) ≡ positions_of (take i founds) ++ positions_of (cons_option (option_map held_found next) [])
+  pub positions-more : positions_of (take (i + 1) founds)
+      ≡ positions_of (take i founds) ++ positions_of (cons_option (option_map held_found next) [])
   positions-more = ap positions_of founds-more
       ∙ map-append (λ (found : Found). found.position) (take i founds) (cons_option (option_map held_found next) [])
 
   -- its position and value
-  pub pairs-more : pairs_of (take (i + 1) founds) ≡ pairs_of (take i founds) ++ pairs_of (cons_option (option_map held_found next) [])
-  pairs-more = ap pairs_of founds-more ∙ filter_map-append pair_of (take i founds) (cons_option (option_map held_found next) [])
+  pub pairs-more : pairs_of (take (i + 1) founds)
+      ≡ pairs_of (take i founds) ++ pairs_of (cons_option (option_map held_found next) [])
+  pairs-more = ap pairs_of founds-more
+      ∙ filter_map-append pair_of (take i founds) (cons_option (option_map held_found next) [])
 
 -- the main names of the program's groups
 abbrev pub main_names : List Text
@@ -65,8 +73,9 @@ lines_of_names groups (occurrences, is) = subst
     (λ (gs : List MatchedGroup). flat_map (named_lines gs) main_names ≡ flat_map group_lines gs) (sym is) refl
 
 -- the text of accepted words that don't ask for help, by their canonical line
-pub text_of_matches : {words line : List Text} {matches : Matched} {text : Text} → IsWritten program_options words line
-    → IsAccepted program_options words matches → asks_help matches ≡ false
+pub text_of_matches : {words line : List Text} {matches : Matched} {text : Text}
+    → IsWritten program_options words line → IsAccepted program_options words matches
+    → asks_help matches ≡ false
     → text ≡ matches_text matches ++ flat_map (word_line (codes "line")) line
     → IsProgramText words text 0
 text_of_matches {words} {line} {matches} {text} written accepted plain is =
@@ -84,18 +93,21 @@ plain_main (suc (suc (suc (suc zero)))) = refl
 plain_main (suc (suc (suc (suc (suc place))))) = refl
 
 -- each content is plain
-always_plain : (mentioned : List Mention) → AllByRecursion (λ (m : Mention). HasPlainMain program_groups m.group) mentioned
+always_plain : (mentioned : List Mention)
+    → AllByRecursion (λ (m : Mention). HasPlainMain program_groups m.group) mentioned
 always_plain [] = tt
 always_plain (m ∷ mentioned) = (plain_main m.group, always_plain mentioned)
 
 -- there are no words whose content can't be written
-pub never_unwritable : (options : Declared) (words : List Text) → options ≡ program_options → IsUnwritable options words → ⊥
+pub never_unwritable : (options : Declared) (words : List Text) → options ≡ program_options
+    → IsUnwritable options words → ⊥
 never_unwritable options words options_are is =
     let unwritable = subst (λ (o : Declared). IsUnwritable o words) options_are is in
     unwritable.not_plain (always_plain unwritable.content.mentions)
 
 -- where this can hold of no fault, a refusal that tells it tells that memory was refused
-pub tells_none : (P : Fault → Type 0) (refusal : Fail) → Tells refusal P → ((fault : Fault) → P fault → ⊥) → ¬ (refusal ≡ fail.OutOfMemory) → ⊥
+pub tells_none : (P : Fault → Type 0) (refusal : Fail) → Tells refusal P
+    → ((fault : Fault) → P fault → ⊥) → ¬ (refusal ≡ fail.OutOfMemory) → ⊥
 tells_none P (fail.ArgumentMissing name) told never other = never _ told
 tells_none P (fail.UnrecognizedOption name) told never other = never _ told
 tells_none P (fail.OptionMissing name) told never other = never _ told
@@ -105,7 +117,7 @@ tells_none P fail.OutOfMemory told never other = other refl
 
 -- words that are accepted are not refused
 pub never_refused : (options : Declared) (words : List Text)
-    → HasOneAnswer (IsParseAnswer program_options words) → options ≡ program_options
+    → AtMostOne (IsParseAnswer program_options words) → options ≡ program_options
     → AreAccepted words → (fault : Fault) → IsRefused options words fault → ⊥
 never_refused options words one are accepted fault is =
     accepted_not_refused words one accepted.0 fault accepted.1 (rw are at is)

@@ -2,7 +2,8 @@
 use Rattle.std.proofs.Common.{ℕ, List, ◌∷◌, [], codes, refl, sym, ◌∙◌}
 use Rattle.getopts.specs.Options.{grammar_of}
 use Rattle.getopts.specs.Scan.{Item, two}
-use Rattle.getopts.specs.ScanLaws.{AreHigherAfter, Respells, LongAttachedOrSeparate, ShortAttachedOrSeparate}
+use Rattle.getopts.specs.ScanLaws.{AreHigherAfter, Respells, LongAttachedOrSeparate}
+use Rattle.getopts.specs.ScanLaws.{ShortAttachedOrSeparate}
 use Rattle.getopts.specs.Theorem.{OneContentHoldsSame}
 use Rattle.getopts.proofs.MainTheorem.Callers.{each_value-first, each_value-values}
 use Rattle.getopts_uses.specs.Compile.{compile_options, GivesTheSameJob, OutputsMayBeAttached}
@@ -13,7 +14,9 @@ module _ (holds_same : OneContentHoldsSame compile_options) where
       → Respells (grammar_of compile_options) item (other ∷ []) Alike → GivesTheSameJob item other
   same_job Alike item other may front back tail words job reads is =
       let alike = may front back tail words reads in
-      let held = holds_same words _ _ _ is.matches is.accepted reads alike.reads (let m = alike.mentions in let f = alike.free in cc) in
+      let mentions = alike.mentions in
+      let free = alike.free in
+      let held = holds_same words _ _ _ is.matches is.accepted reads alike.reads cc in
       record {
         matches = _;
         accepted = held.0;

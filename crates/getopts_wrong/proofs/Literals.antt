@@ -1,7 +1,6 @@
 -- Answers to words that are written out: what is computed of them is their answer, and no other is.
-use Rattle.std.proofs.Common.{◌≡◌, ◌≢◌, zero, suc, Bool, true, false}
-use Rattle.std.proofs.Common.{nat_lt, List, [], ◌∷◌, arith, refl, sym, ap, ◌∙◌, subst}
-use Rattle.std.proofs.Common.{Option, Result, Ok, Err}
+use Rattle.std.proofs.Common.{◌≡◌, ◌≢◌, zero, suc, Bool, true, false, nat_lt, List, [], ◌∷◌, arith}
+use Rattle.std.proofs.Common.{refl, sym, ap, ◌∙◌, subst, Option, Result, Ok, Err}
 use Rattle.std.specs.Prelude.{◌↔◌, IsTrue}
 use Rattle.std.specs.List.{list_all}
 use Rattle.std.specs.Str.{chars, IsAscii, IsUtf8}
@@ -22,16 +21,29 @@ use Rattle.getopts_wrong.proofs.Computed.{canonical_answer-is}
 use Rattle.getopts.proofs.Canonical.Answered.{only_matches, only_parse_answer}
 use Rattle.getopts.proofs.Canonical.Answered.{only_canonical_answer}
 use Rattle.getopts.proofs.MainTheorem.Plain.{are_plain, lawful_groups}
-use Rattle.getopts.proofs.Reading.Turns.{read, read_both, turn, item_turn, cluster_turn}
+use Rattle.getopts.proofs.Reading.Turns.{read, read_both, turn}
+use Rattle.getopts.specs.Held.Turn.{cluster_turn}
 
 -- what a test tells apart isn't equal
 pub differ : {X : Type 0} (same : X → X → Bool) (x y : X) → same x y ≡ false → same y y ≡ true
     → x ≢ y
 differ same x y apart self = λ equal. true≢false (sym self ∙ ap (λ z. same z y) (sym equal) ∙ apart)
 
+-- a value is let through as itself, and no other
+pub refutes_same : {X : Type 0} {right wrong : X} → wrong ≢ right
+    → Refutes (λ x. x ≡ right) right wrong
+refutes_same other = record { lets_through = refl; refuses = other }
+
+-- what isn't so is told as false, and not as true
+pub refutes_equal : {P : Type 0} → ¬ P → Refutes (λ told. IsTrue told ↔ P) false true
+refutes_equal not_so = record {
+  lets_through = ((λ told. absurd (true≢false (sym told))), (λ so. absurd (not_so so)));
+  refuses = λ told. not_so (told.0 refl);
+}
+
 -- What a proof unfolds to compute `read` at options and words that are written out.
 unfoldable pub read_on_literals : Unit {0}
-unfolding read read_both turn item_turn cluster_turn chars encode_utf8
+unfolding read read_both turn cluster_turn chars encode_utf8
 read_on_literals = tt
 
 -- whether words are of ASCII

@@ -2,7 +2,7 @@
 -- and no others are.
 use Rattle.std.proofs.Common.{◌≡◌, ◌≢◌, ℕ, List, [], ◌∷◌, ◌++◌, map, refl, sym, ap, ◌∙◌, subst}
 use Rattle.std.specs.Prelude.{codes}
-use Rattle.std.specs.List.{AllZip, flat_map}
+use Rattle.std.specs.List.{AllZip}
 use Rattle.std.specs.String.{string_bytes}
 use Rattle.std.specs.declared.alloc.Global.{Global}
 use Rattle.std.specs.declared.string.String.{String}
@@ -14,13 +14,11 @@ use Rattle.getopts.specs.Fail.{fail_text}
 use Rattle.getopts.specs.declared.fail.Fail.TheVariants.{UnrecognizedOption}
 use Rattle.getopts.specs.Usage.{any_short, head, row_text, IsUsageRow, AreUsageRows, usage_text}
 use Rattle.getopts.specs.Usage.{IsUsageText}
-use Rattle.getopts.specs.Wrap.{width_of, text_of, words_of_lines, IsTightBreaking}
-use Rattle.getopts.specs.Wrap.{IsDescriptionRows}
+use Rattle.getopts.specs.Wrap.{width_of, lines_of, IsDescriptionRows}
 use Rattle.getopts.specs.Refuted.Forms.{Refutes}
 use Rattle.getopts.proofs.Parsing.Only.{meets}
 use Rattle.getopts.proofs.Wrapping.Usage.{made_of_the_only, each_is_the_only, text_is_the_only}
-use Rattle.getopts.proofs.Wrapping.Breakings.{runs_of, runs_of-tight}
-use Rattle.getopts.proofs.Wrapping.Lines.{rows_exactly}
+use Rattle.getopts.proofs.Wrapping.Lines.{rows_of, rows_of-are, rows_exactly}
 
 -- What a proof unfolds to compute rows of texts that are written out.
 unfoldable pub rows_on_literals : Unit {0}
@@ -44,20 +42,11 @@ text_of_x name is = ap (λ (x : Text). codes "Unrecognized option: '" ++ (x ++ c
 
 -- the rows of a description, computed
 abbrev pub description_rows : ℕ → Text → List Text
-description_rows limit desc = map text_of (flat_map (λ runs. runs) (map (runs_of limit) (words_of_lines desc)))
-
-each_tight : (limit : ℕ) (lines : List (List Text))
-    → AllZip (IsTightBreaking limit) lines (map (runs_of limit) lines)
-each_tight limit [] = tt
-each_tight limit (words ∷ lines) = (runs_of-tight limit words, each_tight limit lines)
+description_rows limit desc = rows_of limit (lines_of desc)
 
 description_rows-only : (limit : ℕ) (desc : Text)
     → IsTheOnly (IsDescriptionRows limit desc) (description_rows limit desc)
-description_rows-only limit desc other = rows_exactly limit desc (description_rows limit desc) other (record {
-  breakings = map (runs_of limit) (words_of_lines desc);
-  each_line = each_tight limit (words_of_lines desc);
-  texts = refl;
-})
+description_rows-only limit desc other = rows_exactly limit desc _ other (rows_of-are limit desc)
 
 -- the rows that are computed are let through, and no others
 pub refutes_rows : (limit : ℕ) (desc : Text) (right wrong : List Text)
@@ -86,21 +75,21 @@ module _ (options : Declared) where
   each_row (group ∷ groups) = (row_of-only group, each_row groups)
 
   -- the rows, computed, are the only ones
-  pub rows_only : IsTheOnly (AreUsageRows options) (map row_of options.groups)
-  rows_only = each_is_the_only (IsUsageRow options.long_only (any_short options.groups)) options.groups
+  pub usage_rows_only : IsTheOnly (AreUsageRows options) (map row_of options.groups)
+  usage_rows_only = each_is_the_only (IsUsageRow options.long_only (any_short options.groups)) options.groups
       (map row_of options.groups) (each_row options.groups)
 
   -- the rows that are computed are let through, and no others
   pub refutes_usage_rows : (right wrong : List Text) → right ≡ map row_of options.groups
       → wrong ≢ right → Refutes (IsTheOnly (AreUsageRows options)) right wrong
-  refutes_usage_rows right wrong is other = refutes_other (AreUsageRows options) (map row_of options.groups) right wrong rows_only is other
+  refutes_usage_rows right wrong is other = refutes_other (AreUsageRows options) (map row_of options.groups) right wrong usage_rows_only is other
 
   -- the text that is computed is let through, and no other
   pub refutes_usage : (brief right wrong : Text)
       → right ≡ usage_text brief (map row_of options.groups) → wrong ≢ right
       → Refutes (IsTheOnly (IsUsageText options brief)) right wrong
   refutes_usage brief right wrong is other = refutes_other (IsUsageText options brief) (usage_text brief (map row_of options.groups)) right wrong
-      (text_is_the_only options brief (map row_of options.groups) (usage_text brief (map row_of options.groups)) rows_only refl) is other
+      (text_is_the_only options brief (map row_of options.groups) (usage_text brief (map row_of options.groups)) usage_rows_only refl) is other
 
   -- what is made of the rows that are computed is let through, and nothing else
   pub refutes_made : (make : List Text → Text) (right wrong : Text)
@@ -108,6 +97,6 @@ module _ (options : Declared) where
       → Refutes (λ text. (rows : List Text) × IsTheOnly (AreUsageRows options) rows
       × (text ≡ make rows)) right wrong
   refutes_made make right wrong is other = record {
-    lets_through = (map row_of options.groups, rows_only, is);
-    refuses = λ given. other (given.2 ∙ ap make ((rows_only given.0).0 (meets (AreUsageRows options) given.0 given.1)) ∙ sym is);
+    lets_through = (map row_of options.groups, usage_rows_only, is);
+    refuses = λ given. other (given.2 ∙ ap make ((usage_rows_only given.0).0 (meets (AreUsageRows options) given.0 given.1)) ∙ sym is);
   }

@@ -1,12 +1,12 @@
 -- Wrong answers of the calls that ask matches, after `parse` of words that are written out.
 use Rattle.std.specs.Prelude.{◌≡◌, ◌↔◌, true, false, IsTrue, [], ◌∷◌, length, codes}
-use Rattle.std.specs.Prelude.{Some, None, Result, Ok, slice_get}
+use Rattle.std.specs.Prelude.{Some, None, MatchOption, Result, Ok, slice_get}
 use Rattle.std.specs.List.{list_any}
 use Rattle.getopts.specs.Names.{Text}
 use Rattle.getopts.specs.Options.{Declared}
 use Rattle.getopts.specs.Accessors.{IsDefined, is_present, positions_of, values_of, pairs_of}
 use Rattle.getopts.specs.Accessors.{first_value, first_value_or, first_value_among, found_in}
-use Rattle.getopts.specs.Accessors.{IsReadAs, IsReadOr}
+use Rattle.getopts.specs.Accessors.{IsReadAs}
 use Rattle.getopts.specs.Refuted.Forms.{Refutes}
 use Rattle.getopts_wrong.specs.Forms.{Answers, opt, optflag, optflagmulti, optopt}
 use Rattle.getopts_wrong.specs.Forms.{optmulti}
@@ -112,7 +112,8 @@ get_answers_nothing = Refutes (Answers arguments (typed ("-o5" ∷ []))
 -- the value of `o` is read, and no default in its place
 abbrev pub get_default_ignores_the_value : Type 0
 get_default_ignores_the_value = Refutes (Answers arguments (typed ("-o5" ∷ []))
-    (λ matches answer. IsReadOr as_it_is (first_value (found_by matches "o")) [] answer))
+    (λ matches answer. MatchOption (first_value (found_by matches "o"))
+    (answer ≡ Ok []) (λ text. as_it_is text answer)))
     (Ok (Ok (codes "5"))) (Ok (Ok []))
 
 -- `c` was given with no value, so the value of `o` counts

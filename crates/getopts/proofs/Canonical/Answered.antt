@@ -11,13 +11,13 @@ use Rattle.getopts.specs.Options.{Group, Declared, AreLawfullyNamed, grammar_of,
 use Rattle.getopts.specs.Fail.{Fault}
 use Rattle.getopts.specs.Scan.{equals_sign, holds_equals, Reading, IsScanFault, Occurrence}
 use Rattle.getopts.specs.ScanLaws.{mentions_of}
-use Rattle.getopts.specs.Line.{line_content}
+use Rattle.getopts.specs.Held.Line.{line_content}
 use Rattle.getopts.specs.Matches.{Matched, MatchedGroup, matches_of, matched, KeepsCount}
-use Rattle.getopts.specs.Matches.{KeepsCounts, IsCountFault, broken_count}
+use Rattle.getopts.specs.Matches.{KeepsCounts, IsCountFault}
 use Rattle.getopts.specs.Parse.{Reads, IsAccepted, BreaksCounts, IsRefused}
 use Rattle.getopts.specs.Canon.{Content, IsCountKeeping, content_of, main_at, HasPlainMain, IsPlain}
 use Rattle.getopts.specs.Canon.{canonical_line, IsAcceptedWith, Says}
-use Rattle.getopts.specs.AcceptedLine.{IsAcceptedLine}
+use Rattle.getopts.specs.Held.AcceptedLine.{IsAcceptedLine}
 use Rattle.std.specs.Str.{IsUtf8}
 use Rattle.getopts.specs.CanonAnswers.{IsWritten, IsUnwritable, IsParseAnswer}
 use Rattle.getopts.specs.CanonAnswers.{IsCanonicalAnswer, OneAnswerOneContent, KeepsLineLaws}
@@ -25,6 +25,7 @@ use Rattle.getopts.specs.declared.accepted.AcceptedLine.{AcceptedLine}
 use Rattle.getopts.proofs.Canonical.Lines.{is_plain-true, is_plain-false, HasCanonicalLine-says}
 use Rattle.getopts.proofs.Canonical.Lines.{Says-accepted, IsSound-says}
 use Rattle.getopts.proofs.Canonical.Lines.{HasUnwritable-content, OneLineOneContent-lawful}
+use Rattle.getopts.proofs.Parsing.Counts.{broken_count}
 use Rattle.getopts.proofs.Parsing.Only.{meets}
 use Rattle.getopts.proofs.Parsing.Parsed.{only_reads, named_here, groups_are, IsAccepted-reading}
 use Rattle.getopts.proofs.Scanning.Words.{holds_equals-none}

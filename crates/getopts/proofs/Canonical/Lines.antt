@@ -8,35 +8,35 @@ use Rattle.std.proofs.lemmas.List.{append_cancel_right, length-map}
 use Rattle.std.proofs.lemmas.Option.{none-some, option_and_then_some, same_Some, slice_get-get_or}
 use Rattle.std.specs.Prelude.{slice_get}
 use Rattle.std.specs.List.{AllByRecursion, Contains, filter, flat_map, list_all}
-use Rattle.std.specs.Option.{option_and_then, unwrap_or}
+use Rattle.std.specs.Option.{option_and_then, option_map, unwrap_or}
 use Rattle.getopts.specs.Names.{Text, Names, IsLawfullyNamed, main_name, resolution}
 use Rattle.getopts.specs.Options.{Known, Group, Declared, AreLawfullyNamed, names_of, knowns_of}
-use Rattle.getopts.specs.Options.{Grammar, kind_at, kind_of, grammar_of}
+use Rattle.getopts.specs.Options.{Grammar, kind_of, grammar_of}
 use Rattle.getopts.specs.Scan.{dash, equals_sign, begins_with_dash, holds_equals, stop_word}
 use Rattle.getopts.specs.Scan.{Argument, none, attached, separate, one, two, flags, ends_in}
-use Rattle.getopts.specs.Scan.{end_text, attached_argument, argument_words, value_of, with_equals}
+use Rattle.getopts.specs.Scan.{end_text, attached_argument, argument_words, value_of, FitsKind}
+use Rattle.getopts.specs.Held.Turn.{with_equals}
 use Rattle.getopts.specs.Scan.{Item, free, long, cluster, spelled_all, FitsLong, FitsEnd, IsFlag}
-use Rattle.getopts.specs.Scan.{IsLawfulItem, AreWellFollowed, Reading, IsReading, Mention, mention}
+use Rattle.getopts.specs.Scan.{IsLawfulItem, AreWellFollowed, Reading, IsReading, Mention, mention_of}
 use Rattle.getopts.specs.Scan.{mentions, Occurrence, occurrences_of, free_items}
 use Rattle.getopts.specs.ScanLaws.{mentions_of}
 use Rattle.getopts.specs.Matches.{found_at, matched, FitsCount, KeepsCounts}
-use Rattle.getopts.specs.Canon.{Content, content_of, main_at, HasPlainMain, AnswersMain, FitsKind}
+use Rattle.getopts.specs.Canon.{Content, content_of, main_at, HasPlainMain, AnswersMain}
 use Rattle.getopts.specs.Canon.{IsPlain, IsSound, canonical_word, canonical_line, attached_value}
-use Rattle.getopts.specs.Canon.{canonical_item, canonical_reading, with_setting}
-use Rattle.getopts.specs.Canon.{IsAcceptedWith, Says, ReadsBack}
-use Rattle.getopts.specs.Canon.{HasCanonicalLine, HasNoItem, HasUnwritable}
+use Rattle.getopts.specs.Canon.{canonical_item, canonical_reading, with_setting, IsAcceptedWith}
+use Rattle.getopts.specs.Canon.{Says, ReadsBack, HasCanonicalLine, HasNoItem, HasUnwritable}
 use Rattle.getopts.specs.Theorem.{OneLineOneContent}
 use Rattle.getopts.specs.declared.groups.HasArg.{HasArg}
 use Rattle.getopts.specs.declared.groups.HasArg.TheVariants.{Yes, No, Maybe}
 use Rattle.getopts.specs.declared.groups.ParsingStyle.{ParsingStyle}
-use Rattle.getopts.proofs.Lists.{AllByRecursion-append, AllByRecursion-follows}
-use Rattle.getopts.proofs.Lists.{AllByRecursion-map, length-filter-map}
+use Rattle.getopts.proofs.Lists.{AllByRecursion-append, AllByRecursion-follows, AllByRecursion-map}
+use Rattle.getopts.proofs.Lists.{length-filter-map}
 use Rattle.getopts.proofs.Lookup.Names.{resolution-main_name, resolution-nil, resolution_within}
 use Rattle.getopts.proofs.Reading.Positions.{mentions_of-items}
 use Rattle.getopts.proofs.Reading.Readings.{only_reading}
-use Rattle.getopts.proofs.Reading.Texts.{begins_with_dash-append, long_argument-append}
-use Rattle.getopts.proofs.Reading.Texts.{long_name-append}
-use Rattle.getopts.proofs.Reading.Turns.{IsNamed, long_argument, long_name}
+use Rattle.getopts.proofs.Reading.Texts.{begins_with_dash-append, cut_at_equals-append}
+use Rattle.getopts.proofs.Reading.Turns.{IsNamed}
+use Rattle.getopts.specs.Held.Turn.{cut_at_equals}
 
 -- the main name at a place, where a group is there
 main_at-Some : (groups : List Group) (place : ℕ) (names : Names)
@@ -60,6 +60,10 @@ main_at-filled groups place lawful own empty =
     let no_name = resolution-nil (names_of groups) (AllByRecursion-map IsLawfullyNamed (λ group. group.known.names) groups lawful) in
     none-some place (sym no_name ∙ (rw empty at own))
 
+-- the kind of argument of the group at this place
+abbrev pub kind_at : List Group → ℕ → Option HasArg
+kind_at groups place = option_map (λ (group : Group). group.known.kind) (slice_get groups place)
+
 -- a mentioned group is there, and its kind may have the value
 abbrev pub FitsGroup : List Group → Mention → Type 0
 FitsGroup groups m = (kind : HasArg) × (kind_at groups m.group ≡ Some kind) × FitsKind kind m.value
@@ -76,11 +80,11 @@ record IsGood (groups : List Group) (m : Mention) : Type 0 where
 -- what a name mentions that resolves to a group of this kind
 IsGood-mention : (options : Declared) (name : Text) (kind : HasArg) (value : Option Text)
     → kind_of options.groups name ≡ Some kind → FitsKind kind value
-    → IsGood options.groups (mention (grammar_of options) name value)
+    → IsGood options.groups (mention_of (grammar_of options) name value)
 IsGood-mention options name kind value known fits = option_and_then_some _ (resolution (names_of options.groups) name) kind known by_place where
   by_place : (place : ℕ) → resolution (names_of options.groups) name ≡ Some place
       → kind_at options.groups place ≡ Some kind
-      → IsGood options.groups (mention (grammar_of options) name value)
+      → IsGood options.groups (mention_of (grammar_of options) name value)
   by_place place resolves there =
       let same : unwrap_or (resolution (names_of options.groups) name) 0 ≡ place = ap (λ o. unwrap_or o 0) resolves in
       rw same (record { own = AnswersMain-resolution options.groups name place resolves; fits = (kind, there, fits) })
@@ -112,9 +116,9 @@ FitsKind-end Maybe (separate word) fits = tt
 IsGood-flags : (options : Declared) (names : List ℕ)
     → AllByRecursion (IsFlag (grammar_of options)) names
     → AllByRecursion (IsGood options.groups)
-    (map (λ name. mention (grammar_of options) (name ∷ []) None) names)
+    (map (λ name. mention_of (grammar_of options) (name ∷ []) None) names)
 IsGood-flags options names each =
-    AllByRecursion-map (IsGood options.groups) (λ name. mention (grammar_of options) (name ∷ []) None) names
+    AllByRecursion-map (IsGood options.groups) (λ name. mention_of (grammar_of options) (name ∷ []) None) names
     (AllByRecursion-follows (IsFlag (grammar_of options)) _ (λ name flag. IsGood-mention options (name ∷ []) No None flag tt) names each)
 
 IsGood-item : (options : Declared) (item : Item) → IsLawfulItem (grammar_of options) item
@@ -352,10 +356,9 @@ says_nothing_else-reads_back options content named back other says =
 -- a text that holds no `=` is cut off at one place only
 cut_once-with_equals : (a b : Text) (v w : Option Text) → holds_equals a ≡ false
     → holds_equals b ≡ false → a ++ with_equals v ≡ b ++ with_equals w → (a ≡ b) × (v ≡ w)
-cut_once-with_equals a b v w none_a none_b same = (
-  sym (long_name-append a v none_a) ∙ ap long_name same ∙ long_name-append b w none_b,
-  sym (long_argument-append a v none_a) ∙ ap long_argument same ∙ long_argument-append b w none_b,
-)
+cut_once-with_equals a b v w none_a none_b same =
+    let both = sym (cut_at_equals-append a v none_a) ∙ ap cut_at_equals same ∙ cut_at_equals-append b w none_b in
+    (ap (λ (p : Text × Option Text). p.0) both, ap (λ (p : Text × Option Text). p.1) both)
 
 -- the text after the dashes of a canonical word
 canonical_word-text : (groups : List Group) (m : Mention) (text : Text)
@@ -468,7 +471,7 @@ HasNoItem-equals options m holds style long_only (long one name argument) lawful
     true≢false (sym (ap begins_with_dash text) ∙ begins_with_dash-append name (attached_argument argument) lawful.before.1)
 HasNoItem-equals options m holds style long_only (long two name argument) lawful just same =
     let text : name ++ with_equals (attached_argument argument) ≡ main_at options.groups m.group ++ with_equals m.value = cc in
-    let mentioned : mention (grammar_of (with_setting options style long_only)) name (value_of argument) ≡ m = cc in
+    let mentioned : mention_of (grammar_of (with_setting options style long_only)) name (value_of argument) ≡ m = cc in
     let value : m.value ≡ value_of argument = sym (ap (λ k. k.value) mentioned) in
     no_name-equals name (main_at options.groups m.group) argument lawful.cut_once holds
     (text ∙ ap (λ v. main_at options.groups m.group ++ with_equals v) value)

@@ -1,213 +1,303 @@
--- Groups by their records: where their names end, also after one more, and when two lists of groups
--- are the same.
-use Rattle.std.proofs.Common.{◌≡◌, ◌&&◌, ℕ, zero, suc, ◌+◌, ◌-◌, ◌*◌, ◌<◌, ◌≤◌, List, [], ◌∷◌}
-use Rattle.std.proofs.Common.{◌++◌, length, get_or, take, drop, slice_get, Some, refl, ap, sym, ◌∙◌}
-use Rattle.std.proofs.Common.{None, ◌/◌, ◌%◌, subst, inl, inr, arith, append_assoc}
+-- Groups by their records: where their texts end, also after one more, the numbers of their names,
+-- and when two lists of groups are the same.
+use Rattle.std.proofs.Common.{◌≡◌, ◌&&◌, ℕ, zero, suc, ◌-◌, ◌<◌, ◌≤◌, List, [], ◌∷◌, map}
+use Rattle.std.proofs.Common.{◌++◌, length, get_or, take, drop, slice_get, Option, Some, None}
+use Rattle.std.proofs.Common.{refl, ap, sym, ◌∙◌, ◌/◌, ◌%◌, subst, arith, append_assoc}
+use Rattle.std.proofs.Common.{length-append}
+use Rattle.std.proofs.Math.Seq.{drop-append_seam}
 use Rattle.std.specs.Bool.{Decides}
 use Rattle.std.specs.Cmp.Lexicographic.{pointwise, pointwise_decides}
+use Rattle.std.specs.Option.{option_map}
 use Rattle.std.specs.Str.{IsUtf8, IsCharBoundary, bytes_eq}
-use Rattle.std.proofs.lemmas.Bool.{cases_lt}
 use Rattle.std.proofs.lemmas.Bool.Decides.{Decides-and, Decides-like, Decides-eqb}
 use Rattle.std.proofs.lemmas.Bool.Decides.{same_from_decides}
-use Rattle.std.proofs.lemmas.List.{get_or_past}
-use Rattle.std.proofs.lemmas.List.Elements.{All-nil, All-cons, All-get_or}
-use Rattle.std.proofs.lemmas.Option.{same_Some, slice_get_within}
+use Rattle.std.proofs.lemmas.List.{take-append-le, drop-append-le, length-drop, take_all, append-nil}
+use Rattle.std.proofs.lemmas.List.Elements.{All-nil, All-take, All-drop}
+use Rattle.std.proofs.lemmas.Option.{same_Some}
 use Rattle.std.proofs.lemmas.Slice.Eq.{bytes_eq-Decides}
-use Rattle.std.proofs.lemmas.Str.{IsCharBoundary-start}
+use Rattle.std.proofs.lemmas.Str.{IsUtf8-append, IsUtf8-nil, IsCharBoundary-at_seam}
 use Rattle.getopts.specs.Names.{Text}
-use Rattle.getopts.specs.Options.{Known}
-use Rattle.getopts.specs.Pairs.{beside_pairs}
-use Rattle.getopts.specs.Pieces.{pieces, AreEnds}
-use Rattle.getopts.specs.Same.{same_known}
-use Rattle.getopts.specs.Table.{name_at, HaveNamesOfBytes}
-use Rattle.getopts.specs.Texts.{IsWellCut, IsOfBytes}
-use Rattle.getopts.specs.Held.Groups.{known_with, kinds_of, name_ends, knowns_in, names_in}
-use Rattle.getopts.specs.Held.Groups.{same_kinds, same_record}
+use Rattle.getopts.specs.Options.{Known, Group, names_of}
+use Rattle.getopts.specs.Held.Pieces.{pieces, AreEnds}
+use Rattle.getopts.specs.Same.{same_group}
+use Rattle.getopts.specs.Held.Table.{name_at, HaveNamesOfBytes}
+use Rattle.getopts.specs.Held.Texts.{IsOfBytes}
+use Rattle.getopts.specs.Held.Groups.{known_with, kinds_of, same_kinds, same_record, between}
+use Rattle.getopts.specs.Held.Groups.{group_by, groups_from, IsEnd, AreEndsOf, AreTextsOf}
 use Rattle.getopts.specs.declared.groups.GroupRecord.{GroupRecord}
 use Rattle.getopts.specs.declared.groups.Kinds.{Kinds}
-use Rattle.getopts.proofs.Held.Options.{same_known-decides}
-use Rattle.getopts.proofs.Held.Pairs.{beside_pairs-get, beside_pairs-push, beside_pairs-texts}
-use Rattle.getopts.proofs.Held.Pairs.{texts_of}
-use Rattle.getopts.proofs.Held.Pieces.{length-pieces, pieces-at, pieces_tell, AreEnds-at}
-use Rattle.getopts.proofs.Held.Pieces.{All-pieces}
-use Rattle.getopts.proofs.Held.Texts.{texts_push}
+use Rattle.getopts.proofs.Held.Options.{same_known-decides, same_group-decides}
+use Rattle.getopts.proofs.Held.Pieces.{pieces_tell}
+use Rattle.getopts.proofs.Held.Texts.{IsCharBoundary-append}
 
--- what is known of a group by its record and its two names
-abbrev pub known_by : GroupRecord → Text → Text → Known
-known_by group = known_with group.kinds
+-- ---- at a place
 
--- each group has two names
-pub length-name_ends : (groups : List GroupRecord) → length (name_ends groups) ≡ 2 * length groups
-length-name_ends [] = refl
-length-name_ends (group ∷ groups) = omega (arith, length-name_ends groups)
+-- there are as many groups as records
+pub length-groups_from : (text : Text) (start : ℕ) (records : List GroupRecord)
+    → length (groups_from text start records) ≡ length records
+length-groups_from text start [] = refl
+length-groups_from text start (r ∷ records) = ap suc (length-groups_from text r.desc_end records)
 
-pub length-names : (text : Text) (groups : List GroupRecord)
-    → length (pieces text 0 (name_ends groups)) ≡ 2 * length groups
-length-names text groups = length-pieces text 0 (name_ends groups) ∙ length-name_ends groups
+-- where the texts of the group at a place start
+abbrev pub start_at : ℕ → List GroupRecord → ℕ → ℕ
+start_at start records i = get_or (start ∷ map (λ r. r.desc_end) records) i 0
 
--- where the names of a group end
-name_ends-at : (groups : List GroupRecord) (i : ℕ) (group : GroupRecord)
-    → slice_get groups i ≡ Some group
-    → (get_or (name_ends groups) (2 * i) 0 ≡ group.short_end)
-    × (get_or (name_ends groups) (2 * i + 1) 0 ≡ group.long_end)
-name_ends-at [] i group at = cc at
-name_ends-at (first ∷ groups) zero group at =
-    let same : first ≡ group = same_Some first group at in (ap (λ g. g.short_end) same, ap (λ g. g.long_end) same)
-name_ends-at (first ∷ groups) (suc i) group at =
-    let twice : 2 * suc i ≡ suc (suc (2 * i)) = omega arith in
-    let after : suc (suc (2 * i)) + 1 ≡ suc (suc (2 * i + 1)) = omega arith in
-    rw (twice, after) (name_ends-at groups i group at)
+-- the group at a place
+pub groups_from-at : (text : Text) (start : ℕ) (records : List GroupRecord) (i : ℕ)
+    → slice_get (groups_from text start records) i
+    ≡ option_map (group_by text (start_at start records i)) (slice_get records i)
+groups_from-at text start [] i = refl
+groups_from-at text start (r ∷ records) zero = refl
+groups_from-at text start (r ∷ records) (suc i) = groups_from-at text r.desc_end records i
 
--- the names of a group start where those of the one before it end
-pub starts_after : (groups : List GroupRecord) (i : ℕ) (before : GroupRecord) → 0 < i
-    → slice_get groups (i - 1) ≡ Some before
-    → get_or (0 ∷ name_ends groups) (2 * i) 0 ≡ before.long_end
-starts_after groups zero before later at = absurd (omega arith)
-starts_after groups (suc i) before later at =
-    let twice : 2 * suc i ≡ suc (2 * i + 1) = omega arith in
-    let back : suc i - 1 ≡ i = omega arith in
-    rw twice ((name_ends-at groups i before (rw back at at)).1)
+-- where its texts end
+pub AreEndsOf-at : (text : Text) (start : ℕ) (records : List GroupRecord) (i : ℕ) (r : GroupRecord)
+    → AreTextsOf text start records → slice_get records i ≡ Some r
+    → AreEndsOf text (start_at start records i) r
+AreEndsOf-at text start [] i r ends at = cc at
+AreEndsOf-at text start (first ∷ records) zero r ends at = subst (AreEndsOf text start) (same_Some first r at) ends.0
+AreEndsOf-at text start (first ∷ records) (suc i) r ends at = AreEndsOf-at text first.desc_end records i r ends.1 at
 
--- one more group
-pub name_ends-push : (groups : List GroupRecord) (group : GroupRecord)
-    → name_ends (groups ++ group ∷ []) ≡ (name_ends groups ++ group.short_end ∷ []) ++ group.long_end ∷ []
-name_ends-push [] group = refl
-name_ends-push (first ∷ groups) group = ap (λ more. first.short_end ∷ first.long_end ∷ more) (name_ends-push groups group)
+-- the text of all may be cut where its texts start
+pub boundary_at : (text : Text) (start : ℕ) (records : List GroupRecord) (i : ℕ)
+    → IsCharBoundary text start → AreTextsOf text start records → i < length records
+    → IsCharBoundary text (start_at start records i)
+boundary_at text start [] i cut ends within = absurd (omega arith)
+boundary_at text start (r ∷ records) zero cut ends within = cut
+boundary_at text start (r ∷ records) (suc i) cut ends within =
+    boundary_at text r.desc_end records i ends.0.description.boundary ends.1 (omega arith)
 
--- A group at a place, whose names start here.
-module _ (text : Text) (groups : List GroupRecord) (i start : ℕ) (group : GroupRecord)
-    (at : slice_get groups i ≡ Some group) (starts : get_or (0 ∷ name_ends groups) (2 * i) 0 ≡ start) where
-  next_start : get_or (0 ∷ name_ends groups) (2 * i + 1) 0 ≡ group.short_end
-  next_start = let next : 2 * i + 1 ≡ suc (2 * i) = omega arith in rw next ((name_ends-at groups i group at).0)
+-- ---- the numbers of names
 
-  within : 2 * i + 1 < length (name_ends groups)
-  within = omega (arith, slice_get_within groups i group at, length-name_ends groups)
+-- where the text of all is of bytes, each name is
+pub HaveNamesOfBytes-from : (text : Text) → IsOfBytes text
+    → (start : ℕ) (records : List GroupRecord)
+    → HaveNamesOfBytes (names_of (groups_from text start records))
+HaveNamesOfBytes-from text bytes start [] number = All-nil (λ byte. byte < 256)
+HaveNamesOfBytes-from text bytes start (r ∷ records) zero =
+    All-take (λ byte. byte < 256) (r.short_end - start) (drop start text) (All-drop (λ byte. byte < 256) start text bytes)
+HaveNamesOfBytes-from text bytes start (r ∷ records) (suc zero) =
+    All-take (λ byte. byte < 256) (r.long_end - r.short_end) (drop r.short_end text) (All-drop (λ byte. byte < 256) r.short_end text bytes)
+HaveNamesOfBytes-from text bytes start (r ∷ records) (suc (suc number)) = HaveNamesOfBytes-from text bytes r.desc_end records number
 
-  -- its names
-  pub knowns_in-at : slice_get (knowns_in text groups) i ≡ Some (known_by group
-      (take (group.short_end - start) (drop start text))
-      (take (group.long_end - group.short_end) (drop group.short_end text)))
-  knowns_in-at = beside_pairs-get known_by groups (pieces text 0 (name_ends groups)) i group _ _ at
-      (pieces-at text 0 (name_ends groups) (2 * i) start group.short_end (omega (arith, within)) starts (name_ends-at groups i group at).0)
-      (pieces-at text 0 (name_ends groups) (2 * i + 1) group.short_end group.long_end within next_start (name_ends-at groups i group at).1)
-
-  -- they are in order
-  pub names_in_order : AreEnds text 0 (name_ends groups)
-      → (start ≤ group.short_end) × (group.short_end ≤ group.long_end)
-  names_in_order cut =
-      let short = AreEnds-at text 0 (name_ends groups) (2 * i) cut (omega (arith, within)) in
-      let long = AreEnds-at text 0 (name_ends groups) (2 * i + 1) cut within in
-      let ends = name_ends-at groups i group at in
-      (rw (starts, ends.0) at short, rw (next_start, ends.1) at long)
-
-  -- and the text may be cut where they start and end
-  pub names_cut : IsUtf8 text → IsWellCut text (name_ends groups)
-      → IsCharBoundary text start × IsCharBoundary text group.short_end
-      × IsCharBoundary text group.long_end
-  names_cut utf8 cut =
-      let ends = name_ends-at groups i group at in
-      let starts_all = All-cons (IsCharBoundary text) 0 (name_ends groups) (IsCharBoundary-start text utf8) cut.between_characters in
-      let first = All-get_or (IsCharBoundary text) (0 ∷ name_ends groups) (2 * i) 0 (omega (arith, within)) starts_all in
-      let second = All-get_or (IsCharBoundary text) (name_ends groups) (2 * i) 0 (omega (arith, within)) cut.between_characters in
-      let third = All-get_or (IsCharBoundary text) (name_ends groups) (2 * i + 1) 0 within cut.between_characters in
-      (rw starts at first, rw ends.0 at second, rw ends.1 at third)
-
--- the name of a number is the text at that place
-pub name_at-beside : (groups : List GroupRecord) (texts : List Text) (number : ℕ)
-    → length texts ≡ 2 * length groups
-    → name_at (names_in (beside_pairs known_by groups texts)) number ≡ get_or texts number []
-name_at-beside [] [] number fits = refl
-name_at-beside [] (t ∷ texts) number fits = absurd (omega arith)
-name_at-beside (group ∷ groups) [] number fits = absurd (omega arith)
-name_at-beside (group ∷ groups) (a ∷ []) number fits = absurd (omega arith)
-name_at-beside (group ∷ groups) (a ∷ b ∷ texts) zero fits = refl
-name_at-beside (group ∷ groups) (a ∷ b ∷ texts) (suc zero) fits = refl
-name_at-beside (group ∷ groups) (a ∷ b ∷ texts) (suc (suc number)) fits = name_at-beside groups texts number (omega arith)
-
--- where the text of all names is of bytes, each name is
-pub HaveNamesOfBytes-in : (text : Text) (groups : List GroupRecord) → IsOfBytes text
-    → HaveNamesOfBytes (names_in (knowns_in text groups))
-HaveNamesOfBytes-in text groups bytes number =
-    let texts = pieces text 0 (name_ends groups) in
-    let same = name_at-beside groups texts number (length-names text groups) in
-    subst IsOfBytes (sym same) (elim (cases_lt number (length texts)) [
-      | inl there ↦ All-pieces (λ byte. byte < 256) text 0 (name_ends groups) bytes number [] there
-      | inr past ↦ subst IsOfBytes (sym (get_or_past texts number [] past)) (All-nil (λ byte. byte < 256))
-    ])
+-- what is known of the group at a place
+abbrev known_at : List Group → ℕ → Option Known
+known_at groups i = option_map (λ group. group.known) (slice_get groups i)
 
 -- the name of a number is one of the two names of the group at half the number
-pub name_at-short : (knowns : List Known) (number : ℕ) (known : Known)
-    → slice_get knowns (number / 2) ≡ Some known → number % 2 ≡ 0
-    → name_at (names_in knowns) number ≡ known.names.short
+pub name_at-short : (groups : List Group) (number : ℕ) (known : Known)
+    → known_at groups (number / 2) ≡ Some known → number % 2 ≡ 0
+    → name_at (names_of groups) number ≡ known.names.short
 name_at-short [] number known at even = cc at
-name_at-short (first ∷ knowns) zero known at even = ap (λ k. k.names.short) (same_Some first known at)
-name_at-short (first ∷ knowns) (suc zero) known at even = absurd (omega (arith, even))
-name_at-short (first ∷ knowns) (suc (suc number)) known at even =
+name_at-short (first ∷ groups) zero known at even = ap (λ k. k.names.short) (same_Some first.known known at)
+name_at-short (first ∷ groups) (suc zero) known at even = absurd (omega (arith, even))
+name_at-short (first ∷ groups) (suc (suc number)) known at even =
     let half : suc (suc number) / 2 ≡ suc (number / 2) = omega arith in
-    name_at-short knowns number known (rw half at at) (omega (arith, even))
+    name_at-short groups number known (rw half at at) (omega (arith, even))
 
-pub name_at-long : (knowns : List Known) (number : ℕ) (known : Known)
-    → slice_get knowns (number / 2) ≡ Some known → 0 < number % 2
-    → name_at (names_in knowns) number ≡ known.names.long
+pub name_at-long : (groups : List Group) (number : ℕ) (known : Known)
+    → known_at groups (number / 2) ≡ Some known → 0 < number % 2
+    → name_at (names_of groups) number ≡ known.names.long
 name_at-long [] number known at odd = cc at
-name_at-long (first ∷ knowns) zero known at odd = absurd (omega (arith, odd))
-name_at-long (first ∷ knowns) (suc zero) known at odd = ap (λ k. k.names.long) (same_Some first known at)
-name_at-long (first ∷ knowns) (suc (suc number)) known at odd =
+name_at-long (first ∷ groups) zero known at odd = absurd (omega (arith, odd))
+name_at-long (first ∷ groups) (suc zero) known at odd = ap (λ k. k.names.long) (same_Some first.known known at)
+name_at-long (first ∷ groups) (suc (suc number)) known at odd =
     let half : suc (suc number) / 2 ≡ suc (number / 2) = omega arith in
-    name_at-long knowns number known (rw half at at) (omega (arith, odd))
+    name_at-long groups number known (rw half at at) (omega (arith, odd))
 
 -- past the last group there is none
-pub name_at-past : (knowns : List Known) (number : ℕ) → slice_get knowns (number / 2) ≡ None
-    → name_at (names_in knowns) number ≡ []
+pub name_at-past : (groups : List Group) (number : ℕ) → known_at groups (number / 2) ≡ None
+    → name_at (names_of groups) number ≡ []
 name_at-past [] number past = refl
-name_at-past (first ∷ knowns) zero past = cc past
-name_at-past (first ∷ knowns) (suc zero) past = cc past
-name_at-past (first ∷ knowns) (suc (suc number)) past =
-    let half : suc (suc number) / 2 ≡ suc (number / 2) = omega arith in name_at-past knowns number (rw half at past)
+name_at-past (first ∷ groups) zero past = cc past
+name_at-past (first ∷ groups) (suc zero) past = cc past
+name_at-past (first ∷ groups) (suc (suc number)) past =
+    let half : suc (suc number) / 2 ≡ suc (number / 2) = omega arith in name_at-past groups number (rw half at past)
 
--- one more group, whose names are the last of the text
-pub knowns_in-push : (text short long grown grown_more : Text) (groups : List GroupRecord)
-    (group : GroupRecord) → grown ≡ text ++ short → grown_more ≡ grown ++ long
-    → group.short_end ≡ length grown → group.long_end ≡ length grown_more → IsUtf8 short
-    → IsUtf8 long → IsWellCut text (name_ends groups)
-    → IsWellCut grown_more (name_ends (groups ++ group ∷ []))
-    × (knowns_in grown_more (groups ++ group ∷ []) ≡ knowns_in text groups ++ known_by group short long ∷ [])
-knowns_in-push text short long grown grown_more groups group at_short at_long short_end long_end short_utf8 long_utf8 cut =
-    let ends = name_ends groups in
-    let texts = pieces text 0 ends in
-    let one = texts_push text short grown ends (ends ++ group.short_end ∷ []) at_short (ap (λ n. ends ++ n ∷ []) short_end) short_utf8 cut in
-    let two = texts_push grown long grown_more (ends ++ group.short_end ∷ []) ((ends ++ group.short_end ∷ []) ++ group.long_end ∷ [])
-    at_long (ap (λ n. (ends ++ group.short_end ∷ []) ++ n ∷ []) long_end) long_utf8 one.0 in
-    let joined : (texts ++ short ∷ []) ++ long ∷ [] ≡ texts ++ short ∷ long ∷ [] = simp append_assoc in
-    let names : pieces grown_more 0 (name_ends (groups ++ group ∷ [])) ≡ texts ++ short ∷ long ∷ [] =
-    ap (pieces grown_more 0) (name_ends-push groups group) ∙ two.1 ∙ ap (λ ts. ts ++ long ∷ []) one.1 ∙ joined in (
-      subst (IsWellCut grown_more) (sym (name_ends-push groups group)) two.0,
-      ap (beside_pairs known_by (groups ++ group ∷ [])) names
-          ∙ beside_pairs-push known_by groups texts group short long (length-names text groups),
-    )
+-- ---- one more group
 
--- records are told by the ends of names, and by what is known of the groups
-records_told : (groups others : List GroupRecord) (texts other_texts : List Text)
-    → length texts ≡ 2 * length groups → length other_texts ≡ 2 * length others
-    → name_ends groups ≡ name_ends others
-    → beside_pairs known_by groups texts ≡ beside_pairs known_by others other_texts
-    → groups ≡ others
-records_told [] [] texts other_texts fits other_fits ends same = refl
-records_told [] (o ∷ others) texts other_texts fits other_fits ends same = cc ends
-records_told (g ∷ groups) [] texts other_texts fits other_fits ends same = cc ends
-records_told (g ∷ groups) (o ∷ others) [] other_texts fits other_fits ends same = absurd (omega arith)
-records_told (g ∷ groups) (o ∷ others) (a ∷ []) other_texts fits other_fits ends same = absurd (omega arith)
-records_told (g ∷ groups) (o ∷ others) (a ∷ b ∷ texts) [] fits other_fits ends same = absurd (omega arith)
-records_told (g ∷ groups) (o ∷ others) (a ∷ b ∷ texts) (c ∷ []) fits other_fits ends same = absurd (omega arith)
-records_told (g ∷ groups) (o ∷ others) (a ∷ b ∷ texts) (c ∷ d ∷ other_texts) fits other_fits ends same =
-    let short : g.short_end ≡ o.short_end = cc ends in
-    let long : g.long_end ≡ o.long_end = cc ends in
-    let more_ends : name_ends groups ≡ name_ends others = cc ends in
-    let first : known_by g a b ≡ known_by o c d = cc same in
-    let kinds : g.kinds ≡ o.kinds = ap kinds_of first in
-    let more : beside_pairs known_by groups texts ≡ beside_pairs known_by others other_texts = cc same in
-    let rest = records_told groups others texts other_texts (omega arith) (omega arith) more_ends more in
-    λ i. record { short_end = short i; long_end = long i; kinds = kinds i } ∷ rest i
+-- what stands in a text stands there with more after it
+between-append : (text more : Text) (start end : ℕ) → start ≤ end → end ≤ length text
+    → between (text ++ more) start end ≡ between text start end
+between-append text more start end ordered within =
+    let room : end - start ≤ length (drop start text) = omega (arith, length-drop start text) in
+    ap (λ (rest : Text). take (end - start) rest) (drop-append-le start text more (omega arith))
+    ∙ take-append-le (end - start) (drop start text) more room
+
+-- what was added to a text stands from its end on
+between-added : (text added rest : Text)
+    → between ((text ++ added) ++ rest) (length text) (length (text ++ added)) ≡ added
+between-added text added rest =
+    between-append (text ++ added) rest (length text) (length (text ++ added)) (omega (arith, length-append text added)) (omega arith)
+    ∙ rw (drop-append_seam text added) (take_all _ added (omega (arith, length-append text added)))
+
+module _ (text more : Text) (utf8 : IsUtf8 more) where
+  -- an end stays one with more after it
+  IsEnd-append : (start end : ℕ) → IsEnd text start end → IsEnd (text ++ more) start end
+  IsEnd-append start end is = record {
+    in_order = is.in_order;
+    boundary = IsCharBoundary-append text more utf8 end is.boundary;
+  }
+
+  AreEndsOf-append : (start : ℕ) (r : GroupRecord) → AreEndsOf text start r
+      → AreEndsOf (text ++ more) start r
+  AreEndsOf-append start r ends = record {
+    short = IsEnd-append start r.short_end ends.short;
+    long = IsEnd-append r.short_end r.long_end ends.long;
+    hint = IsEnd-append r.long_end r.hint_end ends.hint;
+    description = IsEnd-append r.hint_end r.desc_end ends.description;
+  }
+
+  -- a group stays what it is
+  group_by-append : (start : ℕ) (r : GroupRecord) → AreEndsOf text start r
+      → group_by (text ++ more) start r ≡ group_by text start r
+  group_by-append start r ends =
+      let short = between-append text more start r.short_end ends.short.in_order ends.short.boundary.0 in
+      let long = between-append text more r.short_end r.long_end ends.long.in_order ends.long.boundary.0 in
+      let hint = between-append text more r.long_end r.hint_end ends.hint.in_order ends.hint.boundary.0 in
+      let description = between-append text more r.hint_end r.desc_end ends.description.in_order ends.description.boundary.0 in
+      λ i. record { known = known_with r.kinds (short i) (long i); hint = hint i; description = description i }
+
+  -- one more record, whose texts are what was added
+  module _ (added : GroupRecord) (ends : AreEndsOf (text ++ more) (length text) added)
+      (at_end : added.desc_end ≡ length (text ++ more)) where
+    AreTextsOf-push : (start : ℕ) (records : List GroupRecord) → AreTextsOf text start records
+        → AreTextsOf (text ++ more) start (records ++ added ∷ [])
+    AreTextsOf-push start [] are = (subst (λ n. AreEndsOf (text ++ more) n added) (sym are) ends, at_end)
+    AreTextsOf-push start (r ∷ records) are = (AreEndsOf-append start r are.0, AreTextsOf-push r.desc_end records are.1)
+
+    groups_from-push : (start : ℕ) (records : List GroupRecord) → AreTextsOf text start records
+        → groups_from (text ++ more) start (records ++ added ∷ [])
+        ≡ groups_from text start records ++ group_by (text ++ more) (length text) added ∷ []
+    groups_from-push start [] are = ap (λ n. group_by (text ++ more) n added ∷ []) are
+    groups_from-push start (r ∷ records) are = λ i. group_by-append start r are.0 i ∷ groups_from-push r.desc_end records are.1 i
+
+-- The record of a group whose four texts were added one after the other.
+module _ (text short long hint description one two three all : Text) (one_is : one ≡ text ++ short)
+    (two_is : two ≡ one ++ long) (three_is : three ≡ two ++ hint) (all_is : all ≡ three ++ description)
+    (added : GroupRecord) (short_end : added.short_end ≡ length one) (long_end : added.long_end ≡ length two)
+    (hint_end : added.hint_end ≡ length three) (desc_end : added.desc_end ≡ length all)
+    (short_utf8 : IsUtf8 short) (long_utf8 : IsUtf8 long) (hint_utf8 : IsUtf8 hint)
+    (description_utf8 : IsUtf8 description) where
+  abbrev more : Text
+  more = short ++ (long ++ (hint ++ description))
+
+  -- an end between what stands before it and the rest, and what stands before it
+  at_end : (before piece rest grown : Text) (end : ℕ) → grown ≡ before ++ piece → end ≡ length grown
+      → all ≡ grown ++ rest → IsUtf8 rest
+      → IsEnd all (length before) end × (between all (length before) end ≡ piece)
+  at_end before piece rest grown end grown_is end_is is utf8 = (
+    record {
+      in_order = omega (arith, end_is, ap length grown_is, length-append before piece);
+      boundary = subst (IsCharBoundary all) (sym end_is) (IsCharBoundary-at_seam all grown rest is utf8);
+    },
+    (λ i. between ((is ∙ ap (λ (t : Text). t ++ rest) grown_is) i) (length before) ((end_is ∙ ap length grown_is) i))
+        ∙ between-added before piece rest,
+  )
+
+  at_short : IsEnd all (length text) added.short_end × (between all (length text) added.short_end ≡ short)
+  at_short = at_end text short (long ++ (hint ++ description)) one added.short_end one_is short_end
+      (rw (all_is, three_is, two_is) (simp append_assoc))
+      (IsUtf8-append long _ long_utf8 (IsUtf8-append hint description hint_utf8 description_utf8))
+
+  at_long : IsEnd all (length one) added.long_end × (between all (length one) added.long_end ≡ long)
+  at_long = at_end one long (hint ++ description) two added.long_end two_is long_end (rw (all_is, three_is) (simp append_assoc))
+      (IsUtf8-append hint description hint_utf8 description_utf8)
+
+  at_hint : IsEnd all (length two) added.hint_end × (between all (length two) added.hint_end ≡ hint)
+  at_hint = at_end two hint description three added.hint_end three_is hint_end all_is description_utf8
+
+  at_description : IsEnd all (length three) added.desc_end
+      × (between all (length three) added.desc_end ≡ description)
+  at_description = at_end three description [] all added.desc_end all_is desc_end (sym (append-nil all)) IsUtf8-nil
+
+  -- with it the texts are again all that stands there, and it is the last group
+  pub groups_pushed : (records : List GroupRecord) → AreTextsOf text 0 records
+      → AreTextsOf all 0 (records ++ added ∷ [])
+      × (groups_from all 0 (records ++ added ∷ [])
+      ≡ groups_from text 0 records
+      ++ record { known = known_with added.kinds short long; hint = hint; description = description } ∷ [])
+  groups_pushed records are =
+      let parts : (((text ++ short) ++ long) ++ hint) ++ description ≡ text ++ more = simp append_assoc in
+      let whole : text ++ more ≡ all = sym (all_is ∙ ap (λ (t : Text). t ++ description) (three_is
+      ∙ ap (λ (t : Text). t ++ hint) (two_is ∙ ap (λ (t : Text). t ++ long) one_is)) ∙ parts) in
+      let utf8 : IsUtf8 more = IsUtf8-append short _ short_utf8 (IsUtf8-append long _ long_utf8
+      (IsUtf8-append hint description hint_utf8 description_utf8)) in
+      let ends : AreEndsOf all (length text) added = record {
+        short = at_short.0;
+        long = rw short_end at_long.0;
+        hint = rw long_end at_hint.0;
+        description = rw hint_end at_description.0;
+      } in
+      let long_is : between all added.short_end added.long_end ≡ long = rw short_end at_long.1 in
+      let hint_is : between all added.long_end added.hint_end ≡ hint = rw long_end at_hint.1 in
+      let description_is : between all added.hint_end added.desc_end ≡ description = rw hint_end at_description.1 in
+      let group_is : group_by all (length text) added
+      ≡ record { known = known_with added.kinds short long; hint = hint; description = description } =
+      λ i. record { known = known_with added.kinds (at_short.1 i) (long_is i); hint = hint_is i; description = description_is i } in (
+        subst (λ t. AreTextsOf t 0 (records ++ added ∷ [])) whole
+            (AreTextsOf-push text more utf8 added (subst (λ t. AreEndsOf t (length text) added) (sym whole) ends)
+            (desc_end ∙ ap length (sym whole)) 0 records are),
+        ap (λ (t : Text). groups_from t 0 (records ++ added ∷ [])) (sym whole)
+            ∙ groups_from-push text more utf8 added (subst (λ t. AreEndsOf t (length text) added) (sym whole) ends)
+            (desc_end ∙ ap length (sym whole)) 0 records are
+            ∙ ap (λ (g : Group). groups_from text 0 records ++ g ∷ [])
+            (ap (λ (t : Text). group_by t (length text) added) whole ∙ group_is),
+      )
+
+-- ---- the same
+
+-- where the texts of groups end, in order
+abbrev all_ends : List GroupRecord → List ℕ
+all_ends [] = []
+all_ends (r ∷ records) = r.short_end ∷ r.long_end ∷ r.hint_end ∷ r.desc_end ∷ all_ends records
+
+-- the texts of groups, in order
+abbrev all_texts : List Group → List Text
+all_texts [] = []
+all_texts (g ∷ groups) = g.known.names.short ∷ g.known.names.long ∷ g.hint ∷ g.description ∷ all_texts groups
+
+-- they are the pieces of the text of all
+all_texts-from : (text : Text) (start : ℕ) (records : List GroupRecord)
+    → all_texts (groups_from text start records) ≡ pieces text start (all_ends records)
+all_texts-from text start [] = refl
+all_texts-from text start (r ∷ records) =
+    ap (λ (more : List Text). between text start r.short_end ∷ between text r.short_end r.long_end
+    ∷ between text r.long_end r.hint_end ∷ between text r.hint_end r.desc_end ∷ more)
+    (all_texts-from text r.desc_end records)
+
+AreEnds-from : (text : Text) (start : ℕ) (records : List GroupRecord)
+    → AreTextsOf text start records → AreEnds text start (all_ends records)
+AreEnds-from text start [] are = are
+AreEnds-from text start (r ∷ records) are = (
+  are.0.short.in_order,
+  (are.0.long.in_order, (are.0.hint.in_order, (are.0.description.in_order, AreEnds-from text r.desc_end records are.1))),
+)
+
+-- records are told by the ends of texts, and by the kinds of the groups
+records_told : (text other : Text) (start other_start : ℕ) (records others : List GroupRecord)
+    → all_ends records ≡ all_ends others
+    → groups_from text start records ≡ groups_from other other_start others → records ≡ others
+records_told text other start other_start [] [] ends same = refl
+records_told text other start other_start [] (o ∷ others) ends same = cc ends
+records_told text other start other_start (r ∷ records) [] ends same = cc ends
+records_told text other start other_start (r ∷ records) (o ∷ others) ends same =
+    let short : r.short_end ≡ o.short_end = cc ends in
+    let long : r.long_end ≡ o.long_end = cc ends in
+    let hint : r.hint_end ≡ o.hint_end = cc ends in
+    let description : r.desc_end ≡ o.desc_end = cc ends in
+    let more_ends : all_ends records ≡ all_ends others = cc ends in
+    let first : group_by text start r ≡ group_by other other_start o = cc same in
+    let kinds : r.kinds ≡ o.kinds = ap (λ (g : Group). kinds_of g.known) first in
+    let more : groups_from text r.desc_end records ≡ groups_from other o.desc_end others = cc same in
+    let rest = records_told text other r.desc_end o.desc_end records others more_ends more in
+    λ i. record {
+      short_end = short i;
+      long_end = long i;
+      hint_end = hint i;
+      desc_end = description i;
+      kinds = kinds i;
+    } ∷ rest i
 
 same_kinds-decides : (a b : Kinds) → Decides (same_kinds a b) (a ≡ b)
 same_kinds-decides a b = Decides-like (same_kinds a b) (λ e. ap kinds_of e)
@@ -216,32 +306,35 @@ same_kinds-decides a b = Decides-like (same_kinds a b) (λ e. ap kinds_of e)
 -- the test of two records says exactly that they are equal
 same_record-decides : (a b : GroupRecord) → Decides (same_record a b) (a ≡ b)
 same_record-decides a b = Decides-like (same_record a b)
-    (λ h. λ i. record { short_end = h.0 i; long_end = h.1.0 i; kinds = h.1.1 i })
-    (λ e. (ap (λ g. g.short_end) e, (ap (λ g. g.long_end) e, ap (λ g. g.kinds) e)))
+    (λ h. λ i. record {
+      short_end = h.0 i;
+      long_end = h.1.0 i;
+      hint_end = h.1.1.0 i;
+      desc_end = h.1.1.1.0 i;
+      kinds = h.1.1.1.1 i;
+    })
+    (λ e. (
+      ap (λ r. r.short_end) e,
+      (ap (λ r. r.long_end) e, (ap (λ r. r.hint_end) e, (ap (λ r. r.desc_end) e, ap (λ r. r.kinds) e))),
+    ))
     (Decides-and _ _ (Decides-eqb a.short_end b.short_end)
-    (Decides-and _ _ (Decides-eqb a.long_end b.long_end) (same_kinds-decides a.kinds b.kinds)))
+    (Decides-and _ _ (Decides-eqb a.long_end b.long_end)
+    (Decides-and _ _ (Decides-eqb a.hint_end b.hint_end)
+    (Decides-and _ _ (Decides-eqb a.desc_end b.desc_end) (same_kinds-decides a.kinds b.kinds)))))
 
--- the names of groups, the short one first, are those that they were made of
-names-in : (groups : List GroupRecord) (texts : List Text) → length texts ≡ 2 * length groups
-    → texts_of (λ (known : Known). known.names.short) (λ known. known.names.long) (beside_pairs known_by groups texts) ≡ texts
-names-in = beside_pairs-texts known_by (λ known. known.names.short) (λ known. known.names.long)
-    (λ group short long. refl) (λ group short long. refl)
-
--- groups are the same where their records and the texts of all their names are
-pub same_groups : (text other : Text) (groups others : List GroupRecord)
-    → AreEnds text 0 (name_ends groups) → AreEnds other 0 (name_ends others)
-    → (bytes_eq text other && pointwise same_record groups others)
-    ≡ pointwise same_known (knowns_in text groups) (knowns_in other others)
-same_groups text other groups others cut other_cut =
-    let by_parts : Decides (bytes_eq text other && pointwise same_record groups others) ((text ≡ other) × (groups ≡ others)) =
-    Decides-and _ _ (bytes_eq-Decides text other) (pointwise_decides same_record-decides groups others) in
-    let fits = length-names text groups in
-    let other_fits = length-names other others in
-    let told : knowns_in text groups ≡ knowns_in other others → (text ≡ other) × (groups ≡ others) = λ e.
-    let names = sym (names-in groups _ fits)
-    ∙ ap (texts_of (λ known. known.names.short) (λ known. known.names.long)) e ∙ names-in others _ other_fits in
-    let parts : (text ≡ other) × (name_ends groups ≡ name_ends others) = pieces_tell text other 0 (name_ends groups) (name_ends others) cut other_cut names in
-    (parts.0, records_told groups others _ _ fits other_fits parts.1 e) in
+-- groups are the same where their records and the text of all their texts are
+pub same_groups : (text other : Text) (records others : List GroupRecord)
+    → AreTextsOf text 0 records → AreTextsOf other 0 others
+    → (bytes_eq text other && pointwise same_record records others)
+    ≡ pointwise same_group (groups_from text 0 records) (groups_from other 0 others)
+same_groups text other records others are other_are =
+    let by_parts : Decides (bytes_eq text other && pointwise same_record records others) ((text ≡ other) × (records ≡ others)) =
+    Decides-and _ _ (bytes_eq-Decides text other) (pointwise_decides same_record-decides records others) in
+    let told : groups_from text 0 records ≡ groups_from other 0 others → (text ≡ other) × (records ≡ others) = λ e.
+    let parts = pieces_tell text other 0 (all_ends records) (all_ends others)
+    (AreEnds-from text 0 records are) (AreEnds-from other 0 others other_are)
+    (sym (all_texts-from text 0 records) ∙ ap all_texts e ∙ all_texts-from other 0 others) in
+    (parts.0, records_told text other 0 0 records others parts.1 e) in
     same_from_decides _ _
-    (Decides-like _ (λ same i. knowns_in (same.0 i) (same.1 i)) told by_parts)
-    (pointwise_decides same_known-decides (knowns_in text groups) (knowns_in other others))
+    (Decides-like _ (λ same i. groups_from (same.0 i) 0 (same.1 i)) told by_parts)
+    (pointwise_decides same_group-decides (groups_from text 0 records) (groups_from other 0 others))

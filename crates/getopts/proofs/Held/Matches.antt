@@ -14,17 +14,17 @@ use Rattle.std.proofs.lemmas.List.{length-map}
 use Rattle.std.proofs.lemmas.List.Elements.{recursion_from_All}
 use Rattle.std.proofs.lemmas.Option.{slice_get_past}
 use Rattle.getopts.specs.Names.{Text, Names, resolution}
-use Rattle.getopts.specs.Options.{Known}
-use Rattle.getopts.specs.Index.{places_of}
+use Rattle.getopts.specs.Options.{Known, Group, AreLawfullyNamed, knowns_of, names_of}
+use Rattle.getopts.specs.Held.Index.{places_of}
 use Rattle.getopts.specs.Scan.{Occurrence}
 use Rattle.getopts.specs.Matches.{Found, MatchedGroup, found_at, matched}
 use Rattle.getopts.specs.Accessors.{AreHeldLawfully, found_in, place_of, values_of, pairs_of}
 use Rattle.getopts.specs.Same.{same_known, same_found, same_matched_group}
-use Rattle.getopts.specs.Held.Groups.{HaveLawfulNames, names_in}
-use Rattle.getopts.specs.Held.Occurrences.{pair_view}
+use Rattle.getopts.specs.Accessors.{pair_view}
 use Rattle.getopts.specs.Matches.{found_part}
 use Rattle.getopts.specs.Held.Accepted.{index_of}
 use Rattle.getopts.proofs.Parsing.Counts.{length-matched}
+use Rattle.getopts.proofs.Held.Known.{length-knowns_of, names-knowns_of}
 use Rattle.getopts.proofs.Held.Index.{filter_map-places_of, places_of-within}
 use Rattle.getopts.proofs.Held.Index.{slice_get-places_by_group, length-places_by_group}
 
@@ -52,64 +52,65 @@ found-matched first (known ∷ knowns) occurrences (suc i) within =
     ∙ ap (λ (n : ℕ). found_at n occurrences) (omega arith)
 
 -- lawfully named groups are held so
-pub AreHeldLawfully-matched : (first : ℕ) (knowns : List Known) (occurrences : List Occurrence)
-    → HaveLawfulNames knowns → AreHeldLawfully (matched first knowns occurrences)
+pub AreHeldLawfully-matched : (first : ℕ) (groups : List Group) (occurrences : List Occurrence)
+    → AreLawfullyNamed groups → AreHeldLawfully (matched first (knowns_of groups) occurrences)
 AreHeldLawfully-matched first [] occurrences lawful = tt
-AreHeldLawfully-matched first (known ∷ knowns) occurrences lawful = (lawful.0, AreHeldLawfully-matched (first + 1) knowns occurrences lawful.1)
+AreHeldLawfully-matched first (group ∷ groups) occurrences lawful = (lawful.0, AreHeldLawfully-matched (first + 1) groups occurrences lawful.1)
 
 -- a name resolves among the groups that matches hold as among their names
-pub place_of-matched : (knowns : List Known) (occurrences : List Occurrence) (name : Text)
-    → resolution (names_in knowns) name ≡ place_of (matched 0 knowns occurrences) name
-place_of-matched knowns occurrences name = ap (λ (groups : List Names). resolution groups name)
-    (sym (names-matched 0 knowns occurrences))
+pub place_of-matched : (groups : List Group) (occurrences : List Occurrence) (name : Text)
+    → resolution (names_of groups) name ≡ place_of (matched 0 (knowns_of groups) occurrences) name
+place_of-matched groups occurrences name = ap (λ (names : List Names). resolution names name)
+    (sym (names-matched 0 (knowns_of groups) occurrences ∙ names-knowns_of groups))
 
-module _ (knowns : List Known) (occurrences : List Occurrence) (place : ℕ) where
+module _ (groups : List Group) (occurrences : List Occurrence) (place : ℕ) where
   -- where the occurrences of the group at this place stand
   abbrev pub held_places : List ℕ
-  held_places = unwrap_or (slice_get (index_of knowns occurrences) place) []
+  held_places = unwrap_or (slice_get (index_of (length groups) occurrences) place) []
 
   -- of a group that is there, those of its number
-  places-there : place < length knowns
+  places-there : place < length groups
       → held_places ≡ places_of place (map (λ (o : Occurrence). o.mention.group) occurrences)
   places-there there =
       ap (λ (o : Option (List ℕ)). unwrap_or o [])
-      (slice_get-places_by_group (length knowns) place
+      (slice_get-places_by_group (length groups) place
       (map (λ (o : Occurrence). o.mention.group) occurrences) there)
 
   -- of any other, none
-  places-past : length knowns ≤ place → held_places ≡ []
+  places-past : length groups ≤ place → held_places ≡ []
   places-past past =
-      let groups = map (λ (o : Occurrence). o.mention.group) occurrences in
+      let mentioned = map (λ (o : Occurrence). o.mention.group) occurrences in
       ap (λ (o : Option (List ℕ)). unwrap_or o [])
-      (slice_get_past (index_of knowns occurrences) place
-      (omega (arith, length-places_by_group (length knowns) groups)))
+      (slice_get_past (index_of (length groups) occurrences) place
+      (omega (arith, length-places_by_group (length groups) mentioned)))
 
   -- they stand among the occurrences
   pub held_places-within : AllByRecursion (λ p. p < length occurrences) held_places
-  held_places-within = elim (cases_lt place (length knowns)) [
+  held_places-within = elim (cases_lt place (length groups)) [
     | inl there ↦
-        let groups = map (λ (o : Occurrence). o.mention.group) occurrences in
-        let within = recursion_from_All (λ p. p < length groups) (places_of place groups) (places_of-within place groups) in
+        let mentioned = map (λ (o : Occurrence). o.mention.group) occurrences in
+        let within = recursion_from_All (λ p. p < length mentioned) (places_of place mentioned) (places_of-within place mentioned) in
         subst (AllByRecursion (λ p. p < length occurrences)) (sym (places-there there))
-        (subst (λ n. AllByRecursion (λ p. p < n) (places_of place groups)) (length-map occurrences (λ (o : Occurrence). o.mention.group)) within)
+        (subst (λ n. AllByRecursion (λ p. p < n) (places_of place mentioned)) (length-map occurrences (λ (o : Occurrence). o.mention.group)) within)
     | inr past ↦ subst (AllByRecursion (λ p. p < length occurrences)) (sym (places-past past)) tt
   ]
 
   -- they are the occurrences of that group
   pub held_places-found : map found_part (filter_map (λ p. slice_get occurrences p) held_places)
-      ≡ found_in (matched 0 knowns occurrences) place
-  held_places-found = elim (cases_lt place (length knowns)) [
+      ≡ found_in (matched 0 (knowns_of groups) occurrences) place
+  held_places-found = elim (cases_lt place (length groups)) [
     | inl there ↦
         ap (λ (ps : List ℕ). map found_part (filter_map (λ p. slice_get occurrences p) ps))
         (places-there there)
         ∙ ap (map found_part) (filter_map-places_of (λ (o : Occurrence). o.mention.group) place occurrences)
         ∙ ap (λ n. found_at n occurrences) (sym (zero-add place))
-        ∙ sym (found-matched 0 knowns occurrences place there)
+        ∙ sym (found-matched 0 (knowns_of groups) occurrences place (omega (arith, length-knowns_of groups)))
     | inr past ↦
         ap (λ (ps : List ℕ). map found_part (filter_map (λ p. slice_get occurrences p) ps))
         (places-past past)
         ∙ sym (ap (λ (o : Option MatchedGroup). option_map_or (λ (group : MatchedGroup). group.found) o [])
-        (slice_get_past (matched 0 knowns occurrences) place (omega (arith, length-matched 0 knowns occurrences))))
+        (slice_get_past (matched 0 (knowns_of groups) occurrences) place
+        (omega (arith, length-matched 0 (knowns_of groups) occurrences, length-knowns_of groups))))
   ]
 
 -- values are the texts of the pairs

@@ -13,7 +13,7 @@ use Rattle.getopts.specs.Names.{Text}
 use Rattle.getopts.specs.Matches.{Found}
 use Rattle.getopts.specs.Accessors.{positions_of, values_of, pair_of, pairs_of}
 use Rattle.getopts.specs.Scan.{Occurrence}
-use Rattle.getopts.specs.Held.Occurrences.{held_found}
+use Rattle.getopts.specs.Accessors.{held_found}
 use Rattle.getopts.specs.Matches.{found_part}
 use Rattle.getopts.specs.Same.{same_found}
 

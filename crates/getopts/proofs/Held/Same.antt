@@ -1,47 +1,17 @@
 -- The tests of `==` say exactly that what they compare is equal.
-use Rattle.std.proofs.Common.{◌≡◌, ◌==◌, ◌&&◌, ◌*◌, Bool, List, length, Option}
-use Rattle.std.proofs.Common.{Some, None, refl, ap, sym, ◌∙◌}
+use Rattle.std.proofs.Common.{◌≡◌, ◌==◌, Bool, Option}
+use Rattle.std.proofs.Common.{Some, None, refl, ap}
 use Rattle.std.specs.Bool.{Decides}
 use Rattle.std.specs.Cmp.Lexicographic.{pointwise, pointwise_decides, bytes_decides}
 use Rattle.std.specs.Option.{option_eq}
 use Rattle.std.proofs.lemmas.Bool.{false≢true}
 use Rattle.std.proofs.lemmas.Bool.Decides.{Decides-and, Decides-like, Decides-eqb}
-use Rattle.std.proofs.lemmas.Bool.Decides.{same_from_decides}
-use Rattle.getopts.specs.Names.{Text}
-use Rattle.getopts.specs.Options.{Known, Group, knowns_of}
 use Rattle.getopts.specs.Matches.{Found, MatchedGroup, Matched}
-use Rattle.getopts.specs.Pairs.{beside_pairs}
-use Rattle.getopts.specs.Held.Options.{group_with}
-use Rattle.getopts.specs.Same.{same_known, same_group, same_found, same_matched_group, same_matches}
-use Rattle.getopts.proofs.Held.Options.{same_known-decides, same_group-decides}
-use Rattle.getopts.proofs.Held.Pairs.{knowns_of-held, beside_pairs-texts, texts_of}
-
--- the hints and the descriptions of groups are those that they were made of
-help-beside : (knowns : List Known) (help : List Text) → length help ≡ 2 * length knowns
-    → texts_of (λ (group : Group). group.hint) (λ group. group.description) (beside_pairs group_with knowns help) ≡ help
-help-beside = beside_pairs-texts group_with (λ group. group.hint) (λ group. group.description)
-    (λ known hint description. refl) (λ known hint description. refl)
-
--- groups with their help texts are the same where what is known of them and the texts are
-pub same_helped : (knowns others : List Known) (help other_help : List Text)
-    → length help ≡ 2 * length knowns → length other_help ≡ 2 * length others
-    → (pointwise same_known knowns others && pointwise (pointwise ◌==◌) help other_help)
-    ≡ pointwise same_group (beside_pairs group_with knowns help)
-    (beside_pairs group_with others other_help)
-same_helped knowns others help other_help fits other_fits =
-    let by_parts : Decides (pointwise same_known knowns others && pointwise (pointwise ◌==◌) help other_help)
-    ((knowns ≡ others) × (help ≡ other_help)) =
-    Decides-and _ _ (pointwise_decides same_known-decides knowns others) (pointwise_decides bytes_decides help other_help) in
-    same_from_decides _ _
-    (Decides-like _ (λ same i. beside_pairs group_with (same.0 i) (same.1 i)) (λ e. (
-      sym (knowns_of-held knowns help fits) ∙ ap knowns_of e ∙ knowns_of-held others other_help other_fits,
-      sym (help-beside knowns help fits) ∙ ap (texts_of (λ group. group.hint) (λ group. group.description)) e
-          ∙ help-beside others other_help other_fits,
-    )) by_parts)
-    (pointwise_decides same_group-decides (beside_pairs group_with knowns help) (beside_pairs group_with others other_help))
+use Rattle.getopts.specs.Same.{same_found, same_matched_group, same_matches}
+use Rattle.getopts.proofs.Held.Options.{same_known-decides}
 
 -- a test of options says exactly that they are equal, where that of their values does
-options_decide : {X : Type 0} (E : X → X → Bool) → ((a b : X) → Decides (E a b) (a ≡ b))
+pub options_decide : {X : Type 0} (E : X → X → Bool) → ((a b : X) → Decides (E a b) (a ≡ b))
     → (o p : Option X) → Decides (option_eq E o p) (o ≡ p)
 options_decide E decides None None = (λ _. refl, λ _. refl)
 options_decide E decides None (Some y) = (λ e. absurd (false≢true e), λ e. cc e)

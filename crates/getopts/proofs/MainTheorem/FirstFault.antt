@@ -5,9 +5,10 @@ use Rattle.std.specs.Prelude.{if◌then◌else◌}
 use Rattle.std.proofs.lemmas.Bool.Decides.{nat_tests}
 use Rattle.getopts.specs.Fail.{Fault}
 use Rattle.getopts.specs.Matches.{MatchedGroup, FitsCount, KeepsCount}
-use Rattle.getopts.specs.Matches.{KeepsCounts, broken_count, IsCountFault}
+use Rattle.getopts.specs.Matches.{KeepsCounts, IsCountFault}
 use Rattle.getopts.specs.declared.groups.Occur.{Occur}
 use Rattle.getopts.specs.declared.groups.Occur.TheVariants.{Req, Optional, Multi}
+use Rattle.getopts.proofs.Parsing.Counts.{broken_count}
 
 -- whether a group may have so many occurrences
 abbrev pub fits_count : Occur → ℕ → Bool

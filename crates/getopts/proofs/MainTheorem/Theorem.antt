@@ -12,7 +12,7 @@ use Rattle.getopts.specs.Canon.{content_of, IsPlain, canonical_line, IsCountKeep
 use Rattle.getopts.specs.Canon.{HasCanonicalLine}
 use Rattle.getopts.specs.Canon.{Content, IsAcceptedWith, Says}
 use Rattle.getopts.specs.CanonAnswers.{IsWritten, OneAnswerOneContent}
-use Rattle.getopts.specs.Theorem.{IsFirstFault, OneReading, AcceptedExactlyWhen, RefusedExactlyWhen}
+use Rattle.getopts.specs.Theorem.{OneReading, AcceptedExactlyWhen, RefusedExactlyWhen}
 use Rattle.getopts.specs.Theorem.{OneOfThree, OneReadingGivesAll, OneLineOneContent}
 use Rattle.getopts.proofs.Canonical.Lines.{HasCanonicalLine-says}
 use Rattle.getopts.proofs.Canonical.Lines.{OneLineOneContent-lawful}
@@ -41,7 +41,7 @@ module _ (options : Declared) (lawful : AreLawfullyNamed options.groups)
 
   -- words have one reading at most
   pub OneReading-options : OneReading options
-  OneReading-options words reading other reads other_reads = only_reading (grammar_of options) named words other reading other_reads reads
+  OneReading-options words reading other reads other_reads = only_reading (grammar_of options) named words reading other reads other_reads
 
   -- a reading that keeps the counts is accepted, with its matches and its content
   accepted : (words : List Text) (reading : Reading) → IsCountKeeping options reading words
@@ -86,8 +86,14 @@ module _ (options : Declared) (lawful : AreLawfullyNamed options.groups)
     λ has. subst (IsAccepted options words) (sym has.2) (accepted words has.0 has.1),
   )
 
+  -- the first fault
+  abbrev IsFirstFault : List Text → Fault → Type 0
+  IsFirstFault words fault = IsScanFault (grammar_of options) words fault
+      ⊎ ((reading : Reading) × IsReading (grammar_of options) reading words
+      × IsCountFault (matches_of options reading).groups fault)
+
   first_fault : (words : List Text) (fault : Fault) → IsRefused options words fault
-      → IsFirstFault options words fault
+      → IsFirstFault words fault
   first_fault words fault (inl is) = inl (meets (IsScanFault (grammar_of options) words) fault is.only)
   first_fault words fault (inr is) = inr (is.reading, breaking_reads options words fault is, is.breaks)
 
@@ -100,7 +106,7 @@ module _ (options : Declared) (lawful : AreLawfullyNamed options.groups)
     breaks = breaks;
   }
 
-  refused : (words : List Text) (fault : Fault) → AreTexts words → IsFirstFault options words fault
+  refused : (words : List Text) (fault : Fault) → AreTexts words → IsFirstFault words fault
       → IsRefused options words fault
   refused words fault texts (inl scan) = inl (HasNoReading-fault options lawful shorts words texts fault scan)
   refused words fault texts (inr count) = inr (breaks_counts words fault count.0 count.1 count.2)
@@ -139,16 +145,16 @@ module _ (options : Declared) (lawful : AreLawfullyNamed options.groups)
 
   -- one reading gives the matches, the content and the canonical line
   pub OneReadingGivesAll-options : OneReadingGivesAll options
-  OneReadingGivesAll-options words reading keeps = record {
-    matches = IsTheOnly-from (IsAccepted options words) (matches_of options reading) (accepted words reading keeps)
-        (λ other is. only_matches options words other (matches_of options reading) is (accepted words reading keeps));
-    content = IsTheOnly-from (IsAcceptedWith options words) (content_of options reading) (accepted_with words reading keeps)
-        (λ other is. only_content options words other (content_of options reading) is (accepted_with words reading keeps));
-    line = λ plain. IsTheOnly-from (IsWritten options words)
+  OneReadingGivesAll-options words reading keeps = (
+    IsTheOnly-from (IsAccepted options words) (matches_of options reading) (accepted words reading keeps)
+        (λ other is. only_matches options words other (matches_of options reading) is (accepted words reading keeps)),
+    IsTheOnly-from (IsAcceptedWith options words) (content_of options reading) (accepted_with words reading keeps)
+        (λ other is. only_content options words other (content_of options reading) is (accepted_with words reading keeps)),
+    λ plain. IsTheOnly-from (IsWritten options words)
         (canonical_line options.groups (content_of options reading)) (written words reading keeps plain)
         (λ other is. only_line options words other (canonical_line options.groups
-        (content_of options reading)) is (written words reading keeps plain));
-  }
+        (content_of options reading)) is (written words reading keeps plain)),
+  )
 
   -- two canonical lines
   pub OneLineOneContent-options : OneLineOneContent options

@@ -6,16 +6,21 @@ use Rattle.std.proofs.Common.{subst, inl, inr, arith, add-zero, zero-add}
 use Rattle.std.specs.List.{filter, list_all}
 use Rattle.std.proofs.lemmas.Bool.{and_from, cases_eq, eq-eqb, ne_eqb}
 use Rattle.std.proofs.lemmas.List.{length-map, take-append-drop}
+use Rattle.getopts.specs.Names.{main_name}
 use Rattle.getopts.specs.Options.{Known}
 use Rattle.getopts.specs.Fail.{Fault}
 use Rattle.getopts.specs.Scan.{Occurrence}
 use Rattle.getopts.specs.Matches.{Found, MatchedGroup, found_at, matched, KeepsCount, KeepsCounts}
-use Rattle.getopts.specs.Matches.{FitsCount, broken_count, IsCountFault}
+use Rattle.getopts.specs.Matches.{FitsCount, count_fault, IsCountFault}
 use Rattle.getopts.specs.Held.Accepted.{index_of}
 use Rattle.getopts.specs.Held.Groups.{kinds_of}
 use Rattle.getopts.specs.declared.groups.Kinds.{Kinds}
 use Rattle.getopts.proofs.Lists.{AllByRecursion-append}
 use Rattle.getopts.proofs.Held.Index.{length-places_of, slice_get-places_by_group}
+
+-- the fault of a group that breaks its count
+abbrev pub broken_count : MatchedGroup → Fault
+broken_count group = count_fault (main_name group.known.names) (length group.found)
 
 -- a known group with its occurrences, at this place
 abbrev pub matched_at : ℕ → Known → List Occurrence → MatchedGroup
@@ -49,14 +54,13 @@ take-from (first ∷ xs) ys x (suc i) e =
     ap (λ n. take n (first ∷ xs)) later ∙ ap (λ zs. first ∷ zs) (take-from xs ys x i e)
 
 -- how many occurrences of a group there are, by the index
-pub length-found_at : (knowns : List Known) (occurrences : List Occurrence) (i : ℕ)
-    → i < length knowns
-    → length (unwrap_or (slice_get (index_of knowns occurrences) i) [])
+pub length-found_at : (count : ℕ) (occurrences : List Occurrence) (i : ℕ) → i < count
+    → length (unwrap_or (slice_get (index_of count occurrences) i) [])
     ≡ length (found_at i occurrences)
-length-found_at knowns occurrences i within =
+length-found_at count occurrences i within =
     let founds : length (found_at i occurrences) ≡ length (filter (λ (o : Occurrence). o.mention.group == i) occurrences) = simp length-map in
     ap (λ (o : Option (List ℕ)). length (unwrap_or o []))
-    (slice_get-places_by_group (length knowns) i
+    (slice_get-places_by_group count i
     (map (λ (o : Occurrence). o.mention.group) occurrences) within)
     ∙ length-places_of (λ (o : Occurrence). o.mention.group) i occurrences ∙ sym founds
 
@@ -108,11 +112,11 @@ none_past (x ∷ xs) (suc i) none = omega (arith, none_past xs i none)
 -- the group at a place, by its kinds
 pub known-there : (knowns : List Known) (i : ℕ) (kinds : Kinds)
     → Some kinds ≡ option_map kinds_of (slice_get knowns i)
-    → (known : Known) × (slice_get knowns i ≡ Some known) × (known.occurrence ≡ kinds.occur)
+    → (known : Known) × (slice_get knowns i ≡ Some known) × (known.occurrence ≡ kinds.occurrence)
 known-there [] i kinds there = cc there
 known-there (known ∷ knowns) zero kinds there =
     let same : kinds ≡ kinds_of known = cc there in
-    (known, refl, sym (ap (λ (k : Kinds). k.occur) same))
+    (known, refl, sym (ap (λ (k : Kinds). k.occurrence) same))
 known-there (known ∷ knowns) (suc i) kinds there = known-there knowns i kinds there
 
 -- where no group is at a place, the list ends before it

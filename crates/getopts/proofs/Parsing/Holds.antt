@@ -8,7 +8,7 @@ use Rattle.std.proofs.lemmas.Bool.{eqb-true}
 use Rattle.std.proofs.lemmas.Option.{option_and_then_some, same_Some}
 use Rattle.std.specs.Borrow.{Bor}
 use Rattle.getopts.specs.Names.{Text, Names, resolution, texts}
-use Rattle.getopts.specs.Options.{Known, Group, Grammar, Declared, names_of, knowns_of, kind_at}
+use Rattle.getopts.specs.Options.{Known, Group, Grammar, Declared, names_of, knowns_of}
 use Rattle.getopts.specs.Options.{grammar_of}
 use Rattle.getopts.specs.Scan.{Occurrence, Item, free, long, cluster, Tail, line_end, stop, rest}
 use Rattle.getopts.specs.Scan.{stop_word, spelled_all, tail_words, tail_frees, free_items}
@@ -16,7 +16,7 @@ use Rattle.getopts.specs.Scan.{free_words, IsLawfulItem, Reading, IsReading, occ
 use Rattle.getopts.specs.Matches.{Found, Matched, MatchedGroup, found_at, matched, FitsCount}
 use Rattle.getopts.specs.Matches.{KeepsCounts}
 use Rattle.getopts.specs.Accessors.{place_of, found_of, found_in, first_value}
-use Rattle.getopts.specs.Canon.{FitsKind}
+use Rattle.getopts.specs.Scan.{FitsKind}
 use Rattle.getopts.specs.Parse.{IsAccepted}
 use Rattle.getopts.specs.Holds.{HaveLastWordsFree, AreGroupsOf, HaveValuesByKind}
 use Rattle.getopts.specs.Holds.{DefineDeclared, HoldRequiredOnce, HoldNeededValues, Accepts}
@@ -27,10 +27,10 @@ use Rattle.getopts.specs.declared.groups.HasArg.TheVariants.{Yes}
 use Rattle.getopts.specs.declared.groups.Occur.{Occur}
 use Rattle.getopts.specs.declared.groups.Occur.TheVariants.{Req}
 use Rattle.getopts.proofs.Lists.{AllByRecursion-unmap}
-use Rattle.getopts.proofs.Canonical.Lines.{FitsGroup, IsFitting-reading}
+use Rattle.getopts.proofs.Canonical.Lines.{kind_at, FitsGroup, IsFitting-reading}
 use Rattle.getopts.proofs.Held.Matches.{knowns-matched}
 use Rattle.getopts.proofs.Reading.Readings.{spelled_all-append}
-use Rattle.getopts.proofs.Held.Pairs.{names-knowns_of}
+use Rattle.getopts.proofs.Held.Known.{names-knowns_of}
 use Rattle.getopts.proofs.Parsing.Parsed.{positions_below-accepted}
 use Rattle.getopts.proofs.Scanning.Loop.{length-texts}
 

@@ -1,10 +1,11 @@
 -- The laws of readings, proved of every grammar.
-use Rattle.std.proofs.Common.{◌≡◌, ◌≢◌, ◌==◌, ℕ, zero, suc, ◌+◌, ◌<◌, ◌≤◌, Bool, true, false, cond}
-use Rattle.std.proofs.Common.{List, [], ◌∷◌, ◌++◌, length, map, get_or, Some, refl, sym, ap, ◌∙◌}
-use Rattle.std.proofs.Common.{subst, arith}
+use Rattle.std.proofs.Common.{◌≡◌, ◌≢◌, ◌==◌, ℕ, zero, suc, ◌+◌, ◌<◌, ◌≤◌, Bool, true, false, List}
+use Rattle.std.proofs.Common.{[], ◌∷◌, ◌++◌, length, map, get_or, Some, refl, sym, ap, ◌∙◌, subst}
+use Rattle.std.proofs.Common.{arith, inl, inr}
 use Rattle.std.specs.Prelude.{⊤}
+use Rattle.std.proofs.lemmas.Bool.{cases_Bool}
 use Rattle.std.proofs.Math.Seq.{drop-append_seam}
-use Rattle.std.specs.List.{AllByRecursion, flat_map}
+use Rattle.std.specs.List.{AllByRecursion, filter, flat_map, zip}
 use Rattle.std.specs.List.Sorted.{IsNonDecreasingBy}
 use Rattle.std.proofs.lemmas.List.{append-nil, append_assoc, length-append}
 use Rattle.std.proofs.lemmas.Grind.{flat_map-append}
@@ -12,27 +13,26 @@ use Rattle.getopts.specs.Names.{Text}
 use Rattle.getopts.specs.Options.{Known, Grammar}
 use Rattle.getopts.specs.Scan.{dash, is_dashed, begins_with_dash, Argument, none, attached}
 use Rattle.getopts.specs.Scan.{separate, Dashes, one, two, End, flags, ends_in, Item, free, long}
-use Rattle.getopts.specs.Scan.{cluster, dash_text, end_text, spelled_all, MayStandBefore}
-use Rattle.getopts.specs.Scan.{FitsLong, FitsEnd, IsLawfulEnd, IsLawfulLong, IsLawfulCluster}
-use Rattle.getopts.specs.Scan.{IsLawfulItem, is_bare, EndsOrIsDashed, AreWellFollowed, Tail}
-use Rattle.getopts.specs.Scan.{line_end, stop, rest, tail_words, Reading, IsReading, Mention}
-use Rattle.getopts.specs.Scan.{mentions, Occurrence, occurrence_at, word_count, occurrences_after}
-use Rattle.getopts.specs.Scan.{occurrences_of, free_items, tail_frees, free_words, trailing_after}
+use Rattle.getopts.specs.Scan.{item_words, cluster, dash_text, end_text, spelled_all}
+use Rattle.getopts.specs.Scan.{MayStandBefore, FitsLong, FitsEnd, IsLawfulEnd, IsLawfulLong}
+use Rattle.getopts.specs.Scan.{IsLawfulCluster, IsLawfulItem, is_bare, EndsOrIsDashed}
+use Rattle.getopts.specs.Scan.{AreWellFollowed, Tail, line_end, stop, rest, tail_words, Reading}
+use Rattle.getopts.specs.Scan.{IsReading, Mention, mentions, Occurrence, at_position, word_count}
+use Rattle.getopts.specs.Scan.{occurrences_after, occurrences_of, free_items, tail_frees}
+use Rattle.getopts.specs.Scan.{free_words, trailing_after}
 use Rattle.getopts.specs.Matches.{Found, found_at, matched}
-use Rattle.getopts.specs.ScanLaws.{AreHigherAfter, ReadsAlike, Respells}
-use Rattle.getopts.specs.ScanLaws.{mentions_of, positions_in, LongAttachedOrSeparate}
-use Rattle.getopts.specs.ScanLaws.{ShortAttachedOrSeparate, ClusterSplits, OneDashOrTwo}
-use Rattle.getopts.specs.ScanLaws.{is_last_bare, joined_reading, HasContentOfBoth, LinesCompose}
-use Rattle.getopts.specs.ScanLaws.{IsAfterStop, TrailingStartIsAfterStop, IsSubsequence, empty}
-use Rattle.getopts.specs.ScanLaws.{kept, left_out, FreeWordsAreSubsequence}
+use Rattle.getopts.specs.ScanLaws.{AreHigherAfter, ReadsAlike, Respells, mentions_of, positions_in}
+use Rattle.getopts.specs.ScanLaws.{LongAttachedOrSeparate, ShortAttachedOrSeparate, ClusterSplits}
+use Rattle.getopts.specs.ScanLaws.{OneDashOrTwo, is_last_bare, joined_reading, HasContentOfBoth}
+use Rattle.getopts.specs.ScanLaws.{LinesCompose, IsAfterStop, TrailingStartIsAfterStop}
+use Rattle.getopts.specs.ScanLaws.{IsSubsequence, FreeWordsAreSubsequence}
 use Rattle.getopts.specs.ScanLaws.{HavePositionsInOrder}
 use Rattle.getopts.specs.declared.groups.HasArg.TheVariants.{Yes}
-use Rattle.getopts.proofs.Lists.{AllByRecursion-append, AllByRecursion-left}
-use Rattle.getopts.proofs.Lists.{AllByRecursion-right}
+use Rattle.getopts.proofs.Lists.{AllByRecursion-append, AllByRecursion-left, AllByRecursion-right}
 use Rattle.getopts.proofs.Reading.Positions.{mentions_of-items, positions_in-one_higher}
 use Rattle.getopts.proofs.Reading.Readings.{EndsOrIsDashed-spelled, spelled_all-append}
-use Rattle.getopts.proofs.Reading.Texts.{is_dashed-text}
-use Rattle.getopts.proofs.Reading.Turns.{spelled}
+use Rattle.getopts.proofs.Reading.Readings.{spelled_all-joined}
+use Rattle.getopts.proofs.Reading.Steps.{lawful_short, short_dashed}
 
 -- only ordinary mode has bare clusters
 ordinary_from_bare : (grammar : Grammar) (item : Item) → IsLawfulItem grammar item
@@ -48,17 +48,10 @@ is_dashed-long : (grammar : Grammar) (dashes : Dashes) (name text : Text)
 is_dashed-long grammar one name text before ordinary = cc (before.0, ordinary)
 is_dashed-long grammar two name text before ordinary = refl
 
--- a cluster whose end is lawful has a text after its dash
-filled_from_lawful : (grammar : Grammar) (names : List ℕ) (end : End)
-    → IsLawfulEnd grammar names end → names ++ end_text end ≢ []
-filled_from_lawful grammar [] flags lawful nil = lawful refl
-filled_from_lawful grammar [] (ends_in option argument) lawful nil = cc nil
-filled_from_lawful grammar (name ∷ names) end lawful nil = cc nil
-
 -- a lawful cluster's word is dashed
 is_dashed-cluster : (grammar : Grammar) (names : List ℕ) (end : End)
     → IsLawfulCluster grammar names end → is_dashed (dash ∷ (names ++ end_text end)) ≡ true
-is_dashed-cluster grammar names end lawful = is_dashed-text (names ++ end_text end) (filled_from_lawful grammar names end lawful.last)
+is_dashed-cluster grammar names end lawful = short_dashed grammar _ _ (lawful_short grammar names end lawful)
 
 -- What lets new items stand where old ones stood, before these words: they are lawful and well
 -- followed where the old ones are, and begin with a dashed word in ordinary mode.
@@ -112,7 +105,7 @@ occurrences_after-in_place : (grammar : Grammar) (front old new : List Item)
     ≡ occurrences_after before grammar (front ++ old)
 occurrences_after-in_place grammar [] old new same before = same before
 occurrences_after-in_place grammar (item ∷ front) old new same before =
-    ap (λ later. map (occurrence_at before) (mentions grammar item) ++ later)
+    ap (λ later. map (at_position before) (mentions grammar item) ++ later)
     (occurrences_after-in_place grammar front old new same (before + word_count (item ∷ [])))
 
 -- the free items of two lists
@@ -120,8 +113,7 @@ pub free_items-append : (items others : List Item)
     → free_items (items ++ others) ≡ free_items items ++ free_items others
 free_items-append [] others = refl
 free_items-append (free word ∷ items) others = ap (λ words. word ∷ words) (free_items-append items others)
-free_items-append (long dashes name argument ∷ items) others = free_items-append items others
-free_items-append (cluster names end ∷ items) others = free_items-append items others
+free_items-append (item ∷ items) others = free_items-append items others
 
 -- items in front leave the same free words where the new items have those of the old ones
 free_items-in_place : (front old new : List Item) → free_items new ≡ free_items old
@@ -296,8 +288,7 @@ is_bare-rest : (flag : ℕ) (names : List ℕ) (end : End) → is_bare (cluster 
     → is_bare (cluster (flag ∷ names) end) ≡ true
 is_bare-rest flag names flags bare = bare
 is_bare-rest flag names (ends_in option none) bare = bare
-is_bare-rest flag names (ends_in option (attached argument)) bare = bare
-is_bare-rest flag names (ends_in option (separate word)) bare = bare
+is_bare-rest flag names (ends_in option argument) bare = bare
 
 -- the rest of a cluster ends lawfully, where it has a text
 IsLawfulEnd-rest : (grammar : Grammar) (flag : ℕ) (names : List ℕ) (end : End)
@@ -344,12 +335,6 @@ Respells-split grammar flag names end filled plain front back tail words reads =
 pub ClusterSplits_lem : (grammar : Grammar) → ClusterSplits grammar
 ClusterSplits_lem grammar = record { after_flag = Respells-split grammar }
 
--- the words of two lists of items
-pub spelled_all-joined : (items others : List Item) (more : List Text)
-    → spelled_all (items ++ others) more ≡ spelled_all items (spelled_all others more)
-spelled_all-joined [] others more = refl
-spelled_all-joined (item ∷ items) others more = ap (spelled item) (spelled_all-joined items others more)
-
 -- bare clusters stay followed as they may be where others stand after the last item, which isn't
 -- bare
 AreWellFollowed-append : (items others : List Item) (more : List Text) → is_last_bare items ≡ false
@@ -359,21 +344,6 @@ AreWellFollowed-append [] others more last before after = after
 AreWellFollowed-append (item ∷ []) others more last before after = (λ bare. cc (last, bare), after)
 AreWellFollowed-append (item ∷ next ∷ items) others more last before after =
     (λ bare. EndsOrIsDashed-spelled next _ _ (before.0 bare), AreWellFollowed-append (next ∷ items) others more last before.1 after)
-
--- a line read to its end by these items, and the items and the tail of another, are read together
-IsReading-joined : (grammar : Grammar) (items : List Item) (second : Reading)
-    (words more : List Text) → IsReading grammar (record { items = items; tail = line_end }) words
-    → is_last_bare items ≡ false → IsReading grammar second more
-    → IsReading grammar (record { items = items ++ second.items; tail = second.tail })
-    (words ++ more)
-IsReading-joined grammar items second words more reads last after = record {
-  spells = spelled_all-joined items second.items (tail_words second.tail)
-      ∙ (ap (spelled_all items) after.spells ∙ (spelled_all-append items [] more
-      ∙ ap (λ front. front ++ more) reads.spells));
-  items = AllByRecursion-append (IsLawfulItem grammar) items second.items reads.items after.items;
-  tail = after.tail;
-  followed = AreWellFollowed-append items second.items (tail_words second.tail) last reads.followed after.followed;
-}
 
 -- two readings joined have the content of both
 HasContentOfBoth-joined : (grammar : Grammar) (first second : Reading) → first.tail ≡ line_end
@@ -393,13 +363,21 @@ HasContentOfBoth-joined grammar first second ends = record {
 }
 
 -- a first line read to its end, and the items and the tail of a second, are read together
-IsReading-joined_reading : (grammar : Grammar) (first second : Reading) (words more : List Text)
+IsReading-joined : (grammar : Grammar) (first second : Reading) (words more : List Text)
     → IsReading grammar first words → first.tail ≡ line_end → is_last_bare first.items ≡ false
     → IsReading grammar second more
     → IsReading grammar (joined_reading first second) (words ++ more)
-IsReading-joined_reading grammar first second words more reads ends last after =
-    IsReading-joined grammar first.items second words more
-    (subst (λ tail. IsReading grammar (record { items = first.items; tail = tail }) words) ends reads) last after
+IsReading-joined grammar first second words more reads ends last after = record {
+  spells = rw (
+    spelled_all-joined first.items second.items (tail_words second.tail),
+    after.spells,
+    spelled_all-append first.items [] more,
+    rw ends at reads.spells,
+  );
+  items = AllByRecursion-append (IsLawfulItem grammar) first.items second.items reads.items after.items;
+  tail = after.tail;
+  followed = AreWellFollowed-append first.items second.items (tail_words second.tail) last (rw ends at reads.followed) after.followed;
+}
 
 -- lines compose, where a line has one reading at most
 pub LinesCompose_lem : (grammar : Grammar)
@@ -407,7 +385,7 @@ pub LinesCompose_lem : (grammar : Grammar)
     → IsReading grammar other words → reading ≡ other) → LinesCompose grammar
 LinesCompose_lem grammar only = record {
   of_both = λ first second words more reads ends last after.
-      let both = IsReading-joined_reading grammar first second words more reads ends last after in (
+      let both = IsReading-joined grammar first second words more reads ends last after in (
         both,
         λ whole reads_whole. subst (HasContentOfBoth grammar first second)
             (only (joined_reading first second) whole (words ++ more) both reads_whole)
@@ -435,34 +413,62 @@ TrailingStartIsAfterStop_lem grammar = record {
   after_stop = λ reading words start reads at. IsAfterStop-tail (free_items reading.items) reading.items reading.tail start refl at;
 }
 
+-- the texts are the words with some left out, word by word
+pub data IsPart : List Text → List Text → Type 0 where
+  empty : IsPart [] []
+  kept : {texts words : List Text} (word : Text) → IsPart texts words
+      → IsPart (word ∷ texts) (word ∷ words)
+  left_out : {texts words : List Text} (word : Text) → IsPart texts words → IsPart texts (word ∷ words)
+
+-- so they are a subsequence
+IsSubsequence-part : (texts words : List Text) → IsPart texts words → IsSubsequence texts words
+IsSubsequence-part _ _ empty = ([], refl)
+IsSubsequence-part _ _ (kept {texts} {words} word part) =
+    let more = IsSubsequence-part texts words part in (true ∷ more.0, ap (λ (texts : List Text). word ∷ texts) more.1)
+IsSubsequence-part _ _ (left_out {texts} {words} word part) =
+    let more = IsSubsequence-part texts words part in (false ∷ more.0, more.1)
+
+-- and a subsequence is that
+IsPart-marked : (marks : List Bool) (words : List Text)
+    → IsPart (map (λ (pair : Bool × Text). pair.1) (filter (λ (pair : Bool × Text). pair.0) (zip marks words))) words
+IsPart-marked [] [] = empty
+IsPart-marked [] (word ∷ words) = left_out word (IsPart-marked [] words)
+IsPart-marked (mark ∷ marks) [] = empty
+IsPart-marked (true ∷ marks) (word ∷ words) = kept word (IsPart-marked marks words)
+IsPart-marked (false ∷ marks) (word ∷ words) = left_out word (IsPart-marked marks words)
+
+pub IsPart-subsequence : (texts words : List Text) → IsSubsequence texts words → IsPart texts words
+IsPart-subsequence texts words is = subst (λ (texts : List Text). IsPart texts words) (sym is.1) (IsPart-marked is.0 words)
+
 -- each word is among the words
-IsSubsequence-refl : (words : List Text) → IsSubsequence words words
-IsSubsequence-refl [] = empty
-IsSubsequence-refl (word ∷ words) = kept word (IsSubsequence-refl words)
+IsPart-refl : (words : List Text) → IsPart words words
+IsPart-refl [] = empty
+IsPart-refl (word ∷ words) = kept word (IsPart-refl words)
 
 -- the free words of a tail are among its words
-IsSubsequence-tail : (tail : Tail) → IsSubsequence (tail_frees tail) (tail_words tail)
-IsSubsequence-tail line_end = empty
-IsSubsequence-tail (stop words) = left_out _ (IsSubsequence-refl words)
-IsSubsequence-tail (rest words) = IsSubsequence-refl words
+IsPart-tail : (tail : Tail) → IsPart (tail_frees tail) (tail_words tail)
+IsPart-tail line_end = empty
+IsPart-tail (stop words) = left_out _ (IsPart-refl words)
+IsPart-tail (rest words) = IsPart-refl words
+
+-- words in front are left out
+IsPart-after : (front words others : List Text) → IsPart words others
+    → IsPart words (front ++ others)
+IsPart-after [] words others among = among
+IsPart-after (word ∷ front) words others among = left_out word (IsPart-after front words others among)
 
 -- the free words of items and a tail are among their words
-IsSubsequence-items : (items : List Item) (tail : Tail)
-    → IsSubsequence (free_items items ++ tail_frees tail) (spelled_all items (tail_words tail))
-IsSubsequence-items [] tail = IsSubsequence-tail tail
-IsSubsequence-items (free word ∷ items) tail = kept word (IsSubsequence-items items tail)
-IsSubsequence-items (long dashes name none ∷ items) tail = left_out _ (IsSubsequence-items items tail)
-IsSubsequence-items (long dashes name (attached argument) ∷ items) tail = left_out _ (IsSubsequence-items items tail)
-IsSubsequence-items (long dashes name (separate word) ∷ items) tail = left_out _ (left_out _ (IsSubsequence-items items tail))
-IsSubsequence-items (cluster names flags ∷ items) tail = left_out _ (IsSubsequence-items items tail)
-IsSubsequence-items (cluster names (ends_in option none) ∷ items) tail = left_out _ (IsSubsequence-items items tail)
-IsSubsequence-items (cluster names (ends_in option (attached argument)) ∷ items) tail = left_out _ (IsSubsequence-items items tail)
-IsSubsequence-items (cluster names (ends_in option (separate word)) ∷ items) tail = left_out _ (left_out _ (IsSubsequence-items items tail))
+IsPart-items : (items : List Item) (tail : Tail)
+    → IsPart (free_items items ++ tail_frees tail) (spelled_all items (tail_words tail))
+IsPart-items [] tail = IsPart-tail tail
+IsPart-items (free word ∷ items) tail = kept word (IsPart-items items tail)
+IsPart-items (item ∷ items) tail = IsPart-after (item_words item) _ _ (IsPart-items items tail)
 
 -- free words are a subsequence of the words
 pub FreeWordsAreSubsequence_lem : (grammar : Grammar) → FreeWordsAreSubsequence grammar
 FreeWordsAreSubsequence_lem grammar = record {
-  subsequence = λ reading words reads. subst (IsSubsequence (free_words reading)) reads.spells (IsSubsequence-items reading.items reading.tail);
+  subsequence = λ reading words reads. subst (IsSubsequence (free_words reading)) reads.spells
+      (IsSubsequence-part _ _ (IsPart-items reading.items reading.tail));
 }
 
 -- the positions are at least this one, and never decrease
@@ -501,23 +507,14 @@ NeverDecrease-from_rise low (found ∷ founds) rise (suc i) zero default ordered
 NeverDecrease-from_rise low (found ∷ founds) rise (suc i) (suc j) default ordered in_range =
     NeverDecrease-from_rise found.position founds rise.1 i j default (omega arith) (omega arith)
 
--- they still rise where an occurrence at the lowest position stands before them, or is left out
-RiseFrom-more : (here : Bool) (first : Occurrence) (later : List Occurrence)
-    → RiseFrom first.position
-    (map (λ o. record { position = o.position; value = o.mention.value }) later)
-    → RiseFrom first.position
-    (map (λ o. record { position = o.position; value = o.mention.value })
-    (cond here (first ∷ later) later))
-RiseFrom-more true first later rise = (omega arith, rise)
-RiseFrom-more false first later rise = rise
-
 -- the occurrences of one item rise from its position, where the later ones do
 RiseFrom-item : (place position : ℕ) (told : List Mention) (later : List Occurrence)
     → RiseFrom position (found_at place later)
-    → RiseFrom position (found_at place (map (occurrence_at position) told ++ later))
+    → RiseFrom position (found_at place (map (at_position position) told ++ later))
 RiseFrom-item place position [] later rise = rise
-RiseFrom-item place position (first ∷ told) later rise = RiseFrom-more (first.group == place)
-    (occurrence_at position first) _ (RiseFrom-item place position told later rise)
+RiseFrom-item place position (first ∷ told) later rise =
+    let after = RiseFrom-item place position told later rise in
+    elim (cases_Bool (first.group == place)) [ inl here ↦ rw here (omega arith, after) | inr other ↦ rw other after ]
 
 -- the occurrences of items rise from the first position
 RiseFrom-items : (grammar : Grammar) (place before : ℕ) (items : List Item)

@@ -1,23 +1,24 @@
 -- Positions: how many words items spell, which occurrences are one higher, and what stands at a
 -- position.
-use Rattle.std.proofs.Common.{◌≡◌, ◌==◌, ℕ, zero, suc, ◌+◌, ◌<◌, ◌≤◌, Bool, true, false, cond, List}
-use Rattle.std.proofs.Common.{[], ◌∷◌, ◌++◌, length, map, refl, ap, ◌∙◌, sym, subst, inl, inr}
-use Rattle.std.proofs.Common.{add-zero, zero-add, arith}
+use Rattle.std.proofs.Common.{◌≡◌, ◌==◌, ℕ, zero, suc, ◌+◌, ◌<◌, ◌≤◌, true, false, List, [], ◌∷◌}
+use Rattle.std.proofs.Common.{◌++◌, length, map, refl, ap, ◌∙◌, sym, subst, inl, inr, add-zero}
+use Rattle.std.proofs.Common.{zero-add, arith}
 use Rattle.std.specs.Prelude.{nat_le, slice_get, Contains}
 use Rattle.std.specs.List.{AllByRecursion, flat_map}
 use Rattle.std.proofs.lemmas.List.{map-append, length-append}
 use Rattle.std.proofs.lemmas.List.Elements.{Contains-append_cases}
+use Rattle.std.proofs.lemmas.Bool.{cases_Bool}
 use Rattle.std.proofs.lemmas.Bool.Decides.{nat_tests}
 use Rattle.getopts.specs.Names.{Text}
 use Rattle.getopts.specs.Options.{Known, Grammar}
 use Rattle.getopts.specs.Scan.{Item, free, long, cluster, item_words, spelled_all, Tail, tail_words}
-use Rattle.getopts.specs.Scan.{Reading, IsReading, Mention, mentions, Occurrence, occurrence_at}
+use Rattle.getopts.specs.Scan.{Reading, IsReading, Mention, mentions, Occurrence, at_position}
 use Rattle.getopts.specs.Scan.{word_count, occurrences_after, occurrences_of}
 use Rattle.getopts.specs.Matches.{Found, found_at, matched}
 use Rattle.getopts.specs.ScanLaws.{mentions_of, positions_in, one_higher_after, StandsInItem}
 use Rattle.getopts.specs.ScanLaws.{PositionsAreWords, HavePositionsBelow}
 use Rattle.getopts.proofs.Lists.{AllByRecursion-append, slice_get-append}
-use Rattle.getopts.proofs.Reading.Readings.{spelled_all-append}
+use Rattle.getopts.proofs.Reading.Readings.{spelled_all-append, spelled_all-joined}
 use Rattle.getopts.proofs.Reading.Turns.{spelled}
 
 -- the words of items, and those that follow
@@ -37,17 +38,17 @@ spells_word (long dashes name argument) more = omega arith
 spells_word (cluster names end) more = omega arith
 
 -- mentions are occurrences without their positions
-mention-occurrence_at : (before : ℕ) (ms : List Mention)
-    → map (λ (o : Occurrence). o.mention) (map (occurrence_at before) ms) ≡ ms
-mention-occurrence_at before [] = refl
-mention-occurrence_at before (m ∷ ms) = ap (λ (others : List Mention). m ∷ others) (mention-occurrence_at before ms)
+mention-at_position : (before : ℕ) (ms : List Mention)
+    → map (λ (o : Occurrence). o.mention) (map (at_position before) ms) ≡ ms
+mention-at_position before [] = refl
+mention-at_position before (m ∷ ms) = ap (λ (others : List Mention). m ∷ others) (mention-at_position before ms)
 
 mention-occurrences_after : (before : ℕ) (grammar : Grammar) (items : List Item)
     → map (λ (o : Occurrence). o.mention) (occurrences_after before grammar items)
     ≡ flat_map (mentions grammar) items
 mention-occurrences_after before grammar [] = refl
 mention-occurrences_after before grammar (item ∷ items) =
-    let here = mention-occurrence_at before (mentions grammar item) in
+    let here = mention-at_position before (mentions grammar item) in
     let after = mention-occurrences_after (before + word_count (item ∷ [])) grammar items in
     simp (map-append, here, after)
 
@@ -68,22 +69,20 @@ position-raised_after position (o ∷ os) = ap (λ (ps : List ℕ). one_higher_a
 
 -- mentions that aren't after this position stay where they are
 raised_after-stays : (at position : ℕ) (told : List Mention) → position ≤ at
-    → map (raised_after at) (map (occurrence_at position) told) ≡ map (occurrence_at position) told
+    → map (raised_after at) (map (at_position position) told) ≡ map (at_position position) told
 raised_after-stays at position [] within = refl
 raised_after-stays at position (first ∷ told) within =
     let here : nat_le position at ≡ true = grind (arith, nat_tests) in
-    ap (λ b. record { mention = first; position = cond b position (position + 1) } ∷ map (raised_after at) (map (occurrence_at position) told)) here
-    ∙ ap (λ (os : List Occurrence). occurrence_at position first ∷ os) (raised_after-stays at position told within)
+    rw (here, raised_after-stays at position told within)
 
 -- mentions after this position are one higher
 raised_after-moves : (at position : ℕ) (told : List Mention) → at < position
-    → map (raised_after at) (map (occurrence_at position) told)
-    ≡ map (occurrence_at (position + 1)) told
+    → map (raised_after at) (map (at_position position) told)
+    ≡ map (at_position (position + 1)) told
 raised_after-moves at position [] past = refl
 raised_after-moves at position (first ∷ told) past =
     let here : nat_le position at ≡ false = grind (arith, nat_tests) in
-    ap (λ b. record { mention = first; position = cond b position (position + 1) } ∷ map (raised_after at) (map (occurrence_at position) told)) here
-    ∙ ap (λ (os : List Occurrence). occurrence_at (position + 1) first ∷ os) (raised_after-moves at position told past)
+    rw (here, raised_after-moves at position told past)
 
 -- the occurrences of items after this position are one higher
 occurrences_after-moves : (grammar : Grammar) (at before : ℕ) (items : List Item) → at < before
@@ -93,11 +92,12 @@ occurrences_after-moves grammar at before [] past = refl
 occurrences_after-moves grammar at before (item ∷ items) past =
     let next = before + word_count (item ∷ []) in
     let later : next + 1 ≡ before + 1 + word_count (item ∷ []) = omega arith in
-    map-append (raised_after at) (map (occurrence_at before) (mentions grammar item)) (occurrences_after next grammar items)
-    ∙ ap (λ (os : List Occurrence). os ++ map (raised_after at) (occurrences_after next grammar items))
-    (raised_after-moves at before (mentions grammar item) past)
-    ∙ ap (λ (os : List Occurrence). map (occurrence_at (before + 1)) (mentions grammar item) ++ os)
-    (occurrences_after-moves grammar at next items (omega arith) ∙ ap (λ n. occurrences_after n grammar items) later)
+    rw (
+      map-append (raised_after at) (map (at_position before) (mentions grammar item)) (occurrences_after next grammar items),
+      raised_after-moves at before (mentions grammar item) past,
+      occurrences_after-moves grammar at next items (omega arith),
+      later,
+    )
 
 -- With an item that spells one word more and mentions the same, the occurrences of later items are
 -- one higher.
@@ -111,30 +111,31 @@ module _ (grammar : Grammar) (item other : Item) (back : List Item)
   occurrences_after-here before =
       let next = before + word_count (item ∷ []) in
       let later : next + 1 ≡ before + word_count (other ∷ []) = omega arith in
-      map-append (raised_after before) (map (occurrence_at before) (mentions grammar item)) (occurrences_after next grammar back)
-      ∙ ap (λ (os : List Occurrence). os ++ map (raised_after before) (occurrences_after next grammar back))
-      (raised_after-stays before before (mentions grammar item) (omega arith))
-      ∙ ap (λ (os : List Occurrence). map (occurrence_at before) (mentions grammar item) ++ os)
-      (occurrences_after-moves grammar before next back (omega (arith, spells_word item [])) ∙ ap (λ n. occurrences_after n grammar back) later)
-      ∙ ap (λ (told : List Mention). map (occurrence_at before) told ++ occurrences_after (before + word_count (other ∷ [])) grammar back) (sym same)
+      rw (
+        map-append (raised_after before) (map (at_position before) (mentions grammar item)) (occurrences_after next grammar back),
+        raised_after-stays before before (mentions grammar item) (omega arith),
+        occurrences_after-moves grammar before next back (omega (arith, spells_word item [])),
+        later,
+        same,
+      )
 
   -- where items stand before it
   occurrences_after-one_higher : (front : List Item) (before : ℕ)
       → map (raised_after (before + word_count front))
       (occurrences_after before grammar (front ++ item ∷ back))
       ≡ occurrences_after before grammar (front ++ other ∷ back)
-  occurrences_after-one_higher [] before = ap (λ n. map (raised_after n)
-      (occurrences_after before grammar (item ∷ back))) (add-zero before) ∙ occurrences_after-here before
+  occurrences_after-one_higher [] before = rw add-zero (occurrences_after-here before)
   occurrences_after-one_higher (first ∷ front) before =
       let at = before + word_count (first ∷ front) in
       let next = before + word_count (first ∷ []) in
       let same_place : at ≡ next + word_count front = omega (arith, word_count-cons first front) in
-      map-append (raised_after at) (map (occurrence_at before) (mentions grammar first)) (occurrences_after next grammar (front ++ item ∷ back))
-      ∙ ap (λ (os : List Occurrence). os ++ map (raised_after at)
-      (occurrences_after next grammar (front ++ item ∷ back))) (raised_after-stays at before (mentions grammar first)
-      (omega arith))
-      ∙ ap (λ (os : List Occurrence). map (occurrence_at before) (mentions grammar first) ++ os)
-      (ap (λ n. map (raised_after n) (occurrences_after next grammar (front ++ item ∷ back))) same_place ∙ occurrences_after-one_higher front next)
+      rw (
+        map-append (raised_after at) (map (at_position before) (mentions grammar first))
+            (occurrences_after next grammar (front ++ item ∷ back)),
+        raised_after-stays at before (mentions grammar first) (omega arith),
+        same_place,
+        occurrences_after-one_higher front next,
+      )
 
   -- in a whole line
   pub positions_in-one_higher : (front : List Item) (tail : Tail)
@@ -142,10 +143,8 @@ module _ (grammar : Grammar) (item other : Item) (back : List Item)
       ≡ map (one_higher_after (word_count front))
       (positions_in grammar (record { items = front ++ item ∷ back; tail = tail }))
   positions_in-one_higher front tail =
-      ap (map (λ (o : Occurrence). o.position))
-      (sym (occurrences_after-one_higher front 0) ∙ ap (λ n. map (raised_after n)
-      (occurrences_after 0 grammar (front ++ item ∷ back))) (zero-add (word_count front)))
-      ∙ position-raised_after (word_count front) (occurrences_after 0 grammar (front ++ item ∷ back))
+      let whole = rw zero-add at (occurrences_after-one_higher front 0) in
+      rw (← whole) (position-raised_after (word_count front) (occurrences_after 0 grammar (front ++ item ∷ back)))
 
 -- the item of an occurrence, among items with so many words before them
 record IsOfItem (grammar : Grammar) (first : ℕ) (items : List Item)
@@ -155,7 +154,7 @@ record IsOfItem (grammar : Grammar) (first : ℕ) (items : List Item)
   after : List Item
   items_are : items ≡ before ++ item ∷ after
   mentioned : Contains
-      (map (occurrence_at (first + word_count before)) (mentions grammar item)) occurrence
+      (map (at_position (first + word_count before)) (mentions grammar item)) occurrence
 
 -- an occurrence of the later items is one of all
 IsOfItem-later : (grammar : Grammar) (first : ℕ) (item : Item) (items : List Item)
@@ -169,7 +168,7 @@ IsOfItem-later grammar first item items occurrence found =
       item = found.item;
       after = found.after;
       items_are = ap (λ (more : List Item). item ∷ more) found.items_are;
-      mentioned = subst (λ n. Contains (map (occurrence_at n) (mentions grammar found.item)) occurrence) place found.mentioned;
+      mentioned = subst (λ n. Contains (map (at_position n) (mentions grammar found.item)) occurrence) place found.mentioned;
     }
 
 -- each occurrence is of an item
@@ -178,14 +177,14 @@ IsOfItem-from_contains : (grammar : Grammar) (first : ℕ) (items : List Item)
     → IsOfItem grammar first items occurrence
 IsOfItem-from_contains grammar first [] occurrence held = absurd (omega (arith, held.1))
 IsOfItem-from_contains grammar first (item ∷ items) occurrence held =
-    elim (Contains-append_cases (map (occurrence_at first) (mentions grammar item))
+    elim (Contains-append_cases (map (at_position first) (mentions grammar item))
     (occurrences_after (first + word_count (item ∷ [])) grammar items) occurrence held) [
       | inl here ↦ record {
         before = [];
         item = item;
         after = items;
         items_are = refl;
-        mentioned = subst (λ n. Contains (map (occurrence_at n) (mentions grammar item)) occurrence) (sym (add-zero first)) here;
+        mentioned = subst (λ n. Contains (map (at_position n) (mentions grammar item)) occurrence) (sym (add-zero first)) here;
       }
       | inr later ↦ IsOfItem-later grammar first item items occurrence
           (IsOfItem-from_contains grammar (first + word_count (item ∷ [])) items occurrence later)
@@ -193,7 +192,7 @@ IsOfItem-from_contains grammar first (item ∷ items) occurrence held =
 
 -- what is mentioned at a position has it
 position-mentioned : (position : ℕ) (told : List Mention) (occurrence : Occurrence)
-    → Contains (map (occurrence_at position) told) occurrence → occurrence.position ≡ position
+    → Contains (map (at_position position) told) occurrence → occurrence.position ≡ position
 position-mentioned position [] occurrence held = absurd (omega (arith, held.1))
 position-mentioned position (first ∷ told) occurrence (zero, below, is) = ap (λ (o : Occurrence). o.position) (sym is)
 position-mentioned position (first ∷ told) occurrence (suc k, below, is) = position-mentioned position told occurrence (k, omega arith, is)
@@ -205,15 +204,6 @@ first_word-spelled (free word) more = refl
 first_word-spelled (long dashes name argument) more = refl
 first_word-spelled (cluster names end) more = refl
 
--- the words of a line with an item in the middle
-spelled_all-middle : (front back : List Item) (item : Item) (more : List Text)
-    → spelled_all (front ++ item ∷ back) more
-    ≡ spelled_all front [] ++ spelled item (spelled_all back more)
-spelled_all-middle [] back item more = refl
-spelled_all-middle (first ∷ front) back item more =
-    ap (spelled first) (spelled_all-middle front back item more) ∙ spelled_all-append (first ∷ [])
-    (spelled_all front []) (spelled item (spelled_all back more))
-
 -- positions are indexes of words
 pub PositionsAreWords_lem : (grammar : Grammar) → PositionsAreWords grammar
 PositionsAreWords_lem grammar = record { of_occurrence = stands } where
@@ -222,14 +212,15 @@ PositionsAreWords_lem grammar = record { of_occurrence = stands } where
       → StandsInItem grammar reading words occurrence
   stands reading words occurrence reads held =
       let found = IsOfItem-from_contains grammar 0 reading.items occurrence held in
-      let mentioned : Contains (map (occurrence_at (word_count found.before)) (mentions grammar found.item)) occurrence =
-      subst (λ n. Contains (map (occurrence_at n) (mentions grammar found.item)) occurrence) (zero-add (word_count found.before)) found.mentioned in
+      let mentioned : Contains (map (at_position (word_count found.before)) (mentions grammar found.item)) occurrence =
+      subst (λ n. Contains (map (at_position n) (mentions grammar found.item)) occurrence) (zero-add (word_count found.before)) found.mentioned in
       let here : occurrence.position ≡ word_count found.before = position-mentioned (word_count found.before)
       (mentions grammar found.item) occurrence mentioned in
       let more = spelled_all found.after (tail_words reading.tail) in
       let words_are : words ≡ spelled_all found.before [] ++ spelled found.item more =
       sym reads.spells ∙ ap (λ (items : List Item). spelled_all items (tail_words reading.tail)) found.items_are
-      ∙ spelled_all-middle found.before found.after found.item (tail_words reading.tail) in
+      ∙ spelled_all-joined found.before (found.item ∷ found.after) (tail_words reading.tail)
+      ∙ spelled_all-append found.before [] (spelled found.item more) in
       record {
         before = found.before;
         item = found.item;
@@ -250,7 +241,7 @@ PositionsAreWords_lem grammar = record { of_occurrence = stands } where
 
 -- mentions at a position are below what the position is below
 below-mentioned : (count position : ℕ) (told : List Mention) → position < count
-    → AllByRecursion (λ o. o.position < count) (map (occurrence_at position) told)
+    → AllByRecursion (λ o. o.position < count) (map (at_position position) told)
 below-mentioned count position [] below = tt
 below-mentioned count position (first ∷ told) below = (below, below-mentioned count position told below)
 
@@ -261,29 +252,19 @@ below-occurrences_after : (grammar : Grammar) (count before : ℕ) (items : List
 below-occurrences_after grammar count before [] within = tt
 below-occurrences_after grammar count before (item ∷ items) within =
     let words = word_count-cons item items in
-    AllByRecursion-append (λ o. o.position < count) (map (occurrence_at before) (mentions grammar item))
+    AllByRecursion-append (λ o. o.position < count) (map (at_position before) (mentions grammar item))
     (occurrences_after (before + word_count (item ∷ [])) grammar items)
     (below-mentioned count before (mentions grammar item) (omega (arith, words, spells_word item [])))
     (below-occurrences_after grammar count (before + word_count (item ∷ [])) items (omega (arith, words)))
-
--- the occurrences of one group are, where the first is one of them or not
-below-kept : (count : ℕ) (here : Bool) (first : Occurrence) (later : List Occurrence)
-    → first.position < count
-    → AllByRecursion (λ (found : Found). found.position < count)
-    (map (λ (o : Occurrence). record { position = o.position; value = o.mention.value }) later)
-    → AllByRecursion (λ (found : Found). found.position < count)
-    (map (λ (o : Occurrence). record { position = o.position; value = o.mention.value })
-    (cond here (first ∷ later) later))
-below-kept count true first later below all = (below, all)
-below-kept count false first later below all = all
 
 -- the occurrences of one group are
 below-found_at : (count place : ℕ) (occurrences : List Occurrence)
     → AllByRecursion (λ o. o.position < count) occurrences
     → AllByRecursion (λ (found : Found). found.position < count) (found_at place occurrences)
 below-found_at count place [] all = tt
-below-found_at count place (first ∷ occurrences) all = below-kept count (first.mention.group == place) first _ all.0
-    (below-found_at count place occurrences all.1)
+below-found_at count place (first ∷ occurrences) all =
+    let later = below-found_at count place occurrences all.1 in
+    elim (cases_Bool (first.mention.group == place)) [ inl here ↦ rw here (all.0, later) | inr other ↦ rw other later ]
 
 -- the occurrences of a reading are
 below-occurrences_of : (grammar : Grammar) (reading : Reading) (words : List Text)

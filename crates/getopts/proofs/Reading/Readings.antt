@@ -1,39 +1,37 @@
 -- Whole lines: `read` gives the one reading of a line, or its one fault.
 use Rattle.std.proofs.Common.{◌≡◌, ◌⊎◌, List, [], ◌∷◌, ◌++◌, drop, Result, Ok, Err, refl, sym, ap}
-use Rattle.std.proofs.Common.{◌∙◌, subst, inl, inr}
+use Rattle.std.proofs.Common.{◌∙◌, subst, inl, inr, append_assoc, append-nil}
 use Rattle.std.specs.List.{AllByRecursion}
 use Rattle.std.specs.Str.{IsUtf8}
 use Rattle.getopts.specs.Names.{Text, AreTexts}
 use Rattle.getopts.specs.Options.{Grammar}
 use Rattle.getopts.specs.Fail.{Fault}
-use Rattle.getopts.specs.Scan.{stop_word, none, attached, separate, flags, ends_in, Item, free}
-use Rattle.getopts.specs.Scan.{long, cluster, spelled_all, IsLawfulItem, EndsOrIsDashed}
-use Rattle.getopts.specs.Scan.{AreWellFollowed, Tail, line_end, stop, rest, tail_words}
-use Rattle.getopts.specs.Scan.{IsLawfulTail, Reading, IsReading, BeginsWith, IsFaultAt, IsScanFault}
+use Rattle.getopts.specs.Scan.{stop_word, Argument, separate, Item, free, long, cluster}
+use Rattle.getopts.specs.Scan.{argument_words, item_words, spelled_all, IsLawfulItem}
+use Rattle.getopts.specs.Scan.{EndsOrIsDashed, AreWellFollowed, Tail, line_end, stop, rest}
+use Rattle.getopts.specs.Scan.{tail_words, IsLawfulTail, Reading, IsReading, BeginsWith, IsFaultAt}
+use Rattle.getopts.specs.Scan.{IsScanFault}
 use Rattle.getopts.specs.declared.groups.ParsingStyle.{ParsingStyle}
 use Rattle.getopts.proofs.Lists.{AllByRecursion-right}
-use Rattle.getopts.proofs.Reading.Turns.{IsNamed, Turn, ends, takes_one, takes_two, faults, turn}
-use Rattle.getopts.proofs.Reading.Turns.{spelled, free_turn, with_item, after_turn, read_both, read}
+use Rattle.getopts.specs.Held.Turn.{Turn, ends, takes, faults}
+use Rattle.getopts.proofs.Reading.Turns.{IsNamed, turn, spelled, free_turn, with_items, after_turn}
+use Rattle.getopts.proofs.Reading.Turns.{read_both, read}
 use Rattle.getopts.proofs.Reading.Steps.{TakesItem, spelled_turn, fault_turn, fault_dashed}
-use Rattle.getopts.proofs.Reading.Steps.{turn_free}
-use Rattle.getopts.proofs.Reading.Steps.{turn_stop, IsSoundTurn, turn_sound}
+use Rattle.getopts.proofs.Reading.Steps.{turn_free, turn_stop, IsSoundTurn, turn_sound}
 
 -- One step of `read`, by the turn of the first word.
 module _ (grammar : Grammar) (word : Text) (more : List Text) where
-  -- an item of this word
-  pub read_one : (item : Item) → turn grammar word more ≡ takes_one item
-      → read grammar (word ∷ more) ≡ with_item item (read grammar more)
+  -- an item, and the words that follow it
+  pub read_item : (item : Item) (argument : Argument) (others : List Text)
+      → turn grammar word more ≡ takes item argument → more ≡ argument_words argument ++ others
+      → read grammar (word ∷ more) ≡ with_items (item ∷ []) (read grammar others)
   unfolding read
-  read_one item e = ap (λ (t : Turn). after_turn t (read_both grammar more).0 (read_both grammar more).1) e
-
-  -- an item of this word and the next
-  pub read_two : (item : Item) (next : Text) (others : List Text) → more ≡ next ∷ others
-      → turn grammar word more ≡ takes_two item
-      → read grammar (word ∷ more) ≡ with_item item (read grammar others)
-  unfolding read
-  read_two item next others e said =
+  read_item item (separate next) others said e =
       ap (λ (t : Turn). after_turn t (read_both grammar more).0 (read_both grammar more).1) said
-      ∙ ap (λ (line : List Text). with_item item (read_both grammar line).1) e
+      ∙ ap (λ (line : List Text). with_items (item ∷ []) (read_both grammar line).1) e
+  read_item item argument others said e =
+      ap (λ (t : Turn). after_turn t (read_both grammar more).0 (read_both grammar more).1) said
+      ∙ ap (λ (line : List Text). with_items (item ∷ []) (read_both grammar line).0) e
 
   -- the tail of the line
   pub read_tail : (tail : Tail) → turn grammar word more ≡ ends tail
@@ -55,38 +53,31 @@ read_nil grammar = refl
 -- an item that the turn takes stands before what the words after it give
 pub taken_read : (grammar : Grammar) (words : List Text) (item : Item) (others : List Text)
     → TakesItem grammar words item others
-    → read grammar words ≡ with_item item (read grammar others)
-taken_read grammar [] item others takes = absurd takes
-taken_read grammar (word ∷ more) item others (inl here) =
-    read_one grammar word more item here.0 ∙ ap (λ (line : List Text). with_item item (read grammar line)) here.1
-taken_read grammar (word ∷ more) item others (inr here) = read_two grammar word more item here.1 others here.2 here.0
+    → read grammar words ≡ with_items (item ∷ []) (read grammar others)
+taken_read grammar [] item others taken = absurd taken
+taken_read grammar (word ∷ more) item others taken = read_item grammar word more item taken.0 others taken.1 taken.2
 
--- a reading with more items at its front
-abbrev pub with_items : List Item → Result Reading Fault → Result Reading Fault
-with_items [] outcome = outcome
-with_items (item ∷ items) outcome = with_item item (with_items items outcome)
+-- no item before an outcome
+pub with_items-none : (outcome : Result Reading Fault) → outcome ≡ with_items [] outcome
+with_items-none (Ok reading) = refl
+with_items-none (Err fault) = refl
+
+-- items before others
+pub with_items-append : (items others : List Item) (outcome : Result Reading Fault)
+    → with_items (items ++ others) outcome ≡ with_items items (with_items others outcome)
+with_items-append items others (Ok reading) = rw append_assoc refl
+with_items-append items others (Err fault) = refl
 
 -- lawful items stand before what the words after them give
 pub items_read : (grammar : Grammar) → IsNamed grammar → (items : List Item) (more : List Text)
     → AllByRecursion (IsLawfulItem grammar) items → AreWellFollowed items more
     → read grammar (spelled_all items more) ≡ with_items items (read grammar more)
-items_read grammar named [] more lawful followed = refl
+items_read grammar named [] more lawful followed = with_items-none (read grammar more)
 items_read grammar named (item ∷ items) more lawful followed =
     taken_read grammar (spelled item (spelled_all items more)) item (spelled_all items more)
     (spelled_turn grammar named item (spelled_all items more) lawful.0 followed.0)
-    ∙ ap (with_item item) (items_read grammar named items more lawful.1 followed.1)
-
--- items before a tail
-with_items-tail : (items : List Item) (tail : Tail)
-    → with_items items (Ok (record { items = []; tail = tail }))
-    ≡ Ok (record { items = items; tail = tail })
-with_items-tail [] tail = refl
-with_items-tail (item ∷ items) tail = ap (with_item item) (with_items-tail items tail)
-
--- items before a fault
-with_items-fault : (items : List Item) (fault : Fault) → with_items items (Err fault) ≡ Err fault
-with_items-fault [] fault = refl
-with_items-fault (item ∷ items) fault = ap (with_item item) (with_items-fault items fault)
+    ∙ ap (with_items (item ∷ [])) (items_read grammar named items more lawful.1 followed.1)
+    ∙ sym (with_items-append (item ∷ []) items (read grammar more))
 
 -- a lawful tail
 tail_read : (grammar : Grammar) (tail : Tail) → IsLawfulTail grammar tail
@@ -105,25 +96,21 @@ reading_read grammar named reading words is =
     ap (read grammar) (sym is.spells)
     ∙ items_read grammar named reading.items (tail_words reading.tail) is.items is.followed
     ∙ ap (with_items reading.items) (tail_read grammar reading.tail is.tail)
-    ∙ with_items-tail reading.items reading.tail
-
--- words after what an item spells
-pub spelled-append : (item : Item) (xs ys : List Text)
-    → spelled item (xs ++ ys) ≡ spelled item xs ++ ys
-spelled-append (free word) xs ys = refl
-spelled-append (long dashes name none) xs ys = refl
-spelled-append (long dashes name (attached argument)) xs ys = refl
-spelled-append (long dashes name (separate word)) xs ys = refl
-spelled-append (cluster names flags) xs ys = refl
-spelled-append (cluster names (ends_in option none)) xs ys = refl
-spelled-append (cluster names (ends_in option (attached argument))) xs ys = refl
-spelled-append (cluster names (ends_in option (separate word))) xs ys = refl
+    ∙ rw append-nil refl
 
 -- words after what items spell
 pub spelled_all-append : (items : List Item) (xs ys : List Text)
     → spelled_all items (xs ++ ys) ≡ spelled_all items xs ++ ys
 spelled_all-append [] xs ys = refl
-spelled_all-append (item ∷ items) xs ys = ap (spelled item) (spelled_all-append items xs ys) ∙ spelled-append item (spelled_all items xs) ys
+spelled_all-append (item ∷ items) xs ys =
+    ap (spelled item) (spelled_all-append items xs ys)
+    ∙ sym (append_assoc (item_words item) (spelled_all items xs) ys)
+
+-- the words of two lists of items
+pub spelled_all-joined : (items others : List Item) (more : List Text)
+    → spelled_all (items ++ others) more ≡ spelled_all items (spelled_all others more)
+spelled_all-joined [] others more = refl
+spelled_all-joined (item ∷ items) others more = ap (spelled item) (spelled_all-joined items others more)
 
 -- the first word of an item is the same whatever follows it
 pub EndsOrIsDashed-spelled : (item : Item) (words others : List Text)
@@ -165,7 +152,6 @@ fault_read grammar named words fault texts is =
     ap (read grammar) line
     ∙ items_read grammar named is.items (is.word ∷ is.after) is.reads.items followed
     ∙ ap (with_items is.items) (read_error grammar is.word is.after fault (fault_turn grammar named is.word is.after fault utf8.0 is.fault_at))
-    ∙ with_items-fault is.items fault
 
 -- The laws of a line: at most one reading, at most one fault, and never both.
 module _ (grammar : Grammar) (named : IsNamed grammar) (words : List Text) where
@@ -192,14 +178,13 @@ module _ (grammar : Grammar) (named : IsNamed grammar) (words : List Text) where
       let read_r = reading_read grammar named r words reading in
       cc
 
--- What an outcome says of a line is so: it has this reading, or, where its words are texts, this
--- fault.
+-- What an outcome says of a line is so: it has this reading, or this fault.
 abbrev pub IsSoundOutcome : Grammar → List Text → Result Reading Fault → Type 0
 IsSoundOutcome grammar words (Ok reading) = IsReading grammar reading words
-IsSoundOutcome grammar words (Err fault) = AreTexts words → IsScanFault grammar words fault
+IsSoundOutcome grammar words (Err fault) = IsScanFault grammar words fault
 
 -- a reading of the words after an item, with the item
-pub reading_step : (grammar : Grammar) (words : List Text) (item : Item) (others : List Text)
+reading_step : (grammar : Grammar) (words : List Text) (item : Item) (others : List Text)
     (reading : Reading) → BeginsWith grammar words item others → IsReading grammar reading others
     → IsReading grammar (record { items = item ∷ reading.items; tail = reading.tail }) words
 reading_step grammar words item others reading begins is = record {
@@ -210,7 +195,7 @@ reading_step grammar words item others reading begins is = record {
 }
 
 -- a fault of the words after an item is a fault of the line
-pub fault_step : (grammar : Grammar) (words : List Text) (item : Item) (others : List Text)
+fault_step : (grammar : Grammar) (words : List Text) (item : Item) (others : List Text)
     (fault : Fault) → BeginsWith grammar words item others → IsScanFault grammar others fault
     → IsScanFault grammar words fault
 fault_step grammar words item others fault begins is = record {
@@ -218,7 +203,7 @@ fault_step grammar words item others fault begins is = record {
   word = is.word;
   after = is.after;
   items = item ∷ is.items;
-  words_are = begins.spells ∙ ap (spelled item) is.words_are ∙ spelled-append item is.before (is.word ∷ is.after);
+  words_are = begins.spells ∙ ap (spelled item) is.words_are ∙ sym (append_assoc (item_words item) is.before (is.word ∷ is.after));
   reads = record {
     spells = ap (spelled item) is.reads.spells;
     items = (begins.lawful, is.reads.items);
@@ -235,10 +220,10 @@ fault_step grammar words item others fault begins is = record {
 -- an item before an outcome
 item_sound : (grammar : Grammar) (words : List Text) (item : Item) (others : List Text)
     (outcome : Result Reading Fault) → BeginsWith grammar words item others
-    → (AreTexts words → AreTexts others) → IsSoundOutcome grammar others outcome
-    → IsSoundOutcome grammar words (with_item item outcome)
-item_sound grammar words item others (Ok reading) begins texts sound = reading_step grammar words item others reading begins sound
-item_sound grammar words item others (Err fault) begins texts sound = λ whole. fault_step grammar words item others fault begins (sound (texts whole))
+    → IsSoundOutcome grammar others outcome
+    → IsSoundOutcome grammar words (with_items (item ∷ []) outcome)
+item_sound grammar words item others (Ok reading) begins sound = reading_step grammar words item others reading begins sound
+item_sound grammar words item others (Err fault) begins sound = fault_step grammar words item others fault begins sound
 
 -- a line that is a tail
 tail_sound : (grammar : Grammar) (words : List Text) (tail : Tail) → IsLawfulTail grammar tail
@@ -260,60 +245,49 @@ fault_here grammar word more fault at = record {
 
 -- the outcome of a line, by the turn of its first word
 after_turn_sound : (grammar : Grammar) (word : Text) (more : List Text) (said : Turn)
-    (after_one after_two : Result Reading Fault) → IsSoundTurn grammar word more said
+    (after_one after_two : Result Reading Fault) → IsUtf8 word → IsSoundTurn grammar word more said
     → IsSoundOutcome grammar more after_one → IsSoundOutcome grammar (drop 1 more) after_two
     → IsSoundOutcome grammar (word ∷ more) (after_turn said after_one after_two)
-after_turn_sound grammar word more (ends tail) after_one after_two sound one_sound two_sound = tail_sound grammar (word ∷ more) tail sound.0 sound.1
-after_turn_sound grammar word more (takes_one item) after_one after_two sound one_sound two_sound =
-    item_sound grammar (word ∷ more) item more after_one sound (λ texts. texts.1) one_sound
-after_turn_sound grammar word more (takes_two item) after_one after_two sound one_sound two_sound =
-    item_sound grammar (word ∷ more) item sound.1 after_two sound.3
-    (λ texts. let next_texts : AreTexts (sound.0 ∷ sound.1) = subst AreTexts sound.2 texts.1 in next_texts.1)
-    (subst (λ (line : List Text). IsSoundOutcome grammar (drop 1 line) after_two) sound.2 two_sound)
-after_turn_sound grammar word more (faults fault) after_one after_two sound one_sound two_sound =
-    λ texts. fault_here grammar word more fault (sound texts.0)
+after_turn_sound grammar word more (ends tail) after_one after_two utf8 sound one_sound two_sound =
+    tail_sound grammar (word ∷ more) tail sound.0 sound.1
+after_turn_sound grammar word more (takes item (separate next)) after_one after_two utf8 sound one_sound two_sound =
+    item_sound grammar (word ∷ more) item sound.0 after_two sound.2
+    (subst (λ (line : List Text). IsSoundOutcome grammar (drop 1 line) after_two) sound.1 two_sound)
+after_turn_sound grammar word more (takes item argument) after_one after_two utf8 sound one_sound two_sound =
+    item_sound grammar (word ∷ more) item sound.0 after_one sound.2
+    (subst (λ (line : List Text). IsSoundOutcome grammar line after_one) sound.1 one_sound)
+after_turn_sound grammar word more (faults fault) after_one after_two utf8 sound one_sound two_sound =
+    fault_here grammar word more fault (sound utf8)
 
 -- the outcomes of a line and of the line without its first word
-both_sound : (grammar : Grammar) → IsNamed grammar → (words : List Text)
+both_sound : (grammar : Grammar) → IsNamed grammar → (words : List Text) → AreTexts words
     → IsSoundOutcome grammar words (read_both grammar words).0
     × IsSoundOutcome grammar (drop 1 words) (read_both grammar words).1
 unfolding read_both
-both_sound grammar named [] = (tail_sound grammar [] line_end tt refl, tail_sound grammar [] line_end tt refl)
-both_sound grammar named (word ∷ more) =
+both_sound grammar named [] texts = (tail_sound grammar [] line_end tt refl, tail_sound grammar [] line_end tt refl)
+both_sound grammar named (word ∷ more) texts =
     let after : IsSoundOutcome grammar more (read_both grammar more).0 × IsSoundOutcome grammar (drop 1 more)
-    (read_both grammar more).1 = both_sound grammar named more in (
+    (read_both grammar more).1 = both_sound grammar named more texts.1 in (
       after_turn_sound grammar word more (turn grammar word more) (read_both grammar more).0 (read_both grammar more).1
-          (turn_sound grammar named word more) after.0 after.1,
+          texts.0 (turn_sound grammar named word more) after.0 after.1,
       after.0,
     )
 
--- what `read` gives for a line
-pub read_sound : (grammar : Grammar) → IsNamed grammar → (words : List Text)
-    → IsSoundOutcome grammar words (read grammar words)
+-- what `read` gives for a line of texts is so
+pub read_sound : (grammar : Grammar) → IsNamed grammar → (words : List Text) → AreTexts words
+    → (outcome : Result Reading Fault) → read grammar words ≡ outcome
+    → IsSoundOutcome grammar words outcome
 unfolding read
-read_sound grammar named words = (both_sound grammar named words).0
-
--- a reading that `read` gives is one of the line
-pub read_reading : (grammar : Grammar) → IsNamed grammar → (words : List Text) (reading : Reading)
-    → read grammar words ≡ Ok reading → IsReading grammar reading words
-read_reading grammar named words reading e = subst (λ (o : Result Reading Fault). IsSoundOutcome grammar words o) e (read_sound grammar named words)
-
--- a fault that `read` gives is one of the line
-pub read_fault : (grammar : Grammar) → IsNamed grammar → (words : List Text) (fault : Fault)
-    → AreTexts words → read grammar words ≡ Err fault → IsScanFault grammar words fault
-read_fault grammar named words fault texts e =
-    let sound : IsSoundOutcome grammar words (Err fault) =
-    subst (λ (o : Result Reading Fault). IsSoundOutcome grammar words o) e
-    (read_sound grammar named words) in
-    sound texts
+read_sound grammar named words texts outcome e =
+    subst (λ (o : Result Reading Fault). IsSoundOutcome grammar words o) e (both_sound grammar named words texts).0
 
 -- a line of texts has a reading or a fault
 pub reading_or_fault : (grammar : Grammar) → IsNamed grammar → (words : List Text) → AreTexts words
     → ((reading : Reading) × IsReading grammar reading words)
     ⊎ ((fault : Fault) × IsScanFault grammar words fault)
-reading_or_fault grammar named words texts = by_outcome (read grammar words) (read_sound grammar named words) where
+reading_or_fault grammar named words texts = by_outcome (read grammar words) (read_sound grammar named words texts _ refl) where
   by_outcome : (outcome : Result Reading Fault) → IsSoundOutcome grammar words outcome
       → ((reading : Reading) × IsReading grammar reading words)
       ⊎ ((fault : Fault) × IsScanFault grammar words fault)
   by_outcome (Ok reading) sound = inl (reading, sound)
-  by_outcome (Err fault) sound = inr (fault, sound texts)
+  by_outcome (Err fault) sound = inr (fault, sound)

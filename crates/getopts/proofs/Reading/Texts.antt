@@ -1,12 +1,13 @@
 -- Texts alone: a text in long form, cut at its first `=`.
 use Rattle.std.proofs.Common.{◌≡◌, ◌≢◌, ◌==◌, ℕ, ◌<◌, ◌≤◌, true, false, List, [], ◌∷◌, ◌++◌, length}
-use Rattle.std.proofs.Common.{Option, Some, None, refl, sym, ap, ◌∙◌, subst, inl, inr, arith}
-use Rattle.std.proofs.Common.{one-add, add-one, encode_utf8}
+use Rattle.std.proofs.Common.{Option, Some, None, refl, sym, ap, subst, inl, inr, arith}
+use Rattle.std.proofs.Common.{encode_utf8}
 use Rattle.std.proofs.lemmas.Bool.{cases_Bool, cases_lt, eqb-true, or_parts, and_parts}
 use Rattle.getopts.specs.Names.{Text}
-use Rattle.getopts.specs.Scan.{equals_sign, begins_with_dash, holds_equals, with_equals, dash}
+use Rattle.getopts.specs.Scan.{equals_sign, begins_with_dash, holds_equals, dash}
+use Rattle.getopts.specs.Held.Turn.{with_equals}
 use Rattle.getopts.specs.Scan.{is_dashed}
-use Rattle.getopts.proofs.Reading.Turns.{long_name, long_argument, first_char}
+use Rattle.getopts.specs.Held.Turn.{cut_at_equals, first_char}
 use Rattle.std.specs.List.{AllByRecursion}
 use Rattle.std.specs.Char.{IsScalar}
 use Rattle.std.specs.Str.{IsUtf8, chars}
@@ -15,49 +16,31 @@ use Rattle.std.proofs.lemmas.Str.{char_from_byte, byte_from_char, length-encode}
 use Rattle.std.proofs.lemmas.Bool.Decides.{nat_tests}
 use lib.Utf8.{scalars, encodes, encode, scalar as scalar_test}
 
--- a byte other than `=` belongs to the name
-long_name-cons : (c : ℕ) (text : Text) → (c == equals_sign) ≡ false
-    → long_name (c ∷ text) ≡ c ∷ long_name text
-long_name-cons c text other = rw (other, one-add)
-
--- a byte other than `=` leaves the argument as it is
-long_argument-cons : (c : ℕ) (text : Text) → (c == equals_sign) ≡ false
-    → long_argument (c ∷ text) ≡ long_argument text
-long_argument-cons c text other = rw (other, one-add, add-one, add-one)
-
 -- a text in long form is its name, and `=` and its argument where it has one
-pub name-append-argument : (text : Text) → long_name text ++ with_equals (long_argument text) ≡ text
-name-append-argument [] = refl
-name-append-argument (c ∷ text) = elim (cases_Bool (c == equals_sign)) [
+pub cut_at_equals-joined : (text : Text)
+    → (cut_at_equals text).0 ++ with_equals (cut_at_equals text).1 ≡ text
+cut_at_equals-joined [] = refl
+cut_at_equals-joined (c ∷ text) = elim (cases_Bool (c == equals_sign)) [
   | inl here ↦ rw (eqb-true c equals_sign here) refl
-  | inr other ↦ rw (long_name-cons c text other, long_argument-cons c text other) (ap (λ (rest : Text). c ∷ rest) (name-append-argument text))
+  | inr other ↦ rw other (ap (λ (rest : Text). c ∷ rest) (cut_at_equals-joined text))
 ]
 
 -- the name in a text in long form holds no `=`
-pub holds_equals-long_name : (text : Text) → holds_equals (long_name text) ≡ false
-holds_equals-long_name [] = refl
-holds_equals-long_name (c ∷ text) = elim (cases_Bool (c == equals_sign)) [
+pub holds_equals-name : (text : Text) → holds_equals (cut_at_equals text).0 ≡ false
+holds_equals-name [] = refl
+holds_equals-name (c ∷ text) = elim (cases_Bool (c == equals_sign)) [
   | inl here ↦ rw (eqb-true c equals_sign here) refl
-  | inr other ↦ rw (long_name-cons c text other, other) (holds_equals-long_name text)
+  | inr other ↦ rw (other, other) (holds_equals-name text)
 ]
 
--- the name is what stands before `=`, where it holds none
-pub long_name-append : (name : Text) (argument : Option Text) → holds_equals name ≡ false
-    → long_name (name ++ with_equals argument) ≡ name
-long_name-append [] None plain = refl
-long_name-append [] (Some argument) plain = refl
-long_name-append (c ∷ name) argument plain =
+-- the name is what stands before `=`, where it holds none, and the argument what stands after it
+pub cut_at_equals-append : (name : Text) (argument : Option Text) → holds_equals name ≡ false
+    → cut_at_equals (name ++ with_equals argument) ≡ (name, argument)
+cut_at_equals-append [] None plain = refl
+cut_at_equals-append [] (Some argument) plain = refl
+cut_at_equals-append (c ∷ name) argument plain =
     let parts = or_parts (c == equals_sign) (holds_equals name) plain in
-    long_name-cons c (name ++ with_equals argument) parts.0 ∙ ap (λ (rest : Text). c ∷ rest) (long_name-append name argument parts.1)
-
--- the argument is what stands after that `=`
-pub long_argument-append : (name : Text) (argument : Option Text) → holds_equals name ≡ false
-    → long_argument (name ++ with_equals argument) ≡ argument
-long_argument-append [] None plain = refl
-long_argument-append [] (Some argument) plain = refl
-long_argument-append (c ∷ name) argument plain =
-    let parts = or_parts (c == equals_sign) (holds_equals name) plain in
-    long_argument-cons c (name ++ with_equals argument) parts.0 ∙ long_argument-append name argument parts.1
+    rw (parts.0, cut_at_equals-append name argument parts.1) refl
 
 -- a text that begins with a name begins with a dash only where the name does
 pub begins_with_dash-append : (name : Text) (argument : Option Text) → begins_with_dash name ≡ false

@@ -1,113 +1,77 @@
--- The item that a word in long form begins, by its name, its kind and its argument.
-use Rattle.std.proofs.Common.{◌≡◌, ℕ, ◌≤◌, false, List, [], ◌∷◌, ◌++◌, length, drop, Option, Some}
-use Rattle.std.proofs.Common.{None, refl, ap, ◌∙◌, subst, zero-le, slice_get, arith, Bor}
-use Rattle.getopts.specs.Names.{Text}
+-- The option that a word in long form begins, by its name, its kind and its argument.
+use Rattle.std.proofs.Common.{◌≡◌, ℕ, false, List, [], ◌∷◌, ◌++◌, length, drop, Option, Some, None}
+use Rattle.std.proofs.Common.{Ok, refl, ap, ◌∙◌, slice_get, Bor, eqb}
+use Rattle.getopts.specs.Names.{Text, texts}
 use Rattle.getopts.specs.Options.{Grammar}
-use Rattle.getopts.specs.Scan.{Argument, none, attached, long, with_equals, attached_argument}
-use Rattle.getopts.specs.Scan.{argument_words, value_of, FitsLong, holds_equals, MayStandBefore}
-use Rattle.getopts.specs.Scan.{dash_text, long_word, IsLongForm}
-use Rattle.getopts.specs.Names.{texts}
-use Rattle.getopts.specs.Scan.{Occurrence}
-use Rattle.getopts.specs.Line.{IsInLongForm, ReadsItem, AddsItem}
+use Rattle.getopts.specs.Scan.{Argument, none, attached, Dashes, long, argument_words}
+use Rattle.getopts.specs.Scan.{value_of, holds_equals, Occurrence, at_position}
+use Rattle.getopts.specs.Fail.{Fault, Tells}
+use Rattle.getopts.specs.Held.Turn.{with_equals, faults, chosen_long, chosen_end, chosen_turn, named_turn, long_turn}
+use Rattle.getopts.specs.Held.Turn.{Chooses, AddsItem}
+use Rattle.getopts.specs.declared.fail.Fail.{Fail}
 use Rattle.getopts.specs.declared.groups.HasArg.{HasArg}
 use Rattle.getopts.specs.declared.groups.HasArg.TheVariants.{Maybe}
-use Rattle.getopts.proofs.Reading.Steps.{before_front}
+use Rattle.getopts.proofs.Parsing.Faults.{Tells-one}
+use Rattle.getopts.proofs.Reading.Steps.{long_turn_cut}
 
--- a word in long form, cut into its name and its attached argument
-pub IsLongForm-cut : (grammar : Grammar) (word text name : Text) (argument : Option Text)
-    → IsInLongForm grammar word text → text ≡ name ++ with_equals argument
-    → holds_equals name ≡ false → IsLongForm grammar word name argument
-IsLongForm-cut grammar word text name argument form text_is cut_once = record {
-  dashes = form.dashes;
-  before = before_front grammar.long_only form.dashes name (with_equals argument)
-      (subst (λ t. MayStandBefore grammar.long_only form.dashes t) text_is form.before);
-  cut_once = cut_once;
-  word_is = form.word_is ∙ ap (λ t. dash_text form.dashes ++ t) text_is;
-  dashed = form.dashed;
-  no_stop = form.no_stop;
-}
+-- an argument that is chosen, with its value and as many words as it has
+pub Chooses-ok : (argument : Argument)
+    → Chooses (Ok argument) (value_of argument) (length (argument_words argument))
+Chooses-ok argument = record { argument = argument; chosen_is = refl; value_is = refl; used_is = refl }
 
--- a name and an argument that its kind may have make an item in long form
-pub ReadsItem-long : (grammar : Grammar) (word text name : Text) (argument : Argument)
-    (kind : HasArg) (place : ℕ) (after : List Text) (position used : ℕ) →
-    IsInLongForm grammar word text → text ≡ name ++ with_equals (attached_argument argument) → holds_equals name ≡ false →
-    grammar.kind_of name ≡ Some kind → grammar.place_of name ≡ Some place → FitsLong kind argument →
-    used ≤ length after → after ≡ argument_words argument ++ drop used after →
-    ReadsItem grammar word after position used (record { mention = record { group = place; value = value_of argument }; position = position } ∷ [])
-ReadsItem-long grammar word text name argument kind place after position used form text_is cut_once kind_is place_is fits within after_is = record {
-  item = long form.dashes name argument;
-  within = within;
-  begins = record {
-    spells = ap (λ w. w ∷ after) (form.word_is ∙ ap (λ t. dash_text form.dashes ++ t) text_is)
-        ∙ ap (λ words. long_word form.dashes name (attached_argument argument) ∷ words) after_is;
-    lawful = record {
-      before = before_front grammar.long_only form.dashes name (with_equals (attached_argument argument))
-          (subst (λ t. MayStandBefore grammar.long_only form.dashes t) text_is form.before);
-      cut_once = cut_once;
-      resolves = (kind, kind_is, fits);
-    };
-    followed = λ bare. cc;
-  };
-  found = rw place_is refl;
-}
+-- an option that may have an argument takes the one that is attached, where there is one
+pub Chooses-maybe : (name : Text) (value : Option Text) (after : List Text)
+    → Chooses (chosen_long Maybe name value after) value 0
+Chooses-maybe name None after = Chooses-ok none
+Chooses-maybe name (Some text) after = Chooses-ok (attached text)
 
--- an attached argument, where there is one
-abbrev pub attached_or_none : Option Text → Argument
-attached_or_none None = none
-attached_or_none (Some argument) = attached argument
+-- an option that ends a cluster takes the text after it, where there is one
+pub Chooses-attached : (kind : HasArg) (name rest : Text) (after : List Text)
+    → eqb (length rest) 0 ≡ false → Chooses (chosen_end kind name rest after) (Some rest) 0
+Chooses-attached kind name [] after filled = cc filled
+Chooses-attached kind name (byte ∷ rest) after filled = Chooses-ok (attached (byte ∷ rest))
 
--- any of these fits an option that may have an argument
-pub FitsLong-maybe : (value : Option Text) → FitsLong Maybe (attached_or_none value)
-FitsLong-maybe None = tt
-FitsLong-maybe (Some argument) = tt
+-- A text in long form, by its name and the argument that is attached.
+module _ (grammar : Grammar) (dashes : Dashes) (text name : Text) (argument : Option Text)
+    (after : List Text) (text_is : text ≡ name ++ with_equals argument)
+    (cut_once : holds_equals name ≡ false) where
+  -- what it gives, by its kind
+  long_turn-named : (kind : Option HasArg) → grammar.kind_of name ≡ kind
+      → long_turn grammar dashes text after ≡ named_turn kind dashes name argument after
+  long_turn-named kind kind_is = ap (λ (t : Text). long_turn grammar dashes t after) text_is
+      ∙ long_turn_cut grammar dashes name argument after kind cut_once kind_is
 
--- a name in long form that uses no further word
-pub ReadsItem-attached : (grammar : Grammar) (word text name : Text) (value : Option Text)
-    (kind : HasArg) (place : ℕ) (after : List Text) (position : ℕ) →
-    IsInLongForm grammar word text → text ≡ name ++ with_equals value → holds_equals name ≡ false →
-    grammar.kind_of name ≡ Some kind → grammar.place_of name ≡ Some place → FitsLong kind (attached_or_none value) →
-    ReadsItem grammar word after position 0 (record { mention = record { group = place; value = value }; position = position } ∷ [])
-ReadsItem-attached grammar word text name None kind place after position form text_is cut_once kind_is place_is fits =
-    ReadsItem-long grammar word text name none kind place after position 0 form text_is cut_once kind_is place_is fits zero-le refl
-ReadsItem-attached grammar word text name (Some argument) kind place after position form text_is cut_once kind_is place_is fits =
-    ReadsItem-long grammar word text name (attached argument) kind place after position 0 form text_is cut_once kind_is place_is fits zero-le refl
+  -- a refusal that tells its fault
+  pub Tells-long : (kind : Option HasArg) → grammar.kind_of name ≡ kind
+      → (fail : Fail) (fault : Fault)
+      → named_turn kind dashes name argument after ≡ faults fault → Tells fail (λ f. f ≡ fault)
+      → Tells fail (λ f. long_turn grammar dashes text after ≡ faults f)
+  Tells-long kind kind_is fail fault is told = Tells-one fail fault
+      (λ f. long_turn grammar dashes text after ≡ faults f) told (long_turn-named kind kind_is ∙ is)
 
--- the same, once its occurrence was added
-pub AddsItem-long : (grammar : Grammar) (word text name : Text) (argument : Argument)
-    (kind : HasArg) (place : ℕ) (after : List Text) (position used : ℕ) (old new : List Occurrence)
-    →
-    IsInLongForm grammar word text → text ≡ name ++ with_equals (attached_argument argument) → holds_equals name ≡ false →
-    grammar.kind_of name ≡ Some kind → grammar.place_of name ≡ Some place → FitsLong kind argument →
-    used ≤ length after → after ≡ argument_words argument ++ drop used after →
-    new ≡ old ++ record { mention = record { group = place; value = value_of argument }; position = position } ∷ [] →
-    AddsItem grammar word after position used old new
-AddsItem-long grammar word text name argument kind place after position used old new form text_is cut_once kind_is
-    place_is fits within after_is added = record {
-      occurrences = record { mention = record { group = place; value = value_of argument }; position = position } ∷ [];
-      reads = ReadsItem-long grammar word text name argument kind place after position used form text_is cut_once
-          kind_is place_is fits within after_is;
-      added = added;
-    }
+  -- an item, once its occurrence was added
+  pub AddsItem-long : (kind : HasArg) (group position used : ℕ) (value : Option Text)
+      (old new : List Occurrence) → grammar.kind_of name ≡ Some kind
+      → grammar.place_of name ≡ Some group
+      → Chooses (chosen_long kind name argument after) value used
+      → new ≡ old ++ at_position position (record { group = group; value = value }) ∷ []
+      → AddsItem grammar (long_turn grammar dashes text after) position used old new
+  AddsItem-long kind group position used value old new kind_is place_is chooses added = record {
+    item = long dashes name chooses.argument;
+    argument = chooses.argument;
+    turn_is = long_turn-named (Some kind) kind_is ∙ ap (chosen_turn (λ a. long dashes name a)) chooses.chosen_is;
+    used_is = chooses.used_is;
+    no_free = refl;
+    added = added ∙ rw (place_is, chooses.value_is) refl;
+  }
 
-pub AddsItem-attached : (grammar : Grammar) (word text name : Text) (value : Option Text)
-    (kind : HasArg) (place : ℕ) (after : List Text) (position : ℕ) (old new : List Occurrence) →
-    IsInLongForm grammar word text → text ≡ name ++ with_equals value → holds_equals name ≡ false →
-    grammar.kind_of name ≡ Some kind → grammar.place_of name ≡ Some place → FitsLong kind (attached_or_none value) →
-    new ≡ old ++ record { mention = record { group = place; value = value }; position = position } ∷ [] →
-    AddsItem grammar word after position 0 old new
-AddsItem-attached grammar word text name value kind place after position old new form text_is cut_once kind_is place_is fits added = record {
-  occurrences = record { mention = record { group = place; value = value }; position = position } ∷ [];
-  reads = ReadsItem-attached grammar word text name value kind place after position form text_is cut_once kind_is place_is fits;
-  added = added;
-}
-
--- the first word of a list of borrowed words, and the others
+-- a list of borrowed words that has a first one
 pub texts-first : (words : List (Bor Text)) (word : Bor Text) → slice_get words 0 ≡ Some word
-    → (1 ≤ length (texts words)) × (texts words ≡ word.now ∷ drop 1 (texts words))
+    → texts words ≡ word.now ∷ drop 1 (texts words)
 texts-first [] word h = cc
 texts-first (x ∷ words) word h =
     let same : x ≡ word = cc in
-    (omega arith, ap (λ (y : Bor Text). y.now ∷ texts words) same)
+    ap (λ (y : Bor Text). y.now ∷ texts words) same
 
 -- a list of borrowed words that has no first one
 pub texts-none : (words : List (Bor Text)) → slice_get words 0 ≡ None → texts words ≡ []

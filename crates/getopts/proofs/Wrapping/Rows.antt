@@ -2,10 +2,9 @@
 use Rattle.std.proofs.Common.{◌≡◌, ℕ, ◌+◌, ◌<◌, ◌≤◌, Bool, true, false, List, [], ◌∷◌, ◌++◌, length}
 use Rattle.std.proofs.Common.{map, refl, sym, ap, ◌∙◌, subst, append_assoc, append-nil, arith}
 use Rattle.std.proofs.Common.{length-append}
-use Rattle.std.specs.Prelude.{nat_le, nat_lt, ◌||◌}
 use Rattle.std.specs.Str.{IsUtf8}
-use Rattle.std.proofs.lemmas.Bool.{le-leb}
-use Rattle.std.proofs.lemmas.Bool.Decides.{nat_tests}
+use Rattle.std.proofs.Math.Bool.{or-false}
+use Rattle.std.proofs.lemmas.Bool.{le-leb, lt-leb, lt-ltb, or_right}
 use Rattle.std.proofs.lemmas.List.Sums.{sum_by-append, sum_by-cons}
 use Rattle.getopts.specs.Names.{Text}
 use Rattle.getopts.specs.Wrap.{Run, width_of, columns_of, text_of, IsTightBreaking, words_of}
@@ -20,15 +19,12 @@ columns_of-push : (run : Run) (word : Text) → 0 < length run
 columns_of-push run word has_word = omega (arith, sum_by-append width_of run (word ∷ []), length-append run (word ∷ []))
 
 text_of-push : (run : Run) (word : Text) → 0 < length run
-    → text_of (run ++ word ∷ []) ≡ (text_of run ++ 32 ∷ []) ++ word
+    → text_of (run ++ word ∷ []) ≡ text_of run ++ 32 ∷ word
 text_of-push [] word has_word = absurd (omega arith)
-text_of-push (first ∷ []) word has_word = sym (append_assoc first (32 ∷ []) word)
+text_of-push (first ∷ []) word has_word = refl
 text_of-push (first ∷ second ∷ run) word has_word =
     ap (λ (more : List ℕ). first ++ 32 ∷ more) (text_of-push (second ∷ run) word (omega arith))
     ∙ simp append_assoc
-
-lt-leb : (limit n : ℕ) → limit < n → nat_le n limit ≡ false
-lt-leb limit n long = grind (arith, nat_tests)
 
 -- The text so far holds rows and the row in hand. These and the rows that the words to come will
 -- give are the line's rows.
@@ -36,7 +32,7 @@ pub record RowsSoFar (limit : ℕ) (separator line start text : List ℕ) (colum
     (rest : List ℕ) : Type 0 where
   pub rows : List (List ℕ)
   pub run : Run
-  pub begun : 0 < length run
+  pub has_word : 0 < length run
   pub text_is : text ≡ start ++ joined separator (rows ++ text_of run ∷ [])
   pub columns_are : columns ≡ columns_of run
   pub utf8 : IsUtf8 rest
@@ -49,14 +45,10 @@ pub adds_none : (limit : ℕ) (separator line : List ℕ) (begun : Bool) (text :
 adds_none limit separator line begun text none = (
   [],
   ([], subst (λ (words : List Text). IsTightBreaking limit words []) (sym none) (runs_of-tight limit []), refl),
-  unchanged begun,
+  sym (or-false begun),
   sym (ap (λ (more : List ℕ). text ++ more) (nothing begun) ∙ append-nil text),
 )
   where
-    unchanged : (begun : Bool) → begun ≡ (begun || false)
-    unchanged true = refl
-    unchanged false = refl
-
     nothing : (begun : Bool) → continued begun separator [] ≡ []
     nothing true = refl
     nothing false = refl
@@ -68,7 +60,7 @@ pub rows_begin : (limit : ℕ) (separator line start text word : List ℕ) (colu
 rows_begin limit separator line start text word columns rest next text_is columns_are = record {
   rows = [];
   run = word ∷ [];
-  begun = omega arith;
+  has_word = omega arith;
   text_is = text_is ∙ ap (λ (row : List ℕ). start ++ row) (sym (append-nil word));
   columns_are = omega (arith, sum_by-cons width_of word []);
   utf8 = next.0;
@@ -78,60 +70,55 @@ rows_begin limit separator line start text word columns rest next text_is column
 module _ {limit : ℕ} {separator line start text : List ℕ} {columns : ℕ} {rest : List ℕ}
     (so_far : RowsSoFar limit separator line start text columns rest) where
   -- a word that fits joins the row in hand
-  pub rows_take : (word after : List ℕ) (width : ℕ) (new_text : List ℕ) (new_columns : ℕ)
-      → IsUtf8 after × (words_of rest ≡ word ∷ words_of after) → width ≡ width_of word
-      → columns + (1 + width) ≤ limit → new_text ≡ (text ++ 32 ∷ []) ++ word
-      → new_columns ≡ columns + (1 + width)
+  pub rows_take : (word after new_text : List ℕ) (new_columns : ℕ)
+      → IsUtf8 after × (words_of rest ≡ word ∷ words_of after)
+      → columns + (1 + width_of word) ≤ limit
+      → (new_columns ≡ columns + (1 + width_of word)) × (new_text ≡ text ++ 32 ∷ word)
       → RowsSoFar limit separator line start new_text new_columns after
-  rows_take word after width new_text new_columns next width_is fits new_text_is new_columns_are =
+  rows_take word after new_text new_columns next fits taken =
       let rows = so_far.rows in
       let run = so_far.run in
-      let begun = so_far.begun in
-      let pushed = columns_of-push run word begun in
-      let taken : has_room limit run word ≡ true = le-leb _ _ (omega (arith, so_far.columns_are)) in
+      let pushed = columns_of-push run word so_far.has_word in
+      let room : has_room limit run word ≡ true = le-leb _ _ (omega (arith, so_far.columns_are)) in
       record {
         rows = rows;
         run = run ++ word ∷ [];
-        begun = omega (arith, length-append run (word ∷ []));
+        has_word = omega (arith, length-append run (word ∷ []));
         text_is =
-            new_text_is
-            ∙ append_assoc text (32 ∷ []) word
+            taken.1
             ∙ ap (λ (text : List ℕ). text ++ 32 ∷ word) so_far.text_is
             ∙ append_assoc start (joined separator (rows ++ text_of run ∷ [])) (32 ∷ word)
             ∙ ap (λ (row : List ℕ). start ++ row) (sym (joined-longer separator rows (text_of run) (32 ∷ word)))
             ∙ ap (λ (row : List ℕ). start ++ joined separator (rows ++ row ∷ []))
-            (sym (text_of-push run word begun ∙ append_assoc (text_of run) (32 ∷ []) word));
+            (sym (text_of-push run word so_far.has_word));
         columns_are = omega (arith, so_far.columns_are);
         utf8 = next.0;
         to_come =
             ap (λ (runs : List Run). rows ++ map text_of runs)
-            (sym (ap (runs_from limit run) next.1
-            ∙ runs_from-taken limit run word (words_of after) taken))
+            (sym (ap (runs_from limit run) next.1 ∙ runs_from-taken limit run word (words_of after) room))
             ∙ so_far.to_come;
       }
 
   -- a word that doesn't fit ends the row in hand and begins one
-  pub rows_end : (word after : List ℕ) (width : ℕ) (new_text : List ℕ) (new_columns : ℕ)
-      → IsUtf8 after × (words_of rest ≡ word ∷ words_of after) → width ≡ width_of word
-      → limit < columns + (1 + width) → new_text ≡ (text ++ separator) ++ word → new_columns ≡ width
+  pub rows_end : (word after new_text : List ℕ) (new_columns : ℕ)
+      → IsUtf8 after × (words_of rest ≡ word ∷ words_of after)
+      → limit < columns + (1 + width_of word)
+      → (new_columns ≡ width_of word) × (new_text ≡ text ++ (separator ++ word))
       → RowsSoFar limit separator line start new_text new_columns after
-  rows_end word after width new_text new_columns next width_is long new_text_is new_columns_are =
+  rows_end word after new_text new_columns next long made =
       let rows = so_far.rows in
       let run = so_far.run in
-      let pushed = columns_of-push run word so_far.begun in
-      let refused : has_room limit run word ≡ false = lt-leb limit (columns_of (run ++ word ∷ [])) (omega (arith, so_far.columns_are)) in
+      let pushed = columns_of-push run word so_far.has_word in
+      let refused : has_room limit run word ≡ false = lt-leb _ _ (omega (arith, so_far.columns_are)) in
       record {
         rows = rows ++ text_of run ∷ [];
         run = word ∷ [];
-        begun = omega arith;
+        has_word = omega arith;
         text_is =
-            new_text_is
-            ∙ ap (λ (text : List ℕ). (text ++ separator) ++ word) so_far.text_is
-            ∙ append_assoc (start ++ joined separator (rows ++ text_of run ∷ [])) separator word
+            made.1
+            ∙ ap (λ (text : List ℕ). text ++ (separator ++ word)) so_far.text_is
             ∙ append_assoc start (joined separator (rows ++ text_of run ∷ [])) (separator ++ word)
-            ∙ ap (λ (row : List ℕ). start ++ row)
-            (sym (append_assoc (joined separator (rows ++ text_of run ∷ [])) separator word)
-            ∙ sym (joined-next separator rows (text_of run) word));
+            ∙ ap (λ (row : List ℕ). start ++ row) (sym (joined-next separator rows (text_of run) word));
         columns_are = omega (arith, sum_by-cons width_of word []);
         utf8 = next.0;
         to_come =
@@ -154,13 +141,9 @@ module _ {limit : ℕ} {separator line start text : List ℕ} {columns : ℕ} {r
           ap (λ (words : List Text). so_far.rows ++ map text_of (runs_from limit so_far.run words))
               (sym none) ∙ so_far.to_come,
         ),
-        has_begun begun (length rows) some,
+        sym (or_right begun _ (lt-ltb 0 (length rows) some)),
         so_far.text_is
             ∙ ap (λ (start : List ℕ). start ++ joined separator rows) start_is
             ∙ append_assoc old (parting begun separator) (joined separator rows)
             ∙ ap (λ (added : List ℕ). old ++ added) (continued-some begun separator rows some),
       )
-    where
-      has_begun : (begun : Bool) (n : ℕ) → 0 < n → true ≡ (begun || nat_lt 0 n)
-      has_begun true n some = refl
-      has_begun false n some = grind (arith, nat_tests)

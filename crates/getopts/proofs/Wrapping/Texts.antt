@@ -1,29 +1,26 @@
 -- Rows in one text: how the text grows, and that its lines are the rows again.
-use Rattle.std.proofs.Common.{◌≡◌, ◌==◌, ℕ, suc, ◌-◌, ◌<◌, ◌≤◌, Bool, true, false, cond, List, []}
-use Rattle.std.proofs.Common.{◌∷◌, ◌++◌, length, map, take, get_or, ⊎_elim, lit<, refl, ap, sym}
-use Rattle.std.proofs.Common.{◌∙◌, subst, append_assoc, append-nil, arith, length-append}
-use Rattle.std.specs.Prelude.{nat_lt, ◌||◌, filter, All, chars, encode_utf8, encode_utf8_all}
+use Rattle.std.proofs.Common.{◌≡◌, ◌==◌, ℕ, ◌-◌, ◌<◌, ◌≤◌, Bool, true, false, List, [], ◌∷◌, ◌++◌}
+use Rattle.std.proofs.Common.{length, map, take, get_or, ⊎_elim, refl, ap, sym, ◌∙◌, subst, append_assoc}
+use Rattle.std.proofs.Common.{append-nil, arith, length-append}
+use Rattle.std.specs.Prelude.{nat_lt, ◌||◌, filter, All, chars, encode_utf8_all}
 use Rattle.std.specs.Char.{is_whitespace}
 use Rattle.std.specs.List.{AllZip, flat_map, slice_split, onto_first}
-use Rattle.std.specs.Str.{NonePass, NoCharPasses}
+use Rattle.std.specs.Str.{NonePass}
 use Rattle.std.specs.Str.Lines.{lines, lines_of_parts, strip_carriage_return}
-use Rattle.std.proofs.lemmas.Bool.{cases_lt}
+use Rattle.std.proofs.lemmas.Bool.{cases_lt, cond-false, cond_both, ne_eqb, lt-ltb, ltb-true}
+use Rattle.std.proofs.lemmas.Bool.{or_parts}
 use Rattle.std.proofs.lemmas.Bool.Decides.{nat_tests}
 use Rattle.std.proofs.lemmas.List.{map-append, take_at, drop_at}
 use Rattle.std.proofs.lemmas.List.Concat.{flat_map-append}
 use Rattle.std.proofs.lemmas.List.Elements.{All-nil, All-cons, All-head, All-tail, All-append}
 use Rattle.std.proofs.lemmas.List.Elements.{All-map, All-take, All-drop, All-filter}
-use Rattle.std.proofs.lemmas.List.Elements.{All-from_get_or, filter_passes}
+use Rattle.std.proofs.lemmas.List.Elements.{All-from_get_or, All-get_or, All-weaker, filter_passes}
 use Rattle.std.proofs.lemmas.List.Splits.{slice_split_none, slice_split_at}
-use Rattle.std.proofs.lemmas.Str.{NoCharPasses-append, NoCharPasses-byte, encode_ascii}
-use Rattle.std.proofs.lemmas.Str.{length-le-encodes}
+use Rattle.std.proofs.lemmas.Str.{NoCharPasses-byte, length-le-encodes}
 use Rattle.getopts.specs.Wrap.{Run, text_of, IsTightBreaking, words_of, lines_of, IsDescriptionRows}
 use Rattle.getopts.specs.Wrap.{joined, continued, parting}
 
 -- ---- texts joined
-
-some_length : (n : ℕ) → nat_lt 0 (suc n) ≡ true
-some_length n = grind (arith, nat_tests)
 
 -- more texts go on from those before
 pub joined-append : (separator : List ℕ) (texts more : List (List ℕ))
@@ -34,7 +31,7 @@ joined-append separator (text ∷ texts) more =
     ap (λ (rest : List ℕ). text ++ rest)
     (flat_map-append (λ (text : List ℕ). separator ++ text) texts more)
     ∙ sym (append_assoc text (flat_map (λ (text : List ℕ). separator ++ text) texts) (flat_map (λ (text : List ℕ). separator ++ text) more))
-    ∙ ap (λ begun. joined separator (text ∷ texts) ++ continued begun separator more) (sym (some_length (length texts)))
+    ∙ ap (λ begun. joined separator (text ∷ texts) ++ continued begun separator more) (sym (lt-ltb 0 (length (text ∷ texts)) (omega arith)))
 
 -- one text more
 continued-one : (begun : Bool) (separator text : List ℕ)
@@ -57,12 +54,11 @@ joined-longer separator texts text more = simp (joined-push, append_assoc) refl
 -- a text after the last one
 pub joined-next : (separator : List ℕ) (texts : List (List ℕ)) (text next : List ℕ)
     → joined separator ((texts ++ text ∷ []) ++ next ∷ [])
-    ≡ (joined separator (texts ++ text ∷ []) ++ separator) ++ next
+    ≡ joined separator (texts ++ text ∷ []) ++ (separator ++ next)
 joined-next separator texts text next =
     let some : nat_lt 0 (length (texts ++ text ∷ [])) ≡ true = grind (arith, nat_tests, length-append) in
     joined-push separator (texts ++ text ∷ []) next
     ∙ ap (λ begun. joined separator (texts ++ text ∷ []) ++ (parting begun separator ++ next)) some
-    ∙ sym (append_assoc (joined separator (texts ++ text ∷ [])) separator next)
 
 -- texts after what parts them from those before
 pub continued-some : (begun : Bool) (separator : List ℕ) (texts : List (List ℕ)) → 0 < length texts
@@ -77,9 +73,13 @@ continued-some false separator (text ∷ texts) some = refl
 abbrev ends_line : ℕ → Bool
 ends_line c = (c == 10) || (c == 13)
 
--- a text that is one line: it isn't empty, and holds no line end
+-- the byte ends no line
+abbrev EndsNone : ℕ → Type 0
+EndsNone byte = ends_line byte ≡ false
+
+-- a text that is one line: it isn't empty, and no byte of it ends a line
 IsLine : List ℕ → Type 0
-IsLine text = (0 < length text) × NoCharPasses ends_line text
+IsLine text = (0 < length text) × All EndsNone text
 
 solid_character : (c : ℕ) → is_whitespace c ≡ false → ends_line c ≡ false
 solid_character c solid = grind (arith, nat_tests)
@@ -99,24 +99,25 @@ onto_first_solid c (piece ∷ pieces) solid all = All-cons (NonePass is_whitespa
 
 pieces_solid : (cs : List ℕ) → All (NonePass is_whitespace) (slice_split is_whitespace cs)
 pieces_solid [] = All-cons (NonePass is_whitespace) [] [] tt (All-nil (NonePass is_whitespace))
-pieces_solid (c ∷ cs) = by_answer (is_whitespace c) refl (pieces_solid cs)
-  where
-    by_answer : (answer : Bool) → is_whitespace c ≡ answer
-        → All (NonePass is_whitespace) (slice_split is_whitespace cs)
-        → All (NonePass is_whitespace)
-        (cond answer ([] ∷ slice_split is_whitespace cs)
-        (onto_first c (slice_split is_whitespace cs)))
-    by_answer true white rest = All-cons (NonePass is_whitespace) [] (slice_split is_whitespace cs) tt rest
-    by_answer false solid rest = onto_first_solid c (slice_split is_whitespace cs) solid rest
+pieces_solid (c ∷ cs) =
+    let pieces = slice_split is_whitespace cs in
+    cond_both (is_whitespace c) ([] ∷ pieces) (onto_first c pieces) (All (NonePass is_whitespace))
+    (λ white. All-cons (NonePass is_whitespace) [] pieces tt (pieces_solid cs))
+    (λ solid. onto_first_solid c pieces solid (pieces_solid cs))
+
+ascii_fails : (byte : ℕ) → (byte < 128 → EndsNone byte) → EndsNone byte
+ascii_fails byte low = ⊎_elim (λ (ascii : byte < 128). low ascii) (λ (high : 128 ≤ byte). grind (arith, nat_tests)) (cases_lt byte 128)
 
 -- a word is one line
 piece_line : (piece : List ℕ) → 0 < length piece → NonePass is_whitespace piece
     → IsLine (encode_utf8_all piece)
 unfolding IsLine
-piece_line piece some solid = (omega (arith, length-le-encodes piece), (piece, refl, solid_line piece solid))
-
-some_from_test : (n : ℕ) → nat_lt 0 n ≡ true → 0 < n
-some_from_test n some = grind (arith, nat_tests)
+piece_line piece some solid =
+    let text = encode_utf8_all piece in (
+      omega (arith, length-le-encodes piece),
+      All-from_get_or EndsNone text 0 (λ i within. ascii_fails (get_or text i 0)
+          (NoCharPasses-byte ends_line text i (piece, refl, solid_line piece solid) within)),
+    )
 
 words_lines : (line : List ℕ) → All IsLine (words_of line)
 words_lines line =
@@ -125,7 +126,7 @@ words_lines line =
     let solid = All-filter has_some (NonePass is_whitespace) pieces (pieces_solid (chars line)) in
     let some = filter_passes has_some pieces in
     All-map IsLine encode_utf8_all (filter has_some pieces)
-    (λ k piece within. piece_line _ (some_from_test _ (some k piece within)) (solid k piece within))
+    (λ k piece within. piece_line _ (ltb-true 0 _ (some k piece within)) (solid k piece within))
 
 -- so is the text of a run
 run_line : (run : Run) → 0 < length run → All IsLine run → IsLine (text_of run)
@@ -134,11 +135,10 @@ run_line [] begun all = absurd (omega arith)
 run_line (word ∷ []) begun all = All-head IsLine word [] all
 run_line (word ∷ next ∷ run) begun all =
     let first = All-head IsLine word (next ∷ run) all in
-    let rest = run_line (next ∷ run) (omega arith) (All-tail IsLine word (next ∷ run) all) in
-    let space : NoCharPasses ends_line (32 ∷ []) = (32 ∷ [], append-nil (encode_utf8 32) ∙ encode_ascii 32 (lit< tt), (refl, tt)) in (
+    let rest = run_line (next ∷ run) (omega arith) (All-tail IsLine word (next ∷ run) all) in (
       omega (arith, first.0, length-append word (32 ∷ text_of (next ∷ run))),
-      NoCharPasses-append ends_line word
-          (32 ∷ text_of (next ∷ run)) first.1 (NoCharPasses-append ends_line (32 ∷ []) (text_of (next ∷ run)) space rest.1),
+      All-append EndsNone word (32 ∷ text_of (next ∷ run)) first.1
+          (All-cons EndsNone 32 (text_of (next ∷ run)) refl rest.1),
     )
 
 -- what holds of each word of some runs holds of the words of each
@@ -166,38 +166,27 @@ breakings_lines limit (line ∷ lines) [] all = absurd all
 breakings_lines limit (line ∷ lines) (runs ∷ breakings) all =
     rw (map-append text_of runs (flat_map (λ runs. runs) breakings))
     (All-append IsLine (map text_of runs) (map text_of (flat_map (λ runs. runs) breakings))
-    (runs_lines runs all.0.fitting.nonempty (subst (All IsLine) (sym all.0.fitting.joined) (words_lines line)))
+    (runs_lines runs all.0.fitting.nonempty (subst (All IsLine) (sym all.0.fitting.all_words) (words_lines line)))
     (breakings_lines limit lines breakings all.1))
 
 rows_lines : (limit : ℕ) (desc : List ℕ) (rows : List (List ℕ)) → IsDescriptionRows limit desc rows
     → All IsLine rows
-rows_lines limit desc rows are_rows = subst (All IsLine) (sym are_rows.texts)
+rows_lines limit desc rows are_rows = subst (All IsLine) (sym are_rows.rows_are)
     (breakings_lines limit (lines_of desc) are_rows.breakings are_rows.each_line)
 
 -- ---- the lines of rows in one text
 
-ascii_fails : (byte : ℕ) → (byte < 128 → ends_line byte ≡ false) → ends_line byte ≡ false
-ascii_fails byte low = ⊎_elim (λ (ascii : byte < 128). low ascii) (λ (high : 128 ≤ byte). grind (arith, nat_tests)) (cases_lt byte 128)
-
--- no byte of a line ends a line
-no_line_end : (text : List ℕ) (i : ℕ) → IsLine text → i < length text
-    → ends_line (get_or text i 0) ≡ false
-unfolding IsLine
-no_line_end text i line within = ascii_fails (get_or text i 0) (λ low. NoCharPasses-byte ends_line text i line.1 within low)
-
-neither : (a b : Bool) → (a || b) ≡ false → (a ≡ false) × (b ≡ false)
-neither false false e = (refl, refl)
-neither false true e = cc
-neither true b e = cc
-
 no_carriage_return : (text : List ℕ) → IsLine text → strip_carriage_return text ≡ text
 unfolding IsLine
 no_carriage_return text line =
-    ap (λ answer. cond answer (take (length text - 1) text) text)
-    (neither _ _ (no_line_end text (length text - 1) line (let some = line.0 in omega arith))).1
+    let last = get_or text (length text - 1) 0 in
+    let within : length text - 1 < length text = (let some = line.0 in omega arith) in
+    cond-false (last == 13) (take (length text - 1) text) text
+    (or_parts (last == 10) (last == 13) (All-get_or EndsNone text (length text - 1) 0 within line.1)).1
 
 no_line_feed : (text : List ℕ) → IsLine text → All (λ byte. (byte == 10) ≡ false) text
-no_line_feed text line = All-from_get_or (λ (byte : ℕ). (byte == 10) ≡ false) text 0 (λ i within. (neither _ _ (no_line_end text i line within)).0)
+unfolding IsLine
+no_line_feed text line = All-weaker EndsNone (λ byte. (byte == 10) ≡ false) (λ byte none. (or_parts (byte == 10) (byte == 13) none).0) text line.1
 
 split_joined : (text : List ℕ) (texts : List (List ℕ)) → All IsLine (text ∷ texts)
     → slice_split (λ byte. byte == 10) (joined (10 ∷ []) (text ∷ texts)) ≡ text ∷ texts
@@ -209,10 +198,9 @@ split_joined text (next ∷ texts) all =
 parts_lines : (texts : List (List ℕ)) → All IsLine texts → lines_of_parts texts ≡ texts
 unfolding IsLine
 parts_lines [] all = refl
-parts_lines (text ∷ []) all = ap (λ answer. cond answer [] (text ∷ [])) (not_empty text (All-head IsLine text [] all))
-  where
-    not_empty : (text : List ℕ) → IsLine text → (length text == 0) ≡ false
-    not_empty text line = let some = line.0 in grind (arith, nat_tests)
+parts_lines (text ∷ []) all =
+    let some = (All-head IsLine text [] all).0 in
+    cond-false _ _ _ (ne_eqb (length text) 0 (λ none. omega arith))
 parts_lines (text ∷ next ∷ texts) all = ap (λ (first : List ℕ). first ∷ lines_of_parts (next ∷ texts))
     (no_carriage_return text (All-head IsLine text (next ∷ texts) all)) ∙ ap (λ (rest : List (List ℕ)). text ∷ rest)
     (parts_lines (next ∷ texts) (All-tail IsLine text (next ∷ texts) all))

@@ -1,25 +1,25 @@
 -- Groups one after the other, and what the rows of a usage text are.
-use Rattle.std.proofs.Common.{◌≡◌, ℕ, zero, suc, ◌+◌, ◌-◌, ◌<◌, ◌≤◌, Bool, true, false, not, ◌||◌}
-use Rattle.std.proofs.Common.{List, [], ◌∷◌, ◌++◌, Option, Some, None, length, take, drop, refl, ap}
-use Rattle.std.proofs.Common.{sym, ◌∙◌, subst, arith, codes, append_assoc}
+use Rattle.std.proofs.Common.{◌≡◌, ℕ, zero, suc, ◌+◌, ◌-◌, ◌<◌, ◌≤◌, Bool, true, not, ◌||◌, List}
+use Rattle.std.proofs.Common.{[], ◌∷◌, ◌++◌, Option, Some, None, length, take, drop, refl, ap, sym}
+use Rattle.std.proofs.Common.{◌∙◌, subst, arith, codes, append_assoc}
 use Rattle.std.specs.Prelude.{Result, Ok, Err, OnOk, slice_get, nat_lt, if◌then◌else◌}
-use Rattle.std.specs.List.{AllZip, list_any}
+use Rattle.std.specs.List.{AllZip}
 use Rattle.std.specs.Option.{option_map}
+use Rattle.std.proofs.Math.Bool.{or-false}
 use Rattle.std.proofs.lemmas.Bool.Decides.{nat_tests}
 use Rattle.std.proofs.lemmas.List.{take_all, take_more, drop_at}
 use Rattle.std.proofs.lemmas.List.Folds.{list_any-append}
 use Rattle.std.proofs.lemmas.Option.{slice_get_within, get_or_from_slice_get, slice_get-get_or}
-use Rattle.std.proofs.lemmas.Option.{none-some}
-use Rattle.getopts.specs.Held.Groups.{group_view, known_view}
+use Rattle.std.proofs.lemmas.Option.{none-some, same_Some}
+use Rattle.std.proofs.lemmas.Slice.Zip.{all_zipped_more}
+use Rattle.getopts.specs.Held.Groups.{group_view}
 use Rattle.getopts.specs.Names.{Text, is_empty}
-use Rattle.getopts.specs.Options.{Known, Group, Declared, knowns_of}
+use Rattle.getopts.specs.Options.{Known, Group, Declared}
 use Rattle.getopts.specs.Only.{IsTheOnly}
 use Rattle.getopts.specs.Usage.{AddsTheOnly, any_short, spaces, head, next_row, padding, row_text}
 use Rattle.getopts.specs.Usage.{IsUsageRow, AreUsageRows, usage_text, IsUsageText}
 use Rattle.getopts.specs.Wrap.{width_of, IsDescriptionRows, joined, parting, AddsDescription}
 use Rattle.getopts.specs.declared.groups.Group.{Group as Borrowed}
-use Rattle.getopts.specs.declared.groups.Known.{Known as HeldKnown}
-use Rattle.getopts.proofs.Lists.{all_zip_push}
 use Rattle.getopts.proofs.Wrapping.Lines.{rows_exactly}
 use Rattle.getopts.proofs.Wrapping.Texts.{joined-push}
 
@@ -57,7 +57,7 @@ each_is_the_only {X} {Y} R (x ∷ xs) (y ∷ ys) all = λ other. (
     same_as : IsTheOnly (AllZip R xs) ys → (other : List Y) → AllZip R (x ∷ xs) other
         → other ≡ y ∷ ys
     same_as rest [] each = absurd each
-    same_as rest (z ∷ zs) each = let head = (all.0 z).0 each.0 in let tail = (rest zs).0 each.1 in cc
+    same_as rest (z ∷ zs) each = let first = (all.0 z).0 each.0 in let more = (rest zs).0 each.1 in cc
 
 -- ---- groups, one after the other
 
@@ -80,34 +80,28 @@ module _ {Held Seen : Type 0} (view : Held → Seen) where
   group_missing (first ∷ groups) place None within got missing = none-some _ (got ∙ slice_get-get_or (first ∷ groups) place first within)
 
 -- whether a group has a short name
-abbrev has_short : Known → Bool
-has_short known = not (is_empty known.names.short)
+abbrev pub has_short : Group → Bool
+has_short group = not (is_empty group.known.names.short)
 
--- whether any of these groups has a short name
-abbrev pub any_known_short : List Known → Bool
-any_known_short knowns = list_any has_short knowns
-
--- the same of groups with their help texts
-pub any_short-knowns : (groups : List Group) → any_known_short (knowns_of groups) ≡ any_short groups
-any_short-knowns [] = refl
-any_short-knowns (group ∷ groups) = ap (λ more. has_short group.known || more) (any_short-knowns groups)
+-- a group that is known at a place stands there
+pub group_known : (groups : List Group) (place : ℕ) (known : Known)
+    → Some known ≡ option_map (λ (group : Group). group.known) (slice_get groups place)
+    → (group : Group) × (slice_get groups place ≡ Some group) × (known ≡ group.known)
+group_known [] place known is = cc is
+group_known (group ∷ groups) zero known is = (group, refl, same_Some known group.known is)
+group_known (group ∷ groups) (suc place) known is = group_known groups place known is
 
 -- whether any group has a short name, with one more group
-pub any_short_more : (knowns : List Known) (place : ℕ) (found : Option HeldKnown) (known : HeldKnown)
-    → option_map known_view found ≡ slice_get knowns place → found ≡ Some known
-    → (so_far now : Bool) → so_far ≡ any_known_short (take place knowns)
-    → now ≡ (so_far || not (is_empty known.names.short.now))
-    → now ≡ any_known_short (take (place + 1) knowns)
-any_short_more knowns place found known got is so_far now so_far_is now_is =
+pub any_short_more : (groups : List Group) (place : ℕ) (group : Group)
+    → slice_get groups place ≡ Some group
+    → (so_far now : Bool) → so_far ≡ any_short (take place groups)
+    → now ≡ (so_far || has_short group) → now ≡ any_short (take (place + 1) groups)
+any_short_more groups place group at so_far now so_far_is now_is =
     now_is
-    ∙ ap (λ so_far. so_far || has_short (known_view known)) so_far_is
-    ∙ ap (λ last. any_known_short (take place knowns) || last) (or_false (has_short (known_view known)))
-    ∙ sym (list_any-append has_short (take place knowns) (known_view known ∷ []))
-    ∙ ap any_known_short (sym (group_more known_view knowns place found known got is))
-  where
-    or_false : (b : Bool) → b ≡ (b || false)
-    or_false true = refl
-    or_false false = refl
+    ∙ ap (λ so_far. so_far || has_short group) so_far_is
+    ∙ ap (λ last. any_short (take place groups) || last) (sym (or-false (has_short group)))
+    ∙ sym (list_any-append has_short (take place groups) (group ∷ []))
+    ∙ ap any_short (sym (group_more (λ (g : Group). g) groups place (Some group) group (sym at) refl))
 
 -- one more text after the texts of the groups before it
 pub text_more : (separator : Text) (texts : List Text) (place : ℕ)
@@ -148,15 +142,15 @@ pub row_added : (long_only among_shorts : Bool) (group : Group) (old headed padd
     → AddsDescription 54 next_row group.description padded new
     → AddsTheOnly (IsUsageRow long_only among_shorts group) old new
 row_added long_only among_shorts group old headed padded new headed_is padded_is adds =
-    let head = head long_only among_shorts group in
-    let own : drop (length old) headed ≡ head = ap (drop (length old)) headed_is ∙ drop_at old head _ refl in (
-      row_text head adds.0,
-      made_of_the_only (IsDescriptionRows 54 group.description) (row_text head) adds.0 _
+    let own = head long_only among_shorts group in
+    let own_is : drop (length old) headed ≡ own = ap (drop (length old)) headed_is ∙ drop_at old own _ refl in (
+      row_text own adds.0,
+      made_of_the_only (IsDescriptionRows 54 group.description) (row_text own) adds.0 _
           (λ others. rows_exactly 54 group.description adds.0 others adds.1) refl,
       adds.2
           ∙ ap (λ (padded : Text). padded ++ joined next_row adds.0)
-          (padded_is ∙ ap (λ (own : Text). headed ++ padding own) own
-          ∙ ap (λ (headed : Text). headed ++ padding head) headed_is)
+          (padded_is ∙ ap (λ (head : Text). headed ++ padding head) own_is
+          ∙ ap (λ (headed : Text). headed ++ padding own) headed_is)
           ∙ simp append_assoc refl,
     )
 
@@ -177,7 +171,7 @@ pub rows_more : (options : Declared) (place : ℕ) (found : Option Borrowed) (gr
 rows_more options place found group view is long_only among_shorts long_only_is among_shorts_is rows row each only =
     let Only : Group → Text → Type 0 = λ group row. IsTheOnly (IsUsageRow options.long_only (any_short options.groups) group) row in
     rw (group_more group_view options.groups place found group view is)
-    (all_zip_push Only (take place options.groups) rows (group_view group) row each (rw (long_only_is, among_shorts_is) at only))
+    (all_zipped_more Only (take place options.groups) rows (group_view group) row each (rw (long_only_is, among_shorts_is) at only))
 
 -- with the last one these are the only usage rows
 pub rows_all : (options : Declared) (place : ℕ) (rows : List Text) → length options.groups ≤ place

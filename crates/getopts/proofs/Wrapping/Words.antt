@@ -1,7 +1,6 @@
 -- The words of a line, one after the other, as `split_whitespace` gives them.
-use Rattle.std.proofs.Common.{◌≡◌, ℕ, suc, ◌<◌, Bool, true, false, cond, List, [], ◌∷◌, ◌++◌}
-use Rattle.std.proofs.Common.{length, map, Some, sym, refl, ap, ◌∙◌, subst, append_assoc}
-use Rattle.std.proofs.Common.{append-nil, arith}
+use Rattle.std.proofs.Common.{◌≡◌, ℕ, ◌<◌, Bool, true, false, List, [], ◌∷◌, ◌++◌, length, map}
+use Rattle.std.proofs.Common.{Some, sym, refl, ap, ◌∙◌, subst, append_assoc, append-nil, arith}
 use Rattle.std.specs.Prelude.{nat_lt, filter, chars, encode_utf8, encode_utf8_all, not}
 use Rattle.std.specs.Borrow.{Bor}
 use Rattle.std.specs.Char.{is_whitespace, is_not_whitespace}
@@ -9,7 +8,7 @@ use Rattle.std.specs.List.{slice_split, All}
 use Rattle.std.specs.Str.{IsUtf8, NonePass, NoCharPasses, EmptyOrStartsWithPassing}
 use Rattle.std.specs.Str.Iter.{split_whitespace_rest, split_whitespace_steps}
 use Rattle.std.specs.declared.str.SplitWhitespace.{SplitWhitespace}
-use Rattle.std.proofs.lemmas.Bool.Decides.{nat_tests}
+use Rattle.std.proofs.lemmas.Bool.{cond-true, lt-ltb, not-false}
 use Rattle.std.proofs.lemmas.List.Elements.{All-nil, All-cons}
 use Rattle.std.proofs.lemmas.List.Splits.{slice_split-cons_yes, slice_split_none, slice_split_at}
 use Rattle.std.proofs.lemmas.Str.{IsUtf8-past_char, chars_past_char, chars-nil}
@@ -19,16 +18,12 @@ use Rattle.getopts.specs.Wrap.{words_of}
 abbrev pub parts_by : (ℕ → Bool) → List ℕ → List (List ℕ)
 parts_by p cs = filter (λ part. nat_lt 0 (length part)) (slice_split p cs)
 
-true_from_not : (b : Bool) → not b ≡ false → b ≡ true
-true_from_not true e = refl
-true_from_not false e = cc
-
 -- characters that pass add no part in front
 parts_by-gap : (p : ℕ → Bool) (gap cs : List ℕ) → NonePass (λ c. not (p c)) gap
     → parts_by p (gap ++ cs) ≡ parts_by p cs
 parts_by-gap p [] cs none = refl
 parts_by-gap p (c ∷ gap) cs none =
-    ap (filter (λ part. nat_lt 0 (length part))) (slice_split-cons_yes p c (gap ++ cs) (true_from_not (p c) none.0)) ∙ parts_by-gap p gap cs none.1
+    ap (filter (λ part. nat_lt 0 (length part))) (slice_split-cons_yes p c (gap ++ cs) (not-false (p c) none.0)) ∙ parts_by-gap p gap cs none.1
 
 all_from_none : (p : ℕ → Bool) (cs : List ℕ) → NonePass p cs → All (λ c. p c ≡ false) cs
 all_from_none p [] none = All-nil (λ c. p c ≡ false)
@@ -37,13 +32,7 @@ all_from_none p (c ∷ cs) none = All-cons (λ c. p c ≡ false) c cs none.0 (al
 nonempty : (part : List ℕ) (parts : List (List ℕ)) → 0 < length part
     → filter (λ part. nat_lt 0 (length part)) (part ∷ parts)
     ≡ part ∷ filter (λ part. nat_lt 0 (length part)) parts
-nonempty [] parts not_empty = absurd (omega arith)
-nonempty (c ∷ part) parts not_empty =
-    ap (λ kept. cond kept ((c ∷ part) ∷ filter (λ part. nat_lt 0 (length part)) parts)
-    (filter (λ part. nat_lt 0 (length part)) parts)) (positive (length part))
-  where
-    positive : (n : ℕ) → nat_lt 0 (suc n) ≡ true
-    positive n = grind (arith, nat_tests)
+nonempty part parts not_empty = cond-true (nat_lt 0 (length part)) _ _ (lt-ltb 0 (length part) not_empty)
 
 -- a part at the end, or before a character that passes, is the first part
 parts_by-last : (p : ℕ → Bool) (part : List ℕ) → 0 < length part → NonePass p part
@@ -96,24 +85,19 @@ words_of-none bs utf8 none =
     ∙ ap (map encode_utf8_all) (parts_by-gap is_whitespace none.0 [] none.2)
 
 -- a word came off the front
-pub words_of-next : (bs gap word rest : List ℕ) → IsUtf8 bs → bs ≡ gap ++ (word ++ rest)
-    → 0 < length word → NoCharPasses is_not_whitespace gap → NoCharPasses is_whitespace word
-    → (more : List ℕ) × EmptyOrStartsWithPassing is_whitespace rest more
-    → IsUtf8 rest × (words_of bs ≡ word ∷ words_of rest)
-words_of-next bs gap word rest utf8 split not_empty blank solid next =
-    let after_gap = past_chars blank.0 bs (word ++ rest) utf8 (subst (λ (gap : List ℕ). bs ≡ gap ++ (word ++ rest)) (sym blank.1) split) in
-    let after_word = past_chars solid.0 (word ++ rest) rest after_gap.0 (ap (λ (word : List ℕ). word ++ rest) (sym solid.1)) in
+pub words_of-step : (s t : SplitWhitespace) (word : Bor (List ℕ)) → IsUtf8 (split_whitespace_rest s)
+    → split_whitespace_steps s (Some word) t
+    → IsUtf8 (split_whitespace_rest t)
+    × (words_of (split_whitespace_rest s) ≡ word.now ∷ words_of (split_whitespace_rest t))
+words_of-step s t word utf8 (gap, split, not_empty, blank, solid, next) =
+    let bs = split_whitespace_rest s in
+    let rest = split_whitespace_rest t in
+    let after_gap = past_chars blank.0 bs (word.now ++ rest) utf8
+    (subst (λ (gap : List ℕ). bs ≡ gap ++ (word.now ++ rest)) (sym blank.1) split) in
+    let after_word = past_chars solid.0 (word.now ++ rest) rest after_gap.0 (ap (λ (word : List ℕ). word ++ rest) (sym solid.1)) in
     let characters : chars bs ≡ blank.0 ++ (solid.0 ++ chars rest) = after_gap.1 ∙ ap (λ (cs : List ℕ). blank.0 ++ cs) after_word.1 in
     let has_some : 0 < length solid.0 = some_chars solid.0 (subst (λ (word : List ℕ). 0 < length word) (sym solid.1) not_empty) in
     let parts : parts_by is_whitespace (chars bs) ≡ solid.0 ∷ parts_by is_whitespace (chars rest) =
     ap (parts_by is_whitespace) characters ∙ parts_by-gap is_whitespace blank.0 (solid.0 ++ chars rest) blank.2
     ∙ parts_by-next solid.0 rest next.0 after_word.0 has_some solid.2 next.1 in
     (after_word.0, ap (map encode_utf8_all) parts ∙ ap (λ (word : List ℕ). word ∷ words_of rest) solid.1)
-
--- the same, of the iterator's own word
-pub words_of-step : (s t : SplitWhitespace) (word : Bor (List ℕ)) → IsUtf8 (split_whitespace_rest s)
-    → split_whitespace_steps s (Some word) t
-    → IsUtf8 (split_whitespace_rest t)
-    × (words_of (split_whitespace_rest s) ≡ word.now ∷ words_of (split_whitespace_rest t))
-words_of-step s t word utf8 step = words_of-next (split_whitespace_rest s) step.0 word.now
-    (split_whitespace_rest t) utf8 step.1 step.2 step.3 step.4 step.5

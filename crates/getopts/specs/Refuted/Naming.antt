@@ -1,7 +1,7 @@
 -- Wrong answers about names: which pairs are lawful, and which table is that of names.
 use Rattle.std.specs.Prelude.{◌↔◌, true, false, List, [], ◌∷◌, IsTrue, codes}
 use Rattle.getopts.specs.Names.{Names, AreLawful}
-use Rattle.getopts.specs.Table.{entry_at, IsTableOf}
+use Rattle.getopts.specs.Held.Table.{entry_at, IsTableOf}
 use Rattle.getopts.specs.Refuted.Forms.{Refutes}
 
 -- `a` is no long name

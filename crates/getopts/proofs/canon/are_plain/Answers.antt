@@ -2,11 +2,10 @@
 use Rattle.std.proofs.Common.{◌≡◌, ◌<◌, ◌≤◌, ℕ, List, [], true, not, length, slice_get, unwrap_or}
 use Rattle.std.proofs.Common.{sym, ap, ◌∙◌, inl, inr, arith, below_more}
 use Rattle.std.proofs.lemmas.Bool.{cases_lt}
-use Rattle.std.proofs.lemmas.List.{length-map}
 use Rattle.std.proofs.lemmas.Option.{slice_get_past}
 use Rattle.std.specs.Option.{option_map_or}
 use Rattle.getopts.specs.Names.{main_name}
-use Rattle.getopts.specs.Options.{Group, knowns_of}
+use Rattle.getopts.specs.Options.{Group}
 use Rattle.getopts.specs.Matches.{found_at}
 use Rattle.getopts.specs.Scan.{Occurrence, holds_equals}
 use Rattle.getopts.specs.Held.Accepted.{index_of}
@@ -19,11 +18,11 @@ use Rattle.getopts.proofs.canon.are_plain.Goals.{else-count-gt0-via-else-count-g
 
 -- the count is that of the group's occurrences
 counted : (groups : List Group) (found : List Occurrence) (index : List (List ℕ)) (place count : ℕ)
-    → index ≡ index_of (knowns_of groups) found → place < length groups
+    → index ≡ index_of (length groups) found → place < length groups
     → count ≡ length (unwrap_or (slice_get index place) []) → count ≡ length (found_at place found)
 counted groups found index place count is within asked =
     asked ∙ ap (λ (index : List (List ℕ)). length (unwrap_or (slice_get index place) [])) is
-    ∙ length-found_at (knowns_of groups) found place (omega (arith, length-map groups (λ (group : Group). group.known)))
+    ∙ length-found_at (length groups) found place within
 
 -- past the last group the main name is empty
 plain_past : (groups : List Group) (place : ℕ) → length groups ≤ place

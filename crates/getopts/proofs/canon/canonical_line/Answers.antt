@@ -6,7 +6,7 @@ use Rattle.std.specs.String.{string_bytes}
 use Rattle.getopts.specs.Names.{Text}
 use Rattle.getopts.specs.Scan.{two, long_word, Occurrence}
 use Rattle.getopts.specs.Canon.{canonical_word}
-use Rattle.getopts.specs.Line.{occurrence_view}
+use Rattle.getopts.specs.Held.Line.{occurrence_view}
 use Rattle.getopts.proofs.Parsing.Counts.{none_past}
 use Rattle.getopts.proofs.Held.Line.{take-get}
 use Rattle.getopts.proofs.canon.canonical_line.Goals as goal

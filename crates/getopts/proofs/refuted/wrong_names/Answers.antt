@@ -5,7 +5,7 @@ use Rattle.std.specs.List.Sorted.{IsStrictlySortedBy}
 use Rattle.std.specs.Str.{bytes_eq}
 use Rattle.std.proofs.lemmas.Bool.{true≢false}
 use Rattle.getopts.specs.Names.{resolution}
-use Rattle.getopts.specs.Table.{entry_at, group_by_name, Finds, IsTableOf}
+use Rattle.getopts.specs.Held.Table.{entry_at, group_by_name, Finds, IsTableOf}
 use Rattle.getopts.specs.Refuted.Naming.{a_apple, two_apples}
 use Rattle.getopts.proofs.Lookup.Entries.{AreKeyed-none, AreKeyed-push, IsTableOf-found}
 use Rattle.getopts.proofs.Lookup.Entries.{Finds-table}

@@ -1,7 +1,7 @@
--- No byte before this place is `=`.
-use Rattle.std.proofs.Common.{◌≢◌, ◌<◌, ℕ, get_or}
-use Rattle.getopts.specs.Scan.{equals_sign}
+-- The text before this place holds no `=`.
+use Rattle.std.proofs.Common.{◌≡◌, false, take}
+use Rattle.getopts.specs.Scan.{holds_equals}
 use Rattle.getopts.proofs.scan.name_and_argument.Given as goal
 
 abbrev pub invariant-loop-at : goal.invariant-loop-at
-invariant-loop-at l = (k : ℕ) → k < l.at → get_or l.text k 0 ≢ equals_sign
+invariant-loop-at l = holds_equals (take l.at l.text) ≡ false

@@ -3,7 +3,6 @@ use Rattle.std.specs.Str.Iter.{split_text, split_has_more, split_pattern}
 use Rattle.std.proofs.lemmas.Iterator.Consumers.{YieldsList-end}
 use Rattle.std.proofs.lemmas.Iterator.Splits.{YieldsList-from_str_split}
 use Rattle.std.proofs.lemmas.List.{map-append}
-use Rattle.getopts.specs.Wrap.{words_of}
 use Rattle.getopts.proofs.Wrapping.Lines.{LinesSoFar, lines_none, lines_add, lines_end}
 use Rattle.getopts.proofs.wrap.push_description.Goals as goal
 
@@ -27,4 +26,4 @@ returns c =
     let all = YieldsList-from_str_split 10 c.args.desc.now (lit< tt) (ap split_text start ∙ split.text)
     (ap split_has_more start ∙ split.has_more) (ap split_pattern start ∙ split.pattern) in
     let each = YieldsList-end all c.loop-line.yielded _ c.loop-line.yielded_by _ _ c.in-None.is c.next.ensures.steps in
-    lines_end c.args.lim c.args.separator.now c.args.desc.now _ _ _ _ c.loop-line.invariant (ap (map words_of) each.0)
+    lines_end c.args.lim c.args.separator.now c.args.desc.now _ _ _ _ c.loop-line.invariant each.0

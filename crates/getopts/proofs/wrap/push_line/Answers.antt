@@ -1,15 +1,11 @@
-use Rattle.std.proofs.Common.{ℕ, ◌+◌, ◌<◌, List, ◌++◌, string_bytes, lit<, arith, refl, ap, ◌∙◌}
-use Rattle.std.proofs.Common.{sym, subst}
+use Rattle.std.proofs.Common.{ℕ, ◌+◌, List, ◌++◌, string_bytes, refl, ap, ◌∙◌, sym, subst, inl, inr}
+use Rattle.std.proofs.lemmas.Bool.{cases_lt}
 use Rattle.std.specs.Str.{IsUtf8}
 use Rattle.std.specs.Str.Iter.{split_whitespace_rest}
 use Rattle.getopts.specs.Wrap.{width_of, words_of}
 use Rattle.getopts.proofs.Wrapping.Words.{words_of-none, words_of-step}
 use Rattle.getopts.proofs.Wrapping.Rows.{adds_none, rows_begin, rows_take, rows_end, rows_finish}
 use Rattle.getopts.proofs.wrap.push_line.Goals as goal
-use Rattle.getopts.proofs.wrap.push_line.Goals.{then-columns-lim+then-width-lim+in_ok-push}
-use Rattle.getopts.proofs.wrap.push_line.Goals.{else-columns-lim+in_ok-push_str-2}
-use Rattle.getopts.proofs.wrap.push_line.Goals.{else-columns-lim-via-then-columns-lim+else-width-lim}
-use Rattle.getopts.proofs.wrap.push_line.Goals.{else-columns-lim-via-else-columns-lim}
 
 -- the line has no word
 pub returns-in_default : goal.returns-in_default
@@ -32,28 +28,14 @@ loop-word-init c =
 
 -- the word joins the row in hand, or ends it and begins one
 pub loop-word-preserved : goal.loop-word-preserved
-unfolding width_of
 loop-word-preserved c =
     let so_far = c.loop-word.invariant in
+    let word = c.in-Some-word.word.now in
     let next = words_of-step c.loop-word.word-iterator c.next-in-loop-word.new.self c.in-Some-word.word so_far.utf8 c.in-Some-word.ensures.steps in
-    let width_is = c.width-width.ensures.value in
-    elim c.if-columns-lim.branch [
-      | then-columns-lim+then-width-lim+in_ok-push w ↦
-          rows_take so_far c.in-Some-word.word.now _ c.width-width.result _ _ next width_is (omega arith)
-          (c.in_ok-push_str-3.ensures.bytes ∙ ap (λ (text : List ℕ). text ++ c.in-Some-word.word.now)
-          (ap string_bytes w.text-is ∙ w.in_ok-push.ensures.bytes
-          ∙ ap (λ (space : List ℕ). string_bytes c.loop-word.text ++ space) (w.push.ensures.ascii (lit< tt))))
-          (omega arith)
-      | else-columns-lim+in_ok-push_str-2 w ↦
-          let long : c.args.lim < c.loop-word.columns + (1 + c.width-width.result) =
-          elim w.else-columns-lim.branch [
-            | else-columns-lim-via-then-columns-lim+else-width-lim narrow ↦ omega arith
-            | else-columns-lim-via-else-columns-lim full ↦ omega arith
-          ] in
-          rows_end so_far c.in-Some-word.word.now _ c.width-width.result _ _ next width_is long
-          (c.in_ok-push_str-3.ensures.bytes ∙ ap (λ (text : List ℕ). text ++ c.in-Some-word.word.now)
-          (ap string_bytes w.text-is ∙ w.in_ok-push_str-2.ensures.bytes))
-          (omega arith)
+    let says = c.in_ok-columns.ensures in
+    elim (cases_lt c.args.lim (c.loop-word.columns + (1 + width_of word))) [
+      | inl long ↦ rows_end so_far word _ _ _ next long (says.begins long)
+      | inr fits ↦ rows_take so_far word _ _ _ next fits (says.joins fits)
     ]
 
 -- no word is left

@@ -1,5 +1,6 @@
 -- The name has its first letter and at least one digit.
-use Rattle.std.proofs.Common.{arith, ap, ◌<◌, ◌≡◌, ℕ, ◌-◌, ◌^◌, length, [], ◌∷◌, false, length-append}
+use Rattle.std.proofs.Common.{arith, ap, ◌<◌, ◌≡◌, ℕ, ◌-◌, ◌^◌, length, [], ◌∷◌, false}
+use Rattle.std.proofs.Common.{length-append}
 use Rattle.std.proofs.lemmas.Fmt.{decimal_nonempty}
 use Rattle.std.proofs.lemmas.Result.{IfOk-weaker}
 use Rattle.std.specs.Fmt.{decimal, format_spec, padded_integral, styled_decimal}
@@ -7,7 +8,8 @@ use Rattle.std.specs.String.{string_bytes, string_len}
 use Rattle.getopts_bench.proofs.input.long_name.Goals as goal
 
 -- a number that is filled up to four places is written by at least one digit
-four_places_nonempty : (number : ℕ) → number < 2 ^ 64 → 0 < length (padded_integral (format_spec 32 0 4 4 (2 ^ 64 - 1)) false [] (decimal number))
+four_places_nonempty : (number : ℕ) → number < 2 ^ 64
+    → 0 < length (padded_integral (format_spec 32 0 4 4 (2 ^ 64 - 1)) false [] (decimal number))
 unfolding padded_integral
 four_places_nonempty number fits = let some = decimal_nonempty number fits in simp length-append (omega arith)
 

@@ -1,15 +1,10 @@
-use Rattle.std.proofs.Common.{inr, string_bytes}
+use Rattle.std.proofs.Common.{inr}
 use Rattle.std.proofs.lemmas.Result.{IfErr-weaker, IfOk-weaker, on_ok_weaker}
-use Rattle.getopts_c.specs.Answer.{IsCanonicalOf}
 use Rattle.getopts_c.proofs.answer.line_of.Goals as goal
 
 pub returns-clause-answered : goal.returns-clause-answered
 returns-clause-answered c =
-    let request = c.args.request in
-    let words = c.args.words in
-    IfOk-weaker c.line_to.result _
-    (λ answer. IsCanonicalOf request.texts.now request.lens.now request.kinds.now request.stop request.long_only
-    words.bytes.now words.lens.now answer.status answer.body.numbers.items (string_bytes answer.body.bytes))
+    IfOk-weaker c.line_to.result _ _
     (λ answer said. record {
       options = c.in_ok-options.options;
       line = said.0;
@@ -20,7 +15,9 @@ returns-clause-answered c =
     c.line_to.ensures.answered
 
 pub returns-clause-lawful : goal.returns-clause-lawful
-returns-clause-lawful c = on_ok_weaker c.line_to.result (λ said. (c.in_ok-options.ensures.lawful, said)) c.line_to.ensures.lawful
+returns-clause-lawful c =
+    on_ok_weaker c.line_to.result (λ said. (c.in_ok-options.ensures.lawful, said)) c.line_to.ensures.lawful
 
 pub returns-clause-bad : goal.returns-clause-bad
-returns-clause-bad c = IfErr-weaker c.line_to.result _ _ (λ refusal follows bad. inr (follows bad)) c.line_to.ensures.bad
+returns-clause-bad c =
+    IfErr-weaker c.line_to.result _ _ (λ refusal follows bad. inr (follows bad)) c.line_to.ensures.bad

@@ -12,7 +12,8 @@ returns-clause-usage c =
       options = options;
       options_are = subst (λ (stop : Bool). IsRequest request.texts.now request.lens.now request.kinds.now stop
           request.long_only options) c.requires c.in_ok-options.ensures.request;
-      text_is = subst (λ (text : List ℕ). IsTheOnly (IsUsageText options c.args.brief.now) text) (sym c.of_text.ensures.bytes)
+      text_is = subst (λ (text : List ℕ). IsTheOnly (IsUsageText options c.args.brief.now) text)
+          (sym c.of_text.ensures.bytes)
           (subst (λ (brief : List ℕ). IsTheOnly (IsUsageText options brief) (string_bytes c.in_ok-text.text))
           c.in_ok-brief.ensures.same c.in_ok-text.ensures.text);
     }

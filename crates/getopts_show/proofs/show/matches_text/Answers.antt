@@ -11,7 +11,8 @@ pub returns : goal.returns
 returns c =
     let groups = c.args.matches.now.groups in
     let options_are = c.in_ok-text.ensures ∙ lines_of_names groups c.requires in
-    let free_is = ap (map string_bytes) c.deref.ensures.value ∙ ap (λ (matches : Matched). matches.free) c.matches.view_is in
+    let free_is = ap (map string_bytes) c.deref.ensures.value
+    ∙ ap (λ (matches : Matched). matches.free) c.matches.view_is in
     c.in_ok-push_words.ensures
     ∙ ap (λ lines. lines ++ flat_map (word_line (codes "free")) (map string_bytes c.deref.result.now)) options_are
     ∙ ap (λ words. flat_map group_lines groups ++ flat_map (word_line (codes "free")) words) free_is

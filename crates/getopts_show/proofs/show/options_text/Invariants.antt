@@ -7,4 +7,5 @@ use Rattle.getopts_show.proofs.show.options_text.Given as goal
 
 -- the lines of the options so far were added
 abbrev pub invariant-loop-name : goal.invariant-loop-name
-invariant-loop-name l = string_bytes l.text ≡ flat_map (named_lines l.matches.groups) (texts (take l.name-index l.names))
+invariant-loop-name l =
+    string_bytes l.text ≡ flat_map (named_lines l.matches.groups) (texts (take l.name-index l.names))

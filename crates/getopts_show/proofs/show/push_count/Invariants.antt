@@ -7,4 +7,5 @@ use Rattle.getopts_show.proofs.show.push_count.Given as goal
 
 -- the marks of the positions so far were added
 abbrev pub invariant-loop-nth : goal.invariant-loop-nth
-invariant-loop-nth l = string_bytes l.text ≡ string_bytes l.initial.text ++ flat_map position_mark (positions_of (take l.nth l.occurrences))
+invariant-loop-nth l = string_bytes l.text
+    ≡ string_bytes l.initial.text ++ flat_map position_mark (positions_of (take l.nth l.occurrences))

@@ -5,4 +5,6 @@ use Rattle.getopts_show.proofs.ShowLemmas.{pairs-more}
 use Rattle.getopts_show.proofs.show.push_values.Goals as goal
 
 pub loop-nth-preserved : goal.loop-nth-preserved
-loop-nth-preserved c = let more = pairs-more c.args.occurrences.now c.loop-nth.nth c.get.result c.get.ensures in grind (arith, common_steps)
+loop-nth-preserved c =
+    let more = pairs-more c.args.occurrences.now c.loop-nth.nth c.get.result c.get.ensures in
+    grind (arith, common_steps)

@@ -9,4 +9,5 @@ pub returns : goal.returns
 returns c =
     let may = MayBeDeclared-plain compile_options refl in
     let laws = c.declared_options_keep_laws.ensures.reading_laws compile_options may in
-    OutputsMayBeAttached_lem (c.declared_options_keep_laws.ensures.holds_same compile_options may) laws.long_argument laws.short_argument
+    OutputsMayBeAttached_lem (c.declared_options_keep_laws.ensures.holds_same compile_options may)
+    laws.long_argument laws.short_argument

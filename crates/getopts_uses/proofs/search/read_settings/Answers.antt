@@ -13,11 +13,12 @@ use Rattle.getopts_uses.proofs.search.read_settings.Goals as goal
 
 -- what a number's text gives, with the reason of an error
 abbrev AsRead : Text → Result ℕ ParseIntError → Type 0
-AsRead text answer = ParsesUnsigned 32 10 text answer × ExplainsUnsignedError 10 text answer × HasUnsignedDigitsIfOk text answer
+AsRead text answer =
+    ParsesUnsigned 32 10 text answer × ExplainsUnsignedError 10 text answer × HasUnsignedDigitsIfOk text answer
 
 -- what it gives alone
-as_read : (value : Option Text) (answer : Result (Option ℕ) ParseIntError) → IsReadAs AsRead value answer
-    → IsReadAs (ParsesUnsigned 32 10) value answer
+as_read : (value : Option Text) (answer : Result (Option ℕ) ParseIntError)
+    → IsReadAs AsRead value answer → IsReadAs (ParsesUnsigned 32 10) value answer
 as_read = IsReadAs-weaker AsRead (ParsesUnsigned 32 10) (λ text answer read. read.0)
 
 pub returns-clause-settings : goal.returns-clause-settings

@@ -1,25 +1,21 @@
--- The names of a group start where those of the one before it end.
-use Rattle.std.proofs.Common.{◌≡◌, ◌<◌, ◌≤◌, ◌-◌, ◌*◌, ◌∷◌, Some, length, get_or, slice_get, refl, sym}
-use Rattle.std.proofs.Common.{◌∙◌, arith}
-use Rattle.std.proofs.lemmas.List.{get_or_read}
-use Rattle.std.proofs.lemmas.Option.{slice_get_past}
-use Rattle.std.proofs.lemmas.Str.{IsUtf8-string_bytes}
-use Rattle.std.specs.Str.{IsCharBoundary}
+-- The help of a group stands after its names.
+use Rattle.std.proofs.Common.{◌≡◌, ◌∙◌, Some, slice_get, refl, sym, ap}
+use Rattle.std.proofs.lemmas.Option.{slice_get_past, same_Some}
+use Rattle.std.specs.Option.{option_map}
 use Rattle.std.specs.String.{string_bytes}
-use Rattle.getopts.specs.Held.Groups.{name_ends}
+use Rattle.getopts.specs.Names.{Text}
+use Rattle.getopts.specs.Options.{Group}
+use Rattle.getopts.specs.Held.Groups.{AreEndsOf, known_view, group_by, between}
 use Rattle.getopts.proofs.Lists.{slice_get-read}
-use Rattle.getopts.proofs.Held.Groups.{known_by, starts_after, knowns_in-at}
-use Rattle.getopts.proofs.Held.Groups.{names_in_order, names_cut}
-use Rattle.getopts.proofs.Held.Pairs.{beside_pairs-past}
+use Rattle.getopts.proofs.Held.Groups.{start_at, groups_from-at, AreEndsOf-at}
 use Rattle.getopts.proofs.groups.Groups.get.Goals as goal
-use Rattle.getopts.proofs.groups.Groups.get.Goals.{After-deref-2, then-place-eq0, else-place-eq0}
+use Rattle.getopts.proofs.groups.Groups.get.Goals.{After-deref-2}
 
 pub returns-in_err-group : goal.returns-in_err-group
 returns-in_err-group c =
-    let past = rw c.deref.ensures.value at c.in_err-group.ensures.lookup.3 in
-    rw (← c.self.view_is, c.from_residual.ensures)
-    (sym (beside_pairs-past known_by c.self.inside.records.items _ c.args.place
-    (slice_get_past c.self.inside.records.items c.args.place past)))
+    let records = c.self.inside.records.items in
+    let past = slice_get_past records c.args.place (rw c.deref.ensures.value at c.in_err-group.ensures.lookup.3) in
+    rw (← c.self.view_is, c.from_residual.ensures, groups_from-at (string_bytes c.self.inside.text) 0 records c.args.place, past) refl
 
 record_at : (c : After-deref-2)
     → slice_get c.self.inside.records.items c.args.place ≡ Some c.in_ok-group.field-0.now
@@ -27,55 +23,42 @@ record_at c =
     let there = rw c.deref.ensures.value at c.in_ok-group.ensures.lookup.3 in
     slice_get-read c.self.inside.records.items c.args.place c.in_ok-group.field-0.now there.0 there.1
 
-starts_at : (c : After-deref-2)
-    → get_or (0 ∷ name_ends c.self.inside.records.items) (2 * c.args.place) 0 ≡ c.if-place-eq0.start
-starts_at c = elim c.if-place-eq0.branch [
-  | then-place-eq0 w ↦ rw (w.if-place-eq0.true, w.start-is) refl
-  | else-place-eq0 w ↦
-      let there = rw c.deref.ensures.value at c.in_ok-group.ensures.lookup.3 in
-      let before = w.index.result.now in
-      let inside : c.args.place - 1 < length c.self.inside.records.items = omega (arith, there.0) in
-      starts_after c.self.inside.records.items c.args.place before (omega (arith, w.if-place-eq0.false))
-      (slice_get-read c.self.inside.records.items (c.args.place - 1) before inside
-      (λ d. get_or_read c.self.inside.records.items (c.args.place - 1) before inside w.index.ensures d)) ∙ sym w.start-is
-]
+ends : (c : After-deref-2) → AreEndsOf (string_bytes c.self.inside.text)
+    (start_at 0 c.self.inside.records.items c.args.place) c.in_ok-group.field-0.now
+ends c = AreEndsOf-at (string_bytes c.self.inside.text) 0 c.self.inside.records.items c.args.place c.in_ok-group.field-0.now
+    c.self.invariant.parts (record_at c)
 
-ordered : (c : After-deref-2)
-    → (c.if-place-eq0.start ≤ c.in_ok-group.field-0.now.short_end)
-    × (c.in_ok-group.field-0.now.short_end ≤ c.in_ok-group.field-0.now.long_end)
-ordered c = names_in_order (string_bytes c.self.inside.names) c.self.inside.records.items c.args.place c.if-place-eq0.start
-    c.in_ok-group.field-0.now (record_at c) (starts_at c) c.self.invariant.in_order
+pub range-hint-requires-clause-start_le_end : goal.range-hint-requires-clause-start_le_end
+range-hint-requires-clause-start_le_end c = (ends c).hint.in_order
 
-cut : (c : After-deref-2) → let text = string_bytes c.self.inside.names in
-    IsCharBoundary text c.if-place-eq0.start
-    × IsCharBoundary text c.in_ok-group.field-0.now.short_end
-    × IsCharBoundary text c.in_ok-group.field-0.now.long_end
-cut c = names_cut (string_bytes c.self.inside.names) c.self.inside.records.items c.args.place c.if-place-eq0.start
-    c.in_ok-group.field-0.now (record_at c) (starts_at c) (IsUtf8-string_bytes c.self.inside.names) c.self.invariant
+pub range-hint-requires-clause-start_boundary : goal.range-hint-requires-clause-start_boundary
+range-hint-requires-clause-start_boundary c = λ _. rw c.deref-2.ensures (ends c).long.boundary
 
-pub range-short-requires-clause-start_le_end : goal.range-short-requires-clause-start_le_end
-range-short-requires-clause-start_le_end c = (ordered c).0
+pub range-hint-requires-clause-end_boundary : goal.range-hint-requires-clause-end_boundary
+range-hint-requires-clause-end_boundary c = rw c.deref-2.ensures (ends c).hint.boundary
 
-pub range-short-requires-clause-start_boundary : goal.range-short-requires-clause-start_boundary
-range-short-requires-clause-start_boundary c = λ _. rw c.deref-2.ensures (cut c).0
+pub range-desc-requires-clause-start_le_end : goal.range-desc-requires-clause-start_le_end
+range-desc-requires-clause-start_le_end c = (ends (goal.at.range-desc-requires-clause-start_le_end c).After-deref-2).description.in_order
 
-pub range-short-requires-clause-end_boundary : goal.range-short-requires-clause-end_boundary
-range-short-requires-clause-end_boundary c = rw c.deref-2.ensures (cut c).1
+pub range-desc-requires-clause-start_boundary : goal.range-desc-requires-clause-start_boundary
+range-desc-requires-clause-start_boundary c =
+    λ _. rw c.deref-3.ensures (ends (goal.at.range-desc-requires-clause-start_boundary c).After-deref-2).hint.boundary
 
-pub range-long-requires-clause-start_le_end : goal.range-long-requires-clause-start_le_end
-range-long-requires-clause-start_le_end c = (ordered (goal.at.range-long-requires-clause-start_le_end c).After-deref-2).1
-
-pub range-long-requires-clause-start_boundary : goal.range-long-requires-clause-start_boundary
-range-long-requires-clause-start_boundary c =
-    λ _. rw c.deref-3.ensures (cut (goal.at.range-long-requires-clause-start_boundary c).After-deref-2).1
-
-pub range-long-requires-clause-end_boundary : goal.range-long-requires-clause-end_boundary
-range-long-requires-clause-end_boundary c =
-    rw c.deref-3.ensures (cut (goal.at.range-long-requires-clause-end_boundary c).After-deref-2).2
+pub range-desc-requires-clause-end_boundary : goal.range-desc-requires-clause-end_boundary
+range-desc-requires-clause-end_boundary c =
+    rw c.deref-3.ensures (ends (goal.at.range-desc-requires-clause-end_boundary c).After-deref-2).description.boundary
 
 pub returns : goal.returns
 returns c =
     let at = (goal.at.returns c).After-deref-2 in
-    rw (← c.self.view_is, c.range-short.ensures.value, c.range-long.ensures.value, c.deref-2.ensures, c.deref-3.ensures)
-    (sym (knowns_in-at (string_bytes c.self.inside.names) c.self.inside.records.items c.args.place c.if-place-eq0.start
-    c.in_ok-group.field-0.now (record_at at) (starts_at at)))
+    let text = string_bytes c.self.inside.text in
+    let records = c.self.inside.records.items in
+    let start = start_at 0 records c.args.place in
+    let r = c.in_ok-group.field-0.now in
+    let there : slice_get c.args.self.now c.args.place ≡ Some (group_by text start r) =
+    rw (← c.self.view_is) (groups_from-at text 0 records c.args.place ∙ ap (option_map (group_by text start)) (record_at at)) in
+    let known : known_view c.in_ok-known.known ≡ (group_by text start r).known =
+    same_Some _ _ (c.in_ok-known.ensures ∙ ap (option_map (λ (g : Group). g.known)) there) in
+    let hint = c.range-hint.ensures.value ∙ ap (λ (t : Text). between t r.long_end r.hint_end) c.deref-2.ensures in
+    let description = c.range-desc.ensures.value ∙ ap (λ (t : Text). between t r.hint_end r.desc_end) c.deref-3.ensures in
+    (λ i. Some (record { known = known i; hint = hint i; description = description i })) ∙ sym there

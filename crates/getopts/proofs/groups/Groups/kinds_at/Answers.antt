@@ -1,34 +1,29 @@
 -- The kinds of a group are those of its record.
-use Rattle.std.proofs.Common.{refl, sym, ap}
-use Rattle.std.specs.Option.{option_map}
-use Rattle.std.proofs.lemmas.Option.{slice_get_past}
-use Rattle.getopts.specs.Held.Groups.{kinds_of}
-use Rattle.getopts.specs.declared.groups.GroupRecord.{GroupRecord}
+use Rattle.std.proofs.Common.{◌<◌, length, List, refl, ap, arith}
+use Rattle.std.proofs.lemmas.List.{get_or_read}
+use Rattle.std.specs.String.{string_bytes}
+use Rattle.getopts.specs.Options.{Group}
 use Rattle.getopts.proofs.Lists.{slice_get-read}
-use Rattle.getopts.proofs.Held.Groups.{known_by, length-names}
-use Rattle.getopts.proofs.Held.Pairs.{beside_pairs-through}
+use Rattle.getopts.proofs.Held.Groups.{groups_from-at, length-groups_from}
 use Rattle.getopts.proofs.groups.Groups.kinds_at.Goals as goal
 
-pub returns-in_err-get : goal.returns-in_err-get
-returns-in_err-get c =
-    let past = rw c.deref.ensures.value at c.in_err-get.ensures.lookup.3 in
-    rw (
-      ← c.self.view_is,
-      c.from_residual.ensures,
-      beside_pairs-through known_by kinds_of (λ (group : GroupRecord). group.kinds)
-          (λ group short long. refl) c.self.inside.records.items _ c.args.place
-          (length-names _ c.self.inside.records.items),
-    )
-    (ap (option_map (λ (group : GroupRecord). group.kinds)) (sym (slice_get_past c.self.inside.records.items c.args.place past)))
+pub index-requires : goal.index-requires
+index-requires c = omega (
+  arith,
+  c.requires,
+  ap (λ (groups : List Group). length groups) c.self.view_is,
+  length-groups_from (string_bytes c.self.inside.text) 0 c.self.inside.records.items,
+)
 
 pub returns : goal.returns
 returns c =
-    let there = rw c.deref.ensures.value at c.in_ok-get.ensures.lookup.3 in
-    rw (
-      ← c.self.view_is,
-      beside_pairs-through known_by kinds_of (λ (group : GroupRecord). group.kinds)
-          (λ group short long. refl) c.self.inside.records.items _ c.args.place
-          (length-names _ c.self.inside.records.items),
-    )
-    (ap (option_map (λ (group : GroupRecord). group.kinds))
-    (sym (slice_get-read c.self.inside.records.items c.args.place c.in_ok-get.field-0.now there.0 there.1)))
+    let records = c.self.inside.records.items in
+    let within : c.args.place < length records = omega (
+      arith,
+      c.requires,
+      ap (λ (groups : List Group). length groups) c.self.view_is,
+      length-groups_from (string_bytes c.self.inside.text) 0 records,
+    ) in
+    let at = slice_get-read records c.args.place c.index.result.now within
+    (λ d. get_or_read records c.args.place c.index.result.now within c.index.ensures d) in
+    rw (← c.self.view_is, groups_from-at (string_bytes c.self.inside.text) 0 records c.args.place, at) refl

@@ -11,10 +11,10 @@ returns-in-Some c =
 pub returns-in-None : goal.returns-in-None
 returns-in-None c = sym (name_at-past c.args.self.now c.args.number (sym c.in-None.ensures))
 
-pub returns-in-Some-get : goal.returns-in-Some-get
-returns-in-Some-get c =
-    sym (name_at-long c.args.self.now c.args.number (known_view c.in-Some-get.known) (sym c.in-Some-get.ensures)
+pub returns-in-Some-known : goal.returns-in-Some-known
+returns-in-Some-known c =
+    sym (name_at-long c.args.self.now c.args.number (known_view c.in-Some-known.known) (sym c.in-Some-known.ensures)
     (omega (arith, c.if-number-eq0.false)))
 
-pub returns-in-None-get : goal.returns-in-None-get
-returns-in-None-get c = sym (name_at-past c.args.self.now c.args.number (sym c.in-None-get.ensures))
+pub returns-in-None-known : goal.returns-in-None-known
+returns-in-None-known c = sym (name_at-past c.args.self.now c.args.number (sym c.in-None-known.ensures))

@@ -1,4 +1,4 @@
--- Groups are the same where the text of their names and their records are.
+-- Groups are the same where the text of all their texts and their records are.
 use Rattle.getopts.proofs.Held.Groups.{same_groups}
 use Rattle.getopts.proofs.groups.GroupsPartialEq.eq.Goals as goal
 
@@ -7,12 +7,12 @@ returns-then-eq c =
     rw (
       ← c.self.view_is,
       ← c.other.view_is,
-      ← same_groups _ _ _ _ c.self.invariant.in_order
-          c.other.invariant.in_order,
+      ← same_groups _ _ _ _ c.self.invariant.parts
+          c.other.invariant.parts,
       ← c.eq.ensures,
       c.if-eq.true,
     ) c.eq-then-eq.ensures
 
 pub returns-else-eq : goal.returns-else-eq
 returns-else-eq c =
-    rw (← c.self.view_is, ← c.other.view_is, ← same_groups _ _ _ _ c.self.invariant.in_order c.other.invariant.in_order, ← c.eq.ensures, c.if-eq.false)
+    rw (← c.self.view_is, ← c.other.view_is, ← same_groups _ _ _ _ c.self.invariant.parts c.other.invariant.parts, ← c.eq.ensures, c.if-eq.false)

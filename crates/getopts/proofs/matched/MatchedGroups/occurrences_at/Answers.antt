@@ -8,8 +8,10 @@ places_are : (c : After-places)
     → c.places.result.now ≡ held_places c.self.inside.groups c.self.inside.found c.args.place
 places_are c = c.places.ensures ∙ ap (λ (index : List (List ℕ)). unwrap_or (slice_get index c.args.place) []) c.self.invariant.index
 
-pub invariant_of-result : goal.invariant_of-result
-invariant_of-result c = rw (places_are c) (held_places-within c.self.inside.groups c.self.inside.found c.args.place)
+pub of-requires : goal.of-requires
+of-requires c = rw (places_are c) (held_places-within c.self.inside.groups c.self.inside.found c.args.place)
 
 pub returns : goal.returns
-returns c = rw (places_are c, ← c.self.view_is) (held_places-found c.self.inside.groups c.self.inside.found c.args.place)
+returns c =
+    rw (c.of.ensures, places_are (goal.at.returns c).After-places, ← c.self.view_is)
+    (held_places-found c.self.inside.groups c.self.inside.found c.args.place)

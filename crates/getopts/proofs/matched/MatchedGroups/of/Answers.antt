@@ -2,4 +2,4 @@
 use Rattle.getopts.proofs.matched.MatchedGroups.of.Goals as goal
 
 pub invariant_of-result : goal.invariant_of-result
-invariant_of-result c = record { lawful = c.requires.lawful; table = c.requires.table; index = c.requires.index }
+invariant_of-result c = record { table = c.requires.table; index = c.requires.index }

@@ -1,16 +1,12 @@
 -- The line that was read, its counts, and its faults are those of the declared options.
-use Rattle.std.proofs.Common.{◌≡◌, ◌∙◌, List, ap, subst, inl, inr}
+use Rattle.std.proofs.Common.{inl, inr}
 use Rattle.std.proofs.lemmas.Result.{err_from_is_err_and}
-use Rattle.getopts.specs.Names.{Names, texts}
-use Rattle.getopts.specs.Options.{Known, knowns_of, grammar_of}
+use Rattle.getopts.specs.Names.{texts}
+use Rattle.getopts.specs.Options.{knowns_of, grammar_of}
 use Rattle.getopts.specs.Scan.{IsScanFault}
-use Rattle.getopts.specs.Matches.{matched, KeepsCounts, IsCountFault}
+use Rattle.getopts.specs.Matches.{matched, IsCountFault}
 use Rattle.getopts.specs.Parse.{IsRefused}
-use Rattle.getopts.specs.Table.{IsTableOf}
-use Rattle.getopts.specs.Held.Accepted.{index_of}
-use Rattle.getopts.specs.Held.Groups.{names_in}
 use Rattle.getopts.proofs.Parsing.Faults.{Tells-weaker}
-use Rattle.getopts.proofs.Held.Pairs.{HaveLawfulNames-known, names-knowns_of}
 use Rattle.getopts.proofs.Parsing.Parsed.{HasNoReading-fault, BreaksCounts-reading}
 use Rattle.getopts.proofs.options.Options.accepted_line.Goals as goal
 
@@ -19,8 +15,7 @@ scan-requires c = record {
   lawful = record {
     lawful = c.groups-groups.ensures.lawful;
     shorts = c.groups-groups.ensures.shorts;
-    table = subst (λ (names : List Names). IsTableOf names c.in_ok-table.table)
-        (ap names_in c.groups-groups.ensures.groups ∙ names-knowns_of c.args.self.now.groups) c.in_ok-table.ensures;
+    table = rw c.groups-groups.ensures.groups at c.in_ok-table.ensures;
   };
 }
 
@@ -56,11 +51,9 @@ returns-clause-accepted c =
       lawful = c.groups-groups.ensures.lawful;
       shorts = c.groups-groups.ensures.shorts;
       held = record {
-        lawful = HaveLawfulNames-known c.args.self.now.groups c.groups-groups.ensures.lawful;
-        table = subst (λ (knowns : List Known). IsTableOf (names_in knowns) c.in_ok-table.table)
-            c.groups-groups.ensures.groups c.in_ok-table.ensures;
-        index = subst (λ (knowns : List Known). c.in_ok-index.index ≡ index_of knowns line.found) c.groups-groups.ensures.groups counted.0;
+        table = rw c.groups-groups.ensures.groups at c.in_ok-table.ensures;
+        index = rw c.groups-groups.ensures.groups at counted.0;
       };
       reads = c.in_ok-line.ensures.ok;
-      keeps = subst (λ (knowns : List Known). KeepsCounts (matched 0 knowns line.found)) c.groups-groups.ensures.groups counted.1;
+      keeps = rw c.groups-groups.ensures.groups at counted.1;
     }

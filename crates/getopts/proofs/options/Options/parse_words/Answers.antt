@@ -1,7 +1,6 @@
 -- The line that was read gives accepted matches, and its options keep the laws of readings.
 use Rattle.std.proofs.Common.{◌≡◌, ◌∙◌, subst}
 use Rattle.getopts.specs.Names.{texts}
-use Rattle.getopts.specs.Options.{knowns_of}
 use Rattle.getopts.specs.ScanLaws.{HavePositionsBelow}
 use Rattle.getopts.proofs.Canonical.Answered.{IsAccepted-line}
 use Rattle.getopts.proofs.Parsing.Parsed.{counts-accepted, positions_below-accepted, keeps_laws}
@@ -14,7 +13,7 @@ use Rattle.getopts.proofs.options.Options.parse_words.Goals as goal
 
 pub returns-clause-accepted : goal.returns-clause-accepted
 returns-clause-accepted c =
-    let groups : c.in_ok-groups.groups ≡ knowns_of c.args.self.now.groups = c.in_ok-groups.ensures.cases ∙ c.groups.ensures.groups in
+    let groups : c.in_ok-groups.groups ≡ c.args.self.now.groups = c.in_ok-groups.ensures.cases ∙ c.groups.ensures.groups in
     rw (c.of_line.ensures, groups)
     (IsAccepted-line c.args.self.now (texts c.args.words.now) c.in_ok-accepted.accepted
     c.in_ok-accepted.ensures.accepted)

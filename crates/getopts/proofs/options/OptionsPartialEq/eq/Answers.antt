@@ -6,14 +6,14 @@ use Rattle.std.proofs.lemmas.Bool.Decides.{Decides-at}
 use Rattle.getopts.proofs.Held.Options.{same_options-decides}
 use Rattle.getopts.proofs.options.OptionsPartialEq.eq.Goals as goal
 
-pub returns-then-eq-clause-answer : goal.returns-then-eq-clause-answer
-returns-then-eq-clause-answer c = grind (arith, common_steps)
+pub returns-then-eq-2-clause-answer : goal.returns-then-eq-2-clause-answer
+returns-then-eq-2-clause-answer c = grind (arith, common_steps)
 
-pub returns-else-eq-clause-answer : goal.returns-else-eq-clause-answer
-returns-else-eq-clause-answer c = grind (arith, common_steps)
+pub returns-else-eq-2-clause-answer : goal.returns-else-eq-2-clause-answer
+returns-else-eq-2-clause-answer c = grind (arith, common_steps)
 
-pub returns-then-eq-clause-same : goal.returns-then-eq-clause-same
-returns-then-eq-clause-same c = Decides-at _ _ (returns-then-eq-clause-answer c) (same_options-decides c.args.self.now c.args.other.now)
+pub returns-then-eq-2-clause-same : goal.returns-then-eq-2-clause-same
+returns-then-eq-2-clause-same c = Decides-at _ _ (returns-then-eq-2-clause-answer c) (same_options-decides c.args.self.now c.args.other.now)
 
-pub returns-else-eq-clause-same : goal.returns-else-eq-clause-same
-returns-else-eq-clause-same c = Decides-at _ _ (returns-else-eq-clause-answer c) (same_options-decides c.args.self.now c.args.other.now)
+pub returns-else-eq-2-clause-same : goal.returns-else-eq-2-clause-same
+returns-else-eq-2-clause-same c = Decides-at _ _ (returns-else-eq-2-clause-answer c) (same_options-decides c.args.self.now c.args.other.now)

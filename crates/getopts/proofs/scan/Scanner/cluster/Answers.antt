@@ -1,29 +1,31 @@
 -- Each name of a cluster is a flag, ends it, or is a fault.
-use Rattle.std.proofs.Common.{sym, ◌∙◌, ap, arith}
+use Rattle.std.proofs.Common.{◌≡◌, [], take, slice_index, sym, ◌∙◌, ap, arith, None, rules}
 use Rattle.std.specs.Option.{option_copied}
 use Rattle.std.proofs.lemmas.Str.{IsCharBoundary-after_ascii}
 use Rattle.std.proofs.lemmas.Result.{err_from_is_err_and}
-use Rattle.getopts.specs.Fail.{argument_missing, unrecognized_option}
-use Rattle.getopts.specs.Scan.{IsFaultAt}
-use Rattle.getopts.proofs.Parsing.Faults.{Tells-one, Tells-weaker}
+use Rattle.getopts.specs.Fail.{unrecognized_option}
 use Rattle.getopts.specs.Names.{texts}
-use Rattle.getopts.specs.Line.{scanner_grammar}
+use Rattle.getopts.specs.Held.Line.{scanner_grammar}
+use Rattle.getopts.specs.Scan.{cluster, ends_in}
+use Rattle.getopts.specs.Held.Turn.{faults, first_char, chosen_turn, cluster_turn}
+use Rattle.getopts.proofs.Parsing.Faults.{Tells-one, Tells-weaker}
 use Rattle.getopts.proofs.Scanning.Clusters.{FlagsRead-none, FlagsRead-more, AddsItem-flags}
-use Rattle.getopts.proofs.Scanning.Clusters.{AddsItem-ends, IsFaultAt-unknown, IsFaultAt-missing}
+use Rattle.getopts.proofs.Scanning.Clusters.{AddsItem-ends, cluster_turn-byte, cluster_turn-ends}
+use Rattle.getopts.proofs.Scanning.Clusters.{text_from}
 use Rattle.getopts.proofs.Scanning.Words.{slice_range-one}
 use Rattle.getopts.proofs.scan.Scanner.cluster.Goals as goal
 
 pub names-init : goal.names-init
-names-init c = FlagsRead-none (scanner_grammar c.args.self.now) c.args.position c.args.text.now c.args.found.now c.utf8.text
+names-init c = FlagsRead-none (scanner_grammar c.args.self.now) c.args.position c.args.text.now _ c.args.found.now c.utf8.text
 
 pub returns-in-None-clause-err : goal.returns-in-None-clause-err
-returns-in-None-clause-err c = λ word form.
-    let first = c.first_character-name.ensures in
+returns-in-None-clause-err c =
+    let first = c.first_character-name.ensures ∙ ap first_char (c.range_from.ensures.value ∙ text_from c.args.text.now c.names.at (omega arith)) in
     Tells-one c.unrecognized_option.result (unrecognized_option c.first_character-name.result.now)
-    (IsFaultAt (scanner_grammar c.args.self.now) word (texts c.args.after.now)) c.unrecognized_option.ensures
-    (IsFaultAt-unknown (scanner_grammar c.args.self.now) c.args.position c.args.text.now word
-    (texts c.args.after.now) form c.names.at _ _ (omega arith) c.names.invariant
-    first.0 c.first_character-name.result.now first.1 c.in-None.ensures.option first.2 first.3 (sym c.range_from.ensures.value ∙ first.4))
+    (λ fault. cluster_turn (scanner_grammar c.args.self.now) [] c.args.text.now (texts c.args.after.now) ≡ faults fault)
+    c.unrecognized_option.ensures
+    (cluster_turn-byte _ c.args.position c.args.text.now _ c.names.at _ _ (omega arith) c.names.invariant None c.in-None.ensures.option
+    ∙ ap (λ name. faults (unrecognized_option name)) (sym first))
 
 pub range-name-requires-clause-end_boundary : goal.range-name-requires-clause-end_boundary
 range-name-requires-clause-end_boundary c = IsCharBoundary-after_ascii c.args.text.now c.names.at c.utf8.text (omega arith) c.in-Some.ensures.ascii
@@ -32,36 +34,33 @@ pub range_from-requires-in-Some : goal.range_from-requires-in-Some
 range_from-requires-in-Some c = λ _. IsCharBoundary-after_ascii c.args.text.now c.names.at c.utf8.text (omega arith) c.in-Some.ensures.ascii
 
 pub returns-in-Some-clause-ok : goal.returns-in-Some-clause-ok
-returns-in-Some-clause-ok c = λ word form.
-    let rest = c.range_from-in-Some.ensures.value in
-    let ends = c.in_ok-value-in-Some.ensures.ok in
+returns-in-Some-clause-ok c =
     let named = c.in-Some.ensures.option in
-    AddsItem-ends (scanner_grammar c.args.self.now) c.args.position c.args.text.now word
-    (texts c.args.after.now) form c.names.at _ _ (omega arith) c.names.invariant
-    c.in-Some.group c.in-Some.hasarg (option_copied c.in_ok-value-in-Some.value) c.in_ok-value-in-Some.used _ named.0 named.1 (rw rest at ends)
-    c.in_ok-push-in-Some.ensures
+    let name = c.range-name.ensures.value ∙ slice_range-one c.args.text.now c.names.at (omega arith) in
+    AddsItem-ends _ c.args.position c.args.text.now _ c.names.at _ _ (omega arith) c.names.invariant c.in-Some.group c.in-Some.kind
+    (option_copied c.in_ok-value-in-Some.value) c.in_ok-value-in-Some.used _ named.0 (search rules) named.1
+    (rw (name, c.range_from-in-Some.ensures.value) at c.in_ok-value-in-Some.ensures.ok) c.in_ok-push-in-Some.ensures
 
 pub returns-in_err-value-in-Some-clause-err : goal.returns-in_err-value-in-Some-clause-err
 returns-in_err-value-in-Some-clause-err c =
     let left = err_from_is_err_and c.from_residual-in_err-value-in-Some.result
     c.from_residual-in_err-value-in-Some.ensures.1 in
     let name = c.range-name.ensures.value ∙ slice_range-one c.args.text.now c.names.at (omega arith) in
-    rw (left.1, left.2) (λ word form.
-    Tells-weaker c.in_err-value-in-Some.field-0.0 _
-    (IsFaultAt (scanner_grammar c.args.self.now) word (texts c.args.after.now)) c.in_err-value-in-Some.ensures.err
-    (λ fault told. rw (told.0 ∙ ap argument_missing name)
-    (IsFaultAt-missing (scanner_grammar c.args.self.now) c.args.position c.args.text.now word
-    (texts c.args.after.now) form c.names.at _ _ (omega arith) c.names.invariant
-    (rw told.1 at c.in-Some.ensures.option.1) (sym c.range_from-in-Some.ensures.value ∙ told.2) told.3)))
+    let bytes = take c.names.at c.args.text.now in
+    let byte = slice_index c.args.text.now c.names.at in
+    rw (left.1, left.2) (Tells-weaker c.in_err-value-in-Some.field-0.0 _
+    (λ fault. cluster_turn (scanner_grammar c.args.self.now) [] c.args.text.now (texts c.args.after.now) ≡ faults fault)
+    (rw (name, c.range_from-in-Some.ensures.value) at c.in_err-value-in-Some.ensures.err)
+    (λ fault told. cluster_turn-ends _ c.args.position c.args.text.now _ c.names.at _ _ (omega arith) c.names.invariant
+    c.in-Some.kind (search rules) c.in-Some.ensures.option.1
+    ∙ ap (chosen_turn (λ a. cluster bytes (ends_in byte a))) told))
 
 pub names-preserved : goal.names-preserved
 names-preserved c =
     let named = c.in-Some-default-No.ensures.option in
-    FlagsRead-more (scanner_grammar c.args.self.now) c.args.position c.args.text.now c.names.at
-    c.in-Some-default-No.group _ _ _ c.utf8.text (omega arith) c.in-Some-default-No.ensures.ascii c.names.invariant
+    FlagsRead-more _ c.args.position c.args.text.now _ c.names.at _ _ (omega arith) c.names.invariant
+    c.in-Some-default-No.group _ c.utf8.text c.in-Some-default-No.ensures.ascii
     named.0 (rw c.in-Some-default-No.field-0-1-is at named.1) c.in_ok-push-in-Some-default-No.ensures
 
 pub returns-clause-ok : goal.returns-clause-ok
-returns-clause-ok c = λ word form.
-    AddsItem-flags (scanner_grammar c.args.self.now) c.args.position c.args.text.now word
-    (texts c.args.after.now) form c.names.at _ _ (omega arith) c.names.invariant
+returns-clause-ok c = AddsItem-flags _ c.args.position c.args.text.now _ c.names.at _ _ (omega arith) c.names.invariant

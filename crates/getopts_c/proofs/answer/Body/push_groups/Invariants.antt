@@ -8,4 +8,5 @@ use Rattle.getopts_c.proofs.answer.Body.push_groups.Given as goal
 abbrev pub invariant-loop-place : goal.invariant-loop-place
 invariant-loop-place l =
     (l.self.numbers.items ≡ l.initial.self.numbers.items ++ flat_map group_numbers (take l.place l.matches.groups))
-    × (string_bytes l.self.bytes ≡ string_bytes l.initial.self.bytes ++ flat_map group_bytes (take l.place l.matches.groups))
+    × (string_bytes l.self.bytes
+    ≡ string_bytes l.initial.self.bytes ++ flat_map group_bytes (take l.place l.matches.groups))

@@ -3,6 +3,5 @@ use Rattle.getopts_c.proofs.request.Request.options.Goals as goal
 
 pub returns-in_err-texts-clause-bad : goal.returns-in_err-texts-clause-bad
 returns-in_err-texts-clause-bad c =
-    let request = c.args.self.now in
     handed_on c.from_residual.result _ _ c.from_residual.ensures.1 (λ bad.
-    no_options_of_texts request.texts.now request.lens.now request.kinds.now request.stop request.long_only (c.in_err-texts.ensures.bad bad))
+    no_options_of_texts (c.in_err-texts.ensures.bad bad))

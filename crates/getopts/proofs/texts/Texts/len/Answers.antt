@@ -1,7 +1,0 @@
--- There are as many texts as ends.
-use Rattle.std.proofs.Common.{arith}
-use Rattle.getopts.proofs.Held.Pieces.{length-pieces}
-use Rattle.getopts.proofs.texts.Texts.len.Goals as goal
-
-pub returns : goal.returns
-returns c = rw (← c.self.view_is) (grind (arith, length-pieces))

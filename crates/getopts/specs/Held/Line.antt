@@ -1,0 +1,63 @@
+-- What the functions of `scan` find in the words that they are given.
+use Rattle.std.specs.Prelude.{◌≡◌, false, None, List, [], map}
+use Rattle.std.specs.Option.{option_copied}
+use Rattle.std.specs.String.{string_bytes}
+use Rattle.getopts.specs.Names.{Text}
+use Rattle.getopts.specs.Options.{Grammar, AreLawfullyNamed, names_of, grammar_of}
+use Rattle.getopts.specs.Held.Groups.{HaveTextsForShorts}
+use Rattle.getopts.specs.Held.Table.{IsTableOf}
+use Rattle.getopts.specs.Canon.{Content}
+use Rattle.getopts.specs.Scan.{Dashes, is_dashed, stop_word, Occurrence, Reading, IsReading}
+use Rattle.getopts.specs.Scan.{occurrences_of, free_words, trailing_start, IsShortForm}
+use Rattle.getopts.specs.Held.Turn.{IsInLongForm}
+use Rattle.getopts.specs.declared.line.Occurrence.{Occurrence as Held}
+use Rattle.getopts.specs.declared.line.Line.{Line}
+use Rattle.getopts.specs.declared.scan.Scanner.{Scanner}
+use Rattle.getopts.specs.declared.scan.Shape.{Shape}
+use Rattle.getopts.specs.declared.scan.Shape.TheVariants as shape
+
+-- an occurrence as the code holds it
+abbrev pub occurrence_view : Held → Occurrence
+occurrence_view held = record {
+  mention = record { group = held.group; value = option_copied held.value };
+  position = held.position;
+}
+
+-- the grammar of a scanner's options
+abbrev pub scanner_grammar : Scanner → Grammar
+scanner_grammar scanner = grammar_of scanner.options.now
+
+-- the options of a scanner are lawfully named, by texts, and its table is that of their names
+pub record IsLawfulScanner (scanner : Scanner) : Type 0 where
+  pub lawful : AreLawfullyNamed scanner.options.now.groups
+  pub shorts : HaveTextsForShorts scanner.options.now.groups
+  pub table : IsTableOf (names_of scanner.options.now.groups) scanner.table.now
+
+-- what a word is to a line
+abbrev pub HasShape : Grammar → Text → Shape → Type 0
+HasShape grammar word shape.Free = is_dashed word ≡ false
+HasShape grammar word shape.Stop = word ≡ stop_word
+HasShape grammar word (shape.Long text) =
+    (dashes : Dashes) × IsInLongForm grammar dashes word text.now
+HasShape grammar word (shape.Cluster text) = IsShortForm grammar word text.now
+
+-- The words have a reading with what the line holds.
+pub record ReadsLine (grammar : Grammar) (words : List Text) (line : Line) : Type 0 where
+  pub reading : Reading
+  pub reads : IsReading grammar reading words
+  pub occurrences : line.found ≡ occurrences_of grammar reading
+  pub free : map string_bytes line.free.items ≡ free_words reading
+  pub trailing : line.trailing_start ≡ trailing_start reading
+
+-- a line that gives nothing
+pub record IsEmptyLine (line : Line) : Type 0 where
+  pub found : line.found ≡ []
+  pub free : line.free.items ≡ []
+  pub trailing : line.trailing_start ≡ None
+
+-- what a line says
+abbrev pub line_content : Line → Content
+line_content line = record {
+  mentions = map (λ o. o.mention) line.found;
+  free = map string_bytes line.free.items;
+}

@@ -1,0 +1,115 @@
+-- What the first word of a line gives, with the words after it. The clauses of `scan` say that the
+-- code finds this, and the lemmas on readings, that it is what the definitions of `Scan` say.
+use Rattle.std.specs.Prelude.{◌≡◌, ◌≢◌, ◌==◌, ℕ, true, List, [], ◌∷◌, ◌++◌, length, map, Option}
+use Rattle.std.specs.Prelude.{Some, None, Result, Ok, Err, if◌then◌else◌, encode_utf8}
+use Rattle.std.specs.Option.{option_map_or}
+use Rattle.std.specs.Str.{chars}
+use Rattle.getopts.specs.Names.{Text}
+use Rattle.getopts.specs.Options.{Grammar}
+use Rattle.getopts.specs.Fail.{Fault, argument_missing, unrecognized_option, unexpected_argument}
+use Rattle.getopts.specs.Scan.{equals_sign, is_dashed, stop_word, Argument, none, attached}
+use Rattle.getopts.specs.Scan.{separate, Dashes, dash_text, flags, ends_in, Item, long, cluster}
+use Rattle.getopts.specs.Scan.{value_of, argument_words, MayStandBefore, free_items, Tail}
+use Rattle.getopts.specs.Scan.{Occurrence, at_position, mentions}
+use Rattle.getopts.specs.declared.groups.HasArg.{HasArg}
+use Rattle.getopts.specs.declared.groups.HasArg.TheVariants.{Yes, No, Maybe}
+
+-- What the first word gives: a tail that ends the line; an item, with the argument of its last
+-- option, which may be the next word; or a fault.
+pub data Turn : Type 0 where
+  ends : Tail → Turn
+  takes : Item → Argument → Turn
+  faults : Fault → Turn
+
+-- `=` and the attached argument, if there is one
+abbrev pub with_equals : Option Text → Text
+with_equals argument = option_map_or (λ text. equals_sign ∷ text) argument []
+
+-- a word in long form, which is its dashes and this text
+pub record IsInLongForm (grammar : Grammar) (dashes : Dashes) (word text : Text) : Type 0 where
+  pub before : MayStandBefore grammar.long_only dashes text
+  pub word_is : word ≡ dash_text dashes ++ text
+  pub dashed : is_dashed word ≡ true
+  pub no_stop : word ≢ stop_word
+
+-- the argument of an option in long form, by the one attached to it and the words after its own;
+-- or its fault
+abbrev pub chosen_long : HasArg → Text → Option Text → List Text → Result Argument Fault
+chosen_long No name None after = Ok none
+chosen_long No name (Some argument) after = Err (unexpected_argument name)
+chosen_long Yes name None [] = Err (argument_missing name)
+chosen_long Yes name None (word ∷ after) = Ok (separate word)
+chosen_long Yes name (Some argument) after = Ok (attached argument)
+chosen_long Maybe name None after = Ok none
+chosen_long Maybe name (Some argument) after = Ok (attached argument)
+
+-- the argument of an option that ends a cluster, by the text after it and the words after its own;
+-- or its fault
+abbrev pub chosen_end : HasArg → Text → Text → List Text → Result Argument Fault
+chosen_end kind name (byte ∷ text) after = Ok (attached (byte ∷ text))
+chosen_end No name [] after = Ok none
+chosen_end Yes name [] [] = Err (argument_missing name)
+chosen_end Yes name [] (word ∷ after) = Ok (separate word)
+chosen_end Maybe name [] [] = Ok none
+chosen_end Maybe name [] (word ∷ after) = if is_dashed word then Ok none else Ok (separate word)
+
+-- an item with the argument that was chosen
+abbrev pub chosen_turn : (Argument → Item) → Result Argument Fault → Turn
+chosen_turn item (Ok argument) = takes (item argument) argument
+chosen_turn item (Err fault) = faults fault
+
+-- a name in long form, by its kind and the argument attached to it
+abbrev pub named_turn : Option HasArg → Dashes → Text → Option Text → List Text → Turn
+named_turn None dashes name argument after = faults (unrecognized_option name)
+named_turn (Some kind) dashes name argument after =
+    chosen_turn (λ a. long dashes name a) (chosen_long kind name argument after)
+
+-- a text in long form, cut at its first `=`: the name, and the argument attached to it
+abbrev pub cut_at_equals : Text → Text × Option Text
+cut_at_equals [] = ([], None)
+cut_at_equals (c ∷ text) = if c == equals_sign then ([], Some text)
+    else (c ∷ (cut_at_equals text).0, (cut_at_equals text).1)
+
+-- a word in long form, by its text after the dashes
+abbrev pub long_turn : Grammar → Dashes → Text → List Text → Turn
+long_turn grammar dashes text after =
+    let cut = cut_at_equals text in
+    named_turn (grammar.kind_of cut.0) dashes cut.0 cut.1 after
+
+-- the first character of a text
+abbrev pub first_char : Text → Text
+first_char text = of_chars (chars text) where
+  of_chars : List ℕ → Text
+  of_chars [] = []
+  of_chars (c ∷ cs) = encode_utf8 c
+
+-- a byte of a cluster after flags, by its kind, with what a flag more gives
+abbrev pub byte_turn : Option HasArg → List ℕ → ℕ → Text → List Text → Turn → Turn
+byte_turn None bytes byte text after more = faults (unrecognized_option (first_char (byte ∷ text)))
+byte_turn (Some No) bytes byte text after more = more
+byte_turn (Some kind) bytes byte text after more =
+    chosen_turn (λ a. cluster bytes (ends_in byte a)) (chosen_end kind (byte ∷ []) text after)
+
+-- a cluster, by the flags that were read and the text that is left
+unfoldable pub cluster_turn : Grammar → List ℕ → Text → List Text → Turn
+cluster_turn grammar bytes [] after = takes (cluster bytes flags) none
+cluster_turn grammar bytes (byte ∷ text) after =
+    byte_turn (grammar.kind_of (byte ∷ [])) bytes byte text after
+    (cluster_turn grammar (bytes ++ byte ∷ []) text after)
+
+-- An argument was chosen, which gives this value and uses so many words.
+pub record Chooses (chosen : Result Argument Fault) (value : Option Text) (used : ℕ) : Type 0 where
+  pub argument : Argument
+  pub chosen_is : chosen ≡ Ok argument
+  pub value_is : value ≡ value_of argument
+  pub used_is : used ≡ length (argument_words argument)
+
+-- A dashed word begins an item, which uses so many words after it and adds its occurrences.
+pub record AddsItem (grammar : Grammar) (turn : Turn) (position used : ℕ)
+    (old new : List Occurrence) : Type 0 where
+  pub item : Item
+  pub argument : Argument
+  pub turn_is : turn ≡ takes item argument
+  pub used_is : used ≡ length (argument_words argument)
+  pub no_free : free_items (item ∷ []) ≡ []
+  pub added : new ≡ old ++ map (at_position position) (mentions grammar item)
