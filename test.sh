@@ -77,14 +77,16 @@ proofs() {
     return "$status"
 }
 
-# once CRATE.. -- COMMAND..: does a command once the gate has proved these crates, and fails where it never does.
+# once CRATE.. -- COMMAND..: does a command once the gate has proved these crates, or took them over from a run that
+# proved the same files here, and fails where it ends with neither.
 once() {
     local crate
     while [ "$1" != -- ]; do
         crate=$1
         shift
-        until grep -qsx "rt: $crate proved" "$room/ci"; do
+        until grep -qsE "^rt: $crate (proved$|is kept: )" "$room/ci"; do
             if [ -e "$room/ci.ended" ]; then
+                [ -e "$room/ci.failed" ] || break
                 echo "$crate isn't proved"
                 return 1
             fi
