@@ -4,11 +4,11 @@ use Rattle.std.specs.List.{AllByRecursion}
 use Rattle.std.specs.Borrow.{Bor}
 use Rattle.getopts.specs.Names.{Text, texts}
 use Rattle.getopts.specs.Options.{Declared, Declares, knowns_of, kind_of, occurrence_of}
-use Rattle.getopts.specs.Matches.{Matched, MatchedGroup}
+use Rattle.getopts.specs.Matches.{Matched, MatchedGroup, KeepsCounts}
 use Rattle.getopts.specs.Parse.{IsAccepted}
 use Rattle.getopts.specs.Accessors.{IsDefined, found_of, first_value}
 use Rattle.getopts.specs.Scan.{FitsKind}
-use Rattle.getopts.specs.ScanLaws.{HavePositionsBelow, EndIn}
+use Rattle.getopts.specs.ScanLaws.{HavePositionsInOrder, HavePositionsBelow, EndIn}
 use Rattle.getopts.specs.declared.groups.HasArg.TheVariants.{Yes}
 use Rattle.getopts.specs.declared.groups.Occur.TheVariants.{Req}
 use Rattle.getopts.specs.declared.groups.ParsingStyle.TheVariants.{StopAtFirstFree}
@@ -23,19 +23,20 @@ HaveValuesByKind groups =
     AllByRecursion (λ group. AllByRecursion (λ found. FitsKind group.known.kind found.value)
     group.found) groups
 
--- each name that the options declare is defined
-abbrev pub DefineDeclared : Declared → List MatchedGroup → Type 0
-DefineDeclared options groups = (name : Text) → Declares options name → IsDefined groups name
-
--- each required option was given once
-abbrev pub HoldRequiredOnce : Declared → List MatchedGroup → Type 0
-HoldRequiredOnce options groups = (name : Text) → occurrence_of options.groups name ≡ Some Req
-    → length (found_of groups name) ≡ 1
-
--- each option that needs an argument and was given has a value
-abbrev pub HoldNeededValues : Declared → List MatchedGroup → Type 0
-HoldNeededValues options groups = (name : Text) → kind_of options.groups name ≡ Some Yes
-    → 0 < length (found_of groups name) → IsSome (first_value (found_of groups name))
+-- What accepted matches tell of the declared options: their groups are those of the options, with
+-- occurrences that keep the counts, stand in order and have values as their kinds want. Each declared
+-- name is defined, each required option was given once, and each option that needs an argument and was
+-- given has a value.
+pub record HoldDeclared (options : Declared) (groups : List MatchedGroup) : Type 0 where
+  pub same_groups : AreGroupsOf options groups
+  pub counts_kept : KeepsCounts groups
+  pub positions_in_order : HavePositionsInOrder groups
+  pub values_fit : HaveValuesByKind groups
+  pub defined : (name : Text) → Declares options name → IsDefined groups name
+  pub required : (name : Text) → occurrence_of options.groups name ≡ Some Req
+      → length (found_of groups name) ≡ 1
+  pub needed : (name : Text) → kind_of options.groups name ≡ Some Yes
+      → 0 < length (found_of groups name) → IsSome (first_value (found_of groups name))
 
 -- under `StopAtFirstFree` the free words are the last words of the line
 abbrev pub HaveLastWordsFree : Declared → List Text → List Text → Type 0

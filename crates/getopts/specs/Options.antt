@@ -63,8 +63,8 @@ knowns_of groups = map (λ group. group.known) groups
 -- What the reading of words asks of options: the place of the group that a name resolves to, that
 -- group's kind of argument, the style and the mode.
 pub record Grammar : Type 0 where
-  pub place_of : Text → Option ℕ
-  pub kind_of : Text → Option HasArg
+  pub place : Text → Option ℕ
+  pub kind : Text → Option HasArg
   pub style : ParsingStyle
   pub long_only : Bool
 
@@ -93,8 +93,8 @@ DeclaresAs options name kind occurrence =
 -- the grammar of options
 abbrev pub grammar_of : Declared → Grammar
 grammar_of options = record {
-  place_of = resolution (names_of options.groups);
-  kind_of = kind_of options.groups;
+  place = resolution (names_of options.groups);
+  kind = kind_of options.groups;
   style = options.style;
   long_only = options.long_only;
 }

@@ -138,13 +138,13 @@ FitsEnd kind argument = FitsKind kind (value_of argument)
 
 -- the name is a flag: one byte that resolves to a group of kind No
 abbrev pub IsFlag : Grammar → ℕ → Type 0
-IsFlag grammar name = grammar.kind_of (name ∷ []) ≡ Some No
+IsFlag grammar name = grammar.kind (name ∷ []) ≡ Some No
 
 -- a lawful end of a cluster with these flags
 abbrev pub IsLawfulEnd : Grammar → List ℕ → End → Type 0
 IsLawfulEnd grammar bytes flags = bytes ≢ []
 IsLawfulEnd grammar bytes (ends_in option argument) = (kind : HasArg)
-    × (grammar.kind_of (option ∷ []) ≡ Some kind)
+    × (grammar.kind (option ∷ []) ≡ Some kind)
     × FitsEnd kind argument
 
 -- a lawful item in long form
@@ -152,7 +152,7 @@ pub record IsLawfulLong (grammar : Grammar) (dashes : Dashes) (name : Text) (arg
     : Type 0 where
   pub before : MayStandBefore grammar.long_only dashes name
   pub cut_once : holds_equals name ≡ false
-  pub resolves : (kind : HasArg) × (grammar.kind_of name ≡ Some kind) × FitsLong kind argument
+  pub resolves : (kind : HasArg) × (grammar.kind name ≡ Some kind) × FitsLong kind argument
 
 -- a lawful cluster: in ordinary mode, with no `-` after its dash, of flags and a lawful end
 pub record IsLawfulCluster (grammar : Grammar) (bytes : List ℕ) (end : End) : Type 0 where
@@ -240,7 +240,7 @@ pub record Mention : Type 0 where
 -- What a name with this value mentions. The options of a lawful item resolve, so the 0 is never
 -- taken.
 abbrev pub mention_of : Grammar → Text → Option Text → Mention
-mention_of grammar name value = record { group = unwrap_or (grammar.place_of name) 0; value = value }
+mention_of grammar name value = record { group = unwrap_or (grammar.place name) 0; value = value }
 
 -- what the end of a cluster mentions
 abbrev pub end_mentions : Grammar → End → List Mention
@@ -328,22 +328,22 @@ pub record HasAfterFlags (grammar : Grammar) (word text : Text) : Type 0 where
 pub data IsFaultAt (grammar : Grammar) (word : Text) (after : List Text) : Fault → Type 0 where
   -- in long form, a name that doesn't resolve
   unknown_name : (name : Text) (argument : Option Text) → IsLongForm grammar word name argument
-      → grammar.kind_of name ≡ None → IsFaultAt grammar word after (unrecognized_option name)
+      → grammar.kind name ≡ None → IsFaultAt grammar word after (unrecognized_option name)
   -- in short form, after flags, a character that has more than one byte or doesn't resolve
   unknown_character : (character : ℕ) (more : Text) → IsScalar character
       → HasAfterFlags grammar word (encode_utf8 character ++ more)
-      → (1 < length (encode_utf8 character)) ⊎ (grammar.kind_of (encode_utf8 character) ≡ None)
+      → (1 < length (encode_utf8 character)) ⊎ (grammar.kind (encode_utf8 character) ≡ None)
       → IsFaultAt grammar word after (unrecognized_option (encode_utf8 character))
   -- in long form, an attached argument for kind No
   unwanted_argument : (name argument : Text) → IsLongForm grammar word name (Some argument)
-      → grammar.kind_of name ≡ Some No → IsFaultAt grammar word after (unexpected_argument name)
+      → grammar.kind name ≡ Some No → IsFaultAt grammar word after (unexpected_argument name)
   -- in long form, kind Yes with no argument at the end of the line
   long_unfinished : (name : Text) → IsLongForm grammar word name None
-      → grammar.kind_of name ≡ Some Yes → after ≡ []
+      → grammar.kind name ≡ Some Yes → after ≡ []
       → IsFaultAt grammar word after (argument_missing name)
   -- in short form, after flags, a last option of kind Yes at the end of the line
   short_unfinished : (option : ℕ) → HasAfterFlags grammar word (option ∷ [])
-      → grammar.kind_of (option ∷ []) ≡ Some Yes → after ≡ []
+      → grammar.kind (option ∷ []) ≡ Some Yes → after ≡ []
       → IsFaultAt grammar word after (argument_missing (option ∷ []))
 
 -- A scan fault of a line: the fault of a word, where the words before it have a reading that ends

@@ -68,7 +68,7 @@ pub record AreOneWordApart (grammar : Grammar) (shorter longer : Item) : Type 0 
 -- where the name's kind is Yes, but that positions of later items are one higher with the latter.
 pub record LongAttachedOrSeparate (grammar : Grammar) : Type 0 where
   pub either : (dashes : Dashes) (name argument : Text)
-      → grammar.kind_of name ≡ Some Yes
+      → grammar.kind name ≡ Some Yes
       → AreOneWordApart grammar
       (long dashes name (attached argument)) (long dashes name (separate argument))
 
@@ -77,11 +77,11 @@ pub record LongAttachedOrSeparate (grammar : Grammar) : Type 0 where
 -- latter; an argument that is empty can't be attached.
 pub record ShortAttachedOrSeparate (grammar : Grammar) : Type 0 where
   pub to_separate : (bytes : List ℕ) (option : ℕ) (argument : Text)
-      → grammar.kind_of (option ∷ []) ≡ Some Yes
+      → grammar.kind (option ∷ []) ≡ Some Yes
       → Respells grammar (cluster bytes (ends_in option (attached argument)))
       (cluster bytes (ends_in option (separate argument)) ∷ []) AreHigherAfter
   pub either : (bytes : List ℕ) (option : ℕ) (argument : Text)
-      → grammar.kind_of (option ∷ []) ≡ Some Yes
+      → grammar.kind (option ∷ []) ≡ Some Yes
       → argument ≢ []
       → AreOneWordApart grammar (cluster bytes (ends_in option (attached argument)))
       (cluster bytes (ends_in option (separate argument)))

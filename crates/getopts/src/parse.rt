@@ -3,7 +3,6 @@
 ghost use Rattle.std.specs.Prelude.{length, IfOk, IfErr, OnOk};
 ghost use Rattle.getopts.specs.Fail.{Tells};
 ghost use Rattle.getopts.specs.Names.{texts};
-ghost use Rattle.getopts.specs.Matches.{KeepsCounts};
 
 use crate::fail::Fail;
 use crate::matches::Matches;
@@ -15,9 +14,9 @@ impl Options {
     ghost use Rattle.std.specs.Iterator.{IsFinite};
     ghost use Rattle.std.specs.Iterator.Runs.{WholeRun};
     ghost use Rattle.getopts.specs.Options.{grammar_of};
-    ghost use Rattle.getopts.specs.ScanLaws.{HavePositionsInOrder, HavePositionsBelow};
+    ghost use Rattle.getopts.specs.ScanLaws.{HavePositionsBelow};
     ghost use Rattle.getopts.specs.Parse.{IsAccepted, IsRefused, KeepsReadingLaws};
-    ghost use Rattle.getopts.specs.Holds.{AreGroupsOf, HaveValuesByKind, DefineDeclared, HoldRequiredOnce, HoldNeededValues, HaveLastWordsFree, Accepts};
+    ghost use Rattle.getopts.specs.Holds.{HoldDeclared, HaveLastWordsFree, Accepts};
 
     /// Reads the words of a line, without the program's own name.
     ///
@@ -47,16 +46,8 @@ impl Options {
         ensures refused { IfErr result (λ fail. Tells fail (λ fault. WholeRun I.next_gives args
             (λ run. IsRefused self.now (texts run.items) fault))) }
 
-        // What an accepted line gives keeps the counts, and tells positions in order.
-        ensures counts_kept { IfOk result (λ matches. KeepsCounts matches.groups) }
-        ensures positions_in_order { IfOk result (λ matches. HavePositionsInOrder matches.groups) }
-
-        // The groups are those of the options, and what was found of them fits how they are declared.
-        ensures groups { IfOk result (λ matches. AreGroupsOf self.now matches.groups) }
-        ensures values_fit { IfOk result (λ matches. HaveValuesByKind matches.groups) }
-        ensures defined { IfOk result (λ matches. DefineDeclared self.now matches.groups) }
-        ensures required { IfOk result (λ matches. HoldRequiredOnce self.now matches.groups) }
-        ensures needed { IfOk result (λ matches. HoldNeededValues self.now matches.groups) }
+        // What was found of each declared option is as it is declared.
+        ensures told { IfOk result (λ matches. HoldDeclared self.now matches.groups) }
 
         // By these options: other spellings of a line, lines one after the other, and where free words and
         // occurrences stand.
@@ -74,13 +65,7 @@ impl Options {
         ensures accepted { IfOk result (IsAccepted self.now (texts words.now)) }
         ensures refused { IfErr result (λ fail. Tells fail
             (IsRefused self.now (texts words.now))) }
-        ensures counts_kept { IfOk result (λ matches. KeepsCounts matches.groups) }
-        ensures positions_in_order { IfOk result (λ matches. HavePositionsInOrder matches.groups) }
-        ensures groups { IfOk result (λ matches. AreGroupsOf self.now matches.groups) }
-        ensures values_fit { IfOk result (λ matches. HaveValuesByKind matches.groups) }
-        ensures defined { IfOk result (λ matches. DefineDeclared self.now matches.groups) }
-        ensures required { IfOk result (λ matches. HoldRequiredOnce self.now matches.groups) }
-        ensures needed { IfOk result (λ matches. HoldNeededValues self.now matches.groups) }
+        ensures told { IfOk result (λ matches. HoldDeclared self.now matches.groups) }
         ensures positions_below { IfOk result (λ matches.
             HavePositionsBelow (length words.now) matches.groups) }
         ensures free_last { IfOk result (λ matches.

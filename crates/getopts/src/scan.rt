@@ -146,9 +146,9 @@ impl<'o> Scanner<'o> {
     fn option(&self, name: &str) -> Option<(usize, HasArg)>
         requires { IsLawfulScanner self.now }
         ensures { let grammar = scanner_grammar self.now in
-            MatchOption result (grammar.kind_of name.now ≡ None)
-            (λ option. (grammar.place_of name.now ≡ Some option.0)
-            × (grammar.kind_of name.now ≡ Some option.1)) }
+            MatchOption result (grammar.kind name.now ≡ None)
+            (λ option. (grammar.place name.now ≡ Some option.0)
+            × (grammar.kind name.now ≡ Some option.1)) }
     {
         let groups = self.options.groups();
         let place = self.table.resolve(groups, name)?;
@@ -203,9 +203,9 @@ impl<'o> Scanner<'o> {
         requires boundary { IsCharBoundary text.now at }
         ensures option { let grammar = scanner_grammar self.now in
             let name = slice_index text.now at ∷ [] in
-            MatchOption result (grammar.kind_of name ≡ None)
-            (λ option. (grammar.place_of name ≡ Some option.0)
-            × (grammar.kind_of name ≡ Some option.1)) }
+            MatchOption result (grammar.kind name ≡ None)
+            (λ option. (grammar.place name ≡ Some option.0)
+            × (grammar.kind name ≡ Some option.1)) }
         ensures ascii { OnSome result (slice_index text.now at < 128) }
     {
         if text.as_bytes()[at].is_ascii() {

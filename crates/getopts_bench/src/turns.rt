@@ -125,16 +125,13 @@ fn described_options(alloc: Global) -> Result<Options, AllocError> {
 
 /// The words, lent.
 fn lent(alloc: Global, words: &[String]) -> Result<Vec<&str>, AllocError> {
-    let mut lent = Vec::with_capacity(alloc, words.len())?;
-    for word in words {
-        lent.push(word.as_str())?;
-    }
-    Ok(lent)
+    words.iter().map(|word| word.as_str()).collect(alloc)
 }
 
 /// The matches of the words.
 fn matches_of(alloc: Global, options: &Options, words: &[String]) -> Result<Matches, Fail> {
-    options.parse(alloc, words.iter().map(|word| word.as_str()))
+    let words = lent(alloc, words)?;
+    options.parse_words(alloc, &words)
 }
 
 /// The matches of the input's words by its options, which are let go.

@@ -372,19 +372,19 @@ fn answer_from(
     pieces: &[&str],
     words: Words<'_>,
 ) -> Result<Answer, Refusal>
-    requires cut { IsCut request.texts.now request.lens.now (texts pieces.now) }
+    requires cut { IsCut request.bytes.now request.lens.now (texts pieces.now) }
     requires utf8 { AreTexts (texts pieces.now) }
     ensures answered { IfOk result (λ answer. IsAnswered
-        request.entry.texts.now request.entry.lens.now request.entry.kinds.now
+        request.entry.bytes.now request.entry.lens.now request.entry.kinds.now
         request.entry.stop request.entry.long_only words.entry.bytes.now words.entry.lens.now
         answer.status answer.body.numbers.items (string_bytes answer.body.bytes)) }
     ensures status { IfOk result (λ answer. answer.status < memory_status) }
     ensures lawful { OnOk result (SayOptions
-        request.entry.texts.now request.entry.lens.now request.entry.kinds.now
+        request.entry.bytes.now request.entry.lens.now request.entry.kinds.now
         request.entry.stop request.entry.long_only
         × SayTexts words.entry.bytes.now words.entry.lens.now) }
     ensures bad { IfErr result (λ refusal. refusal ≡ Refusal.Bad → (¬ (SayOptions
-        request.entry.texts.now request.entry.lens.now request.entry.kinds.now
+        request.entry.bytes.now request.entry.lens.now request.entry.kinds.now
         request.entry.stop request.entry.long_only))
         ⊎ (¬ (SayTexts words.entry.bytes.now words.entry.lens.now))) }
 {
@@ -400,16 +400,16 @@ pub(crate) fn answer_to(
     words: Words<'_>,
 ) -> Result<Answer, Refusal>
     ensures answered { IfOk result (λ answer. IsAnswered
-        request.entry.texts.now request.entry.lens.now request.entry.kinds.now
+        request.entry.bytes.now request.entry.lens.now request.entry.kinds.now
         request.entry.stop request.entry.long_only words.entry.bytes.now words.entry.lens.now
         answer.status answer.body.numbers.items (string_bytes answer.body.bytes)) }
     ensures status { IfOk result (λ answer. answer.status < memory_status) }
     ensures lawful { OnOk result (SayOptions
-        request.entry.texts.now request.entry.lens.now request.entry.kinds.now
+        request.entry.bytes.now request.entry.lens.now request.entry.kinds.now
         request.entry.stop request.entry.long_only
         × SayTexts words.entry.bytes.now words.entry.lens.now) }
     ensures bad { IfErr result (λ refusal. refusal ≡ Refusal.Bad → (¬ (SayOptions
-        request.entry.texts.now request.entry.lens.now request.entry.kinds.now
+        request.entry.bytes.now request.entry.lens.now request.entry.kinds.now
         request.entry.stop request.entry.long_only))
         ⊎ (¬ (SayTexts words.entry.bytes.now words.entry.lens.now))) }
 {
@@ -436,16 +436,16 @@ fn of_text(alloc: Global, text: String) -> Answer
 pub(crate) fn usage_of(alloc: Global, request: Request<'_>, brief: &[u8]) -> Result<Answer, Refusal>
     requires { request.stop ≡ false }
     ensures usage { IfOk result (λ answer. IsUsageOf
-        request.entry.texts.now request.entry.lens.now request.entry.kinds.now
+        request.entry.bytes.now request.entry.lens.now request.entry.kinds.now
         request.entry.long_only brief.now (string_bytes answer.body.bytes)) }
     ensures numbers { IfOk result (λ answer. answer.body.numbers.items ≡ []) }
     ensures fine { IfOk result (λ answer. answer.status ≡ fine_status) }
     ensures status { IfOk result (λ answer. answer.status < memory_status) }
     ensures lawful { OnOk result (SayOptions
-        request.entry.texts.now request.entry.lens.now request.entry.kinds.now
+        request.entry.bytes.now request.entry.lens.now request.entry.kinds.now
         false request.entry.long_only × IsUtf8 brief.now) }
     ensures bad { IfErr result (λ refusal. refusal ≡ Refusal.Bad → (¬ (SayOptions
-        request.entry.texts.now request.entry.lens.now request.entry.kinds.now
+        request.entry.bytes.now request.entry.lens.now request.entry.kinds.now
         false request.entry.long_only)) ⊎ (¬ (IsUtf8 brief.now))) }
 {
     let brief = text_of(brief)?;
@@ -463,16 +463,16 @@ pub(crate) fn short_usage_of(
     requires style { request.stop ≡ false }
     requires mode { request.long_only ≡ false }
     ensures usage { IfOk result (λ answer. IsShortUsageOf
-        request.entry.texts.now request.entry.lens.now request.entry.kinds.now
+        request.entry.bytes.now request.entry.lens.now request.entry.kinds.now
         program.now (string_bytes answer.body.bytes)) }
     ensures numbers { IfOk result (λ answer. answer.body.numbers.items ≡ []) }
     ensures fine { IfOk result (λ answer. answer.status ≡ fine_status) }
     ensures status { IfOk result (λ answer. answer.status < memory_status) }
     ensures lawful { OnOk result (SayOptions
-        request.entry.texts.now request.entry.lens.now request.entry.kinds.now
+        request.entry.bytes.now request.entry.lens.now request.entry.kinds.now
         false false × IsUtf8 program.now) }
     ensures bad { IfErr result (λ refusal. refusal ≡ Refusal.Bad → (¬ (SayOptions
-        request.entry.texts.now request.entry.lens.now request.entry.kinds.now
+        request.entry.bytes.now request.entry.lens.now request.entry.kinds.now
         false false)) ⊎ (¬ (IsUtf8 program.now))) }
 {
     let program = text_of(program)?;
@@ -498,15 +498,15 @@ fn of_texts(alloc: Global, words: &[String]) -> Result<Answer, AllocError>
 pub(crate) fn rows_of(alloc: Global, request: Request<'_>) -> Result<Answer, Refusal>
     requires { request.stop ≡ false }
     ensures rows { IfOk result (λ answer. IsRowsOf
-        request.entry.texts.now request.entry.lens.now request.entry.kinds.now
+        request.entry.bytes.now request.entry.lens.now request.entry.kinds.now
         request.entry.long_only answer.body.numbers.items (string_bytes answer.body.bytes)) }
     ensures fine { IfOk result (λ answer. answer.status ≡ fine_status) }
     ensures status { IfOk result (λ answer. answer.status < memory_status) }
     ensures lawful { OnOk result (SayOptions
-        request.entry.texts.now request.entry.lens.now request.entry.kinds.now
+        request.entry.bytes.now request.entry.lens.now request.entry.kinds.now
         false request.entry.long_only) }
     ensures bad { IfErr result (λ refusal. refusal ≡ Refusal.Bad → ¬ (SayOptions
-        request.entry.texts.now request.entry.lens.now request.entry.kinds.now
+        request.entry.bytes.now request.entry.lens.now request.entry.kinds.now
         false request.entry.long_only)) }
 {
     let options = request.options(alloc)?;
@@ -550,16 +550,16 @@ pub(crate) fn line_of(
     words: Words<'_>,
 ) -> Result<Answer, Refusal>
     ensures answered { IfOk result (λ answer. IsCanonicalOf
-        request.entry.texts.now request.entry.lens.now request.entry.kinds.now
+        request.entry.bytes.now request.entry.lens.now request.entry.kinds.now
         request.entry.stop request.entry.long_only words.entry.bytes.now words.entry.lens.now
         answer.status answer.body.numbers.items (string_bytes answer.body.bytes)) }
     ensures status { IfOk result (λ answer. answer.status < memory_status) }
     ensures lawful { OnOk result (SayOptions
-        request.entry.texts.now request.entry.lens.now request.entry.kinds.now
+        request.entry.bytes.now request.entry.lens.now request.entry.kinds.now
         request.entry.stop request.entry.long_only
         × SayTexts words.entry.bytes.now words.entry.lens.now) }
     ensures bad { IfErr result (λ refusal. refusal ≡ Refusal.Bad → (¬ (SayOptions
-        request.entry.texts.now request.entry.lens.now request.entry.kinds.now
+        request.entry.bytes.now request.entry.lens.now request.entry.kinds.now
         request.entry.stop request.entry.long_only))
         ⊎ (¬ (SayTexts words.entry.bytes.now words.entry.lens.now))) }
 {

@@ -55,7 +55,7 @@ pub extern "C" fn getopts_c_parse(
         (rooms numbers.new bytes.new sizes.new) }
 {
     let request = Request {
-        texts,
+        bytes: texts,
         lens,
         kinds,
         stop,
@@ -88,7 +88,7 @@ pub extern "C" fn getopts_c_usage(
         (byte_rooms bytes.new sizes.new) }
 {
     let request = Request {
-        texts,
+        bytes: texts,
         lens,
         kinds,
         stop: false,
@@ -116,7 +116,7 @@ pub extern "C" fn getopts_c_short_usage(
         (byte_rooms bytes.new sizes.new) }
 {
     let request = Request {
-        texts,
+        bytes: texts,
         lens,
         kinds,
         stop: false,
@@ -150,7 +150,7 @@ pub extern "C" fn getopts_c_usage_rows(
         (rooms numbers.new bytes.new sizes.new) }
 {
     let request = Request {
-        texts,
+        bytes: texts,
         lens,
         kinds,
         stop: false,
@@ -183,7 +183,7 @@ pub extern "C" fn getopts_c_canonical(
         (rooms numbers.new bytes.new sizes.new) }
 {
     let request = Request {
-        texts,
+        bytes: texts,
         lens,
         kinds,
         stop,

@@ -42,7 +42,7 @@ impl<T: Drop> From<AllocFailed<T>> for Refusal {
 /// Option groups, a style and a mode.
 #[derive(Clone, Copy, Debug)]
 pub(crate) struct Request<'r> {
-    pub texts: &'r [u8],
+    pub bytes: &'r [u8],
     pub lens: &'r [usize],
     pub kinds: &'r [u8],
     pub stop: bool,
@@ -203,12 +203,12 @@ impl<'r> Request<'r> {
     /// The texts of a request.
     pub(crate) fn texts(&self, alloc: Global) -> Result<Vec<&'r str>, Refusal>
         ensures cut { IfOk result (λ pieces.
-            IsCut self.now.texts.now self.now.lens.now (texts pieces.items)) }
+            IsCut self.now.bytes.now self.now.lens.now (texts pieces.items)) }
         ensures utf8 { IfOk result (λ pieces. AreTexts (texts pieces.items)) }
         ensures bad { IfErr result (λ refusal. refusal ≡ Refusal.Bad
-            → ¬ (SayTexts self.now.texts.now self.now.lens.now)) }
+            → ¬ (SayTexts self.now.bytes.now self.now.lens.now)) }
     {
-        cut(alloc, self.texts, self.lens)
+        cut(alloc, self.bytes, self.lens)
     }
 
     /// The options of a request, by its texts in fours.
@@ -226,14 +226,14 @@ impl<'r> Request<'r> {
 
     /// The options of a request, by its texts.
     fn options_from(&self, alloc: Global, pieces: &[&str]) -> Result<Options, Refusal>
-        requires cut { IsCut self.now.texts.now self.now.lens.now (texts pieces.now) }
+        requires cut { IsCut self.now.bytes.now self.now.lens.now (texts pieces.now) }
         requires utf8 { AreTexts (texts pieces.now) }
-        ensures request { IfOk result (λ options. IsRequest self.now.texts.now self.now.lens.now
+        ensures request { IfOk result (λ options. IsRequest self.now.bytes.now self.now.lens.now
             self.now.kinds.now self.now.stop self.now.long_only options) }
-        ensures lawful { OnOk result (SayOptions self.now.texts.now self.now.lens.now
+        ensures lawful { OnOk result (SayOptions self.now.bytes.now self.now.lens.now
             self.now.kinds.now self.now.stop self.now.long_only) }
         ensures bad { IfErr result (λ refusal. refusal ≡ Refusal.Bad
-            → ¬ (SayOptions self.now.texts.now self.now.lens.now
+            → ¬ (SayOptions self.now.bytes.now self.now.lens.now
             self.now.kinds.now self.now.stop self.now.long_only)) }
     {
         self.options_by(alloc, in_fours(pieces)?)
@@ -241,12 +241,12 @@ impl<'r> Request<'r> {
 
     /// The options of a request.
     pub(crate) fn options(&self, alloc: Global) -> Result<Options, Refusal>
-        ensures request { IfOk result (λ options. IsRequest self.now.texts.now self.now.lens.now
+        ensures request { IfOk result (λ options. IsRequest self.now.bytes.now self.now.lens.now
             self.now.kinds.now self.now.stop self.now.long_only options) }
-        ensures lawful { OnOk result (SayOptions self.now.texts.now self.now.lens.now
+        ensures lawful { OnOk result (SayOptions self.now.bytes.now self.now.lens.now
             self.now.kinds.now self.now.stop self.now.long_only) }
         ensures bad { IfErr result (λ refusal. refusal ≡ Refusal.Bad
-            → ¬ (SayOptions self.now.texts.now self.now.lens.now
+            → ¬ (SayOptions self.now.bytes.now self.now.lens.now
             self.now.kinds.now self.now.stop self.now.long_only)) }
     {
         let texts = self.texts(alloc)?;

@@ -9,17 +9,17 @@ use Rattle.std.proofs.lemmas.Option.{option_and_then_some, same_Some}
 use Rattle.std.specs.Borrow.{Bor}
 use Rattle.getopts.specs.Names.{Text, Names, resolution, texts}
 use Rattle.getopts.specs.Options.{Known, Group, Grammar, Declared, names_of, knowns_of}
-use Rattle.getopts.specs.Options.{grammar_of}
+use Rattle.getopts.specs.Options.{grammar_of, Declares, kind_of, occurrence_of}
 use Rattle.getopts.specs.Scan.{Occurrence, Item, free, long, cluster, Tail, line_end, stop, rest}
 use Rattle.getopts.specs.Scan.{stop_word, spelled_all, tail_words, tail_frees, free_items}
 use Rattle.getopts.specs.Scan.{free_words, IsLawfulItem, Reading, IsReading, occurrences_of}
 use Rattle.getopts.specs.Matches.{Found, Matched, MatchedGroup, found_at, matched, FitsCount}
 use Rattle.getopts.specs.Matches.{KeepsCounts}
-use Rattle.getopts.specs.Accessors.{place_of, found_of, found_in, first_value}
+use Rattle.getopts.specs.Accessors.{IsDefined, place_of, found_of, found_in, first_value}
 use Rattle.getopts.specs.Scan.{FitsKind}
 use Rattle.getopts.specs.Parse.{IsAccepted}
 use Rattle.getopts.specs.Holds.{HaveLastWordsFree, AreGroupsOf, HaveValuesByKind}
-use Rattle.getopts.specs.Holds.{DefineDeclared, HoldRequiredOnce, HoldNeededValues, Accepts}
+use Rattle.getopts.specs.Holds.{HoldDeclared, Accepts}
 use Rattle.getopts.specs.ScanLaws.{EndIn, HavePositionsBelow}
 use Rattle.getopts.specs.declared.groups.ParsingStyle.TheVariants.{FloatingFrees, StopAtFirstFree}
 use Rattle.getopts.specs.declared.groups.HasArg.{HasArg}
@@ -31,7 +31,7 @@ use Rattle.getopts.proofs.Canonical.Lines.{kind_at, FitsGroup, IsFitting-reading
 use Rattle.getopts.proofs.Held.Matches.{knowns-matched}
 use Rattle.getopts.proofs.Reading.Readings.{spelled_all-append}
 use Rattle.getopts.proofs.Held.Known.{names-knowns_of}
-use Rattle.getopts.proofs.Parsing.Parsed.{positions_below-accepted}
+use Rattle.getopts.proofs.Parsing.Parsed.{counts-accepted, positions_below-accepted}
 use Rattle.getopts.proofs.Scanning.Loop.{length-texts}
 
 -- each occurrence has a value, or none, as this kind of argument wants
@@ -58,9 +58,9 @@ place_of-groups options groups are name =
     (sym (names-known groups (knowns_of options.groups) are ∙ names-knowns_of options.groups))
 
 -- each name that the options declare is defined
-pub DefineDeclared-groups : (options : Declared) (groups : List MatchedGroup)
-    → AreGroupsOf options groups → DefineDeclared options groups
-DefineDeclared-groups options groups are name declares = subst (λ (place : Option ℕ). IsSome place) (place_of-groups options groups are name) declares
+defined-groups : (options : Declared) (groups : List MatchedGroup) → AreGroupsOf options groups
+    → (name : Text) → Declares options name → IsDefined groups name
+defined-groups options groups are name declares = subst (λ (place : Option ℕ). IsSome place) (place_of-groups options groups are name) declares
 
 -- what is found of a group at a place among those that match these
 module _ (P : Known → List Found → Type 0) where
@@ -97,8 +97,9 @@ occurrence-known (group ∷ groups) (suc place) occurrence there = occurrence-kn
 
 module _ (options : Declared) (groups : List MatchedGroup) (are : AreGroupsOf options groups) where
   -- each required option was given once
-  pub HoldRequiredOnce-groups : KeepsCounts groups → HoldRequiredOnce options groups
-  HoldRequiredOnce-groups keeps name required = option_and_then_some _ (resolution (names_of options.groups) name) Req required by_place where
+  required-groups : KeepsCounts groups → (name : Text) → occurrence_of options.groups name ≡ Some Req
+      → length (found_of groups name) ≡ 1
+  required-groups keeps name required = option_and_then_some _ (resolution (names_of options.groups) name) Req required by_place where
     by_place : (place : ℕ) → resolution (names_of options.groups) name ≡ Some place
         → option_map (λ (group : Group). group.known.occurrence) (slice_get options.groups place)
         ≡ Some Req → length (found_of groups name) ≡ 1
@@ -122,8 +123,9 @@ module _ (options : Declared) (groups : List MatchedGroup) (are : AreGroupsOf op
     there (Some text) fits = refl
 
   -- each option that needs an argument and was given has a value
-  pub HoldNeededValues-groups : HaveValuesByKind groups → HoldNeededValues options groups
-  HoldNeededValues-groups have name needs = option_and_then_some _ (resolution (names_of options.groups) name) Yes needs by_place where
+  needed-groups : HaveValuesByKind groups → (name : Text) → kind_of options.groups name ≡ Some Yes
+      → 0 < length (found_of groups name) → IsSome (first_value (found_of groups name))
+  needed-groups have name needs = option_and_then_some _ (resolution (names_of options.groups) name) Yes needs by_place where
     by_place : (place : ℕ) → resolution (names_of options.groups) name ≡ Some place
         → option_map (λ (group : Group). group.known.kind) (slice_get options.groups place)
         ≡ Some Yes → 0 < length (found_of groups name) → IsSome (first_value (found_of groups name))
@@ -191,12 +193,12 @@ module _ (options : Declared) (words : List Text) (matches : Matched)
   groups_are = ap (λ (m : Matched). m.groups) accepted.matches_are
 
   -- accepted matches hold the groups of the options
-  pub AreGroupsOf-accepted : AreGroupsOf options matches.groups
+  AreGroupsOf-accepted : AreGroupsOf options matches.groups
   AreGroupsOf-accepted = ap (map (λ (group : MatchedGroup). group.known)) groups_are
       ∙ knowns-matched 0 (knowns_of options.groups) (occurrences_of (grammar_of options) accepted.reading)
 
   -- and values as their kinds want
-  pub HaveValuesByKind-accepted : HaveValuesByKind matches.groups
+  HaveValuesByKind-accepted : HaveValuesByKind matches.groups
   HaveValuesByKind-accepted =
       let occurrences = occurrences_of (grammar_of options) accepted.reading in
       let fits = IsFitting-reading options accepted.reading words ((accepted.only accepted.reading).1 refl) in
@@ -207,6 +209,21 @@ module _ (options : Declared) (words : List Text) (matches : Matched)
       (HaveValuesByKind-matched options.groups 0 (knowns_of options.groups) occurrences
       (λ i known there. subst (λ n. kind_at options.groups n ≡ Some known.kind) (sym (zero-add i))
       (kind_at-known options.groups i known there)) each)
+
+  -- and what the options declare of their groups
+  pub HoldDeclared-accepted : HoldDeclared options matches.groups
+  HoldDeclared-accepted =
+      let are = AreGroupsOf-accepted in
+      let counted = counts-accepted options words matches accepted in
+      record {
+        same_groups = are;
+        counts_kept = counted.0;
+        positions_in_order = counted.1;
+        values_fit = HaveValuesByKind-accepted;
+        defined = defined-groups options matches.groups are;
+        required = required-groups options matches.groups are counted.0;
+        needed = needed-groups options matches.groups are HaveValuesByKind-accepted;
+      }
 
 -- the words of a tail end in its free words
 EndIn-tail : (tail : Tail) → EndIn (tail_words tail) (tail_frees tail)

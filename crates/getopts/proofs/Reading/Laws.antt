@@ -192,7 +192,7 @@ FitInPlace-long grammar dashes other name argument new_argument back more lawful
 
 -- a lawful long item of kind Yes stays lawful with another argument that Yes may have
 IsLawfulLong-yes : (grammar : Grammar) (dashes : Dashes) (name : Text)
-    (argument new_argument : Argument) → grammar.kind_of name ≡ Some Yes → FitsLong Yes new_argument
+    (argument new_argument : Argument) → grammar.kind name ≡ Some Yes → FitsLong Yes new_argument
     → IsLawfulLong grammar dashes name argument → IsLawfulLong grammar dashes name new_argument
 IsLawfulLong-yes grammar dashes name argument new_argument kind fits lawful = record {
   before = lawful.before;
@@ -244,7 +244,7 @@ begins_with_dash-argument (name ∷ names) option text other = refl
 -- a cluster that ends in an option of kind Yes fits in place of one with another argument
 FitInPlace-cluster : (grammar : Grammar) (names : List ℕ) (option : ℕ)
     (argument new_argument : Argument) (back : List Item) (more : List Text)
-    → grammar.kind_of (option ∷ []) ≡ Some Yes → FitsEnd Yes new_argument
+    → grammar.kind (option ∷ []) ≡ Some Yes → FitsEnd Yes new_argument
     → is_bare (cluster names (ends_in option new_argument)) ≡ false
     → FitInPlace grammar (cluster names (ends_in option argument) ∷ back)
     (cluster names (ends_in option new_argument) ∷ back) more
@@ -275,7 +275,7 @@ ShortAttachedOrSeparate_lem grammar = record {
 }
   where
     to_separate : (names : List ℕ) (option : ℕ) (argument : Text)
-        → grammar.kind_of (option ∷ []) ≡ Some Yes
+        → grammar.kind (option ∷ []) ≡ Some Yes
         → Respells grammar (cluster names (ends_in option (attached argument)))
         (cluster names (ends_in option (separate argument)) ∷ []) AreHigherAfter
     to_separate names option argument kind =

@@ -65,7 +65,7 @@ module _ (grammar : Grammar) (dashes : Dashes) (word name : Text)
   -- an argument that its kind may have
   takes_long : (kind : HasArg) (argument : Argument) (more : List Text)
       → IsInLongForm grammar dashes word (name ++ with_equals (attached_argument argument))
-      → grammar.kind_of name ≡ Some kind → FitsLong kind argument
+      → grammar.kind name ≡ Some kind → FitsLong kind argument
       → IsSoundTurn grammar word (argument_words argument ++ more)
       (takes (long dashes name argument) argument)
   takes_long kind argument more form resolved fits = (
@@ -85,7 +85,7 @@ module _ (grammar : Grammar) (dashes : Dashes) (word name : Text)
   -- each kind, and no kind
   named_sound : (kind : Option HasArg) (argument : Option Text) (more : List Text)
       → IsInLongForm grammar dashes word (name ++ with_equals argument)
-      → grammar.kind_of name ≡ kind
+      → grammar.kind name ≡ kind
       → IsSoundTurn grammar word more (named_turn kind dashes name argument more)
   named_sound None argument more form resolved = λ utf8. unknown_name name argument (long_form argument form) resolved
   named_sound (Some No) None more form resolved = takes_long No none more form resolved tt
@@ -102,7 +102,7 @@ long_sound : (grammar : Grammar) (dashes : Dashes) (word text : Text) (more : Li
     → IsSoundTurn grammar word more (long_turn grammar dashes text more)
 long_sound grammar dashes word text more form =
     let cut = cut_at_equals text in
-    named_sound grammar dashes word cut.0 (holds_equals-name text) (grammar.kind_of cut.0) cut.1 more
+    named_sound grammar dashes word cut.0 (holds_equals-name text) (grammar.kind cut.0) cut.1 more
     (subst (IsInLongForm grammar dashes word) (sym (cut_at_equals-joined text)) form) refl
 
 -- each flag is ASCII
@@ -136,7 +136,7 @@ module _ (grammar : Grammar) (word : Text) (bytes : List ℕ)
   -- an option that ends it, with an argument that its kind may have
   takes_end : (option : ℕ) (kind : HasArg) (argument : Argument) (more : List Text)
       → IsShortForm grammar word (bytes ++ end_text (ends_in option argument))
-      → grammar.kind_of (option ∷ []) ≡ Some kind → FitsEnd kind argument
+      → grammar.kind (option ∷ []) ≡ Some kind → FitsEnd kind argument
       → (is_bare (cluster bytes (ends_in option argument)) ≡ true → EndsOrIsDashed more)
       → IsSoundTurn grammar word (argument_words argument ++ more)
       (takes (cluster bytes (ends_in option argument)) argument)
@@ -145,7 +145,7 @@ module _ (grammar : Grammar) (word : Text) (bytes : List ℕ)
 
   -- what doesn't resolve
   unknown_flag : IsNamed grammar → (byte : ℕ) (text : Text) (more : List Text)
-      → IsShortForm grammar word (bytes ++ byte ∷ text) → grammar.kind_of (byte ∷ []) ≡ None
+      → IsShortForm grammar word (bytes ++ byte ∷ text) → grammar.kind (byte ∷ []) ≡ None
       → IsUtf8 word → IsFaultAt grammar word more (unrecognized_option (first_char (byte ∷ text)))
   unknown_flag named byte text more form resolved utf8 =
       let begins = begins_with_char byte text (IsUtf8-after_flags grammar named word bytes (byte ∷ text) form each utf8) in
@@ -161,7 +161,7 @@ module _ (grammar : Grammar) (word : Text) (bytes : List ℕ)
   -- one more byte, by its kind, with what a flag more gives
   byte_sound : IsNamed grammar → (byte : ℕ) (kind : Option HasArg) (text : Text) (more : List Text)
       (after : Turn) → IsShortForm grammar word (bytes ++ byte ∷ text)
-      → grammar.kind_of (byte ∷ []) ≡ kind
+      → grammar.kind (byte ∷ []) ≡ kind
       → (kind ≡ Some No → IsSoundTurn grammar word more after)
       → IsSoundTurn grammar word more (byte_turn kind bytes byte text more after)
   byte_sound named byte None text more after form resolved flag = unknown_flag named byte text more form resolved
@@ -187,7 +187,7 @@ unfolding cluster_turn
 cluster_sound grammar named word bytes [] more form each =
     (more, refl, begins_cluster grammar word bytes each flags more form (λ e. form.filled (rw e refl)) (λ bare. absurd (false≢true bare)))
 cluster_sound grammar named word bytes (byte ∷ text) more form each =
-    byte_sound grammar word bytes each named byte (grammar.kind_of (byte ∷ [])) text more
+    byte_sound grammar word bytes each named byte (grammar.kind (byte ∷ [])) text more
     (cluster_turn grammar (bytes ++ byte ∷ []) text more) form refl
     (λ flag. cluster_sound grammar named word (bytes ++ byte ∷ []) text more
     (subst (IsShortForm grammar word) (sym (append_assoc bytes (byte ∷ []) text)) form)
@@ -280,7 +280,7 @@ turn_sound grammar named (first ∷ second ∷ text) more = elim (cases_Bool (fi
 -- a text in long form, by its name, its kind and its attached argument
 pub long_turn_cut : (grammar : Grammar) (dashes : Dashes) (name : Text) (argument : Option Text)
     (more : List Text) (kind : Option HasArg) → holds_equals name ≡ false
-    → grammar.kind_of name ≡ kind
+    → grammar.kind name ≡ kind
     → long_turn grammar dashes (name ++ with_equals argument) more
     ≡ named_turn kind dashes name argument more
 long_turn_cut grammar dashes name argument more kind plain resolved =
@@ -296,7 +296,7 @@ before_more long_only two name argument before = tt
 -- the turn of a word in long form, by its name, its kind and its attached argument
 pub long_form_turn : (grammar : Grammar) (word name : Text) (argument : Option Text)
     (more : List Text) (kind : Option HasArg) (form : IsLongForm grammar word name argument)
-    → grammar.kind_of name ≡ kind
+    → grammar.kind name ≡ kind
     → turn grammar word more ≡ named_turn kind form.dashes name argument more
 long_form_turn grammar word name argument more kind form resolved =
     turn_long grammar form.dashes word (name ++ with_equals argument) more (record {
@@ -309,7 +309,7 @@ long_form_turn grammar word name argument more kind form resolved =
 -- the word of a name that resolves, with its dashes and its argument, is dashed and not `--`
 resolved_word : (grammar : Grammar) → IsNamed grammar
     → (dashes : Dashes) (name : Text) (argument : Option Text) (kind : HasArg)
-    → MayStandBefore grammar.long_only dashes name → grammar.kind_of name ≡ Some kind
+    → MayStandBefore grammar.long_only dashes name → grammar.kind name ≡ Some kind
     → (is_dashed (long_word dashes name argument) ≡ true)
     × (long_word dashes name argument ≢ stop_word)
 resolved_word grammar named dashes [] argument kind before resolved = let empty = named.empty in absurd (cc)
@@ -325,7 +325,7 @@ pub cluster_flags : (grammar : Grammar) (before names : List ℕ) (text : Text) 
 unfolding cluster_turn
 cluster_flags grammar before [] text more each = rw (append-nil before) refl
 cluster_flags grammar before (byte ∷ names) text more each =
-    let flag : grammar.kind_of (byte ∷ []) ≡ Some No = each.0 in
+    let flag : grammar.kind (byte ∷ []) ≡ Some No = each.0 in
     rw (flag, cluster_flags grammar (before ++ byte ∷ []) names text more each.1, append_assoc)
 
 -- the turn of a word in short form, after its flags
@@ -339,7 +339,7 @@ short_turn_flags grammar word names text more form each = turn_short grammar wor
 -- the turn of a word in short form, at a byte after its flags
 pub short_turn_byte : (grammar : Grammar) (word : Text) (names : List ℕ) (byte : ℕ) (text : Text)
     (more : List Text) (kind : Option HasArg) → IsShortForm grammar word (names ++ byte ∷ text)
-    → AllByRecursion (IsFlag grammar) names → grammar.kind_of (byte ∷ []) ≡ kind
+    → AllByRecursion (IsFlag grammar) names → grammar.kind (byte ∷ []) ≡ kind
     → turn grammar word more
     ≡ byte_turn kind names byte text more (cluster_turn grammar (names ++ byte ∷ []) text more)
 unfolding cluster_turn
@@ -452,8 +452,8 @@ spelled_turn grammar named (cluster bytes (ends_in option argument)) more lawful
 -- a character that is wide or doesn't resolve is unknown by its first byte
 unknown_byte : (grammar : Grammar) → IsNamed grammar → (c byte : ℕ) (others text : Text)
     → byte ∷ others ≡ encode_utf8 c ++ text
-    → (1 < length (encode_utf8 c)) ⊎ (grammar.kind_of (encode_utf8 c) ≡ None)
-    → grammar.kind_of (byte ∷ []) ≡ None
+    → (1 < length (encode_utf8 c)) ⊎ (grammar.kind (encode_utf8 c) ≡ None)
+    → grammar.kind (byte ∷ []) ≡ None
 unknown_byte grammar named c byte others text e unknown = elim (named.ascii byte) [
   | inr unresolved ↦ unresolved
   | inl ascii ↦
@@ -469,7 +469,7 @@ unknown_turn : (grammar : Grammar) → IsNamed grammar
     → (word : Text) (names : List ℕ) (c : ℕ) (text whole : Text) (more : List Text)
     → whole ≡ encode_utf8 c ++ text → IsUtf8 whole → IsShortForm grammar word (names ++ whole)
     → AllByRecursion (IsFlag grammar) names
-    → (1 < length (encode_utf8 c)) ⊎ (grammar.kind_of (encode_utf8 c) ≡ None)
+    → (1 < length (encode_utf8 c)) ⊎ (grammar.kind (encode_utf8 c) ≡ None)
     → turn grammar word more ≡ faults (unrecognized_option (encode_utf8 c))
 unknown_turn grammar named word names c text [] more e utf8 form each unknown =
     absurd (omega (arith, ap length e, length-append (encode_utf8 c) text, length-encode c, len_utf8_bounds c))

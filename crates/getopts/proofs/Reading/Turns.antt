@@ -17,8 +17,8 @@ spelled item more = item_words item ++ more
 
 -- Names are texts: the empty one doesn't resolve, nor does a byte that is no ASCII.
 pub record IsNamed (grammar : Grammar) : Type 0 where
-  pub empty : grammar.kind_of [] ≡ None
-  pub ascii : (byte : ℕ) → byte < 128 ⊎ (grammar.kind_of (byte ∷ []) ≡ None)
+  pub empty : grammar.kind [] ≡ None
+  pub ascii : (byte : ℕ) → byte < 128 ⊎ (grammar.kind (byte ∷ []) ≡ None)
 
 -- a word that isn't dashed
 abbrev pub free_turn : ParsingStyle → Text → List Text → Turn

@@ -59,7 +59,7 @@ module _ (grammar : Grammar) (position : ℕ) (text : Text) (after : List Text) 
       (before : FlagsRead grammar position text after at old new) where
     -- flags, and one more byte, by its kind
     pub cluster_turn-byte : (kind : Option HasArg)
-        → grammar.kind_of (slice_index text at ∷ []) ≡ kind
+        → grammar.kind (slice_index text at ∷ []) ≡ kind
         → cluster_turn grammar [] text after
         ≡ byte_turn kind (take at text) (slice_index text at) (drop (at + 1) text) after
         (cluster_turn grammar (take at text ++ slice_index text at ∷ []) (drop (at + 1) text) after)
@@ -71,7 +71,7 @@ module _ (grammar : Grammar) (position : ℕ) (text : Text) (after : List Text) 
 
     -- flags, and an option that ends the cluster
     pub cluster_turn-ends : (kind : HasArg) → kind ≢ No
-        → grammar.kind_of (slice_index text at ∷ []) ≡ Some kind
+        → grammar.kind (slice_index text at ∷ []) ≡ Some kind
         → cluster_turn grammar [] text after
         ≡ chosen_turn (λ a. cluster (take at text) (ends_in (slice_index text at) a))
         (chosen_end kind (slice_index text at ∷ []) (drop (at + 1) text) after)
@@ -80,7 +80,7 @@ module _ (grammar : Grammar) (position : ℕ) (text : Text) (after : List Text) 
 
     -- the occurrences of flags and of one option more
     occurrences_more : (newer : List Occurrence) (group : ℕ) (value : Option Text)
-        → grammar.place_of (slice_index text at ∷ []) ≡ Some group
+        → grammar.place (slice_index text at ∷ []) ≡ Some group
         → newer ≡ new ++ at_position position (record { group = group; value = value }) ∷ []
         → newer ≡ old ++ map (at_position position)
         (map (λ byte. mention_of grammar (byte ∷ []) None) (take at text)
@@ -90,7 +90,7 @@ module _ (grammar : Grammar) (position : ℕ) (text : Text) (after : List Text) 
 
     -- one more flag
     pub FlagsRead-more : (group : ℕ) (newer : List Occurrence) → IsUtf8 text
-        → slice_index text at < 128 → grammar.place_of (slice_index text at ∷ []) ≡ Some group
+        → slice_index text at < 128 → grammar.place (slice_index text at ∷ []) ≡ Some group
         → IsFlag grammar (slice_index text at)
         → newer ≡ new ++ at_position position (record { group = group; value = None }) ∷ []
         → FlagsRead grammar position text after (at + 1) old newer
@@ -104,8 +104,8 @@ module _ (grammar : Grammar) (position : ℕ) (text : Text) (after : List Text) 
 
     -- flags, and an option that ends the cluster, once its occurrence was added
     pub AddsItem-ends : (group : ℕ) (kind : HasArg) (value : Option Text) (used : ℕ)
-        (newer : List Occurrence) → grammar.place_of (slice_index text at ∷ []) ≡ Some group
-        → kind ≢ No → grammar.kind_of (slice_index text at ∷ []) ≡ Some kind
+        (newer : List Occurrence) → grammar.place (slice_index text at ∷ []) ≡ Some group
+        → kind ≢ No → grammar.kind (slice_index text at ∷ []) ≡ Some kind
         → Chooses (chosen_end kind (slice_index text at ∷ []) (drop (at + 1) text) after) value used
         → newer ≡ new ++ at_position position (record { group = group; value = value }) ∷ []
         → AddsItem grammar (cluster_turn grammar [] text after) position used old newer

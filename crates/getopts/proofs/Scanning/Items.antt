@@ -36,13 +36,13 @@ module _ (grammar : Grammar) (dashes : Dashes) (text name : Text) (argument : Op
     (after : List Text) (text_is : text ≡ name ++ with_equals argument)
     (cut_once : holds_equals name ≡ false) where
   -- what it gives, by its kind
-  long_turn-named : (kind : Option HasArg) → grammar.kind_of name ≡ kind
+  long_turn-named : (kind : Option HasArg) → grammar.kind name ≡ kind
       → long_turn grammar dashes text after ≡ named_turn kind dashes name argument after
   long_turn-named kind kind_is = ap (λ (t : Text). long_turn grammar dashes t after) text_is
       ∙ long_turn_cut grammar dashes name argument after kind cut_once kind_is
 
   -- a refusal that tells its fault
-  pub Tells-long : (kind : Option HasArg) → grammar.kind_of name ≡ kind
+  pub Tells-long : (kind : Option HasArg) → grammar.kind name ≡ kind
       → (fail : Fail) (fault : Fault)
       → named_turn kind dashes name argument after ≡ faults fault → Tells fail (λ f. f ≡ fault)
       → Tells fail (λ f. long_turn grammar dashes text after ≡ faults f)
@@ -51,8 +51,8 @@ module _ (grammar : Grammar) (dashes : Dashes) (text name : Text) (argument : Op
 
   -- an item, once its occurrence was added
   pub AddsItem-long : (kind : HasArg) (group position used : ℕ) (value : Option Text)
-      (old new : List Occurrence) → grammar.kind_of name ≡ Some kind
-      → grammar.place_of name ≡ Some group
+      (old new : List Occurrence) → grammar.kind name ≡ Some kind
+      → grammar.place name ≡ Some group
       → Chooses (chosen_long kind name argument after) value used
       → new ≡ old ++ at_position position (record { group = group; value = value }) ∷ []
       → AddsItem grammar (long_turn grammar dashes text after) position used old new

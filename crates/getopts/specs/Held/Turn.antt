@@ -74,7 +74,7 @@ cut_at_equals (c ∷ text) = if c == equals_sign then ([], Some text)
 abbrev pub long_turn : Grammar → Dashes → Text → List Text → Turn
 long_turn grammar dashes text after =
     let cut = cut_at_equals text in
-    named_turn (grammar.kind_of cut.0) dashes cut.0 cut.1 after
+    named_turn (grammar.kind cut.0) dashes cut.0 cut.1 after
 
 -- the first character of a text
 abbrev pub first_char : Text → Text
@@ -94,7 +94,7 @@ byte_turn (Some kind) bytes byte text after more =
 unfoldable pub cluster_turn : Grammar → List ℕ → Text → List Text → Turn
 cluster_turn grammar bytes [] after = takes (cluster bytes flags) none
 cluster_turn grammar bytes (byte ∷ text) after =
-    byte_turn (grammar.kind_of (byte ∷ [])) bytes byte text after
+    byte_turn (grammar.kind (byte ∷ [])) bytes byte text after
     (cluster_turn grammar (bytes ++ byte ∷ []) text after)
 
 -- An argument was chosen, which gives this value and uses so many words.

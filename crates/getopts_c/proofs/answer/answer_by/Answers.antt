@@ -7,7 +7,7 @@ use Rattle.getopts_c.proofs.answer.answer_by.Goals as goal
 
 pub accepted-requires : goal.accepted-requires
 accepted-requires c =
-    c.requires.count ∙ sym (as_many_groups c.args.options.now c.in-Ok.matches.groups c.in-Ok.ensures.groups)
+    c.requires.count ∙ sym (as_many_groups c.args.options.now c.in-Ok.matches.groups c.in-Ok.ensures.told.same_groups)
 
 pub returns-in-Ok : goal.returns-in-Ok
 returns-in-Ok c =

@@ -11,7 +11,7 @@ returns-clause-rows c =
     record {
       options = options;
       rows = map string_bytes c.in_ok-rows.rows.items;
-      options_are = subst (λ (stop : Bool). IsRequest request.texts.now request.lens.now
+      options_are = subst (λ (stop : Bool). IsRequest request.bytes.now request.lens.now
           request.kinds.now stop request.long_only options) c.requires c.in_ok-options.ensures.request;
       rows_are = c.in_ok-rows.ensures;
       numbers_are = c.in_ok-of_texts.ensures.numbers ∙ ap text_numbers slice;

@@ -10,7 +10,7 @@ returns-clause-usage c =
     let options = c.in_ok-options.options in
     record {
       options = options;
-      options_are = subst (λ (stop : Bool). IsRequest request.texts.now request.lens.now request.kinds.now stop
+      options_are = subst (λ (stop : Bool). IsRequest request.bytes.now request.lens.now request.kinds.now stop
           request.long_only options) c.requires c.in_ok-options.ensures.request;
       text_is = subst (λ (text : List ℕ). IsTheOnly (IsUsageText options c.args.brief.now) text)
           (sym c.of_text.ensures.bytes)

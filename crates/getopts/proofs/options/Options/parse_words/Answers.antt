@@ -3,12 +3,9 @@ use Rattle.std.proofs.Common.{◌≡◌, ◌∙◌, subst}
 use Rattle.getopts.specs.Names.{texts}
 use Rattle.getopts.specs.ScanLaws.{HavePositionsBelow}
 use Rattle.getopts.proofs.Canonical.Answered.{IsAccepted-line}
-use Rattle.getopts.proofs.Parsing.Parsed.{counts-accepted, positions_below-accepted, keeps_laws}
+use Rattle.getopts.proofs.Parsing.Parsed.{positions_below-accepted, keeps_laws}
 use Rattle.getopts.proofs.Scanning.Loop.{length-texts}
-use Rattle.getopts.proofs.Parsing.Holds.{AreGroupsOf-accepted, HaveValuesByKind-accepted}
-use Rattle.getopts.proofs.Parsing.Holds.{HaveLastWordsFree-accepted}
-use Rattle.getopts.proofs.Parsing.Holds.{DefineDeclared-groups, HoldRequiredOnce-groups}
-use Rattle.getopts.proofs.Parsing.Holds.{HoldNeededValues-groups}
+use Rattle.getopts.proofs.Parsing.Holds.{HoldDeclared-accepted, HaveLastWordsFree-accepted}
 use Rattle.getopts.proofs.options.Options.parse_words.Goals as goal
 
 pub returns-clause-accepted : goal.returns-clause-accepted
@@ -18,26 +15,8 @@ returns-clause-accepted c =
     (IsAccepted-line c.args.self.now (texts c.args.words.now) c.in_ok-accepted.accepted
     c.in_ok-accepted.ensures.accepted)
 
-pub returns-clause-counts_kept : goal.returns-clause-counts_kept
-returns-clause-counts_kept c = (counts-accepted c.args.self.now (texts c.args.words.now) c.of_line.result (returns-clause-accepted c)).0
-
-pub returns-clause-positions_in_order : goal.returns-clause-positions_in_order
-returns-clause-positions_in_order c = (counts-accepted c.args.self.now (texts c.args.words.now) c.of_line.result (returns-clause-accepted c)).1
-
-pub returns-clause-groups : goal.returns-clause-groups
-returns-clause-groups c = AreGroupsOf-accepted c.args.self.now (texts c.args.words.now) c.of_line.result (returns-clause-accepted c)
-
-pub returns-clause-values_fit : goal.returns-clause-values_fit
-returns-clause-values_fit c = HaveValuesByKind-accepted c.args.self.now (texts c.args.words.now) c.of_line.result (returns-clause-accepted c)
-
-pub returns-clause-defined : goal.returns-clause-defined
-returns-clause-defined c = DefineDeclared-groups c.args.self.now c.of_line.result.groups (returns-clause-groups c)
-
-pub returns-clause-required : goal.returns-clause-required
-returns-clause-required c = HoldRequiredOnce-groups c.args.self.now c.of_line.result.groups (returns-clause-groups c) (returns-clause-counts_kept c)
-
-pub returns-clause-needed : goal.returns-clause-needed
-returns-clause-needed c = HoldNeededValues-groups c.args.self.now c.of_line.result.groups (returns-clause-groups c) (returns-clause-values_fit c)
+pub returns-clause-told : goal.returns-clause-told
+returns-clause-told c = HoldDeclared-accepted c.args.self.now (texts c.args.words.now) c.of_line.result (returns-clause-accepted c)
 
 pub returns-clause-positions_below : goal.returns-clause-positions_below
 returns-clause-positions_below c =
