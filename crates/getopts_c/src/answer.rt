@@ -301,8 +301,21 @@ fn refused(alloc: Global, fail: &Fail) -> Result<Answer, AllocError>
     }
 }
 
-/// The answer that tells matches, by the names of these groups, which are theirs, with room for so many
-/// bytes and for the numbers of most lines.
+/// How many numbers tell matches that have so many groups: room to ask for.
+fn number_count(matches: &Matches, groups: usize) -> usize {
+    let mut count = groups
+        .saturating_mul(3)
+        .saturating_add(matches.free.len())
+        .saturating_add(3);
+    for place in 0..groups {
+        let occurrences = matches.occurrences_at(place).len();
+        count = count.saturating_add(occurrences.saturating_mul(2));
+    }
+    count
+}
+
+/// The answer that tells matches, by the names of these groups, which are theirs, with room for its
+/// numbers and for so many bytes.
 fn accepted(
     alloc: Global,
     matches: &Matches,
@@ -315,7 +328,7 @@ fn accepted(
         ≡ matches_numbers (flat_map four_names (map texts groups.now)) matches.now)
         × (string_bytes answer.body.bytes ≡ matches_bytes matches.now)) }
 {
-    let numbers = groups.len().saturating_mul(4).saturating_add(16);
+    let numbers = number_count(matches, groups.len());
     let mut body = Body::with_capacity(alloc, numbers, bytes)?;
     body.push_all_places(matches, groups)?;
     body.push_groups(matches, groups.len())?;
