@@ -8,8 +8,9 @@ ghost use Rattle.std.specs.String.{string_bytes};
 ghost use Rattle.getopts.specs.Names.{AreTexts, Text, texts};
 ghost use Rattle.getopts.specs.Fail.{fault_of};
 ghost use Rattle.getopts.specs.Accessors.{held_found};
-ghost use Rattle.getopts_c.specs.Request.{IsCut, SayOptions, SayTexts, concatenated};
-ghost use Rattle.getopts_c.specs.Answer.{IsAnswer, IsAnswered, IsCanonicalOf, IsLineOf, FillsFront};
+ghost use Rattle.getopts_c.specs.Held.{SaysOptions, SaysWords, Tells, TellsLine};
+ghost use Rattle.getopts_c.specs.Request.{IsCut, concatenated};
+ghost use Rattle.getopts_c.specs.Answer.{IsAnswer, IsLineOf, FillsFront};
 ghost use Rattle.getopts_c.specs.Answer.{IsRowsOf, IsShortUsageOf, IsUsageOf};
 ghost use Rattle.getopts_c.specs.Answer.{fault_name};
 ghost use Rattle.getopts_c.specs.Answer.{all_names, four_names};
@@ -369,9 +370,8 @@ fn words_by(
         × IsCut words.entry.bytes.now words.entry.lens.now line × IsAnswer options.now line
         answer.status answer.body.numbers.items (string_bytes answer.body.bytes)) }
     ensures status { IfOk result (λ answer. answer.status < memory_status) }
-    ensures lawful { OnOk result (SayTexts words.entry.bytes.now words.entry.lens.now) }
-    ensures bad { IfErr result (λ refusal. refusal ≡ Refusal.Bad
-        → ¬ (SayTexts words.entry.bytes.now words.entry.lens.now)) }
+    ensures lawful { OnOk result (SaysWords words.entry) }
+    ensures bad { IfErr result (λ refusal. refusal ≡ Refusal.Bad → ¬ (SaysWords words.entry)) }
 {
     let bytes = words.bytes.len();
     let words = cut(alloc, words.bytes, words.lens)?;
@@ -387,19 +387,11 @@ fn answer_from(
 ) -> Result<Answer, Refusal>
     requires cut { IsCut request.bytes.now request.lens.now (texts pieces.now) }
     requires utf8 { AreTexts (texts pieces.now) }
-    ensures answered { IfOk result (λ answer. IsAnswered
-        request.entry.bytes.now request.entry.lens.now request.entry.kinds.now
-        request.entry.stop request.entry.long_only words.entry.bytes.now words.entry.lens.now
-        answer.status answer.body.numbers.items (string_bytes answer.body.bytes)) }
+    ensures answered { IfOk result (Tells request.entry words.entry) }
     ensures status { IfOk result (λ answer. answer.status < memory_status) }
-    ensures lawful { OnOk result (SayOptions
-        request.entry.bytes.now request.entry.lens.now request.entry.kinds.now
-        request.entry.stop request.entry.long_only
-        × SayTexts words.entry.bytes.now words.entry.lens.now) }
-    ensures bad { IfErr result (λ refusal. refusal ≡ Refusal.Bad → (¬ (SayOptions
-        request.entry.bytes.now request.entry.lens.now request.entry.kinds.now
-        request.entry.stop request.entry.long_only))
-        ⊎ (¬ (SayTexts words.entry.bytes.now words.entry.lens.now))) }
+    ensures lawful { OnOk result (SaysOptions request.entry × SaysWords words.entry) }
+    ensures bad { IfErr result (λ refusal. refusal ≡ Refusal.Bad
+        → (¬ (SaysOptions request.entry)) ⊎ (¬ (SaysWords words.entry))) }
 {
     let groups = in_fours(pieces)?;
     let options = request.options_by(alloc, groups)?;
@@ -412,19 +404,11 @@ pub(crate) fn answer_to(
     request: Request<'_>,
     words: Words<'_>,
 ) -> Result<Answer, Refusal>
-    ensures answered { IfOk result (λ answer. IsAnswered
-        request.entry.bytes.now request.entry.lens.now request.entry.kinds.now
-        request.entry.stop request.entry.long_only words.entry.bytes.now words.entry.lens.now
-        answer.status answer.body.numbers.items (string_bytes answer.body.bytes)) }
+    ensures answered { IfOk result (Tells request.entry words.entry) }
     ensures status { IfOk result (λ answer. answer.status < memory_status) }
-    ensures lawful { OnOk result (SayOptions
-        request.entry.bytes.now request.entry.lens.now request.entry.kinds.now
-        request.entry.stop request.entry.long_only
-        × SayTexts words.entry.bytes.now words.entry.lens.now) }
-    ensures bad { IfErr result (λ refusal. refusal ≡ Refusal.Bad → (¬ (SayOptions
-        request.entry.bytes.now request.entry.lens.now request.entry.kinds.now
-        request.entry.stop request.entry.long_only))
-        ⊎ (¬ (SayTexts words.entry.bytes.now words.entry.lens.now))) }
+    ensures lawful { OnOk result (SaysOptions request.entry × SaysWords words.entry) }
+    ensures bad { IfErr result (λ refusal. refusal ≡ Refusal.Bad
+        → (¬ (SaysOptions request.entry)) ⊎ (¬ (SaysWords words.entry))) }
 {
     let pieces = request.texts(alloc)?;
     answer_from(alloc, request, &pieces, words)
@@ -454,12 +438,9 @@ pub(crate) fn usage_of(alloc: Global, request: Request<'_>, brief: &[u8]) -> Res
     ensures numbers { IfOk result (λ answer. answer.body.numbers.items ≡ []) }
     ensures fine { IfOk result (λ answer. answer.status ≡ fine_status) }
     ensures status { IfOk result (λ answer. answer.status < memory_status) }
-    ensures lawful { OnOk result (SayOptions
-        request.entry.bytes.now request.entry.lens.now request.entry.kinds.now
-        false request.entry.long_only × IsUtf8 brief.now) }
-    ensures bad { IfErr result (λ refusal. refusal ≡ Refusal.Bad → (¬ (SayOptions
-        request.entry.bytes.now request.entry.lens.now request.entry.kinds.now
-        false request.entry.long_only)) ⊎ (¬ (IsUtf8 brief.now))) }
+    ensures lawful { OnOk result (SaysOptions request.entry × IsUtf8 brief.now) }
+    ensures bad { IfErr result (λ refusal. refusal ≡ Refusal.Bad
+        → (¬ (SaysOptions request.entry)) ⊎ (¬ (IsUtf8 brief.now))) }
 {
     let brief = text_of(brief)?;
     let options = request.options(alloc)?;
@@ -481,12 +462,9 @@ pub(crate) fn short_usage_of(
     ensures numbers { IfOk result (λ answer. answer.body.numbers.items ≡ []) }
     ensures fine { IfOk result (λ answer. answer.status ≡ fine_status) }
     ensures status { IfOk result (λ answer. answer.status < memory_status) }
-    ensures lawful { OnOk result (SayOptions
-        request.entry.bytes.now request.entry.lens.now request.entry.kinds.now
-        false false × IsUtf8 program.now) }
-    ensures bad { IfErr result (λ refusal. refusal ≡ Refusal.Bad → (¬ (SayOptions
-        request.entry.bytes.now request.entry.lens.now request.entry.kinds.now
-        false false)) ⊎ (¬ (IsUtf8 program.now))) }
+    ensures lawful { OnOk result (SaysOptions request.entry × IsUtf8 program.now) }
+    ensures bad { IfErr result (λ refusal. refusal ≡ Refusal.Bad
+        → (¬ (SaysOptions request.entry)) ⊎ (¬ (IsUtf8 program.now))) }
 {
     let program = text_of(program)?;
     let options = request.options(alloc)?;
@@ -515,12 +493,9 @@ pub(crate) fn rows_of(alloc: Global, request: Request<'_>) -> Result<Answer, Ref
         request.entry.long_only answer.body.numbers.items (string_bytes answer.body.bytes)) }
     ensures fine { IfOk result (λ answer. answer.status ≡ fine_status) }
     ensures status { IfOk result (λ answer. answer.status < memory_status) }
-    ensures lawful { OnOk result (SayOptions
-        request.entry.bytes.now request.entry.lens.now request.entry.kinds.now
-        false request.entry.long_only) }
-    ensures bad { IfErr result (λ refusal. refusal ≡ Refusal.Bad → ¬ (SayOptions
-        request.entry.bytes.now request.entry.lens.now request.entry.kinds.now
-        false request.entry.long_only)) }
+    ensures lawful { OnOk result (SaysOptions request.entry) }
+    ensures bad { IfErr result (λ refusal. refusal ≡ Refusal.Bad
+        → ¬ (SaysOptions request.entry)) }
 {
     let options = request.options(alloc)?;
     let rows = options.usage_rows(alloc)?;
@@ -548,9 +523,8 @@ fn line_to(alloc: Global, options: &Options, words: Words<'_>) -> Result<Answer,
         × IsCut words.entry.bytes.now words.entry.lens.now line × IsLineOf options.now line
         answer.status answer.body.numbers.items (string_bytes answer.body.bytes)) }
     ensures status { IfOk result (λ answer. answer.status < memory_status) }
-    ensures lawful { OnOk result (SayTexts words.entry.bytes.now words.entry.lens.now) }
-    ensures bad { IfErr result (λ refusal. refusal ≡ Refusal.Bad
-        → ¬ (SayTexts words.entry.bytes.now words.entry.lens.now)) }
+    ensures lawful { OnOk result (SaysWords words.entry) }
+    ensures bad { IfErr result (λ refusal. refusal ≡ Refusal.Bad → ¬ (SaysWords words.entry)) }
 {
     let words = cut(alloc, words.bytes, words.lens)?;
     Ok(line_by(alloc, options, &words)?)
@@ -562,19 +536,11 @@ pub(crate) fn line_of(
     request: Request<'_>,
     words: Words<'_>,
 ) -> Result<Answer, Refusal>
-    ensures answered { IfOk result (λ answer. IsCanonicalOf
-        request.entry.bytes.now request.entry.lens.now request.entry.kinds.now
-        request.entry.stop request.entry.long_only words.entry.bytes.now words.entry.lens.now
-        answer.status answer.body.numbers.items (string_bytes answer.body.bytes)) }
+    ensures answered { IfOk result (TellsLine request.entry words.entry) }
     ensures status { IfOk result (λ answer. answer.status < memory_status) }
-    ensures lawful { OnOk result (SayOptions
-        request.entry.bytes.now request.entry.lens.now request.entry.kinds.now
-        request.entry.stop request.entry.long_only
-        × SayTexts words.entry.bytes.now words.entry.lens.now) }
-    ensures bad { IfErr result (λ refusal. refusal ≡ Refusal.Bad → (¬ (SayOptions
-        request.entry.bytes.now request.entry.lens.now request.entry.kinds.now
-        request.entry.stop request.entry.long_only))
-        ⊎ (¬ (SayTexts words.entry.bytes.now words.entry.lens.now))) }
+    ensures lawful { OnOk result (SaysOptions request.entry × SaysWords words.entry) }
+    ensures bad { IfErr result (λ refusal. refusal ≡ Refusal.Bad
+        → (¬ (SaysOptions request.entry)) ⊎ (¬ (SaysWords words.entry))) }
 {
     let options = request.options(alloc)?;
     line_to(alloc, &options, words)

@@ -6,8 +6,9 @@ ghost use Rattle.std.specs.List.{AllByRecursion, flat_map};
 ghost use Rattle.std.specs.Str.{IsUtf8};
 ghost use Rattle.getopts.specs.Names.{AreTexts, IsLawfullyNamed, texts};
 ghost use Rattle.getopts.specs.Options.{AreLawfullyNamed, Group, with_group};
-ghost use Rattle.getopts_c.specs.Request.{IsCut, IsDeclaredBy, IsRequest};
-ghost use Rattle.getopts_c.specs.Request.{DeclareNoOptions, SayNoGroup, SayOptions, SayTexts};
+ghost use Rattle.getopts_c.specs.Held.{Says, SaysOptions};
+ghost use Rattle.getopts_c.specs.Request.{IsCut, IsDeclaredBy};
+ghost use Rattle.getopts_c.specs.Request.{DeclareNoOptions, SayNoGroup, SayTexts};
 ghost use Rattle.getopts_c.specs.Request.{group_number, group_texts, kind_number};
 ghost use Rattle.getopts_c.specs.declared.request.Refusal.TheVariants.{NoMemory};
 
@@ -228,26 +229,18 @@ impl<'r> Request<'r> {
     fn options_from(&self, alloc: Global, pieces: &[&str]) -> Result<Options, Refusal>
         requires cut { IsCut self.now.bytes.now self.now.lens.now (texts pieces.now) }
         requires utf8 { AreTexts (texts pieces.now) }
-        ensures request { IfOk result (λ options. IsRequest self.now.bytes.now self.now.lens.now
-            self.now.kinds.now self.now.stop self.now.long_only options) }
-        ensures lawful { OnOk result (SayOptions self.now.bytes.now self.now.lens.now
-            self.now.kinds.now self.now.stop self.now.long_only) }
-        ensures bad { IfErr result (λ refusal. refusal ≡ Refusal.Bad
-            → ¬ (SayOptions self.now.bytes.now self.now.lens.now
-            self.now.kinds.now self.now.stop self.now.long_only)) }
+        ensures request { IfOk result (Says self.now) }
+        ensures lawful { OnOk result (SaysOptions self.now) }
+        ensures bad { IfErr result (λ refusal. refusal ≡ Refusal.Bad → ¬ (SaysOptions self.now)) }
     {
         self.options_by(alloc, in_fours(pieces)?)
     }
 
     /// The options of a request.
     pub(crate) fn options(&self, alloc: Global) -> Result<Options, Refusal>
-        ensures request { IfOk result (λ options. IsRequest self.now.bytes.now self.now.lens.now
-            self.now.kinds.now self.now.stop self.now.long_only options) }
-        ensures lawful { OnOk result (SayOptions self.now.bytes.now self.now.lens.now
-            self.now.kinds.now self.now.stop self.now.long_only) }
-        ensures bad { IfErr result (λ refusal. refusal ≡ Refusal.Bad
-            → ¬ (SayOptions self.now.bytes.now self.now.lens.now
-            self.now.kinds.now self.now.stop self.now.long_only)) }
+        ensures request { IfOk result (Says self.now) }
+        ensures lawful { OnOk result (SaysOptions self.now) }
+        ensures bad { IfErr result (λ refusal. refusal ≡ Refusal.Bad → ¬ (SaysOptions self.now)) }
     {
         let texts = self.texts(alloc)?;
         self.options_from(alloc, &texts)

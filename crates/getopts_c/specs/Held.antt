@@ -1,0 +1,34 @@
+-- What private functions say of a request, and of words, as they hold them.
+use Rattle.std.specs.String.{string_bytes}
+use Rattle.getopts.specs.Options.{Declared}
+use Rattle.getopts_c.specs.Answer.{IsAnswered, IsCanonicalOf}
+use Rattle.getopts_c.specs.Request.{IsRequest, SayOptions, SayTexts}
+use Rattle.getopts_c.specs.declared.answer.Answer.{Answer}
+use Rattle.getopts_c.specs.declared.request.Request.{Request}
+use Rattle.getopts_c.specs.declared.request.Words.{Words}
+
+-- the request says these options
+abbrev pub Says : Request → Declared → Type 0
+Says request options = IsRequest request.bytes.now request.lens.now request.kinds.now
+    request.stop request.long_only options
+
+-- the request says lawful options
+abbrev pub SaysOptions : Request → Type 0
+SaysOptions request = SayOptions request.bytes.now request.lens.now request.kinds.now
+    request.stop request.long_only
+
+-- the words are texts
+abbrev pub SaysWords : Words → Type 0
+SaysWords words = SayTexts words.bytes.now words.lens.now
+
+-- the answer is what the library answers to the words, by the request's options
+abbrev pub Tells : Request → Words → Answer → Type 0
+Tells request words answer = IsAnswered request.bytes.now request.lens.now request.kinds.now
+    request.stop request.long_only words.bytes.now words.lens.now
+    answer.status answer.body.numbers.items (string_bytes answer.body.bytes)
+
+-- the answer is the canonical line of the words, by the request's options
+abbrev pub TellsLine : Request → Words → Answer → Type 0
+TellsLine request words answer = IsCanonicalOf request.bytes.now request.lens.now request.kinds.now
+    request.stop request.long_only words.bytes.now words.lens.now
+    answer.status answer.body.numbers.items (string_bytes answer.body.bytes)
