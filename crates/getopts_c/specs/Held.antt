@@ -22,13 +22,13 @@ abbrev pub SaysWords : Words → Type 0
 SaysWords words = SayTexts words.bytes.now words.lens.now
 
 -- the answer is what the library answers to the words, by the request's options
-abbrev pub Tells : Request → Words → Answer → Type 0
-Tells request words answer = IsAnswered request.bytes.now request.lens.now request.kinds.now
+abbrev pub IsAnswerTo : Request → Words → Answer → Type 0
+IsAnswerTo request words answer = IsAnswered request.bytes.now request.lens.now request.kinds.now
     request.stop request.long_only words.bytes.now words.lens.now
     answer.status answer.body.numbers.items (string_bytes answer.body.bytes)
 
 -- the answer is the canonical line of the words, by the request's options
-abbrev pub TellsLine : Request → Words → Answer → Type 0
-TellsLine request words answer = IsCanonicalOf request.bytes.now request.lens.now request.kinds.now
+abbrev pub IsLineTo : Request → Words → Answer → Type 0
+IsLineTo request words answer = IsCanonicalOf request.bytes.now request.lens.now request.kinds.now
     request.stop request.long_only words.bytes.now words.lens.now
     answer.status answer.body.numbers.items (string_bytes answer.body.bytes)

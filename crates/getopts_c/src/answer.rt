@@ -8,7 +8,7 @@ ghost use Rattle.std.specs.String.{string_bytes};
 ghost use Rattle.getopts.specs.Names.{AreTexts, Text, texts};
 ghost use Rattle.getopts.specs.Fail.{fault_of};
 ghost use Rattle.getopts.specs.Accessors.{held_found};
-ghost use Rattle.getopts_c.specs.Held.{SaysOptions, SaysWords, Tells, TellsLine};
+ghost use Rattle.getopts_c.specs.Held.{SaysOptions, SaysWords, IsAnswerTo, IsLineTo};
 ghost use Rattle.getopts_c.specs.Request.{IsCut, concatenated};
 ghost use Rattle.getopts_c.specs.Answer.{IsAnswer, IsLineOf, FillsFront};
 ghost use Rattle.getopts_c.specs.Answer.{IsRowsOf, IsShortUsageOf, IsUsageOf};
@@ -387,7 +387,7 @@ fn answer_from(
 ) -> Result<Answer, Refusal>
     requires cut { IsCut request.bytes.now request.lens.now (texts pieces.now) }
     requires utf8 { AreTexts (texts pieces.now) }
-    ensures answered { IfOk result (Tells request.entry words.entry) }
+    ensures answered { IfOk result (IsAnswerTo request.entry words.entry) }
     ensures status { IfOk result (λ answer. answer.status < memory_status) }
     ensures lawful { OnOk result (SaysOptions request.entry × SaysWords words.entry) }
     ensures bad { IfErr result (λ refusal. refusal ≡ Refusal.Bad
@@ -404,7 +404,7 @@ pub(crate) fn answer_to(
     request: Request<'_>,
     words: Words<'_>,
 ) -> Result<Answer, Refusal>
-    ensures answered { IfOk result (Tells request.entry words.entry) }
+    ensures answered { IfOk result (IsAnswerTo request.entry words.entry) }
     ensures status { IfOk result (λ answer. answer.status < memory_status) }
     ensures lawful { OnOk result (SaysOptions request.entry × SaysWords words.entry) }
     ensures bad { IfErr result (λ refusal. refusal ≡ Refusal.Bad
@@ -536,7 +536,7 @@ pub(crate) fn line_of(
     request: Request<'_>,
     words: Words<'_>,
 ) -> Result<Answer, Refusal>
-    ensures answered { IfOk result (TellsLine request.entry words.entry) }
+    ensures answered { IfOk result (IsLineTo request.entry words.entry) }
     ensures status { IfOk result (λ answer. answer.status < memory_status) }
     ensures lawful { OnOk result (SaysOptions request.entry × SaysWords words.entry) }
     ensures bad { IfErr result (λ refusal. refusal ≡ Refusal.Bad
