@@ -225,13 +225,6 @@ pub record IsReading (grammar : Grammar) (reading : Reading) (words : List Text)
   pub tail : IsLawfulTail grammar reading.tail
   pub followed : AreWellFollowed reading.items (tail_words reading.tail)
 
--- a line begins with this item, and these words follow it
-pub record BeginsWith (grammar : Grammar) (words : List Text) (item : Item) (more : List Text)
-    : Type 0 where
-  pub spells : words ≡ item_words item ++ more
-  pub lawful : IsLawfulItem grammar item
-  pub followed : is_bare item ≡ true → EndsOrIsDashed more
-
 -- a group that is mentioned, by its place, and perhaps a value
 pub record Mention : Type 0 where
   pub group : ℕ

@@ -9,14 +9,14 @@ use Rattle.getopts.specs.Fail.{Fault}
 use Rattle.getopts.specs.Scan.{stop_word, Argument, separate, Item, free, long, cluster}
 use Rattle.getopts.specs.Scan.{argument_words, item_words, spelled_all, IsLawfulItem}
 use Rattle.getopts.specs.Scan.{EndsOrIsDashed, AreWellFollowed, Tail, line_end, stop, rest}
-use Rattle.getopts.specs.Scan.{tail_words, IsLawfulTail, Reading, IsReading, BeginsWith, IsFaultAt}
+use Rattle.getopts.specs.Scan.{tail_words, IsLawfulTail, Reading, IsReading, IsFaultAt}
 use Rattle.getopts.specs.Scan.{IsScanFault}
 use Rattle.getopts.specs.declared.groups.ParsingStyle.{ParsingStyle}
 use Rattle.getopts.proofs.Lists.{AllByRecursion-right}
 use Rattle.getopts.specs.Held.Turn.{Turn, ends, takes, faults}
 use Rattle.getopts.proofs.Reading.Turns.{IsNamed, turn, spelled, free_turn, with_items, after_turn}
 use Rattle.getopts.proofs.Reading.Turns.{read_both, read}
-use Rattle.getopts.proofs.Reading.Steps.{TakesItem, spelled_turn, fault_turn, fault_dashed}
+use Rattle.getopts.proofs.Reading.Steps.{BeginsWith, TakesItem, spelled_turn, fault_turn, fault_dashed}
 use Rattle.getopts.proofs.Reading.Steps.{turn_free, turn_stop, IsSoundTurn, turn_sound}
 
 -- One step of `read`, by the turn of the first word.

@@ -12,10 +12,10 @@ use Rattle.getopts.specs.Options.{Grammar}
 use Rattle.getopts.specs.Fail.{Fault, unrecognized_option}
 use Rattle.getopts.specs.Scan.{dash, is_dashed, holds_equals, stop_word, Argument, none, attached}
 use Rattle.getopts.specs.Scan.{separate, Dashes, one, two, End, flags, ends_in, Item, free, long}
-use Rattle.getopts.specs.Scan.{cluster, long_word, attached_argument, argument_words}
+use Rattle.getopts.specs.Scan.{cluster, long_word, attached_argument, argument_words, item_words}
 use Rattle.getopts.specs.Scan.{end_text, end_words, MayStandBefore, FitsLong, FitsEnd, IsFlag}
 use Rattle.getopts.specs.Scan.{IsLawfulEnd, IsLawfulCluster, IsLawfulItem, is_bare, EndsOrIsDashed}
-use Rattle.getopts.specs.Scan.{stop, tail_words, IsLawfulTail, BeginsWith, IsLongForm, IsShortForm}
+use Rattle.getopts.specs.Scan.{stop, tail_words, IsLawfulTail, IsLongForm, IsShortForm}
 use Rattle.getopts.specs.Scan.{IsFaultAt, unknown_name, unknown_character, unwanted_argument}
 use Rattle.getopts.specs.Scan.{long_unfinished, short_unfinished}
 use Rattle.getopts.specs.Held.Turn.{with_equals, Turn, ends, takes, faults, IsInLongForm, chosen_long, chosen_end}
@@ -32,6 +32,13 @@ use Rattle.getopts.proofs.Reading.Texts.{cut_at_equals-append, begins_with_dash-
 use Rattle.getopts.proofs.Reading.Texts.{begins_with_dash-front, is_dashed-text, IsUtf8-past_ascii}
 use Rattle.getopts.proofs.Reading.Texts.{IsUtf8-past_asciis, begins_with_char, encode-ascii_byte}
 use Rattle.getopts.proofs.Reading.Texts.{length-encode-wide, first_char-append}
+
+-- a line begins with this item, and these words follow it
+pub record BeginsWith (grammar : Grammar) (words : List Text) (item : Item) (more : List Text)
+    : Type 0 where
+  pub spells : words ≡ item_words item ++ more
+  pub lawful : IsLawfulItem grammar item
+  pub followed : is_bare item ≡ true → EndsOrIsDashed more
 
 -- What a turn says of a line that begins with this word is so: its tail, its item or its fault.
 abbrev pub IsSoundTurn : Grammar → Text → List Text → Turn → Type 0
