@@ -4,10 +4,11 @@
 #     rust/test.sh [--quick | --short] [--after FILE] [CRATE]
 #
 # CRATE is a folder that holds the crate getopts 0.2.24; without it cargo fetches that crate. CARGO_FLAGS
-# are handed to each cargo. With --quick nothing is proved, and with --short the C side is built twice in place of four
-# times besides, and the Rust crate's form, pages and package are passed over. With --after it waits at its end, until FILE is there,
-# before it asks the program getopts_show what it answers. What that or this machine leaves out is skipped with a
-# line that says so. The last line is 'N passed, M failed, K skipped'.
+# are handed to each cargo. With --quick nothing is proved, and with --short the C side is built once in place of four
+# times besides, memory is refused on one line, and the Rust crate's tests without `canonical`, its form, its pages and
+# its package are passed over. With --after it waits at its end, until FILE is there, before it asks the program
+# getopts_show what it answers. What that or this machine leaves out is skipped with a line that says so. The last line
+# is 'N passed, M failed, K skipped'.
 set -uo pipefail
 top=$(cd "$(dirname "$0")/.." && pwd)
 quick='' short='' after=''
@@ -36,6 +37,9 @@ archive=$here/native/libgetopts_c.a
 # The lines that the examples are run on.
 lines=("--output=x.txt --verbose in.txt" "-vvLd -La -Lb -c auto -o x.txt f -- g -v" "-v --help" "--nope"
     "-o" "-o a -o b" "--verbose=x" "" "-c" "--output= é --color=日本")
+# Those of them on which memory is refused.
+refusing=("${lines[@]:1:3}")
+[ -z "$short" ] || refusing=("${lines[2]}")
 
 # same_as_show PROGRAM: a program answers each line as getopts_show does.
 same_as_show() {
@@ -55,7 +59,7 @@ same_as_show() {
 # program writes nothing and ends with this status. With MARKS 1 the requests between its marks count.
 refused() {
     local line words wanted why= runs=0
-    for line in "${lines[@]:1:3}"; do
+    for line in "${refusing[@]}"; do
         read -r -a words <<<"$line"
         wanted=$("$1" "${words[@]}"; echo "status $?")
         in_turn "$room/refuse.so" "$3" "$wanted" "status $2" "$1" "${words[@]}" >"$room/why"
@@ -144,7 +148,11 @@ if ! has cargo cc; then
 fi
 
 in_crate() { (cd "$here" && cargo "$@"); }
-check "the crate's tests" in_crate test "${flags[@]}"
+if [ -n "$short" ]; then
+    skip "the crate's tests without canonical: the whole test has them"
+else
+    check "the crate's tests" in_crate test "${flags[@]}"
+fi
 check "the crate's tests with canonical" in_crate test "${flags[@]}" --features canonical
 check "the Rust examples" in_crate build "${flags[@]}" --release --features canonical --examples
 examples+=("$room/target/release/examples/show")

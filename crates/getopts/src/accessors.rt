@@ -1,6 +1,7 @@
 //! What matches answer when they are asked for an option by a name.
 
-ghost use Rattle.std.specs.Prelude.{◌≡◌, ◌↔◌, Some, Ok, IsTrue, map, length, vec_len, ◌<◌, IfOk, MatchOption};
+ghost use Rattle.std.specs.Prelude.{◌≡◌, ◌↔◌, Some, Ok, IsTrue, map, length, vec_len, ◌<◌, IfOk};
+ghost use Rattle.std.specs.Prelude.{MatchOption};
 ghost use Rattle.std.specs.List.{list_any};
 ghost use Rattle.std.specs.Option.{option_copied, option_map};
 ghost use Rattle.std.specs.String.{string_bytes};
@@ -24,7 +25,11 @@ fn copied(alloc: Global, text: Option<&str>) -> Result<Option<String>, AllocErro
 
 impl Matches {
     ghost use Rattle.getopts.specs.Accessors.{pair_view};
-    ghost use Rattle.getopts.specs.Accessors.{IsDefined, AreDefined, AreHeldLawfully, OneGroupOneAnswer, IsReadAs, place_of, found_in, found_of, is_present, positions_of, values_of, pairs_of, first_value, first_value_or, first_value_among};
+    ghost use Rattle.getopts.specs.Accessors.{IsDefined, AreDefined, AreHeldLawfully};
+    ghost use Rattle.getopts.specs.Accessors.{OneGroupOneAnswer, IsReadAs, place_of, found_in};
+    ghost use Rattle.getopts.specs.Accessors.{found_of, is_present, positions_of, values_of};
+    ghost use Rattle.getopts.specs.Accessors.{pairs_of, first_value, first_value_or};
+    ghost use Rattle.getopts.specs.Accessors.{first_value_among};
 
     /// The place of the option group that a name resolves to, from 0, in the order of declaration.
     ///

@@ -120,7 +120,8 @@ impl<T: Drop> From<AllocFailed<T>> for Fail {
 
 // Each of these makes a fault with a copy of the name, or tells that memory was refused.
 impl Fail {
-    ghost use Rattle.getopts.specs.Fail.{Tells, argument_missing, unrecognized_option, option_missing, option_duplicated, unexpected_argument};
+    ghost use Rattle.getopts.specs.Fail.{Tells, argument_missing, unrecognized_option};
+    ghost use Rattle.getopts.specs.Fail.{option_missing, option_duplicated, unexpected_argument};
 
     pub(crate) fn argument_missing(alloc: Global, name: &str) -> Fail
         ensures { Tells result (λ fault. fault ≡ argument_missing name.now) }

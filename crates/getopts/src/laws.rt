@@ -1,15 +1,19 @@
 //! Laws to cite: the main theorem, and what else holds of all options, words and matches. They do nothing.
 
-ghost use Rattle.getopts.specs.Canon.{Content, Says, IsSound, IsPlain, HasCanonicalLine, with_setting};
+ghost use Rattle.getopts.specs.Canon.{Content, Says, IsSound, IsPlain, HasCanonicalLine};
+ghost use Rattle.getopts.specs.Canon.{with_setting};
 ghost use Rattle.getopts.specs.declared.groups.ParsingStyle.{ParsingStyle};
 ghost use Rattle.std.specs.Prelude.{List, Bool};
 ghost use Rattle.getopts.specs.Accessors.{held_names};
-ghost use Rattle.getopts.specs.CanonAnswers.{IsParseAnswer, IsCanonicalAnswer, OneAnswerOneContent, KeepsLineLaws};
+ghost use Rattle.getopts.specs.CanonAnswers.{IsParseAnswer, IsCanonicalAnswer, OneAnswerOneContent};
+ghost use Rattle.getopts.specs.CanonAnswers.{KeepsLineLaws};
 ghost use Rattle.getopts.specs.Names.{Text, MainNameResolves, OneByteIsShort, EmptyResolvesNot};
 ghost use Rattle.getopts.specs.Only.{AtMostOne};
 ghost use Rattle.getopts.specs.Options.{Declared, MayBeDeclared, names_of, grammar_of};
 ghost use Rattle.getopts.specs.Parse.{KeepsReadingLaws};
-ghost use Rattle.getopts.specs.Theorem.{OneReading, AcceptedExactlyWhen, RefusedExactlyWhen, OneOfThree, OneReadingGivesAll, OneContentHoldsSame, OneLineOneContent};
+ghost use Rattle.getopts.specs.Theorem.{OneReading, AcceptedExactlyWhen, RefusedExactlyWhen};
+ghost use Rattle.getopts.specs.Theorem.{OneOfThree, OneReadingGivesAll, OneContentHoldsSame};
+ghost use Rattle.getopts.specs.Theorem.{OneLineOneContent};
 
 use crate::matches::Matches;
 use crate::options::Options;

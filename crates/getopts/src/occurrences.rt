@@ -4,7 +4,8 @@ ghost use Rattle.std.specs.Prelude.{◌≡◌, ◌↔◌, IsTrue, [], map, lengt
 ghost use Rattle.std.specs.Cmp.Lexicographic.{pointwise};
 ghost use Rattle.std.specs.Option.{option_copied, option_map};
 ghost use Rattle.std.specs.String.{string_bytes};
-ghost use Rattle.getopts.specs.Accessors.{positions_of, values_of, pairs_of, first_value, first_value_or};
+ghost use Rattle.getopts.specs.Accessors.{positions_of, values_of, pairs_of, first_value};
+ghost use Rattle.getopts.specs.Accessors.{first_value_or};
 ghost use Rattle.getopts.specs.Held.Occurrences.{founds_at, ArePlacesOf};
 ghost use Rattle.getopts.specs.Accessors.{held_found, pair_view};
 ghost use Rattle.getopts.specs.Same.{same_found};

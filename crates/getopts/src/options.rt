@@ -1,6 +1,7 @@
 //! Options: the groups that a caller declares, a parsing style and a mode.
 
-ghost use Rattle.std.specs.Prelude.{◌≡◌, ◌↔◌, [], false, length, map, slice_get, unwrap_or, IfOk, IsTrue, OnOk, OnErr};
+ghost use Rattle.std.specs.Prelude.{◌≡◌, ◌↔◌, [], false, length, map, slice_get, unwrap_or, IfOk};
+ghost use Rattle.std.specs.Prelude.{IsTrue, OnOk, OnErr};
 ghost use Rattle.std.specs.Option.{option_map, option_map_or};
 ghost use Rattle.std.specs.Cmp.Lexicographic.{pointwise};
 ghost use Rattle.std.specs.Cmp.Rules.{comparing};

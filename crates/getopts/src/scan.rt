@@ -1,6 +1,7 @@
 //! Reading words as items, from the first to the last.
 
-ghost use Rattle.std.specs.Prelude.{◌≡◌, ◌≢◌, ◌<◌, ◌∷◌, ◌++◌, [], length, MatchOption, OnSome, Some, None, Err, false, IfOk, IfErr, slice_index, OnOk, map};
+ghost use Rattle.std.specs.Prelude.{◌≡◌, ◌≢◌, ◌<◌, ◌∷◌, ◌++◌, [], length, MatchOption, OnSome};
+ghost use Rattle.std.specs.Prelude.{Some, None, Err, false, IfOk, IfErr, slice_index, OnOk, map};
 ghost use Rattle.std.specs.String.{string_bytes};
 ghost use Rattle.std.specs.Str.{IsCharBoundary};
 ghost use Rattle.std.specs.Option.{option_copied};
@@ -138,7 +139,8 @@ fn ending<'w>(
 }
 
 impl<'o> Scanner<'o> {
-    ghost use Rattle.getopts.specs.Held.Line.{scanner_grammar, IsLawfulScanner, HasShape, ReadsLine};
+    ghost use Rattle.getopts.specs.Held.Line.{scanner_grammar, IsLawfulScanner, HasShape};
+    ghost use Rattle.getopts.specs.Held.Line.{ReadsLine};
     ghost use Rattle.getopts.specs.Scan.{Dashes};
     ghost use Rattle.getopts.specs.Held.Turn.{faults, long_turn, cluster_turn, AddsItem};
 

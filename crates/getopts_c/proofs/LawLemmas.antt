@@ -30,7 +30,8 @@ cut_from bytes [] = []
 cut_from bytes (n ∷ ns) = take n bytes ∷ cut_from (drop n bytes) ns
 
 -- texts are cut again from what they are joined to
-cut_from_concatenated : (words : List Text) → cut_from (concatenated words) (map length words) ≡ words
+cut_from_concatenated : (words : List Text) → cut_from (concatenated words) (map length words)
+    ≡ words
 cut_from_concatenated [] = refl
 cut_from_concatenated (word ∷ words) =
     rw (

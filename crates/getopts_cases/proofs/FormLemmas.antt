@@ -1,11 +1,13 @@
 -- What a field has in it.
-use Rattle.std.proofs.Common.{◌≡◌, ◌==◌, ◌++◌, ℕ, List, [], ◌∷◌, Option, Some, None, Bool, true, false, if◌then◌else◌, IfSome, arith, refl, subst}
+use Rattle.std.proofs.Common.{◌≡◌, ◌==◌, ◌++◌, ℕ, List, [], ◌∷◌, Option, Some, None, Bool, true}
+use Rattle.std.proofs.Common.{false, if◌then◌else◌, IfSome, arith, refl, subst}
 use Rattle.std.specs.List.{AllByRecursion}
 use Rattle.std.specs.Option.{option_map_or}
 use Rattle.getopts_cases.specs.Form.{letter_of, escaped, EndsNothing}
 
 -- one letter or another ends nothing
-choice_ends_nothing : (first : Bool) (letter : ℕ) (other : Option ℕ) → EndsNothing letter → IfSome other EndsNothing
+choice_ends_nothing : (first : Bool) (letter : ℕ) (other : Option ℕ) → EndsNothing letter
+    → IfSome other EndsNothing
     → IfSome (if first then Some letter else other) EndsNothing
 choice_ends_nothing true letter other plain others = plain
 choice_ends_nothing false letter other plain others = others
@@ -26,7 +28,8 @@ plain_ends_nothing byte none = record {
 }
 
 -- a byte in one of its two forms, and then bytes that end nothing, end nothing
-form_ends_nothing : (letter : Option ℕ) (byte : ℕ) (rest : List ℕ) → IfSome letter EndsNothing → (letter ≡ None → EndsNothing byte)
+form_ends_nothing : (letter : Option ℕ) (byte : ℕ) (rest : List ℕ) → IfSome letter EndsNothing
+    → (letter ≡ None → EndsNothing byte)
     → AllByRecursion EndsNothing rest
     → AllByRecursion EndsNothing (option_map_or (λ l. 92 ∷ l ∷ []) letter (byte ∷ []) ++ rest)
 form_ends_nothing (Some letter) byte rest plain none ends = (record { no_tab = omega arith; no_line_end = omega arith }, (plain, ends))

@@ -9,8 +9,11 @@ ghost use Rattle.getopts.specs.Fail.{Fault, fault_of};
 ghost use Rattle.getopts.specs.Names.{Text, texts};
 ghost use Rattle.getopts.specs.Parse.{IsAccepted};
 ghost use Rattle.getopts.specs.CanonAnswers.{IsWritten};
-ghost use Rattle.getopts_show.specs.Program.{AreAccepted, IsProgramText, IsOnlyText, HasProgramGroups, IsStatus, IsDone, ShowsText};
-ghost use Rattle.getopts_show.specs.Program.{asks_help, count_line, fault_line, matches_text, named_lines, program_groups, program_options, value_line, with_groups, word_line};
+ghost use Rattle.getopts_show.specs.Program.{AreAccepted, IsProgramText, IsOnlyText};
+ghost use Rattle.getopts_show.specs.Program.{HasProgramGroups, IsStatus, IsDone, ShowsText};
+ghost use Rattle.getopts_show.specs.Program.{asks_help, count_line, fault_line, matches_text};
+ghost use Rattle.getopts_show.specs.Program.{named_lines, program_groups, program_options};
+ghost use Rattle.getopts_show.specs.Program.{value_line, with_groups, word_line};
 
 use getopts::{Fail, Matches, Occurrences, Options, equal_input_equal_answers};
 use std::alloc::{AllocError, Global};

@@ -1,6 +1,7 @@
 //! Names that come at run time, and lists of them.
 
-ghost use Rattle.std.specs.Prelude.{◌≡◌, ◌↔◌, [], ◌∷◌, None, length, codes, IfOk, IfSome, IsSome, IsTrue};
+ghost use Rattle.std.specs.Prelude.{◌≡◌, ◌↔◌, [], ◌∷◌, None, length, codes, IfOk, IfSome, IsSome};
+ghost use Rattle.std.specs.Prelude.{IsTrue};
 ghost use Rattle.std.specs.List.{list_any};
 ghost use Rattle.getopts.specs.Accessors.{IsDefined, AreDefined, place_of, found_of, is_present};
 ghost use Rattle.getopts.specs.Names.{texts};

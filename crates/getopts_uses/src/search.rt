@@ -3,7 +3,8 @@
 ghost use Rattle.std.specs.Prelude.{◌≡◌, map, string_bytes, IfOk, IfErr};
 ghost use Rattle.getopts.specs.Names.{texts};
 ghost use Rattle.getopts_uses.specs.declared.search.Refusal.TheVariants.{Line, Number, OutOfMemory};
-ghost use Rattle.getopts_uses.specs.Search.{search_options, AreSettingsOf, IsRefusalOf, IsSearchHelp, AreSearchRows};
+ghost use Rattle.getopts_uses.specs.Search.{search_options, AreSettingsOf, IsRefusalOf};
+ghost use Rattle.getopts_uses.specs.Search.{IsSearchHelp, AreSearchRows};
 
 use getopts::{Fail, Options};
 use std::alloc::{AllocError, AllocFailed, Global};

@@ -130,7 +130,8 @@ KeepsLineLaws-lawful options lawful shorts words line written =
 -- the main theorem, of two answered lines
 pub OneAnswerOneContent-lawful : (options : Declared) → AreLawfullyNamed options.groups
     → OneAnswerOneContent options
-OneAnswerOneContent-lawful options lawful style other_style long_only other_long_only words others line other written written_other =
+OneAnswerOneContent-lawful options lawful style other_style long_only other_long_only words others
+    line other written written_other =
     let says = Says-accepted options style long_only words written.content written.accepted in
     let says_other = Says-accepted options other_style other_long_only others written_other.content written_other.accepted in
     let tell = OneLineOneContent-lawful options lawful words others written.content written_other.content says
@@ -166,7 +167,8 @@ first_broken [] (first ∷ others) group other after more same kept broken kept_
     let is : first ≡ group = cc in absurd (broken (subst KeepsCount is kept_other.0))
 first_broken (first ∷ before) [] group other after more same kept broken kept_other broken_other =
     let is : first ≡ other = cc in absurd (broken_other (subst KeepsCount is kept.0))
-first_broken (first ∷ before) (second ∷ others) group other after more same kept broken kept_other broken_other =
+first_broken (first ∷ before) (second ∷ others) group other after more same
+    kept broken kept_other broken_other =
     let later : before ++ group ∷ after ≡ others ++ other ∷ more = cc in
     first_broken before others group other after more later kept.1 broken kept_other.1 broken_other
 

@@ -17,7 +17,8 @@ use Rattle.getopts.specs.Scan.{Argument, none, attached, separate, one, two, fla
 use Rattle.getopts.specs.Scan.{end_text, attached_argument, argument_words, value_of, FitsKind}
 use Rattle.getopts.specs.Held.Turn.{with_equals}
 use Rattle.getopts.specs.Scan.{Item, free, long, cluster, spelled_all, FitsLong, FitsEnd, IsFlag}
-use Rattle.getopts.specs.Scan.{IsLawfulItem, AreWellFollowed, Reading, IsReading, Mention, mention_of}
+use Rattle.getopts.specs.Scan.{IsLawfulItem, AreWellFollowed, Reading, IsReading, Mention}
+use Rattle.getopts.specs.Scan.{mention_of}
 use Rattle.getopts.specs.Scan.{mentions, Occurrence, occurrences_of, free_items}
 use Rattle.getopts.specs.ScanLaws.{mentions_of}
 use Rattle.getopts.specs.Matches.{found_at, matched, FitsCount, KeepsCounts}
@@ -399,7 +400,8 @@ canonical_line-parts groups [] (o ∷ os) frees others lawful own own_other plai
 canonical_line-parts groups (m ∷ ms) [] frees others lawful own own_other plain plain_other same =
     let first : canonical_word groups m ≡ stop_word = cc in
     absurd (canonical_word-no_stop groups m lawful own.0 plain.0 first)
-canonical_line-parts groups (m ∷ ms) (o ∷ os) frees others lawful own own_other plain plain_other same =
+canonical_line-parts groups (m ∷ ms) (o ∷ os) frees others lawful own own_other
+    plain plain_other same =
     let first : canonical_word groups m ≡ canonical_word groups o = cc in
     let after : map (canonical_word groups) ms ++ stop_word ∷ frees ≡ map (canonical_word groups) os ++ stop_word ∷ others = cc in
     let head : m ≡ o = canonical_word-cancel groups m o own.0 own_other.0 plain.0 plain_other.0 first in
@@ -439,7 +441,8 @@ HasCanonicalLine-says options words content lawful named says plain =
 -- two canonical lines are equal exactly if they say the same
 pub OneLineOneContent-lawful : (options : Declared) → AreLawfullyNamed options.groups
     → OneLineOneContent options
-OneLineOneContent-lawful options lawful words others content other says plain says_other plain_other =
+OneLineOneContent-lawful options lawful words others content other
+    says plain says_other plain_other =
     canonical_line-same options.groups content other lawful (IsSound-says options words content says) plain
     (IsSound-says options others other says_other) plain_other
 

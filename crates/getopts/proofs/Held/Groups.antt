@@ -11,7 +11,8 @@ use Rattle.std.specs.Option.{option_map}
 use Rattle.std.specs.Str.{IsUtf8, IsCharBoundary, bytes_eq}
 use Rattle.std.proofs.lemmas.Bool.Decides.{Decides-and, Decides-like, Decides-eqb}
 use Rattle.std.proofs.lemmas.Bool.Decides.{same_from_decides}
-use Rattle.std.proofs.lemmas.List.{take-append-le, drop-append-le, length-drop, take_all, append-nil}
+use Rattle.std.proofs.lemmas.List.{take-append-le, drop-append-le, length-drop, take_all}
+use Rattle.std.proofs.lemmas.List.{append-nil}
 use Rattle.std.proofs.lemmas.List.Elements.{All-nil, All-take, All-drop}
 use Rattle.std.proofs.lemmas.Option.{same_Some}
 use Rattle.std.proofs.lemmas.Slice.Eq.{bytes_eq-Decides}

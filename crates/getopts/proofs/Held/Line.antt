@@ -29,7 +29,8 @@ length-with_values values records = beside records (pieces values 0 (value_ends 
   beside (g ∷ records) (text ∷ texts) fits = ap suc (beside records texts (omega arith))
 
 -- an occurrence beside its text
-slice_get-beside : (records : List OccurrenceRecord) (texts : List Text) (place : ℕ) (g : OccurrenceRecord) (text : Text)
+slice_get-beside : (records : List OccurrenceRecord) (texts : List Text) (place : ℕ)
+    (g : OccurrenceRecord) (text : Text)
     → slice_get records place ≡ Some g → slice_get texts place ≡ Some text
     → slice_get (map record_view (zip records texts)) place ≡ Some (record_view (g, text))
 slice_get-beside [] texts place g text there own = cc there
@@ -41,7 +42,8 @@ slice_get-beside (h ∷ records) (other ∷ texts) zero g text there own =
 slice_get-beside (h ∷ records) (other ∷ texts) (suc place) g text there own = slice_get-beside records texts place g text there own
 
 -- the occurrence at a place, whose values start here, has that piece of the values
-pub with_values-at : (values : Text) (records : List OccurrenceRecord) (place start : ℕ) (g : OccurrenceRecord)
+pub with_values-at : (values : Text) (records : List OccurrenceRecord) (place start : ℕ)
+    (g : OccurrenceRecord)
     → place < length records → slice_get records place ≡ Some g → get_or (value_ends records) place 0 ≡ values_end g
     → get_or (0 ∷ value_ends records) place 0 ≡ start
     → slice_get (with_values values records) place
@@ -51,7 +53,8 @@ with_values-at values records place start g within there ends starts =
     (pieces-at values 0 (value_ends records) place start (values_end g) (omega (arith, length-map records values_end)) starts ends)
 
 -- one more occurrence beside one more text
-beside-push : (records : List OccurrenceRecord) (texts : List Text) (g : OccurrenceRecord) (text : Text)
+beside-push : (records : List OccurrenceRecord) (texts : List Text) (g : OccurrenceRecord)
+    (text : Text)
     → length texts ≡ length records
     → map record_view (zip (records ++ g ∷ []) (texts ++ text ∷ []))
     ≡ map record_view (zip records texts) ++ record_view (g, text) ∷ []
@@ -62,7 +65,8 @@ beside-push (h ∷ records) (other ∷ texts) g text fits =
     ap (λ (more : List Occurrence). record_view (h, other) ∷ more) (beside-push records texts g text (omega arith))
 
 -- one more occurrence has what the values grew by
-pub with_values-push : (values value grown : Text) (records more : List OccurrenceRecord) (g : OccurrenceRecord)
+pub with_values-push : (values value grown : Text) (records more : List OccurrenceRecord)
+    (g : OccurrenceRecord)
     → grown ≡ values ++ value → more ≡ records ++ g ∷ [] → values_end g ≡ length grown → IsUtf8 value
     → IsWellCut values (value_ends records)
     → IsWellCut grown (value_ends more)

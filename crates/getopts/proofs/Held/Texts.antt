@@ -11,7 +11,8 @@ use Rattle.getopts.specs.Held.Texts.{IsWellCut}
 use Rattle.getopts.proofs.Held.Pieces.{AreEnds-push, pieces-push}
 
 -- where a text may be cut, it may also be cut with more after it
-pub IsCharBoundary-append : (text more : List ℕ) → IsUtf8 more → (place : ℕ) → IsCharBoundary text place
+pub IsCharBoundary-append : (text more : List ℕ) → IsUtf8 more → (place : ℕ)
+    → IsCharBoundary text place
     → IsCharBoundary (text ++ more) place
 IsCharBoundary-append text more utf8 place cut = elim (cases_lt place (length text)) [
   | inl within ↦

@@ -121,7 +121,8 @@ HoldSame-content options old new same free = record { values = values-found_of o
 -- words with the content of accepted words are accepted, with matches that hold the same
 pub OneContentHoldsSame_lem : (options : Declared) → AcceptedExactlyWhen options
     → OneContentHoldsSame options
-OneContentHoldsSame_lem options accepted_when words others old new matches accepted reads reads_new same =
+OneContentHoldsSame_lem options accepted_when words others old new matches accepted
+    reads reads_new same =
     let grammar = grammar_of options in
     let told : mentions_of grammar new ≡ mentions_of grammar old = ap (λ (content : Content). content.mentions) same in
     let free : free_words new ≡ free_words old = ap (λ (content : Content). content.free) same in

@@ -23,7 +23,8 @@ use Rattle.getopts.proofs.Parsing.Only.{IsTheOnly-from, meets}
 use Rattle.getopts.proofs.Parsing.Parsed.{only_reads, named_here, HasNoReading-fault}
 use Rattle.getopts.proofs.Reading.Readings.{only_reading, reading_or_fault}
 use Rattle.getopts.proofs.Reading.Turns.{IsNamed}
-use Rattle.getopts.proofs.MainTheorem.FirstFault.{HaveFault, first_count_fault, first_count_fault-is}
+use Rattle.getopts.proofs.MainTheorem.FirstFault.{HaveFault, first_count_fault}
+use Rattle.getopts.proofs.MainTheorem.FirstFault.{first_count_fault-is}
 
 -- groups keep their counts, or they have a count fault
 KeepsCounts-cases : (groups : List MatchedGroup)

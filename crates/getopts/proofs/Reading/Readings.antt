@@ -16,7 +16,8 @@ use Rattle.getopts.proofs.Lists.{AllByRecursion-right}
 use Rattle.getopts.specs.Held.Turn.{Turn, ends, takes, faults}
 use Rattle.getopts.proofs.Reading.Turns.{IsNamed, turn, spelled, free_turn, with_items, after_turn}
 use Rattle.getopts.proofs.Reading.Turns.{read_both, read}
-use Rattle.getopts.proofs.Reading.Steps.{BeginsWith, TakesItem, spelled_turn, fault_turn, fault_dashed}
+use Rattle.getopts.proofs.Reading.Steps.{BeginsWith, TakesItem, spelled_turn, fault_turn}
+use Rattle.getopts.proofs.Reading.Steps.{fault_dashed}
 use Rattle.getopts.proofs.Reading.Steps.{turn_free, turn_stop, IsSoundTurn, turn_sound}
 
 -- One step of `read`, by the turn of the first word.
@@ -250,13 +251,16 @@ after_turn_sound : (grammar : Grammar) (word : Text) (more : List Text) (said : 
     → IsSoundOutcome grammar (word ∷ more) (after_turn said after_one after_two)
 after_turn_sound grammar word more (ends tail) after_one after_two utf8 sound one_sound two_sound =
     tail_sound grammar (word ∷ more) tail sound.0 sound.1
-after_turn_sound grammar word more (takes item (separate next)) after_one after_two utf8 sound one_sound two_sound =
+after_turn_sound grammar word more (takes item (separate next)) after_one after_two utf8 sound
+    one_sound two_sound =
     item_sound grammar (word ∷ more) item sound.0 after_two sound.2
     (subst (λ (line : List Text). IsSoundOutcome grammar (drop 1 line) after_two) sound.1 two_sound)
-after_turn_sound grammar word more (takes item argument) after_one after_two utf8 sound one_sound two_sound =
+after_turn_sound grammar word more (takes item argument) after_one after_two utf8 sound one_sound
+    two_sound =
     item_sound grammar (word ∷ more) item sound.0 after_one sound.2
     (subst (λ (line : List Text). IsSoundOutcome grammar line after_one) sound.1 one_sound)
-after_turn_sound grammar word more (faults fault) after_one after_two utf8 sound one_sound two_sound =
+after_turn_sound grammar word more (faults fault) after_one after_two utf8 sound one_sound
+    two_sound =
     fault_here grammar word more fault (sound utf8)
 
 -- the outcomes of a line and of the line without its first word

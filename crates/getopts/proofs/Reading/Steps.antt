@@ -18,7 +18,8 @@ use Rattle.getopts.specs.Scan.{IsLawfulEnd, IsLawfulCluster, IsLawfulItem, is_ba
 use Rattle.getopts.specs.Scan.{stop, tail_words, IsLawfulTail, IsLongForm, IsShortForm}
 use Rattle.getopts.specs.Scan.{IsFaultAt, unknown_name, unknown_character, unwanted_argument}
 use Rattle.getopts.specs.Scan.{long_unfinished, short_unfinished}
-use Rattle.getopts.specs.Held.Turn.{with_equals, Turn, ends, takes, faults, IsInLongForm, chosen_long, chosen_end}
+use Rattle.getopts.specs.Held.Turn.{with_equals, Turn, ends, takes, faults, IsInLongForm}
+use Rattle.getopts.specs.Held.Turn.{chosen_long, chosen_end}
 use Rattle.getopts.specs.Held.Turn.{chosen_turn, named_turn, cut_at_equals, long_turn, first_char}
 use Rattle.getopts.specs.Held.Turn.{byte_turn, cluster_turn}
 use Rattle.getopts.specs.declared.groups.HasArg.{HasArg}
@@ -490,7 +491,8 @@ pub fault_turn : (grammar : Grammar) → IsNamed grammar
     → IsFaultAt grammar word more fault → turn grammar word more ≡ faults fault
 fault_turn grammar named word more fault utf8 (unknown_name name argument form unknown) =
     long_form_turn grammar word name argument more None form unknown
-fault_turn grammar named word more fault utf8 (unknown_character character text scalar has unknown) =
+fault_turn grammar named word more fault utf8
+    (unknown_character character text scalar has unknown) =
     unknown_turn grammar named word has.bytes character text _ more refl
     (IsUtf8-after_flags grammar named word has.bytes (encode_utf8 character ++ text) has.short_form has.each utf8)
     has.short_form has.each unknown

@@ -168,7 +168,8 @@ pub rows_more : (options : Declared) (place : ℕ) (found : Option Borrowed) (gr
     → AreRowsBefore options place rows
     → IsTheOnly (IsUsageRow long_only among_shorts (group_view group)) row
     → AreRowsBefore options (place + 1) (rows ++ row ∷ [])
-rows_more options place found group view is long_only among_shorts long_only_is among_shorts_is rows row each only =
+rows_more options place found group view is long_only among_shorts long_only_is among_shorts_is rows
+    row each only =
     let Only : Group → Text → Type 0 = λ group row. IsTheOnly (IsUsageRow options.long_only (any_short options.groups) group) row in
     rw (group_more group_view options.groups place found group view is)
     (all_zipped_more Only (take place options.groups) rows (group_view group) row each (rw (long_only_is, among_shorts_is) at only))

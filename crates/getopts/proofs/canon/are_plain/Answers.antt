@@ -13,7 +13,9 @@ use Rattle.getopts.specs.Canon.{main_at}
 use Rattle.getopts.proofs.Parsing.Counts.{length-found_at, list_all-by_group}
 use Rattle.getopts.proofs.Parsing.Counts.{list_all-fails_by_group}
 use Rattle.getopts.proofs.canon.are_plain.Goals as goal
-use Rattle.getopts.proofs.canon.are_plain.Goals.{else-count-gt0-via-then-count-gt0+else-holds_equals}
+use Rattle.getopts.proofs.canon.are_plain.Goals.{
+  else-count-gt0-via-then-count-gt0+else-holds_equals,
+}
 use Rattle.getopts.proofs.canon.are_plain.Goals.{else-count-gt0-via-else-count-gt0}
 
 -- the count is that of the group's occurrences

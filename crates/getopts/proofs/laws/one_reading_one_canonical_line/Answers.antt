@@ -7,7 +7,8 @@ use Rattle.getopts.proofs.MainTheorem.Theorem.{OneReading-options, AcceptedExact
 use Rattle.getopts.proofs.MainTheorem.Theorem.{RefusedExactlyWhen-options, OneOfThree-options}
 use Rattle.getopts.proofs.MainTheorem.Theorem.{OneReadingGivesAll-options}
 use Rattle.getopts.proofs.MainTheorem.Theorem.{OneLineOneContent-options}
-use Rattle.getopts.proofs.MainTheorem.Theorem.{OneAnswerOneContent-options, HasCanonicalLine-options}
+use Rattle.getopts.proofs.MainTheorem.Theorem.{OneAnswerOneContent-options}
+use Rattle.getopts.proofs.MainTheorem.Theorem.{HasCanonicalLine-options}
 use Rattle.getopts.proofs.Canonical.Answered.{KeepsLineLaws-lawful}
 use Rattle.getopts.proofs.laws.one_reading_one_canonical_line.Goals as goal
 

@@ -32,7 +32,8 @@ ends c = let text = string_bytes c.self.inside.text in
     subst (λ start. AreEndsOf text start c.in_ok-group.field-0.now) (starts c)
     (AreEndsOf-at text 0 c.self.inside.records.items c.args.place c.in_ok-group.field-0.now c.self.invariant.parts (record_at c))
 
-begins : (c : After-deref-3) → IsCharBoundary (string_bytes c.self.inside.text) c.start_of-start.result
+begins : (c : After-deref-3)
+    → IsCharBoundary (string_bytes c.self.inside.text) c.start_of-start.result
 begins c = let text = string_bytes c.self.inside.text in
     subst (IsCharBoundary text) (starts c)
     (boundary_at text 0 c.self.inside.records.items c.args.place (IsCharBoundary-start text (IsUtf8-string_bytes c.self.inside.text))

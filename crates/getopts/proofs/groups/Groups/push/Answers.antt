@@ -33,7 +33,8 @@ items c = c.push_reserved.ensures.items ∙ ap (λ (records : List GroupRecord).
   | else-is_empty+in_ok-reserve-3+in_ok-reserve-4 w ↦ rw w.self-inside-is w.in_ok-reserve-3.ensures.items
 ])
 
-pushed : (c : goal.After-push_reserved) → let text = string_bytes c.push_reserved-desc_end.new.texts in
+pushed : (c : goal.After-push_reserved)
+    → let text = string_bytes c.push_reserved-desc_end.new.texts in
     let records = c.push_reserved.new.self.items in AreTextsOf text 0 records
     × (groups_from text 0 records
     ≡ groups_from (string_bytes c.self.inside.text) 0 c.self.inside.records.items ++ group c ∷ [])

@@ -15,7 +15,8 @@ use Rattle.getopts.proofs.Lists.{slice_get-read}
 use Rattle.getopts.proofs.Held.Pieces.{AreEnds-at}
 use Rattle.getopts.proofs.Held.Line.{length-with_values, with_values-at}
 use Rattle.getopts.proofs.line.LineOccurrences.at.Goals as goal
-use Rattle.getopts.proofs.line.LineOccurrences.at.Goals.{After-index, then-has_value, else-has_value}
+use Rattle.getopts.proofs.line.LineOccurrences.at.Goals.{After-index, then-has_value}
+use Rattle.getopts.proofs.line.LineOccurrences.at.Goals.{else-has_value}
 
 -- a place of an occurrence is one of what is held of it
 within_items : (now : List Occurrence) (values : Text) (items : List OccurrenceRecord) (place : ℕ)

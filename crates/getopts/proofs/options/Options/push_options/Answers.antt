@@ -7,7 +7,9 @@ use Rattle.getopts.specs.Usage.{option_text}
 use Rattle.getopts.specs.Wrap.{joined}
 use Rattle.getopts.proofs.Wrapping.Usage.{group_more, group_missing, text_more}
 use Rattle.getopts.proofs.options.Options.push_options.Goals as goal
-use Rattle.getopts.proofs.options.Options.push_options.Goals.{in-Some+in_ok-push_parting+in_ok-push_option}
+use Rattle.getopts.proofs.options.Options.push_options.Goals.{
+  in-Some+in_ok-push_parting+in_ok-push_option,
+}
 use Rattle.getopts.proofs.options.Options.push_options.Goals.{in_default}
 
 pub loop-place-init : goal.loop-place-init

@@ -3,7 +3,9 @@ use Rattle.std.proofs.Common.{string_bytes, length-append}
 use Rattle.getopts.specs.Held.Groups.{group_view}
 use Rattle.getopts.proofs.Wrapping.Usage.{group_missing, text_more, rows_more, rows_all}
 use Rattle.getopts.proofs.options.Options.push_rows.Goals as goal
-use Rattle.getopts.proofs.options.Options.push_rows.Goals.{in-Some+in_ok-push_parting+in_ok-push_row}
+use Rattle.getopts.proofs.options.Options.push_rows.Goals.{
+  in-Some+in_ok-push_parting+in_ok-push_row,
+}
 use Rattle.getopts.proofs.options.Options.push_rows.Goals.{in_default}
 
 pub loop-place-init : goal.loop-place-init

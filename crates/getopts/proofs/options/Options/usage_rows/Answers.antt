@@ -6,7 +6,9 @@ use Rattle.getopts.specs.Only.{IsTheOnly}
 use Rattle.getopts.specs.Usage.{IsUsageRow}
 use Rattle.getopts.proofs.Wrapping.Usage.{group_missing, rows_more, rows_all}
 use Rattle.getopts.proofs.options.Options.usage_rows.Goals as goal
-use Rattle.getopts.proofs.options.Options.usage_rows.Goals.{in-Some+in_ok-row+in_ok-push_row+in_ok-push}
+use Rattle.getopts.proofs.options.Options.usage_rows.Goals.{
+  in-Some+in_ok-row+in_ok-push_row+in_ok-push,
+}
 use Rattle.getopts.proofs.options.Options.usage_rows.Goals.{in_default}
 
 pub loop-place-init : goal.loop-place-init
