@@ -151,6 +151,8 @@ def main():
     reader.add_argument("--work", type=pathlib.Path)
     reader.add_argument("--only", default="")
     asked = reader.parse_args()
+    if shutil.which("cargo") is None:
+        sys.exit("mutate.py: there is no cargo on the path")
     work = asked.work or pathlib.Path(tempfile.mkdtemp())
     copy = work / "changed"
     shutil.copytree(asked.crate, copy, dirs_exist_ok=True)

@@ -232,7 +232,10 @@ def main():
     reader.add_argument("--only", default="")
     reader.add_argument("--check", action="store_true")
     given = reader.parse_args()
+    if shutil.which("rt") is None:
+        sys.exit("mutate_library.py: there is no rt on the path")
     work = given.work or pathlib.Path(tempfile.mkdtemp())
+    print("builds the changes, some minutes ..", flush=True)
     files = [file for file in sorted(SOURCES.glob("*.rt")) if file.name not in NO_CODE]
     changes = [this for file in files for this in changes_of(file) if given.only in this.told]
     chosen = Chosen(work, dict(enumerate(changes, 1)))

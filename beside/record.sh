@@ -19,11 +19,14 @@ if [ $# -ne 0 ]; then
 fi
 work=$(mktemp -d)
 trap 'rm -rf "$work"' EXIT
+echo 'builds the twin over the Rust crate ..' >&2
 twin=$("$here/build.sh" "$work" "$crate" "$registry")
+echo "builds the twin over the Rust crate: $SECONDS s; chooses and answers cases .." >&2
 stored=$here/../crates/getopts_replay
 {
     echo '# Recorded by beside/record.sh. The Rust crate getopts 0.2.24 wrote the answers.'
     "$twin" choose 1 60000 2000
 } > "$stored/stdin"
 "$twin" answer < "$stored/stdin" > "$stored/stdout"
+echo "recorded after $SECONDS s" >&2
 ls -l "$stored/stdin" "$stored/stdout"

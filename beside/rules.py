@@ -6,13 +6,15 @@ lines. It is held to the answers that the Rust crate gave to the recorded cases,
 line of words in these cases is asked for its canonical line, and of each name for its positions and values, which
 the Rust crate has no answer to, and `getopts_replay` is held to the answers of the rules.
 
-usage: rules.py [--try] [--cases FILE] [--ask]
+usage: rules.py [--try] [--rows FILE] [--cases FILE] [--ask]
     --try     runs `rt try` in place of the program that was built last
+    --rows    asks these cases in the same run, and holds them to the answers beside them, after "> "
     --cases   other cases than the recorded ones; then nothing is held to the Rust crate's answers
     --ask     prints the cases with what is asked beyond them, and runs nothing
 """
 
 import pathlib
+import shutil
 import subprocess
 import sys
 
@@ -293,7 +295,7 @@ def asked_lines(cases):
 
 def held(lines, answers, recorded=()):
     """How many answers there are, how many of them the rules give, those that differ, and those to these lines."""
-    session, given, at, told, differ, kept = Session(), answers.split(b"\n")[:-1], 0, 0, [], []
+    session, given, at, told, differ, kept = Session(), answers, 0, 0, [], []
     case = b""
     for number, one in enumerate(lines):
         word, fields = parts(one)
@@ -329,22 +331,32 @@ def asked_beyond(lines):
 def main():
     arguments = sys.argv[1:]
     cases = pathlib.Path(arguments[arguments.index("--cases") + 1]) if "--cases" in arguments else REPLAY / "stdin"
+    rows = pathlib.Path(arguments[arguments.index("--rows") + 1]).read_bytes() if "--rows" in arguments else b""
+    rows = asked_lines(rows)
+    wanted = [one[2:] for one in rows if one.startswith(b"> ")]
     lines = asked_lines(cases.read_bytes())
     beyond, recorded = asked_beyond(lines)
     if "--ask" in arguments:
         sys.stdout.buffer.write(b"\n".join(beyond) + b"\n")
         return
+    program = ["rt", "try"] if "--try" in arguments else [REPLAY / "out/getopts_replay"]
+    if shutil.which(program[0]) is None:
+        sys.exit(f"rules.py: there is no {program[0]}" + ("" if "--try" in arguments else ": 'rt run' in its crate makes it"))
     differ = []
     if "--cases" not in arguments:
-        stored = (REPLAY / "stdout").read_bytes()
+        stored = (REPLAY / "stdout").read_bytes().split(b"\n")[:-1]
         asked, told, differ, _ = held(lines, stored)
         print(f"the Rust crate's recorded answers: {told} of {asked} lines are answered here, {len(differ)} differ")
-    program = ["rt", "try"] if "--try" in arguments else [REPLAY / "out/getopts_replay"]
-    ran = subprocess.run(program, cwd=REPLAY, input=b"\n".join(beyond) + b"\n", capture_output=True)
+    sent = beyond + [one for one in rows if not one.startswith(b"> ")]
+    ran = subprocess.run(program, cwd=REPLAY, input=b"\n".join(sent) + b"\n", capture_output=True)
     if ran.returncode != 0:
         sys.exit(f"rules.py: {program[0]} ended with status {ran.returncode}: {ran.stderr.decode()[-1000:]}")
-    asked, told, others, kept = held(beyond, ran.stdout, recorded)
-    if "--cases" not in arguments and kept != stored.split(b"\n")[:-1]:
+    given = ran.stdout.split(b"\n")[:-1]
+    given, of_rows = given[:len(given) - len(wanted)], given[len(given) - len(wanted):]
+    if of_rows != wanted:
+        sys.exit("rules.py: the answers to the rows aren't those beside them")
+    asked, told, others, kept = held(beyond, given, recorded)
+    if "--cases" not in arguments and kept != stored:
         sys.exit("rules.py: the answers to the recorded cases aren't those that are stored")
     written = sum(one.startswith(b"canonical") for one in beyond) - sum(one.startswith(b"canonical") for one in lines)
     print(f"the library's answers, with {written} canonical lines and the positions of "

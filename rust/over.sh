@@ -12,6 +12,7 @@ if [ $# -lt 2 ] || [ ! -d "$1" ]; then
     sed -n '4,5s/^# *//p' "$0" >&2
     exit 2
 fi
+command -v rt >/dev/null || { echo 'rust/over.sh: there is no rt on the path' >&2; exit 2; }
 rlib=$(cd "$1" && pwd)
 here=$PWD/rust/getopts/native/libgetopts_c.a
 kit=$(cd "$(dirname "$(realpath "$(command -v rt)")")/.." && pwd)

@@ -24,8 +24,7 @@ fn copied(alloc: Global, text: Option<&str>) -> Result<Option<String>, AllocErro
 }
 
 impl Matches {
-    ghost use Rattle.getopts.specs.Accessors.{pair_view};
-    ghost use Rattle.getopts.specs.Accessors.{IsDefined, AreDefined, AreHeldLawfully};
+    ghost use Rattle.getopts.specs.Accessors.{pair_view, IsDefined, AreDefined, AreHeldLawfully};
     ghost use Rattle.getopts.specs.Accessors.{OneGroupOneAnswer, IsReadAs, place_of, found_in};
     ghost use Rattle.getopts.specs.Accessors.{found_of, is_present, positions_of, values_of};
     ghost use Rattle.getopts.specs.Accessors.{pairs_of, first_value, first_value_or};

@@ -1,6 +1,5 @@
 //! Descriptions in rows: the lines of a text, each broken into as few rows as its words allow.
-ghost use Rattle.std.specs.Prelude.{◌≡◌, ◌+◌, ◌<◌, ◌≤◌, ◌∷◌, ◌++◌, map, string_bytes};
-ghost use Rattle.std.specs.Prelude.{IfOk, OnOk};
+ghost use Rattle.std.specs.Prelude.{◌≡◌, ◌+◌, ◌<◌, ◌≤◌, ◌∷◌, ◌++◌, map, string_bytes, IfOk, OnOk};
 ghost use Rattle.std.specs.Str.Lines.{lines};
 ghost use Rattle.getopts.specs.Only.{IsTheOnly};
 ghost use Rattle.getopts.specs.Wrap.{BreaksInto, IsDescriptionRows, IsFewestBreaking};

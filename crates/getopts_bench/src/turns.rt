@@ -83,7 +83,8 @@ fn equal_turns(matches: &Matches, others: &Matches, times: usize) -> usize {
 /// Turns that write the usage text. Each adds its length.
 #[inline(never)]
 fn usage(alloc: Global, times: usize) -> Result<usize, Fail> {
-    let options = described_options(alloc)?;
+    let mut options = Options::new(alloc);
+    describe(&mut options)?;
     let mut sum = 0usize;
     for _ in 0..times {
         sum = sum.wrapping_add(options.usage(alloc, BRIEF)?.len());
@@ -111,21 +112,24 @@ fn declared(alloc: Global, named: &[Named]) -> Result<Options, AllocError> {
     Ok(options)
 }
 
-/// Options with descriptions, as the program `getopts_show` has them.
-fn described_options(alloc: Global) -> Result<Options, AllocError> {
-    let mut options = Options::new(alloc);
+/// Adds options with descriptions, as the program `getopts_show` has them.
+fn describe(options: &mut Options) -> Result<(), AllocError> {
     options
         .optopt("o", "output", "set output file name", "NAME")?
         .optflag("h", "help", "print this help menu")?
         .optflagmulti("v", "verbose", "say more")?
         .optmulti("L", "", "add a folder", "DIR")?
         .optflagopt("c", "color", "colour the output", "WHEN")?;
-    Ok(options)
+    Ok(())
 }
 
 /// The words, lent.
 fn lent(alloc: Global, words: &[String]) -> Result<Vec<&str>, AllocError> {
-    words.iter().map(|word| word.as_str()).collect(alloc)
+    let mut lent = Vec::with_capacity(alloc, words.len())?;
+    for word in words {
+        lent.push(word.as_str())?;
+    }
+    Ok(lent)
 }
 
 /// The matches of the words.
@@ -162,10 +166,13 @@ fn canonical_length(alloc: Global, options: &Options, words: &[&str]) -> Result<
 
 /// How many of the options are defined.
 fn defined_count(matches: &Matches, named: &[Named]) -> usize {
-    named
-        .iter()
-        .filter(|option| matches.opt_defined(option.main()))
-        .count()
+    let mut count = 0usize;
+    for option in named {
+        if matches.opt_defined(option.main()) {
+            count = count.wrapping_add(1);
+        }
+    }
+    count
 }
 
 /// What matches give, added up: for each option its count and the lengths of its values, and the
@@ -196,7 +203,9 @@ fn values_length(occurrences: &Occurrences<'_>) -> usize {
 
 /// The lengths of texts, added up.
 fn total_length(texts: &[String]) -> usize {
-    texts
-        .iter()
-        .fold(0usize, |sum, text| sum.wrapping_add(text.len()))
+    let mut sum = 0usize;
+    for text in texts {
+        sum = sum.wrapping_add(text.len());
+    }
+    sum
 }

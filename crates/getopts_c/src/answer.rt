@@ -1,8 +1,7 @@
 //! What a caller gets: numbers and bytes.
 
 ghost use Rattle.std.specs.Prelude.{◌≡◌, ◌≢◌, ◌⊎◌, false, ◌<◌, ◌≤◌, ◌++◌, ◌∷◌, List, [], map};
-ghost use Rattle.std.specs.Prelude.{length};
-ghost use Rattle.std.specs.Prelude.{IfErr, IfOk, OnOk, IsErrOf, IsOk, IsOkAnd, IsSomeAnd};
+ghost use Rattle.std.specs.Prelude.{length, IfErr, IfOk, OnOk, IsErrOf, IsOk, IsOkAnd, IsSomeAnd};
 ghost use Rattle.std.specs.List.{flat_map};
 ghost use Rattle.std.specs.Str.{IsUtf8};
 ghost use Rattle.std.specs.String.{string_bytes};
@@ -11,12 +10,9 @@ ghost use Rattle.getopts.specs.Fail.{fault_of};
 ghost use Rattle.getopts.specs.Accessors.{held_found};
 ghost use Rattle.getopts_c.specs.Held.{SaysOptions, SaysWords, IsAnswerTo, IsLineTo};
 ghost use Rattle.getopts_c.specs.Request.{IsCut, concatenated};
-ghost use Rattle.getopts_c.specs.Answer.{IsAnswer, IsLineOf, FillsFront};
-ghost use Rattle.getopts_c.specs.Answer.{IsRowsOf, IsShortUsageOf, IsUsageOf};
-ghost use Rattle.getopts_c.specs.Answer.{fault_name};
-ghost use Rattle.getopts_c.specs.Answer.{all_names, four_names};
-ghost use Rattle.getopts_c.specs.Answer.{bad_status, fault_status, fine_status, memory_status};
-ghost use Rattle.getopts_c.specs.Answer.{room_status};
+ghost use Rattle.getopts_c.specs.Answer.{IsAnswer, IsLineOf, FillsFront, IsRowsOf, IsShortUsageOf};
+ghost use Rattle.getopts_c.specs.Answer.{IsUsageOf, fault_name, all_names, four_names, bad_status};
+ghost use Rattle.getopts_c.specs.Answer.{fault_status, fine_status, memory_status, room_status};
 ghost use Rattle.getopts_c.specs.Answer.{found_bytes, found_numbers, group_bytes, group_numbers};
 ghost use Rattle.getopts_c.specs.Answer.{matches_bytes, matches_numbers, optional_number};
 ghost use Rattle.getopts_c.specs.Answer.{place_number, text_numbers};

@@ -15,8 +15,7 @@ ghost use Rattle.getopts_c.specs.Request.{IsCut, IsRequest, SayOptions, SayTexts
 ghost use Rattle.getopts_c.specs.Answer.{IsAnswered, IsCanonicalOf, IsRowsOf};
 ghost use Rattle.getopts_c.specs.Answer.{IsShortUsageOf, IsUsageOf, AreAlike};
 ghost use Rattle.getopts_c.specs.Reply.{IsReply, IsFine, IsFineText, rooms, byte_rooms};
-ghost use Rattle.getopts_c.specs.Answer.{fault_name};
-ghost use Rattle.getopts_c.specs.Answer.{fault_status, matches_bytes, matches_numbers};
+ghost use Rattle.getopts_c.specs.Answer.{fault_name, fault_status, matches_bytes, matches_numbers};
 ghost use Rattle.getopts_c.specs.Answer.{text_numbers};
 
 mod answer;

@@ -7,9 +7,8 @@ ghost use Rattle.std.specs.Str.{IsUtf8};
 ghost use Rattle.getopts.specs.Names.{AreTexts, IsLawfullyNamed, texts};
 ghost use Rattle.getopts.specs.Options.{AreLawfullyNamed, Group, with_group};
 ghost use Rattle.getopts_c.specs.Held.{Says, SaysOptions};
-ghost use Rattle.getopts_c.specs.Request.{IsCut, IsDeclaredBy};
-ghost use Rattle.getopts_c.specs.Request.{DeclareNoOptions, SayNoGroup, SayTexts};
-ghost use Rattle.getopts_c.specs.Request.{group_number, group_texts, kind_number};
+ghost use Rattle.getopts_c.specs.Request.{IsCut, IsDeclaredBy, DeclareNoOptions, SayNoGroup};
+ghost use Rattle.getopts_c.specs.Request.{SayTexts, group_number, group_texts, kind_number};
 ghost use Rattle.getopts_c.specs.declared.request.Refusal.TheVariants.{NoMemory};
 
 use getopts::{HasArg, Occur, Options, ParsingStyle, are_texts, names_lawful};

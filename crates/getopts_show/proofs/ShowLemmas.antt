@@ -1,22 +1,15 @@
 -- What the program's names and groups give.
-use Rattle.std.proofs.Common.{◌≡◌, ℕ, false, zero, suc, ◌+◌, ◌<◌, List, [], ◌∷◌, ◌++◌, length, take}
-use Rattle.std.proofs.Common.{slice_get, codes, get_or, map, refl, ap, ◌∙◌, sym, subst, arith}
-use Rattle.std.proofs.Common.{zero-le}
-use Rattle.std.specs.Prelude.{Option}
+use Rattle.std.proofs.Common.{◌≡◌, ℕ, false, zero, suc, ◌+◌, ◌<◌, List, [], ◌∷◌, ◌++◌, length}
+use Rattle.std.proofs.Common.{codes, get_or, map, refl, ap, ◌∙◌, sym, subst, arith}
 use Rattle.std.specs.Borrow.{Bor}
-use Rattle.std.specs.List.{AllByRecursion, cons_option, flat_map}
-use Rattle.std.specs.Option.{option_map}
-use Rattle.std.proofs.lemmas.List.{map-append, take_all}
-use Rattle.std.proofs.lemmas.List.Elements.{filter_map-append}
-use Rattle.getopts.specs.Accessors.{pair_of, pairs_of, positions_of}
+use Rattle.std.specs.List.{AllByRecursion, flat_map}
 use Rattle.getopts.specs.Canon.{HasPlainMain}
 use Rattle.getopts.specs.Only.{AtMostOne}
 use Rattle.getopts.specs.CanonAnswers.{IsParseAnswer, IsUnwritable, IsWritten}
 use Rattle.getopts.specs.Fail.{Fault, Tells}
 use Rattle.getopts.specs.declared.fail.Fail.{Fail}
 use Rattle.getopts.specs.declared.fail.Fail.TheVariants as fail
-use Rattle.getopts.specs.Accessors.{held_found}
-use Rattle.getopts.specs.Matches.{Found, Matched, MatchedGroup}
+use Rattle.getopts.specs.Matches.{Matched, MatchedGroup}
 use Rattle.getopts.specs.Names.{Text, main_name, texts}
 use Rattle.getopts.specs.Options.{Declared, Group}
 use Rattle.getopts.specs.Parse.{IsAccepted, IsRefused}
@@ -32,35 +25,6 @@ pub text_at : (P : Text → Type 0) (words : List (Bor Text)) → AllByRecursion
 text_at P [] each k default below = absurd (omega arith)
 text_at P (word ∷ words) each zero default below = each.0
 text_at P (word ∷ words) each (suc k) default below = text_at P words each.1 k default (omega arith)
-
--- one more element of a front, if there is one
-take-more : {X : Type 0} (xs : List X) (i : ℕ)
-    → take (i + 1) xs ≡ take i xs ++ cons_option (slice_get xs i) []
-take-more {X} [] i =
-    let none : (n : ℕ) → take {A = X} n [] ≡ [] = λ n. take_all n [] zero-le in
-    none (i + 1) ∙ sym (ap (λ (xs : List X). xs ++ []) (none i))
-take-more (x ∷ xs) zero = refl
-take-more (x ∷ xs) (suc i) =
-    let later : suc i + 1 ≡ suc (i + 1) = omega arith in
-    ap (λ n. take n (x ∷ xs)) later ∙ ap (λ more. x ∷ more) (take-more xs i)
-
-module _ (founds : List Found) (i : ℕ) (next : Option (ℕ × Option (Bor Text)))
-    (is : option_map held_found next ≡ slice_get founds i) where
-  -- one more occurrence of a front, as it is read
-  founds-more : take (i + 1) founds ≡ take i founds ++ cons_option (option_map held_found next) []
-  founds-more = take-more founds i ∙ ap (λ (o : Option Found). take i founds ++ cons_option o []) (sym is)
-
-  -- its position
-  pub positions-more : positions_of (take (i + 1) founds)
-      ≡ positions_of (take i founds) ++ positions_of (cons_option (option_map held_found next) [])
-  positions-more = ap positions_of founds-more
-      ∙ map-append (λ (found : Found). found.position) (take i founds) (cons_option (option_map held_found next) [])
-
-  -- its position and value
-  pub pairs-more : pairs_of (take (i + 1) founds)
-      ≡ pairs_of (take i founds) ++ pairs_of (cons_option (option_map held_found next) [])
-  pairs-more = ap pairs_of founds-more
-      ∙ filter_map-append pair_of (take i founds) (cons_option (option_map held_found next) [])
 
 -- the main names of the program's groups
 abbrev pub main_names : List Text

@@ -235,15 +235,25 @@ const FAULTS: [Faults; 5] = [
     (1, None, Some(1), None),
 ];
 
+/// A row has this status.
+fn ends_with(rt: &impl Abort, row: Row<'_>, answer: u8, status: u8) {
+    assert_eq!(rt; answer, status, "at {:?}", row.1);
+}
+
+/// A writer holds these bytes, after so many writes and flushes.
+fn holds(rt: &impl Abort, out: &Memory, bytes: &[u8], writes: usize, flushes: usize) {
+    let wanted = (bytes, writes, flushes);
+    assert_eq!(rt; (out.held.as_slice(), out.writes, out.flushes), wanted);
+}
+
 /// Over a writer that takes so many bytes at a time, the row's text is written in so many writes, and
 /// flushed once.
 fn is_written(rt: &(impl Abort + AllocGlobal), out: &mut Memory, step: usize, row: Row<'_>) {
     let (words, text, status) = row;
     out.step = step;
-    assert_eq!(rt; show(rt.alloc(), words, out), status, "at {text:?}");
-    assert_eq!(rt; out.held.as_slice(), text.as_bytes());
+    ends_with(rt, row, show(rt.alloc(), words, out), status);
     let writes = if step == 1 { text.len() } else { 1 };
-    assert_eq!(rt; (out.writes, out.flushes), (writes, 1));
+    holds(rt, out, text.as_bytes(), writes, 1);
 }
 
 /// The row answers 4 over a writer with these faults.
@@ -253,7 +263,7 @@ fn fails(rt: &(impl Abort + AllocGlobal), out: &mut Memory, faults: Faults, row:
     out.step = step;
     out.failing_write = failing_write;
     out.failing_flush = failing_flush;
-    assert_eq!(rt; show(rt.alloc(), words, out), 4, "at {text:?}");
+    ends_with(rt, row, show(rt.alloc(), words, out), 4);
     assert_eq!(rt; out.held.len(), taken.unwrap_or(text.len()));
 }
 
@@ -304,10 +314,10 @@ fn is_written_or_nothing(rt: &(impl Abort + AllocGlobal), out: &mut Memory, row:
     let (words, text, status) = row;
     let answer = show(rt.alloc(), words, out);
     if answer == 3 {
-        assert_eq!(rt; (out.held.len(), out.writes, out.flushes), (0, 0, 0));
+        holds(rt, out, &[], 0, 0);
     } else {
-        assert_eq!(rt; answer, status, "at {text:?}");
-        assert_eq!(rt; out.held.as_slice(), text.as_bytes());
+        ends_with(rt, row, answer, status);
+        holds(rt, out, text.as_bytes(), 1, 1);
     }
 }
 

@@ -8,8 +8,7 @@ use Rattle.getopts.specs.Accessors.{IsDefined, is_present, positions_of, values_
 use Rattle.getopts.specs.Accessors.{first_value, first_value_or, first_value_among, found_in}
 use Rattle.getopts.specs.Accessors.{IsReadAs}
 use Rattle.getopts.specs.Refuted.Forms.{Refutes}
-use Rattle.getopts_wrong.specs.Forms.{Answers, opt, optflag, optflagmulti, optopt}
-use Rattle.getopts_wrong.specs.Forms.{optmulti}
+use Rattle.getopts_wrong.specs.Forms.{Answers, opt, optflag, optflagmulti, optopt, optmulti}
 use Rattle.getopts.specs.Refuted.Forms.{typed}
 use Rattle.getopts_wrong.specs.Forms.{usual, found_by}
 use Rattle.getopts.specs.declared.groups.HasArg.TheVariants.{Maybe}

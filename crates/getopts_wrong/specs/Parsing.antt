@@ -1,6 +1,5 @@
 -- Wrong answers of `parse`, by what its matches hold or by its fault.
-use Rattle.std.specs.Prelude.{◌≡◌, ⊤, ℕ, List, [], ◌∷◌, map, length, codes, Some, None}
-use Rattle.std.specs.Prelude.{Ok, Err}
+use Rattle.std.specs.Prelude.{◌≡◌, ⊤, ℕ, List, [], ◌∷◌, map, length, codes, Some, None, Ok, Err}
 use Rattle.getopts.specs.Names.{Text}
 use Rattle.getopts.specs.Options.{Declared, group_of}
 use Rattle.getopts.specs.Fail.{argument_missing, unrecognized_option, option_missing}
@@ -9,8 +8,7 @@ use Rattle.getopts.specs.Scan.{dash}
 use Rattle.getopts.specs.Matches.{Matched}
 use Rattle.getopts.specs.Accessors.{first_value}
 use Rattle.getopts.specs.Refuted.Forms.{Refutes}
-use Rattle.getopts_wrong.specs.Forms.{Answers, optflag, optflagopt, optopt, reqopt}
-use Rattle.getopts_wrong.specs.Forms.{usual}
+use Rattle.getopts_wrong.specs.Forms.{Answers, optflag, optflagopt, optopt, reqopt, usual}
 use Rattle.getopts.specs.Refuted.Forms.{typed}
 use Rattle.getopts_wrong.specs.Forms.{stopping, only_long, e_acute, found_by}
 use Rattle.getopts.specs.declared.groups.HasArg.TheVariants.{No}

@@ -18,8 +18,7 @@ use Rattle.getopts.specs.Scan.{end_text, attached_argument, argument_words, valu
 use Rattle.getopts.specs.Held.Turn.{with_equals}
 use Rattle.getopts.specs.Scan.{Item, free, long, cluster, spelled_all, FitsLong, FitsEnd, IsFlag}
 use Rattle.getopts.specs.Scan.{IsLawfulItem, AreWellFollowed, Reading, IsReading, Mention}
-use Rattle.getopts.specs.Scan.{mention_of}
-use Rattle.getopts.specs.Scan.{mentions, Occurrence, occurrences_of, free_items}
+use Rattle.getopts.specs.Scan.{mention_of, mentions, Occurrence, occurrences_of, free_items}
 use Rattle.getopts.specs.ScanLaws.{mentions_of}
 use Rattle.getopts.specs.Matches.{found_at, matched, FitsCount, KeepsCounts}
 use Rattle.getopts.specs.Canon.{Content, content_of, main_at, HasPlainMain, AnswersMain}

@@ -1,9 +1,8 @@
 -- Groups by their records: where their texts end, also after one more, the numbers of their names,
 -- and when two lists of groups are the same.
-use Rattle.std.proofs.Common.{◌≡◌, ◌&&◌, ℕ, zero, suc, ◌-◌, ◌<◌, ◌≤◌, List, [], ◌∷◌, map}
-use Rattle.std.proofs.Common.{◌++◌, length, get_or, take, drop, slice_get, Option, Some, None}
-use Rattle.std.proofs.Common.{refl, ap, sym, ◌∙◌, ◌/◌, ◌%◌, subst, arith, append_assoc}
-use Rattle.std.proofs.Common.{length-append}
+use Rattle.std.proofs.Common.{◌≡◌, ◌&&◌, ℕ, zero, suc, ◌-◌, ◌<◌, ◌≤◌, List, [], ◌∷◌, map, ◌++◌}
+use Rattle.std.proofs.Common.{length, get_or, take, drop, slice_get, Option, Some, None, refl, ap}
+use Rattle.std.proofs.Common.{sym, ◌∙◌, ◌/◌, ◌%◌, subst, arith, append_assoc, length-append}
 use Rattle.std.proofs.Math.Seq.{drop-append_seam}
 use Rattle.std.specs.Bool.{Decides}
 use Rattle.std.specs.Cmp.Lexicographic.{pointwise, pointwise_decides}

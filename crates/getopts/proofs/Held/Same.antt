@@ -1,6 +1,5 @@
 -- The tests of `==` say exactly that what they compare is equal.
-use Rattle.std.proofs.Common.{◌≡◌, ◌==◌, Bool, Option}
-use Rattle.std.proofs.Common.{Some, None, refl, ap}
+use Rattle.std.proofs.Common.{◌≡◌, ◌==◌, Bool, Option, Some, None, refl, ap}
 use Rattle.std.specs.Bool.{Decides}
 use Rattle.std.specs.Cmp.Lexicographic.{pointwise, pointwise_decides, bytes_decides}
 use Rattle.std.specs.Option.{option_eq}

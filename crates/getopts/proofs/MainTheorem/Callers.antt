@@ -1,12 +1,10 @@
 -- Lemmas for callers.
 use Rattle.std.proofs.Common.{◌≡◌, ◌==◌, ℕ, zero, suc, ◌+◌, Bool, true, false, cond, List, [], ◌∷◌}
-use Rattle.std.proofs.Common.{map, Option, Some, None, Result, Ok, Err, refl, ap, sym}
-use Rattle.std.proofs.Common.{subst, ◌∙◌}
+use Rattle.std.proofs.Common.{map, Option, Some, None, Result, Ok, Err, refl, ap, sym, subst, ◌∙◌}
 use Rattle.std.specs.List.{filter, filter_map, cons_option}
 use Rattle.getopts.specs.Names.{Text, resolution}
 use Rattle.std.specs.Option.{option_map_or}
-use Rattle.getopts.specs.Options.{Known, Declared, MayBeDeclared, names_of, knowns_of}
-use Rattle.getopts.specs.Options.{grammar_of}
+use Rattle.getopts.specs.Options.{Known, Declared, MayBeDeclared, names_of, knowns_of, grammar_of}
 use Rattle.getopts.specs.Scan.{Reading, Mention, Occurrence, occurrences_of, free_words}
 use Rattle.getopts.specs.ScanLaws.{mentions_of}
 use Rattle.getopts.specs.Canon.{Content}

@@ -4,8 +4,7 @@ use Rattle.std.proofs.Common.{Option, Some, None, MatchOption, refl, ap}
 use Rattle.std.specs.Prelude.{if◌then◌else◌}
 use Rattle.std.proofs.lemmas.Bool.Decides.{nat_tests}
 use Rattle.getopts.specs.Fail.{Fault}
-use Rattle.getopts.specs.Matches.{MatchedGroup, FitsCount, KeepsCount}
-use Rattle.getopts.specs.Matches.{KeepsCounts, IsCountFault}
+use Rattle.getopts.specs.Matches.{MatchedGroup, FitsCount, KeepsCount, KeepsCounts, IsCountFault}
 use Rattle.getopts.specs.declared.groups.Occur.{Occur}
 use Rattle.getopts.specs.declared.groups.Occur.TheVariants.{Req, Optional, Multi}
 use Rattle.getopts.proofs.Parsing.Counts.{broken_count}

@@ -9,13 +9,11 @@ use Rattle.getopts.specs.Scan.{Reading, IsReading, IsScanFault}
 use Rattle.getopts.specs.Matches.{Matched, MatchedGroup, matches_of, KeepsCounts, IsCountFault}
 use Rattle.getopts.specs.Parse.{IsAccepted, BreaksCounts, HasNoReading, IsRefused}
 use Rattle.getopts.specs.Canon.{content_of, IsPlain, canonical_line, IsCountKeeping}
-use Rattle.getopts.specs.Canon.{HasCanonicalLine}
-use Rattle.getopts.specs.Canon.{Content, IsAcceptedWith, Says}
+use Rattle.getopts.specs.Canon.{HasCanonicalLine, Content, IsAcceptedWith, Says}
 use Rattle.getopts.specs.CanonAnswers.{IsWritten, OneAnswerOneContent}
 use Rattle.getopts.specs.Theorem.{OneReading, AcceptedExactlyWhen, RefusedExactlyWhen}
 use Rattle.getopts.specs.Theorem.{OneOfThree, OneReadingGivesAll, OneLineOneContent}
-use Rattle.getopts.proofs.Canonical.Lines.{HasCanonicalLine-says}
-use Rattle.getopts.proofs.Canonical.Lines.{OneLineOneContent-lawful}
+use Rattle.getopts.proofs.Canonical.Lines.{HasCanonicalLine-says, OneLineOneContent-lawful}
 use Rattle.getopts.proofs.Canonical.Answered.{accepted_reads, breaking_reads, only_matches}
 use Rattle.getopts.proofs.Canonical.Answered.{not_refused, only_content, only_line}
 use Rattle.getopts.proofs.Canonical.Answered.{OneAnswerOneContent-lawful}

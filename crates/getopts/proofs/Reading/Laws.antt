@@ -25,8 +25,7 @@ use Rattle.getopts.specs.ScanLaws.{AreHigherAfter, ReadsAlike, Respells, mention
 use Rattle.getopts.specs.ScanLaws.{LongAttachedOrSeparate, ShortAttachedOrSeparate, ClusterSplits}
 use Rattle.getopts.specs.ScanLaws.{OneDashOrTwo, is_last_bare, joined_reading, HasContentOfBoth}
 use Rattle.getopts.specs.ScanLaws.{LinesCompose, IsAfterStop, TrailingStartIsAfterStop}
-use Rattle.getopts.specs.ScanLaws.{IsSubsequence, FreeWordsAreSubsequence}
-use Rattle.getopts.specs.ScanLaws.{HavePositionsInOrder}
+use Rattle.getopts.specs.ScanLaws.{IsSubsequence, FreeWordsAreSubsequence, HavePositionsInOrder}
 use Rattle.getopts.specs.declared.groups.HasArg.TheVariants.{Yes}
 use Rattle.getopts.proofs.Lists.{AllByRecursion-append, AllByRecursion-left, AllByRecursion-right}
 use Rattle.getopts.proofs.Reading.Positions.{mentions_of-items, positions_in-one_higher}

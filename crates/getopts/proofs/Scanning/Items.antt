@@ -7,8 +7,7 @@ use Rattle.getopts.specs.Scan.{Argument, none, attached, Dashes, long, argument_
 use Rattle.getopts.specs.Scan.{value_of, holds_equals, Occurrence, at_position}
 use Rattle.getopts.specs.Fail.{Fault, Tells}
 use Rattle.getopts.specs.Held.Turn.{with_equals, faults, chosen_long, chosen_end, chosen_turn}
-use Rattle.getopts.specs.Held.Turn.{named_turn, long_turn}
-use Rattle.getopts.specs.Held.Turn.{Chooses, AddsItem}
+use Rattle.getopts.specs.Held.Turn.{named_turn, long_turn, Chooses, AddsItem}
 use Rattle.getopts.specs.declared.fail.Fail.{Fail}
 use Rattle.getopts.specs.declared.groups.HasArg.{HasArg}
 use Rattle.getopts.specs.declared.groups.HasArg.TheVariants.{Maybe}

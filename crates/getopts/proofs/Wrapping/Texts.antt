@@ -1,8 +1,7 @@
 -- Rows in one text: how the text grows, and that its lines are the rows again.
 use Rattle.std.proofs.Common.{◌≡◌, ◌==◌, ℕ, ◌-◌, ◌<◌, ◌≤◌, Bool, true, false, List, [], ◌∷◌, ◌++◌}
 use Rattle.std.proofs.Common.{length, map, take, get_or, ⊎_elim, refl, ap, sym, ◌∙◌, subst}
-use Rattle.std.proofs.Common.{append_assoc}
-use Rattle.std.proofs.Common.{append-nil, arith, length-append}
+use Rattle.std.proofs.Common.{append_assoc, append-nil, arith, length-append}
 use Rattle.std.specs.Prelude.{nat_lt, ◌||◌, filter, All, chars, encode_utf8_all}
 use Rattle.std.specs.Char.{is_whitespace}
 use Rattle.std.specs.List.{AllZip, flat_map, slice_split, onto_first}

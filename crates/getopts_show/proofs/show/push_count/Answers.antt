@@ -1,7 +1,7 @@
 -- One more occurrence has its position.
 use Rattle.std.proofs.Common.{arith}
 use Rattle.std.proofs.lemmas.Grind.{common_steps}
-use Rattle.getopts_show.proofs.ShowLemmas.{positions-more}
+use Rattle.getopts.proofs.Held.Occurrences.{positions-more}
 use Rattle.getopts_show.proofs.show.push_count.Goals as goal
 
 pub loop-nth-preserved : goal.loop-nth-preserved

@@ -1,7 +1,6 @@
 -- The pairs so far are those of the occurrences so far.
 use Rattle.std.proofs.Common.{◌≡◌, map, take}
-use Rattle.getopts.specs.Accessors.{pairs_of}
-use Rattle.getopts.specs.Accessors.{pair_view}
+use Rattle.getopts.specs.Accessors.{pairs_of, pair_view}
 use Rattle.getopts.proofs.occurrences.Occurrences.pairs.Given as goal
 
 abbrev pub invariant-loop-nth : goal.invariant-loop-nth
