@@ -1,5 +1,5 @@
 -- The laws of the canonical line.
-use Rattle.std.proofs.Common.{◌≡◌, ◌≢◌, ◌⊎◌, ◌↔◌, ℕ, zero, suc, ◌+◌, ◌==◌, Bool, true, false, not}
+use Rattle.std.proofs.Common.{◌≡◌, ◌≢◌, ◌⊎◌, ◌↔◌, ℕ, suc, ◌+◌, ◌==◌, Bool, true, false, not}
 use Rattle.std.proofs.Common.{List, [], ◌∷◌, ◌++◌, length, map, Option, Some, None, refl, sym, ap}
 use Rattle.std.proofs.Common.{◌∙◌, subst, inl, inr, arith, append-nil}
 use Rattle.std.proofs.lemmas.Bool.{cases_Bool, and_parts, not-true, or_cases, or_left, or_right}
@@ -9,7 +9,7 @@ use Rattle.std.proofs.lemmas.Option.{none-some, option_and_then_some, same_Some,
 use Rattle.std.specs.Prelude.{slice_get}
 use Rattle.std.specs.List.{AllByRecursion, Contains, filter, flat_map, list_all}
 use Rattle.std.specs.Option.{option_and_then, option_map, unwrap_or}
-use Rattle.getopts.specs.Names.{Text, Names, IsLawfullyNamed, main_name, resolution}
+use Rattle.getopts.specs.Names.{Text, IsLawfullyNamed, resolution}
 use Rattle.getopts.specs.Options.{Known, Group, Declared, AreLawfullyNamed, names_of, knowns_of}
 use Rattle.getopts.specs.Options.{Grammar, kind_of, grammar_of}
 use Rattle.getopts.specs.Scan.{dash, equals_sign, begins_with_dash, holds_equals, stop_word}
@@ -31,19 +31,12 @@ use Rattle.getopts.specs.declared.groups.HasArg.TheVariants.{Yes, No, Maybe}
 use Rattle.getopts.specs.declared.groups.ParsingStyle.{ParsingStyle}
 use Rattle.getopts.proofs.Lists.{AllByRecursion-append, AllByRecursion-follows, AllByRecursion-map}
 use Rattle.getopts.proofs.Lists.{length-filter-map}
-use Rattle.getopts.proofs.Lookup.Names.{resolution-main_name, resolution-nil, resolution_within}
+use Rattle.getopts.proofs.Lookup.Names.{main_at-Some, resolution-main_name, resolution-nil, resolution_within}
 use Rattle.getopts.proofs.Reading.Positions.{mentions_of-items}
 use Rattle.getopts.proofs.Reading.Readings.{only_reading}
 use Rattle.getopts.proofs.Reading.Texts.{begins_with_dash-append, cut_at_equals-append}
 use Rattle.getopts.proofs.Reading.Turns.{IsNamed}
 use Rattle.getopts.specs.Held.Turn.{cut_at_equals}
-
--- the main name at a place, where a group is there
-main_at-Some : (groups : List Group) (place : ℕ) (names : Names)
-    → slice_get (names_of groups) place ≡ Some names → main_at groups place ≡ main_name names
-main_at-Some [] place names there = cc there
-main_at-Some (group ∷ groups) zero names there = ap main_name (same_Some group.known.names names there)
-main_at-Some (group ∷ groups) (suc place) names there = main_at-Some groups place names there
 
 -- the group that a name resolves to is what its own main name resolves to
 pub AnswersMain-resolution : (groups : List Group) (name : Text) (place : ℕ)
