@@ -8,7 +8,7 @@ the Rust crate has no answer to, and `getopts_replay` is held to the answers of 
 
 usage: rules.py [--try] [--rows FILE] [--cases FILE] [--ask]
     --try     runs `rt try` in place of the program that was built last
-    --rows    asks these cases in the same run, and holds them to the answers beside them, after "> "
+    --rows    asks these rows in the same run, and holds them to the answers beside them
     --cases   other cases than the recorded ones; then nothing is held to the Rust crate's answers
     --ask     prints the cases with what is asked beyond them, and runs nothing
 """
@@ -293,6 +293,20 @@ def asked_lines(cases):
     return [one for one in cases.split(b"\n") if one and not one.startswith(b"#")]
 
 
+def rows_of(written):
+    """The lines of cases, and the answers that stand beside them: each after "> ", and in what `| TEXT` goes on with."""
+    lines, answers = [], []
+    for one in asked_lines(written):
+        if one.startswith(b"|"):
+            above[-1] += one[2:] + b"\\n"
+            continue
+        above = answers if one.startswith(b"> ") else lines
+        above.append(one.removeprefix(b"> "))
+        if one.startswith(b"case\t"):
+            answers.append(one)
+    return lines, answers
+
+
 def held(lines, answers, recorded=()):
     """How many answers there are, how many of them the rules give, those that differ, and those to these lines."""
     session, given, at, told, differ, kept = Session(), answers, 0, 0, [], []
@@ -331,9 +345,8 @@ def asked_beyond(lines):
 def main():
     arguments = sys.argv[1:]
     cases = pathlib.Path(arguments[arguments.index("--cases") + 1]) if "--cases" in arguments else REPLAY / "stdin"
-    rows = pathlib.Path(arguments[arguments.index("--rows") + 1]).read_bytes() if "--rows" in arguments else b""
-    rows = asked_lines(rows)
-    wanted = [one[2:] for one in rows if one.startswith(b"> ")]
+    rows, wanted = rows_of(
+        pathlib.Path(arguments[arguments.index("--rows") + 1]).read_bytes() if "--rows" in arguments else b"")
     lines = asked_lines(cases.read_bytes())
     beyond, recorded = asked_beyond(lines)
     if "--ask" in arguments:
@@ -347,8 +360,7 @@ def main():
         stored = (REPLAY / "stdout").read_bytes().split(b"\n")[:-1]
         asked, told, differ, _ = held(lines, stored)
         print(f"the Rust crate's recorded answers: {told} of {asked} lines are answered here, {len(differ)} differ")
-    sent = beyond + [one for one in rows if not one.startswith(b"> ")]
-    ran = subprocess.run(program, cwd=REPLAY, input=b"\n".join(sent) + b"\n", capture_output=True)
+    ran = subprocess.run(program, cwd=REPLAY, input=b"\n".join(beyond + rows) + b"\n", capture_output=True)
     if ran.returncode != 0:
         sys.exit(f"rules.py: {program[0]} ended with status {ran.returncode}: {ran.stderr.decode()[-1000:]}")
     given = ran.stdout.split(b"\n")[:-1]

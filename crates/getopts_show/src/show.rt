@@ -4,7 +4,7 @@ ghost use Rattle.std.specs.Prelude.{◌≡◌, ◌++◌, ℕ, List, codes, true,
 ghost use Rattle.std.specs.List.{flat_map};
 ghost use Rattle.std.specs.String.{string_bytes};
 ghost use Rattle.std.specs.Io.KnownBytes.{Appends};
-ghost use Rattle.getopts.specs.Accessors.{AreDefined, IsDefined, pairs_of};
+ghost use Rattle.getopts.specs.Accessors.{AreDefined, IsDefined, pairs_of, positions_of};
 ghost use Rattle.getopts.specs.Fail.{Fault, fault_of};
 ghost use Rattle.getopts.specs.Names.{Text, texts};
 ghost use Rattle.getopts.specs.Parse.{IsAccepted};
@@ -12,8 +12,8 @@ ghost use Rattle.getopts.specs.CanonAnswers.{IsWritten};
 ghost use Rattle.getopts_show.specs.Program.{AreAccepted, IsProgramText, IsOnlyText};
 ghost use Rattle.getopts_show.specs.Program.{HasProgramGroups, IsStatus, IsDone, ShowsText};
 ghost use Rattle.getopts_show.specs.Program.{asks_help, count_line, fault_line, matches_text};
-ghost use Rattle.getopts_show.specs.Program.{named_lines, program_groups, program_options};
-ghost use Rattle.getopts_show.specs.Program.{value_line, with_groups, word_line};
+ghost use Rattle.getopts_show.specs.Program.{named_lines, position_mark, program_groups};
+ghost use Rattle.getopts_show.specs.Program.{program_options, value_line, with_groups, word_line};
 
 use getopts::{Fail, Matches, Occurrences, Options, equal_input_equal_answers};
 use std::alloc::{AllocError, Global};
@@ -260,12 +260,21 @@ fn push_count(
 {
     let count = occurrences.len();
     write!(text, "{name}: {count}")?;
-    for nth in 0..count {
+    push_positions(text, occurrences)?;
+    text.push('\n')
+}
+
+/// Adds the mark of each position of an option.
+fn push_positions(text: &mut String, occurrences: &Occurrences<'_>) -> Result<(), AllocError>
+    ensures { OnOk result (string_bytes text.new
+        ≡ string_bytes text.old ++ flat_map position_mark (positions_of occurrences.now)) }
+{
+    for nth in 0..occurrences.len() {
         if let Some((position, _)) = occurrences.get(nth) {
             write!(text, " @{position}")?;
         }
     }
-    text.push('\n')
+    Ok(())
 }
 
 /// Adds the line of each value of an option.

@@ -283,8 +283,8 @@ fn row_is_written_or_fails(
 
 #[test]
 fn rows_are_written_or_fail(rt: HostRuntime) -> Result<(), Fail> {
-    for row in ROWS {
-        row_is_written_or_fails(&rt, row)?;
+    for row in &ROWS {
+        row_is_written_or_fails(&rt, *row)?;
     }
     Ok(())
 }
@@ -323,9 +323,9 @@ fn is_written_or_nothing(rt: &(impl Abort + AllocGlobal), out: &mut Memory, row:
 
 #[test]
 fn refused_memory_writes_nothing(rt: HostRuntime) {
-    for row in ROWS {
+    for row in &ROWS {
         if let Ok(mut out) = Memory::new(rt.alloc()) {
-            is_written_or_nothing(&rt, &mut out, row);
+            is_written_or_nothing(&rt, &mut out, *row);
         }
     }
 }

@@ -2,7 +2,7 @@
 use Rattle.std.proofs.Common.{arith}
 use Rattle.std.proofs.lemmas.Grind.{common_steps}
 use Rattle.getopts.proofs.Held.Occurrences.{positions-more}
-use Rattle.getopts_show.proofs.show.push_count.Goals as goal
+use Rattle.getopts_show.proofs.show.push_positions.Goals as goal
 
 pub loop-nth-preserved : goal.loop-nth-preserved
 loop-nth-preserved c =

@@ -3,7 +3,7 @@ use Rattle.std.specs.List.{flat_map}
 use Rattle.std.specs.String.{string_bytes}
 use Rattle.getopts.specs.Accessors.{positions_of}
 use Rattle.getopts_show.specs.Program.{position_mark}
-use Rattle.getopts_show.proofs.show.push_count.Given as goal
+use Rattle.getopts_show.proofs.show.push_positions.Given as goal
 
 -- the marks of the positions so far were added
 abbrev pub invariant-loop-nth : goal.invariant-loop-nth
