@@ -155,6 +155,15 @@ impl LineOccurrences {
         }
     }
 
+    /// The position of the occurrence at a place, of which no value is read.
+    #[inline]
+    pub(crate) fn position_at(&self, place: usize) -> usize
+        requires { place < length self.now }
+        ensures { Some result ≡ option_map (λ o. o.position) (slice_get self.now place) }
+    {
+        self.records[place].position
+    }
+
     /// The occurrence at a place.
     #[inline]
     pub(crate) fn get(&self, place: usize) -> Option<Occurrence<'_>>

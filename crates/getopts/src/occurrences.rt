@@ -48,6 +48,12 @@ impl<'m> Placed<'m> {
         let occurrence = self.found.at(*self.places.get(nth)?);
         Some((occurrence.position, occurrence.value))
     }
+
+    fn position(&self, nth: usize) -> Option<usize>
+        ensures { result ≡ option_map (λ found. found.position) (slice_get self.now nth) }
+    {
+        Some(self.found.position_at(*self.places.get(nth)?))
+    }
 }
 
 /// The occurrences of one option group, in the order of the line, lent by the matches.
@@ -108,7 +114,7 @@ impl<'m> Occurrences<'m> {
     {
         let mut positions = Vec::with_capacity(alloc, self.len())?;
         for nth in 0..self.len() {
-            if let Some((position, _)) = self.get(nth) {
+            if let Some(position) = self.placed.position(nth) {
                 positions.push(position)?;
             }
         }

@@ -31,7 +31,8 @@ use Rattle.getopts.specs.declared.groups.HasArg.TheVariants.{Yes, No, Maybe}
 use Rattle.getopts.specs.declared.groups.ParsingStyle.{ParsingStyle}
 use Rattle.getopts.proofs.Lists.{AllByRecursion-append, AllByRecursion-follows, AllByRecursion-map}
 use Rattle.getopts.proofs.Lists.{length-filter-map}
-use Rattle.getopts.proofs.Lookup.Names.{main_at-Some, resolution-main_name, resolution-nil, resolution_within}
+use Rattle.getopts.proofs.Lookup.Names.{main_at-Some, resolution-main_name, resolution-nil}
+use Rattle.getopts.proofs.Lookup.Names.{resolution_within}
 use Rattle.getopts.proofs.Reading.Positions.{mentions_of-items}
 use Rattle.getopts.proofs.Reading.Readings.{only_reading}
 use Rattle.getopts.proofs.Reading.Texts.{begins_with_dash-append, cut_at_equals-append}

@@ -3,7 +3,9 @@ use Rattle.std.proofs.Common.{◌≡◌, ◌<◌, ◌+◌, ◌-◌, ℕ, zero, s
 use Rattle.std.proofs.Common.{take, drop, get_or, slice_get, Some, refl, ap, ◌∙◌, arith}
 use Rattle.std.specs.List.{zip}
 use Rattle.std.specs.Str.{IsUtf8}
-use Rattle.std.proofs.lemmas.List.{map-append, length-map}
+use Rattle.std.proofs.lemmas.List.{map-append, length-map, get_or-map}
+use Rattle.std.proofs.lemmas.Option.{slice_get_within, get_or_from_slice_get}
+use Rattle.std.specs.Option.{option_map}
 use Rattle.getopts.specs.Names.{Text}
 use Rattle.getopts.specs.Scan.{Occurrence}
 use Rattle.getopts.specs.Held.Pieces.{pieces}
@@ -28,6 +30,12 @@ length-with_values values records = beside records (pieces values 0 (value_ends 
   beside (g ∷ records) [] fits = absurd (omega arith)
   beside (g ∷ records) (text ∷ texts) fits = ap suc (beside records texts (omega arith))
 
+-- a place of an occurrence is one of what is held of it
+pub within_items : (now : List Occurrence) (values : Text) (items : List OccurrenceRecord)
+    (place : ℕ)
+    → with_values values items ≡ now → place < length now → place < length items
+within_items now values items place is inside = omega (arith, inside, ap length is, length-with_values values items)
+
 -- an occurrence beside its text
 slice_get-beside : (records : List OccurrenceRecord) (texts : List Text) (place : ℕ)
     (g : OccurrenceRecord) (text : Text)
@@ -51,6 +59,17 @@ pub with_values-at : (values : Text) (records : List OccurrenceRecord) (place st
 with_values-at values records place start g within there ends starts =
     slice_get-beside records (pieces values 0 (value_ends records)) place g _ there
     (pieces-at values 0 (value_ends records) place start (values_end g) (omega (arith, length-map records values_end)) starts ends)
+
+-- its position is the one that is held
+pub position-at : (values : Text) (records : List OccurrenceRecord) (place : ℕ)
+    (g : OccurrenceRecord) → slice_get records place ≡ Some g
+    → option_map (λ (o : Occurrence). o.position) (slice_get (with_values values records) place)
+    ≡ Some g.position
+position-at values records place g at =
+    let within = slice_get_within records place g at in
+    let ends : get_or (value_ends records) place 0 ≡ values_end g =
+    get_or-map values_end records place g 0 within ∙ ap values_end (get_or_from_slice_get records place g g at) in
+    ap (option_map (λ (o : Occurrence). o.position)) (with_values-at values records place _ g within at ends refl)
 
 -- one more occurrence beside one more text
 beside-push : (records : List OccurrenceRecord) (texts : List Text) (g : OccurrenceRecord)

@@ -9,19 +9,14 @@ use Rattle.std.specs.Str.{IsCharBoundary}
 use Rattle.std.specs.String.{string_bytes}
 use Rattle.getopts.specs.Names.{Text}
 use Rattle.getopts.specs.Scan.{Occurrence}
-use Rattle.getopts.specs.Held.Occurrences.{values_end, has_value, value_ends, with_values}
+use Rattle.getopts.specs.Held.Occurrences.{values_end, has_value, value_ends}
 use Rattle.getopts.specs.declared.line.OccurrenceRecord.{OccurrenceRecord}
 use Rattle.getopts.proofs.Lists.{slice_get-read}
 use Rattle.getopts.proofs.Held.Pieces.{AreEnds-at}
-use Rattle.getopts.proofs.Held.Line.{length-with_values, with_values-at}
+use Rattle.getopts.proofs.Held.Line.{within_items, with_values-at}
 use Rattle.getopts.proofs.line.LineOccurrences.at.Goals as goal
 use Rattle.getopts.proofs.line.LineOccurrences.at.Goals.{After-index, then-has_value}
 use Rattle.getopts.proofs.line.LineOccurrences.at.Goals.{else-has_value}
-
--- a place of an occurrence is one of what is held of it
-within_items : (now : List Occurrence) (values : Text) (items : List OccurrenceRecord) (place : ℕ)
-    → with_values values items ≡ now → place < length now → place < length items
-within_items now values items place is inside = omega (arith, inside, ap length is, length-with_values values items)
 
 within : (c : After-index) → c.args.place < length c.self.inside.records.items
 within c = within_items c.args.self.now (string_bytes c.self.inside.values) c.self.inside.records.items c.args.place c.self.view_is c.requires
