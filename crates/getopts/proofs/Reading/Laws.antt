@@ -5,7 +5,7 @@ use Rattle.std.proofs.Common.{arith, inl, inr}
 use Rattle.std.specs.Prelude.{⊤}
 use Rattle.std.proofs.lemmas.Bool.{cases_Bool}
 use Rattle.std.proofs.Math.Seq.{drop-append_seam}
-use Rattle.std.specs.List.{AllByRecursion, filter, flat_map, zip}
+use Rattle.std.specs.List.{AllByRecursion, flat_map}
 use Rattle.std.specs.List.Sorted.{IsNonDecreasingBy}
 use Rattle.std.proofs.lemmas.List.{append-nil, append_assoc, length-append}
 use Rattle.std.proofs.lemmas.Grind.{flat_map-append}
@@ -426,18 +426,6 @@ IsSubsequence-part _ _ (kept {texts} {words} word part) =
     let more = IsSubsequence-part texts words part in (true ∷ more.0, ap (λ (texts : List Text). word ∷ texts) more.1)
 IsSubsequence-part _ _ (left_out {texts} {words} word part) =
     let more = IsSubsequence-part texts words part in (false ∷ more.0, more.1)
-
--- and a subsequence is that
-IsPart-marked : (marks : List Bool) (words : List Text)
-    → IsPart (map (λ (pair : Bool × Text). pair.1) (filter (λ (pair : Bool × Text). pair.0) (zip marks words))) words
-IsPart-marked [] [] = empty
-IsPart-marked [] (word ∷ words) = left_out word (IsPart-marked [] words)
-IsPart-marked (mark ∷ marks) [] = empty
-IsPart-marked (true ∷ marks) (word ∷ words) = kept word (IsPart-marked marks words)
-IsPart-marked (false ∷ marks) (word ∷ words) = left_out word (IsPart-marked marks words)
-
-pub IsPart-subsequence : (texts words : List Text) → IsSubsequence texts words → IsPart texts words
-IsPart-subsequence texts words is = subst (λ (texts : List Text). IsPart texts words) (sym is.1) (IsPart-marked is.0 words)
 
 -- each word is among the words
 IsPart-refl : (words : List Text) → IsPart words words
