@@ -1,5 +1,5 @@
 -- Occurrences whose values are pieces of one text.
-use Rattle.std.proofs.Common.{◌≡◌, ◌<◌, ◌+◌, ◌-◌, ℕ, zero, suc, List, [], ◌∷◌, ◌++◌, map, length}
+use Rattle.std.proofs.Common.{◌≡◌, ◌<◌, ◌-◌, ℕ, zero, suc, List, [], ◌∷◌, ◌++◌, map, length}
 use Rattle.std.proofs.Common.{take, drop, get_or, slice_get, Some, refl, ap, ◌∙◌, arith}
 use Rattle.std.specs.List.{zip}
 use Rattle.std.specs.Str.{IsUtf8}
@@ -110,12 +110,3 @@ groups-with_values values records = beside records (pieces values 0 (value_ends 
   beside [] texts fits = refl
   beside (g ∷ records) [] fits = absurd (omega arith)
   beside (g ∷ records) (text ∷ texts) fits = ap (λ (more : List ℕ). g.group ∷ more) (beside records texts (omega arith))
-
--- a front and the element that comes after it
-pub take-get : {X : Type 0} (xs : List X) (i : ℕ) (x : X) → slice_get xs i ≡ Some x
-    → take (i + 1) xs ≡ take i xs ++ x ∷ []
-take-get [] i x there = cc there
-take-get (y ∷ xs) zero x there = let same : y ≡ x = cc in ap (λ z. z ∷ []) same
-take-get (y ∷ xs) (suc i) x there =
-    let later : suc i + 1 ≡ suc (i + 1) = omega arith in
-    ap (λ n. take n (y ∷ xs)) later ∙ ap (λ zs. y ∷ zs) (take-get xs i x there)

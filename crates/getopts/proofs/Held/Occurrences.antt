@@ -1,7 +1,7 @@
 -- The occurrences of a group, by the places where they stand.
 use Rattle.std.proofs.Common.{◌≡◌, ◌<◌, ◌≤◌, ◌+◌, ℕ, zero, suc, ◌==◌, ◌&&◌, Bool, true, false, List}
 use Rattle.std.proofs.Common.{[], ◌∷◌, ◌++◌, map, length, take, slice_get, Option, Bor, Some, None}
-use Rattle.std.proofs.Common.{refl, ap, sym, ◌∙◌, arith, zero-le}
+use Rattle.std.proofs.Common.{refl, ap, sym, ◌∙◌, arith}
 use Rattle.std.specs.List.{AllByRecursion, filter_map, cons_option}
 use Rattle.std.specs.Cmp.Lexicographic.{pointwise}
 use Rattle.std.specs.Option.{option_copied, option_eq, option_map}
@@ -16,12 +16,7 @@ use Rattle.getopts.specs.Scan.{Occurrence}
 use Rattle.getopts.specs.Accessors.{held_found}
 use Rattle.getopts.specs.Matches.{found_part}
 use Rattle.getopts.specs.Same.{same_found}
-
--- a list has an element at each place within it
-element : {X : Type 0} (xs : List X) (i : ℕ) → i < length xs → (x : X) × (slice_get xs i ≡ Some x)
-element [] i within = absurd (omega arith)
-element (x ∷ xs) zero within = (x, refl)
-element (x ∷ xs) (suc i) within = element xs i (omega arith)
+use Rattle.getopts.proofs.Lists.{element, take-more}
 
 -- as many elements as places
 length-at_places : {X : Type 0} (xs : List X) (places : List ℕ)
@@ -70,17 +65,6 @@ module _ (occurrences : List Occurrence) (places : List ℕ)
   founds-at i place at =
       slice_get-map found_part (filter_map (λ place. slice_get occurrences place) places) i
       ∙ ap (λ (o : Option Occurrence). option_map found_part o) (slice_get-at_places occurrences places i place all at)
-
--- one more element of a front, if there is one
-take-more : {X : Type 0} (xs : List X) (i : ℕ)
-    → take (i + 1) xs ≡ take i xs ++ cons_option (slice_get xs i) []
-take-more {X} [] i =
-    let none : (n : ℕ) → take {A = X} n [] ≡ [] = λ n. take_all n [] zero-le in
-    none (i + 1) ∙ sym (ap (λ (xs : List X). xs ++ []) (none i))
-take-more (x ∷ xs) zero = refl
-take-more (x ∷ xs) (suc i) =
-    let later : suc i + 1 ≡ suc (i + 1) = omega arith in
-    ap (λ n. take n (x ∷ xs)) later ∙ ap (λ more. x ∷ more) (take-more xs i)
 
 -- a part of an occurrence that may be there has its position
 pub position-part : (o : Option Occurrence) → option_map (λ (o : Occurrence). o.position) o

@@ -15,7 +15,7 @@ use Rattle.getopts.specs.Matches.{FitsCount, count_fault, IsCountFault}
 use Rattle.getopts.specs.Held.Accepted.{index_of}
 use Rattle.getopts.specs.Held.Groups.{kinds_of}
 use Rattle.getopts.specs.declared.groups.Kinds.{Kinds}
-use Rattle.getopts.proofs.Lists.{AllByRecursion-append}
+use Rattle.getopts.proofs.Lists.{AllByRecursion-append, take-get, slice_get-drop}
 use Rattle.getopts.proofs.Held.Index.{length-places_of, slice_get-places_by_group}
 
 -- the fault of a group that breaks its count
@@ -42,16 +42,6 @@ matched-from first (k ∷ knowns) occurrences (suc i) known there =
     matched-from (first + 1) knowns occurrences i known there
     ∙ ap (λ n. matched_at n known occurrences ∷ drop (i + 1) (matched (first + 1) knowns occurrences)) place
     ∙ ap (λ n. matched_at (first + suc i) known occurrences ∷ drop n whole) (sym later)
-
--- one more element of a front
-pub take-from : {X : Type 0} (xs ys : List X) (x : X) (i : ℕ) → drop i xs ≡ x ∷ ys
-    → take (i + 1) xs ≡ take i xs ++ x ∷ []
-take-from [] ys x zero e = cc e
-take-from [] ys x (suc i) e = cc e
-take-from (first ∷ xs) ys x zero e = let same : first ≡ x = cc in ap (λ y. y ∷ []) same
-take-from (first ∷ xs) ys x (suc i) e =
-    let later : suc i + 1 ≡ suc (i + 1) = omega arith in
-    ap (λ n. take n (first ∷ xs)) later ∙ ap (λ zs. first ∷ zs) (take-from xs ys x i e)
 
 -- how many occurrences of a group there are, by the index
 pub length-found_at : (count : ℕ) (occurrences : List Occurrence) (i : ℕ) → i < count
@@ -83,7 +73,8 @@ module _ (knowns : List Known) (occurrences : List Occurrence) (i : ℕ) (known 
       → KeepsCounts (take (i + 1) (matched 0 knowns occurrences))
   KeepsCounts-more fits =
       let whole = matched 0 knowns occurrences in
-      subst KeepsCounts (sym (take-from whole (drop (i + 1) whole) (matched_at i known occurrences) i here))
+      let there = slice_get-drop whole i ∙ ap (λ (gs : List MatchedGroup). slice_get gs 0) here in
+      subst KeepsCounts (sym (take-get whole i (matched_at i known occurrences) there))
       (AllByRecursion-append KeepsCount (take i whole) (matched_at i known occurrences ∷ []) kept
       ((subst (FitsCount known.occurrence) counted fits), tt))
 
@@ -102,12 +93,6 @@ module _ (knowns : List Known) (occurrences : List Occurrence) (i : ℕ) (known 
         broken = λ keeps. broken (subst (FitsCount known.occurrence) (sym counted) keeps);
         fault_is = fault_is;
       }
-
--- where there is nothing at a place, the list ends before it
-pub none_past : {X : Type 0} (xs : List X) (i : ℕ) → None ≡ slice_get xs i → length xs ≤ i
-none_past [] i none = zero-le
-none_past (x ∷ xs) zero none = cc none
-none_past (x ∷ xs) (suc i) none = omega (arith, none_past xs i none)
 
 -- the group at a place, by its kinds
 pub known-there : (knowns : List Known) (i : ℕ) (kinds : Kinds)

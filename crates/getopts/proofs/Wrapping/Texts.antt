@@ -10,15 +10,16 @@ use Rattle.std.specs.Str.Lines.{lines, lines_of_parts, strip_carriage_return}
 use Rattle.std.proofs.lemmas.Bool.{cases_lt, cond-false, cond_both, ne_eqb, lt-ltb, ltb-true}
 use Rattle.std.proofs.lemmas.Bool.{or_parts}
 use Rattle.std.proofs.lemmas.Bool.Decides.{nat_tests}
-use Rattle.std.proofs.lemmas.List.{map-append, take_at, drop_at}
+use Rattle.std.proofs.lemmas.List.{map-append}
 use Rattle.std.proofs.lemmas.List.Concat.{flat_map-append}
 use Rattle.std.proofs.lemmas.List.Elements.{All-nil, All-cons, All-head, All-tail, All-append}
-use Rattle.std.proofs.lemmas.List.Elements.{All-map, All-take, All-drop, All-filter}
+use Rattle.std.proofs.lemmas.List.Elements.{All-map, All-filter}
 use Rattle.std.proofs.lemmas.List.Elements.{All-from_get_or, All-get_or, All-weaker, filter_passes}
 use Rattle.std.proofs.lemmas.List.Splits.{slice_split_none, slice_split_at}
 use Rattle.std.proofs.lemmas.Str.{NoCharPasses-byte, length-le-encodes}
 use Rattle.getopts.specs.Wrap.{Run, text_of, IsTightBreaking, words_of, lines_of, IsDescriptionRows}
 use Rattle.getopts.specs.Wrap.{joined, continued, parting}
+use Rattle.getopts.proofs.Lists.{all_before, all_after}
 
 -- ---- texts joined
 
@@ -140,13 +141,6 @@ run_line (word ∷ next ∷ run) begun all =
       All-append EndsNone word (32 ∷ text_of (next ∷ run)) first.1
           (All-cons EndsNone 32 (text_of (next ∷ run)) refl rest.1),
     )
-
--- what holds of each word of some runs holds of the words of each
-all_before : {X : Type 0} (P : X → Type 0) (xs ys : List X) → All P (xs ++ ys) → All P xs
-all_before P xs ys all = subst (All P) (take_at xs ys _ refl) (All-take P (length xs) (xs ++ ys) all)
-
-all_after : {X : Type 0} (P : X → Type 0) (xs ys : List X) → All P (xs ++ ys) → All P ys
-all_after P xs ys all = subst (All P) (drop_at xs ys _ refl) (All-drop P (length xs) (xs ++ ys) all)
 
 runs_lines : (runs : List Run) → All (λ run. 0 < length run) runs
     → All IsLine (flat_map (λ run. run) runs) → All IsLine (map text_of runs)

@@ -7,8 +7,7 @@ use Rattle.getopts.specs.Names.{Text}
 use Rattle.getopts.specs.Scan.{two, long_word, Occurrence}
 use Rattle.getopts.specs.Canon.{canonical_word}
 use Rattle.getopts.specs.Held.Line.{occurrence_view}
-use Rattle.getopts.proofs.Parsing.Counts.{none_past}
-use Rattle.getopts.proofs.Held.Line.{take-get}
+use Rattle.getopts.proofs.Lists.{none_past, take-get}
 use Rattle.getopts.proofs.canon.canonical_line.Goals as goal
 use Rattle.getopts.proofs.canon.canonical_line.Goals.{in-Some+in_ok-canonical_word+in_ok-push}
 use Rattle.getopts.proofs.canon.canonical_line.Goals.{in_default}
