@@ -195,7 +195,8 @@ module _ (text short long hint description one two three all : Text) (one_is : o
         ∙ between-added before piece rest,
   )
 
-  at_short : IsEnd all (length text) added.short_end × (between all (length text) added.short_end ≡ short)
+  at_short : IsEnd all (length text) added.short_end
+      × (between all (length text) added.short_end ≡ short)
   at_short = at_end text short (long ++ (hint ++ description)) one added.short_end one_is short_end
       (rw (all_is, three_is, two_is) (simp append_assoc))
       (IsUtf8-append long _ long_utf8 (IsUtf8-append hint description hint_utf8 description_utf8))

@@ -97,7 +97,8 @@ occurrence-known (group ∷ groups) (suc place) occurrence there = occurrence-kn
 
 module _ (options : Declared) (groups : List MatchedGroup) (are : AreGroupsOf options groups) where
   -- each required option was given once
-  required-groups : KeepsCounts groups → (name : Text) → occurrence_of options.groups name ≡ Some Req
+  required-groups : KeepsCounts groups → (name : Text)
+      → occurrence_of options.groups name ≡ Some Req
       → length (found_of groups name) ≡ 1
   required-groups keeps name required = option_and_then_some _ (resolution (names_of options.groups) name) Req required by_place where
     by_place : (place : ℕ) → resolution (names_of options.groups) name ≡ Some place

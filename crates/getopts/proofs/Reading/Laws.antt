@@ -417,7 +417,8 @@ pub data IsPart : List Text → List Text → Type 0 where
   empty : IsPart [] []
   kept : {texts words : List Text} (word : Text) → IsPart texts words
       → IsPart (word ∷ texts) (word ∷ words)
-  left_out : {texts words : List Text} (word : Text) → IsPart texts words → IsPart texts (word ∷ words)
+  left_out : {texts words : List Text} (word : Text) → IsPart texts words
+      → IsPart texts (word ∷ words)
 
 -- so they are a subsequence
 IsSubsequence-part : (texts words : List Text) → IsPart texts words → IsSubsequence texts words
