@@ -148,6 +148,9 @@ fn push_reserved(texts: &mut String, text: &str) -> usize
     ensures end { result ≡ length (string_bytes texts.new) }
     ensures room { string_capacity texts.old ≤ string_capacity texts.new }
 {
+    if text.is_empty() {
+        return texts.len();
+    }
     match texts.push_str(text) {
         Ok(()) => texts.len(),
         Err(_) => unreachable!(),

@@ -85,7 +85,7 @@ pub(crate) fn cut<'t>(
         let Some((piece, after)) = rest.split_at_checked(*len) else {
             return Err(Refusal::Bad);
         };
-        pieces.push(piece)?;
+        pieces.push_reserved(piece);
         rest = after;
     }
     if rest.is_empty() {
