@@ -1,7 +1,8 @@
 //! Asking the archive, and what an answer holds.
 #![forbid(unsafe_code)]
 
-use crate::archive::{Room, Sizes};
+use crate::archive::{Room, Sizes, Words};
+use crate::texts::Line;
 use crate::Fail;
 use std::alloc::{handle_alloc_error, Layout};
 
@@ -22,40 +23,51 @@ pub struct Answer {
     pub text: String,
 }
 
-/// So many zeros. A small block that was let go before is taken again, which `vec!` doesn't do: it asks
-/// for a block of zeros.
-fn filled<N: Clone + Default>(count: usize) -> Vec<N> {
-    let mut numbers = Vec::with_capacity(count);
-    numbers.resize(count, N::default());
-    numbers
-}
-
 impl Answer {
     /// What the archive answers, asked with a guessed room, and again with the room that it told
     /// where that was too small.
     pub fn of(numbers: usize, bytes: usize, mut ask: impl FnMut(Room<'_>) -> u32) -> Answer {
+        Answer::to(Line::default(), numbers, bytes, |_, room| ask(room))
+    }
+
+    /// What it answers to words. The room is made behind them, where they stand.
+    pub fn to(
+        line: Line,
+        numbers: usize,
+        bytes: usize,
+        mut ask: impl FnMut(Words<'_>, Room<'_>) -> u32,
+    ) -> Answer {
+        let Line {
+            bytes: mut text,
+            lens: mut all_numbers,
+        } = line;
+        let (len, count) = (text.len(), all_numbers.len());
         let mut sizes = Sizes { numbers, bytes };
         loop {
-            let mut numbers = filled(sizes.numbers);
-            let mut bytes = filled(sizes.bytes);
-            let status = ask(Room {
-                numbers: &mut numbers,
-                bytes: &mut bytes,
+            text.resize(len + sizes.bytes, 0);
+            all_numbers.resize(count + sizes.numbers, 0);
+            let (words, bytes) = text.split_at_mut(len);
+            let (lens, numbers) = all_numbers.split_at_mut(count);
+            let room = Room {
+                numbers,
+                bytes,
                 sizes: &mut sizes,
-            });
+            };
+            let status = ask(Words { text: words, lens }, room);
             match status {
                 TOO_SMALL => continue,
                 NO_MEMORY => handle_alloc_error(Layout::new::<u8>()),
                 BAD => panic!("this long-format option was given no name"),
                 _ => {}
             }
-            numbers.truncate(sizes.numbers);
-            bytes.truncate(sizes.bytes);
-            let text = String::from_utf8(bytes).expect("the archive writes texts");
+            all_numbers.truncate(count + sizes.numbers);
+            all_numbers.drain(..count);
+            text.truncate(len + sizes.bytes);
+            text.drain(..len);
             return Answer {
                 status,
-                numbers,
-                text,
+                numbers: all_numbers,
+                text: String::from_utf8(text).expect("the archive writes texts"),
             };
         }
     }
@@ -114,10 +126,5 @@ impl<'a> Reader<'a> {
         (0..self.number())
             .map(|_| self.text().to_string())
             .collect()
-    }
-
-    /// How many numbers, and how many bytes, are left.
-    pub fn left(&self) -> (usize, usize) {
-        (self.numbers.len(), self.text.len())
     }
 }

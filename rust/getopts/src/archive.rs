@@ -25,10 +25,10 @@ pub struct Request<'r> {
     pub long_only: bool,
 }
 
-/// Texts one after the other, and their lengths.
+/// Words one after the other, and their lengths.
 #[derive(Clone, Copy)]
 pub struct Words<'w> {
-    pub text: &'w str,
+    pub text: &'w [u8],
     pub lens: &'w [usize],
 }
 

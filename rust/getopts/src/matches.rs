@@ -7,17 +7,16 @@ use std::result::Result;
 use std::str::FromStr;
 use std::sync::Arc;
 
-/// Where the occurrences of a group begin: their first number and their first byte.
-type Start = (usize, usize);
-
 /// What an accepted line gave: the options by name, and the words that are no option.
 #[derive(Clone, Debug, PartialEq, Eq)]
 pub struct Matches {
     names: Arc<Names>,
-    /// Where each name stands, one more than the place of its group, and then the groups.
+    /// Where each name stands, one more than the place of its group; then the groups; and then where the
+    /// first number and the first byte of each group are.
     numbers: Vec<usize>,
+    /// Where the last of these begin.
+    starts: usize,
     text: String,
-    starts: Vec<Start>,
     /// The free words, in the order of the line.
     pub free: Vec<String>,
     trailing: Option<usize>,
@@ -32,14 +31,10 @@ struct Given<'m> {
 }
 
 impl<'m> Given<'m> {
-    fn read(reader: &mut Reader<'m>) -> Given<'m> {
-        let count = reader.number();
-        let numbers = reader.numbers(2 * count);
-        let len = numbers
-            .chunks_exact(2)
-            .map(|pair| pair[1].saturating_sub(1))
-            .sum();
-        let text = reader.bytes(len);
+    /// Those whose first number and first byte are these.
+    fn at(numbers: &'m [usize], text: &'m str, number: usize, byte: usize) -> Given<'m> {
+        let numbers = &numbers[number + 1..][..2 * numbers[number]];
+        let text = &text[byte..][..text_len(numbers)];
         Given { numbers, text }
     }
 
@@ -75,31 +70,35 @@ impl<'m> Given<'m> {
     }
 }
 
+/// How long the values of occurrences with these numbers are together.
+fn text_len(numbers: &[usize]) -> usize {
+    let pairs = numbers.chunks_exact(2);
+    pairs.map(|pair| pair[1].saturating_sub(1)).sum()
+}
+
 impl Matches {
     pub(crate) fn of(names: Arc<Names>, answer: Answer) -> Matches {
         let (mut numbers, mut text) = (answer.numbers, answer.text);
-        let mut reader = Reader::new(&numbers, &text);
-        let (all_numbers, all_bytes) = reader.left();
-        let start = |reader: &Reader<'_>| {
-            let (numbers, bytes) = reader.left();
-            (all_numbers - numbers, all_bytes - bytes)
-        };
-        reader.numbers(2 * names.kinds.len());
-        let mut starts = Vec::with_capacity(names.kinds.len());
-        for _ in 0..reader.number() {
-            starts.push(start(&reader));
-            Given::read(&mut reader);
+        let answered = numbers.len();
+        let groups = 2 * names.kinds.len();
+        let (mut number, mut byte) = (groups + 1, 0);
+        for _ in 0..numbers[groups] {
+            numbers.extend([number, byte]);
+            let end = number + 1 + 2 * numbers[number];
+            byte += text_len(&numbers[number + 1..end]);
+            number = end;
         }
-        let end = start(&reader);
+        // The free words, and where those after `--` begin, stand behind the groups.
+        let mut reader = Reader::new(&numbers[number..answered], &text[byte..]);
         let free = reader.texts();
         let trailing = reader.number().checked_sub(1);
-        numbers.truncate(end.0);
-        text.truncate(end.1);
+        numbers.drain(number..answered);
+        text.truncate(byte);
         Matches {
             names,
             numbers,
+            starts: number,
             text,
-            starts,
             free,
             trailing,
         }
@@ -108,9 +107,9 @@ impl Matches {
     fn find(&self, name: &str) -> Option<Given<'_>> {
         let place = self.names.place(name)?;
         let group = self.numbers[place].checked_sub(1)?;
-        let (number, byte) = self.starts[group];
-        let mut reader = Reader::new(&self.numbers[number..], &self.text[byte..]);
-        Some(Given::read(&mut reader))
+        let start = self.starts + 2 * group;
+        let (number, byte) = (self.numbers[start], self.numbers[start + 1]);
+        Some(Given::at(&self.numbers, &self.text, number, byte))
     }
 
     fn given(&self, name: &str) -> Given<'_> {

@@ -3,7 +3,7 @@
 
 use crate::answer::{Answer, Reader};
 use crate::archive::{self, Request};
-use crate::texts::Texts;
+use crate::texts::{Line, Texts};
 use crate::{Fail, Matches, Result};
 use std::cmp::Ordering;
 use std::ffi::OsStr;
@@ -337,10 +337,32 @@ impl Options {
         }
     }
 
-    /// The room that most lines take.
-    fn room(&self, words: &Texts) -> (usize, usize) {
-        let numbers = 3 * self.names.kinds.len() + 4 * words.lens.len() + 8;
-        (numbers, words.text.len() + 16)
+    /// The room for numbers and for bytes that most lines take, by how many words and bytes they have.
+    fn room(&self, words: usize, bytes: usize) -> (usize, usize) {
+        (3 * self.names.kinds.len() + 4 * words + 8, bytes + 16)
+    }
+
+    /// The words of a line, with room behind them for what they give. The first that isn't UTF-8 is
+    /// refused.
+    fn line_of<C: IntoIterator>(&self, args: C) -> std::result::Result<Line, Fail>
+    where
+        C::Item: AsRef<OsStr>,
+    {
+        let args = args.into_iter();
+        // A hint is trusted so far only.
+        let count = args.size_hint().0.min(1024);
+        let (numbers, bytes) = self.room(count, 16 * count);
+        let mut line = Line::with_room(count + numbers, 16 * count + bytes);
+        for arg in args {
+            let arg = arg.as_ref();
+            let word = arg.as_encoded_bytes();
+            // Most words are ASCII, which is seen faster.
+            if !word.is_ascii() && arg.to_str().is_none() {
+                return Err(Fail::UnrecognizedOption(format!("{arg:?}")));
+            }
+            line.push(word);
+        }
+        Ok(line)
     }
 
     /// Panics where an option has two empty names, which no line can be read by.
@@ -369,10 +391,10 @@ impl Options {
         C::Item: AsRef<OsStr>,
     {
         self.check_names();
-        let words = words_of(args)?;
-        let (numbers, bytes) = self.room(&words);
-        let answer = Answer::of(numbers, bytes, |room| {
-            archive::parse(self.request(&self.names.texts), words.words(), room)
+        let line = self.line_of(args)?;
+        let (numbers, bytes) = self.room(line.lens.len(), line.bytes.len());
+        let answer = Answer::to(line, numbers, bytes, |words, room| {
+            archive::parse(self.request(&self.names.texts), words, room)
         });
         Ok(Matches::of(Arc::clone(&self.names), answer.accepted()?))
     }
@@ -398,10 +420,10 @@ impl Options {
         C::Item: AsRef<OsStr>,
     {
         self.check_names();
-        let words = words_of(args)?;
-        let (numbers, bytes) = self.room(&words);
-        let answer = Answer::of(numbers, 2 * bytes, |room| {
-            archive::canonical(self.request(&self.names.texts), words.words(), room)
+        let line = self.line_of(args)?;
+        let (numbers, bytes) = self.room(line.lens.len(), line.bytes.len());
+        let answer = Answer::to(line, numbers, 2 * bytes, |words, room| {
+            archive::canonical(self.request(&self.names.texts), words, room)
         })
         .accepted()?;
         if answer.numbers.is_empty() {
@@ -463,21 +485,4 @@ impl Options {
         let rows = Reader::new(&answer.numbers, &answer.text).texts();
         formatter(&mut rows.into_iter())
     }
-}
-
-/// The words of a line. The first that isn't UTF-8 is refused.
-fn words_of<C: IntoIterator>(args: C) -> std::result::Result<Texts, Fail>
-where
-    C::Item: AsRef<OsStr>,
-{
-    let args = args.into_iter();
-    let mut words = Texts::with_room(args.size_hint().0);
-    for arg in args {
-        let arg = arg.as_ref();
-        match arg.to_str() {
-            Some(word) => words.push(word),
-            None => return Err(Fail::UnrecognizedOption(format!("{arg:?}"))),
-        }
-    }
-    Ok(words)
 }

@@ -1,8 +1,6 @@
 //! Texts in one text.
 #![forbid(unsafe_code)]
 
-use crate::archive::Words;
-
 /// Texts one after the other, and their lengths.
 #[derive(Clone, Debug, Default, PartialEq, Eq)]
 pub struct Texts {
@@ -10,25 +8,31 @@ pub struct Texts {
     pub lens: Vec<usize>,
 }
 
-impl Texts {
-    /// No texts, with room for some: a hint is trusted so far only.
-    pub fn with_room(count: usize) -> Texts {
-        let count = count.min(1024);
-        Texts {
-            text: String::with_capacity(16 * count),
-            lens: Vec::with_capacity(count),
+/// The words of a line one after the other, and their lengths.
+#[derive(Default)]
+pub struct Line {
+    pub bytes: Vec<u8>,
+    pub lens: Vec<usize>,
+}
+
+impl Line {
+    /// No words, with room for so many lengths and bytes.
+    pub fn with_room(lens: usize, bytes: usize) -> Line {
+        Line {
+            bytes: Vec::with_capacity(bytes),
+            lens: Vec::with_capacity(lens),
         }
     }
 
+    pub fn push(&mut self, word: &[u8]) {
+        self.bytes.extend_from_slice(word);
+        self.lens.push(word.len());
+    }
+}
+
+impl Texts {
     pub fn push(&mut self, text: &str) {
         self.text.push_str(text);
         self.lens.push(text.len());
-    }
-
-    pub fn words(&self) -> Words<'_> {
-        Words {
-            text: &self.text,
-            lens: &self.lens,
-        }
     }
 }
