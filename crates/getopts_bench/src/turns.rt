@@ -166,13 +166,10 @@ fn canonical_length(alloc: Global, options: &Options, words: &[&str]) -> Result<
 
 /// How many of the options are defined.
 fn defined_count(matches: &Matches, named: &[Named]) -> usize {
-    let mut count = 0usize;
-    for option in named {
-        if matches.opt_defined(option.main()) {
-            count = count.wrapping_add(1);
-        }
-    }
-    count
+    named
+        .iter()
+        .filter(|option| matches.opt_defined(option.main()))
+        .count()
 }
 
 /// What matches give, added up: for each option its count and the lengths of its values, and the
