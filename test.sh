@@ -119,13 +119,13 @@ trap 'kill $(jobs -p) 2>/dev/null || true; rm -rf "$room"' EXIT
 
 if [ -n "$quick" ]; then
     begin "C and Rust" bash rust/test.sh --short "$@"
-    part "tests and programs of all crates, unproved" bash quick.sh
     if [ -x crates/getopts_refused/out/getopts_refused ] && [ -x crates/getopts_show/out/getopts_show ]; then
         begin "refused memory" bash refused/run.sh
         begin "the program and the system" python3 system/run.py
     else
         echo "skipped: refused memory, and the program and the system: the whole test builds their programs"
     fi
+    part "tests and programs of all crates, unproved" bash quick.sh
 else
     # Each of these begins beside the proofs, and waits for what it stands on.
     begin "edits of the library" edits

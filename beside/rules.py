@@ -6,9 +6,8 @@ lines. It is held to the answers that the Rust crate gave to the recorded cases,
 line of words in these cases is asked for its canonical line, and of each name for its positions and values, which
 the Rust crate has no answer to, and `getopts_replay` is held to the answers of the rules.
 
-usage: rules.py [--try] [--rows FILE] [--cases FILE] [--ask]
+usage: rules.py [--try] [--cases FILE] [--ask]
     --try     runs `rt try` in place of the program that was built last
-    --rows    asks these rows in the same run, and holds them to the answers beside them
     --cases   other cases than the recorded ones; then nothing is held to the Rust crate's answers
     --ask     prints the cases with what is asked beyond them, and runs nothing
 """
@@ -293,23 +292,9 @@ def asked_lines(cases):
     return [one for one in cases.split(b"\n") if one and not one.startswith(b"#")]
 
 
-def rows_of(written):
-    """The lines of cases, and the answers that stand beside them: each after "> ", and in what `| TEXT` goes on with."""
-    lines, answers = [], []
-    for one in asked_lines(written):
-        if one.startswith(b"|"):
-            above[-1] += one[2:] + b"\\n"
-            continue
-        above = answers if one.startswith(b"> ") else lines
-        above.append(one.removeprefix(b"> "))
-        if one.startswith(b"case\t"):
-            answers.append(one)
-    return lines, answers
-
-
 def held(lines, answers, recorded=()):
     """How many answers there are, how many of them the rules give, those that differ, and those to these lines."""
-    session, given, at, told, differ, kept = Session(), answers, 0, 0, [], []
+    session, given, at, told, differ, kept = Session(), answers.split(b"\n")[:-1], 0, 0, [], []
     case = b""
     for number, one in enumerate(lines):
         word, fields = parts(one)
@@ -345,8 +330,6 @@ def asked_beyond(lines):
 def main():
     arguments = sys.argv[1:]
     cases = pathlib.Path(arguments[arguments.index("--cases") + 1]) if "--cases" in arguments else REPLAY / "stdin"
-    rows, wanted = rows_of(
-        pathlib.Path(arguments[arguments.index("--rows") + 1]).read_bytes() if "--rows" in arguments else b"")
     lines = asked_lines(cases.read_bytes())
     beyond, recorded = asked_beyond(lines)
     if "--ask" in arguments:
@@ -357,18 +340,14 @@ def main():
         sys.exit(f"rules.py: there is no {program[0]}" + ("" if "--try" in arguments else ": 'rt run' in its crate makes it"))
     differ = []
     if "--cases" not in arguments:
-        stored = (REPLAY / "stdout").read_bytes().split(b"\n")[:-1]
+        stored = (REPLAY / "stdout").read_bytes()
         asked, told, differ, _ = held(lines, stored)
         print(f"the Rust crate's recorded answers: {told} of {asked} lines are answered here, {len(differ)} differ")
-    ran = subprocess.run(program, cwd=REPLAY, input=b"\n".join(beyond + rows) + b"\n", capture_output=True)
+    ran = subprocess.run(program, cwd=REPLAY, input=b"\n".join(beyond) + b"\n", capture_output=True)
     if ran.returncode != 0:
         sys.exit(f"rules.py: {program[0]} ended with status {ran.returncode}: {ran.stderr.decode()[-1000:]}")
-    given = ran.stdout.split(b"\n")[:-1]
-    given, of_rows = given[:len(given) - len(wanted)], given[len(given) - len(wanted):]
-    if of_rows != wanted:
-        sys.exit("rules.py: the answers to the rows aren't those beside them")
-    asked, told, others, kept = held(beyond, given, recorded)
-    if "--cases" not in arguments and kept != stored:
+    asked, told, others, kept = held(beyond, ran.stdout, recorded)
+    if "--cases" not in arguments and kept != stored.split(b"\n")[:-1]:
         sys.exit("rules.py: the answers to the recorded cases aren't those that are stored")
     written = sum(one.startswith(b"canonical") for one in beyond) - sum(one.startswith(b"canonical") for one in lines)
     print(f"the library's answers, with {written} canonical lines and the positions of "

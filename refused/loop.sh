@@ -15,7 +15,8 @@ in_turn() {
         for ((at = 1; ; at++)); do
             said=$(REFUSE_AT=$at REFUSE_ON=$on REFUSE_MARKS=$marks LD_PRELOAD=$preload "$@" 2>"$preload.told"
                 echo "status $?")
-            told=$(head -n 1 "$preload.told")
+            told=
+            read -r told <"$preload.told"
             if [[ $refusal == *"status 134" && $said == "$refusal" ]]; then
                 told="refused 1 marks $((2 * marks))"
             fi

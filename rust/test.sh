@@ -4,11 +4,9 @@
 #     rust/test.sh [--quick | --short] [--after FILE] [CRATE]
 #
 # CRATE is a folder that holds the crate getopts 0.2.24; without it cargo fetches that crate. CARGO_FLAGS
-# are handed to each cargo. With --quick nothing is proved, and with --short the C side is built once in place of four
-# times besides, memory is refused on one line, and the Rust crate's tests without `canonical`, its form, its pages and
-# its package are passed over. With --after it waits at its end, until FILE is there, before it asks the program
-# getopts_show what it answers. What that or this machine leaves out is skipped with a line that says so. The last line
-# is 'N passed, M failed, K skipped'.
+# are handed to each cargo. With --quick nothing is proved, and with --short there are fewer random requests besides.
+# With --after it waits at its end, until FILE is there, before it asks the program getopts_show what it answers. What
+# this machine lacks is skipped with a line that says so. The last line is 'N passed, M failed, K skipped'.
 set -uo pipefail
 top=$(cd "$(dirname "$0")/.." && pwd)
 quick='' short='' after=''
@@ -39,7 +37,8 @@ lines=("--output=x.txt --verbose in.txt" "-vvLd -La -Lb -c auto -o x.txt f -- g 
     "-o" "-o a -o b" "--verbose=x" "" "-c" "--output= é --color=日本")
 # Those of them on which memory is refused.
 refusing=("${lines[@]:1:3}")
-[ -z "$short" ] || refusing=("${lines[2]}")
+# A Rust program that is refused memory would spend most of its time on telling where.
+export RUST_BACKTRACE=0
 
 # same_as_show PROGRAM: a program answers each line as getopts_show does.
 same_as_show() {
@@ -148,11 +147,7 @@ if ! has cargo cc; then
 fi
 
 in_crate() { (cd "$here" && cargo "$@"); }
-if [ -n "$short" ]; then
-    skip "the crate's tests without canonical: the whole test has them"
-else
-    check "the crate's tests" in_crate test "${flags[@]}"
-fi
+check "the crate's tests" in_crate test "${flags[@]}"
 check "the crate's tests with canonical" in_crate test "${flags[@]}" --features canonical
 check "the Rust examples" in_crate build "${flags[@]}" --release --features canonical --examples
 examples+=("$room/target/release/examples/show")
@@ -179,23 +174,19 @@ packaged() {
     in_crate package "${flags[@]}" --allow-dirty
 }
 clippy=
-if [ -n "$short" ]; then
-    skip "the form of the Rust crate, its pages and its package: the whole test has them"
+if cargo fmt --version >/dev/null 2>&1; then
+    check "cargo fmt" formatted
 else
-    if cargo fmt --version >/dev/null 2>&1; then
-        check "cargo fmt" formatted
-    else
-        skip "cargo fmt: it isn't there"
-    fi
-    if cargo clippy --version >/dev/null 2>&1; then
-        clippy=yes
-        check "cargo clippy" linted
-    else
-        skip "cargo clippy: it isn't there"
-    fi
-    check "cargo doc" documented "$here"
-    check "cargo package" packaged
+    skip "cargo fmt: it isn't there"
 fi
+if cargo clippy --version >/dev/null 2>&1; then
+    clippy=yes
+    check "cargo clippy" linted
+else
+    skip "cargo clippy: it isn't there"
+fi
+check "cargo doc" documented "$here"
+check "cargo package" packaged
 
 # twin NAME CRATE FLAG..: builds the twin of beside over the crate in a folder.
 twin() {

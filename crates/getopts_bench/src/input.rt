@@ -177,6 +177,17 @@ impl Input {
         Ok(())
     }
 
+    /// Adds a word with a number at its end as the last.
+    fn say_numbered(
+        &mut self,
+        alloc: Global,
+        front: &str,
+        number: usize,
+    ) -> Result<(), AllocError> {
+        self.words.push(format!(in alloc; "{front}{number}")?)?;
+        Ok(())
+    }
+
     /// Adds the five options of the small and of the long line.
     fn declare_five(&mut self, alloc: Global) -> Result<(), AllocError> {
         self.declare(alloc, "o", "output", Kind::Argument)?;
@@ -190,9 +201,9 @@ impl Input {
     /// Adds four words of the long line.
     fn say_round(&mut self, alloc: Global, round: usize) -> Result<(), AllocError> {
         self.say(alloc, "-v")?;
-        self.words.push(format!(in alloc; "-Ldir{round}")?)?;
+        self.say_numbered(alloc, "-Ldir", round)?;
         self.say(alloc, "--verbose")?;
-        self.words.push(format!(in alloc; "file{round}")?)?;
+        self.say_numbered(alloc, "file", round)?;
         Ok(())
     }
 
@@ -200,7 +211,7 @@ impl Input {
     fn add_given(&mut self, alloc: Global, number: usize) -> Result<(), AllocError> {
         self.options.push(given_option(alloc, number)?)?;
         self.words.push(given_word(alloc, number)?)?;
-        self.words.push(format!(in alloc; "file{number}")?)?;
+        self.say_numbered(alloc, "file", number)?;
         Ok(())
     }
 }

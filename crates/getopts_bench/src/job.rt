@@ -62,7 +62,10 @@ fn part_of(part: &str, of: &str) -> Result<Job, UnknownJob> {
     match part {
         "read" => Ok(Job::Read(of.parse()?)),
         "canonical" => Ok(Job::Canonical(of.parse()?)),
-        "defined" => Ok(Job::Defined(of.parse().map_err(|_| UnknownJob)?)),
+        "defined" => match of.parse() {
+            Ok(count) => Ok(Job::Defined(count)),
+            Err(_) => Err(UnknownJob),
+        },
         _ => Err(UnknownJob),
     }
 }

@@ -83,14 +83,18 @@ fn main(rt: HostRuntime) -> ExitCode {
 
 /// Does each job that the arguments name, and prints its sum.
 fn run(rt: &HostRuntime) -> Result<(), Trouble> {
-    let words = arguments(rt).map_err(|_| Trouble::Failed(Fail::OutOfMemory))?;
+    let Ok(words) = arguments(rt) else {
+        return Err(Trouble::Failed(Fail::OutOfMemory));
+    };
     if words.is_empty() {
         return Err(Trouble::NoJob);
     }
     for pair in words.chunks(2) {
         let (job, times) = task_of(pair).ok_or(Trouble::NoJob)?;
         let sum = turns::run(rt.alloc(), job, times)?;
-        println!(rt; "{sum}").map_err(|_| Trouble::NotWritten)?;
+        if println!(rt; "{sum}").is_err() {
+            return Err(Trouble::NotWritten);
+        }
     }
     Ok(())
 }

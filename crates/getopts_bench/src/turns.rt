@@ -114,12 +114,11 @@ fn declared(alloc: Global, named: &[Named]) -> Result<Options, AllocError> {
 
 /// Adds options with descriptions, as the program `getopts_show` has them.
 fn describe(options: &mut Options) -> Result<(), AllocError> {
-    options
-        .optopt("o", "output", "set output file name", "NAME")?
-        .optflag("h", "help", "print this help menu")?
-        .optflagmulti("v", "verbose", "say more")?
-        .optmulti("L", "", "add a folder", "DIR")?
-        .optflagopt("c", "color", "colour the output", "WHEN")?;
+    options.optopt("o", "output", "set output file name", "NAME")?;
+    options.optflag("h", "help", "print this help menu")?;
+    options.optflagmulti("v", "verbose", "say more")?;
+    options.optmulti("L", "", "add a folder", "DIR")?;
+    options.optflagopt("c", "color", "colour the output", "WHEN")?;
     Ok(())
 }
 
@@ -166,10 +165,13 @@ fn canonical_length(alloc: Global, options: &Options, words: &[&str]) -> Result<
 
 /// How many of the options are defined.
 fn defined_count(matches: &Matches, named: &[Named]) -> usize {
-    named
-        .iter()
-        .filter(|option| matches.opt_defined(option.main()))
-        .count()
+    let mut count = 0usize;
+    for option in named {
+        if matches.opt_defined(option.main()) {
+            count = count.wrapping_add(1);
+        }
+    }
+    count
 }
 
 /// What matches give, added up: for each option its count and the lengths of its values, and the

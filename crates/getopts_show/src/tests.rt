@@ -205,18 +205,29 @@ const ROWS: [Row<'static>; 18] = [
     ),
 ];
 
-/// 200 free words.
-const WORDS: [&str; 200] = ["free"; 200];
+/// The rows.
+fn rows() -> &'static [Row<'static>] {
+    &ROWS
+}
 
-/// Adds the text of 200 free words.
+/// The number of many free words.
+const COUNT: usize = 200;
+
+/// Many free words.
+const WORDS: [&str; COUNT] = ["free"; COUNT];
+
+/// Adds the text of many free words.
 fn push_text_of_words(text: &mut String) -> Result<(), AllocError> {
     text.push_str("output: 0\nhelp: 0\nverbose: 0\nL: 0\ncolor: 0\n")?;
-    for _ in WORDS {
-        text.push_str("free: free\n")?;
-    }
+    push_lines(text, "free: free\n")?;
     text.push_str("line: --\n")?;
-    for _ in WORDS {
-        text.push_str("line: free\n")?;
+    push_lines(text, "line: free\n")
+}
+
+/// Adds a line for each of many free words.
+fn push_lines(text: &mut String, line: &str) -> Result<(), AllocError> {
+    for _ in 0..COUNT {
+        text.push_str(line)?;
     }
     Ok(())
 }
@@ -235,15 +246,16 @@ const FAULTS: [Faults; 5] = [
     (1, None, Some(1), None),
 ];
 
-/// A row has this status.
-fn ends_with(rt: &impl Abort, row: Row<'_>, answer: u8, status: u8) {
-    assert_eq!(rt; answer, status, "at {:?}", row.1);
+/// A row with this text has this status.
+fn ends_with(rt: &impl Abort, text: &str, answer: u8, status: u8) {
+    assert!(rt; answer == status, "{answer} at {text:?}");
 }
 
-/// A writer holds these bytes, after so many writes and flushes.
-fn holds(rt: &impl Abort, out: &Memory, bytes: &[u8], writes: usize, flushes: usize) {
-    let wanted = (bytes, writes, flushes);
-    assert_eq!(rt; (out.held.as_slice(), out.writes, out.flushes), wanted);
+/// A writer holds a text, after so many writes and flushes.
+fn holds(rt: &impl Abort, out: &Memory, text: &str, writes: usize, flushes: usize) {
+    assert!(rt; out.held.as_slice() == text.as_bytes());
+    assert!(rt; out.writes == writes);
+    assert!(rt; out.flushes == flushes);
 }
 
 /// Over a writer that takes so many bytes at a time, the row's text is written in so many writes, and
@@ -251,9 +263,9 @@ fn holds(rt: &impl Abort, out: &Memory, bytes: &[u8], writes: usize, flushes: us
 fn is_written(rt: &(impl Abort + AllocGlobal), out: &mut Memory, step: usize, row: Row<'_>) {
     let (words, text, status) = row;
     out.step = step;
-    ends_with(rt, row, show(rt.alloc(), words, out), status);
+    ends_with(rt, text, show(rt.alloc(), words, out), status);
     let writes = if step == 1 { text.len() } else { 1 };
-    holds(rt, out, text.as_bytes(), writes, 1);
+    holds(rt, out, text, writes, 1);
 }
 
 /// The row answers 4 over a writer with these faults.
@@ -263,8 +275,24 @@ fn fails(rt: &(impl Abort + AllocGlobal), out: &mut Memory, faults: Faults, row:
     out.step = step;
     out.failing_write = failing_write;
     out.failing_flush = failing_flush;
-    ends_with(rt, row, show(rt.alloc(), words, out), 4);
-    assert_eq!(rt; out.held.len(), taken.unwrap_or(text.len()));
+    ends_with(rt, text, show(rt.alloc(), words, out), 4);
+    assert!(rt; out.held.len() == taken.unwrap_or(text.len()));
+}
+
+/// The row is written whole and byte by byte.
+fn is_written_in_steps(rt: &(impl Abort + AllocGlobal), row: Row<'_>) -> Result<(), AllocError> {
+    for step in [usize::MAX, 1] {
+        is_written(rt, &mut Memory::new(rt.alloc())?, step, row);
+    }
+    Ok(())
+}
+
+/// The row fails over a writer with each of the faults.
+fn fails_by_each_fault(rt: &(impl Abort + AllocGlobal), row: Row<'_>) -> Result<(), AllocError> {
+    for faults in FAULTS {
+        fails(rt, &mut Memory::new(rt.alloc())?, faults, row);
+    }
+    Ok(())
 }
 
 /// The row is written whole and byte by byte, and fails over a writer with each of the faults.
@@ -272,18 +300,13 @@ fn row_is_written_or_fails(
     rt: &(impl Abort + AllocGlobal),
     row: Row<'_>,
 ) -> Result<(), AllocError> {
-    for step in [usize::MAX, 1] {
-        is_written(rt, &mut Memory::new(rt.alloc())?, step, row);
-    }
-    for faults in FAULTS {
-        fails(rt, &mut Memory::new(rt.alloc())?, faults, row);
-    }
-    Ok(())
+    is_written_in_steps(rt, row)?;
+    fails_by_each_fault(rt, row)
 }
 
 #[test]
 fn rows_are_written_or_fail(rt: HostRuntime) -> Result<(), Fail> {
-    for row in &ROWS {
+    for row in rows() {
         row_is_written_or_fails(&rt, *row)?;
     }
     Ok(())
@@ -297,14 +320,19 @@ fn many_words_are_written_or_fail(rt: HostRuntime) -> Result<(), Fail> {
     Ok(())
 }
 
-#[test]
-fn text_is_added_to_what_is_there(rt: HostRuntime) -> Result<(), Fail> {
-    let mut out = Vec::from_slice(rt.alloc(), b"before\n")?;
-    assert_eq!(rt; show(rt.alloc(), &["--nope"], &mut out), 2);
-    assert_eq!(rt; show(rt.alloc(), &["-o"], &mut out), 2);
+/// The faults of refused words, the second after the first.
+fn faults_are_added(rt: &(impl Abort + AllocGlobal), out: &mut Vec<u8>) {
+    for word in ["--nope", "-o"] {
+        assert!(rt; show(rt.alloc(), &[word], out) == 2);
+    }
     let text =
         "before\ngetopts_show: Unrecognized option: 'nope'\ngetopts_show: Argument to option 'o' missing\n";
-    assert_eq!(rt; out.as_slice(), text.as_bytes());
+    assert!(rt; out.as_slice() == text.as_bytes());
+}
+
+#[test]
+fn text_is_added_to_what_is_there(rt: HostRuntime) -> Result<(), Fail> {
+    faults_are_added(&rt, &mut Vec::from_slice(rt.alloc(), b"before\n")?);
     Ok(())
 }
 
@@ -314,16 +342,16 @@ fn is_written_or_nothing(rt: &(impl Abort + AllocGlobal), out: &mut Memory, row:
     let (words, text, status) = row;
     let answer = show(rt.alloc(), words, out);
     if answer == 3 {
-        holds(rt, out, &[], 0, 0);
+        holds(rt, out, "", 0, 0);
     } else {
-        ends_with(rt, row, answer, status);
-        holds(rt, out, text.as_bytes(), 1, 1);
+        ends_with(rt, text, answer, status);
+        holds(rt, out, text, 1, 1);
     }
 }
 
 #[test]
 fn refused_memory_writes_nothing(rt: HostRuntime) {
-    for row in &ROWS {
+    for row in rows() {
         if let Ok(mut out) = Memory::new(rt.alloc()) {
             is_written_or_nothing(&rt, &mut out, *row);
         }
