@@ -8,8 +8,6 @@ use crate::job::{Job, Line};
 use getopts::Options;
 use std::alloc::{AllocError, Global};
 
-/// The options of the small and of the long line.
-const FIVE: usize = 5;
 /// The rounds of four words in the long line.
 const LONG_ROUNDS: usize = 250;
 /// The rounds of four words in the line that memory is measured by.
@@ -17,7 +15,7 @@ const MEMORY_ROUNDS: usize = 25_000;
 /// The options of the line with many options.
 const MANY: usize = 200;
 /// The options and the words of the matches that are compared.
-const THOUSAND: usize = 1000;
+pub const THOUSAND: usize = 1000;
 
 /// Whether an option takes an argument.
 #[derive(Clone, Copy)]
@@ -76,85 +74,76 @@ pub struct Input {
 
 /// What a job declares and reads.
 pub fn input_of(alloc: Global, job: Job) -> Result<Input, AllocError> {
-    match job {
-        Job::Whole(line) | Job::Read(line) | Job::Canonical(line) => line_input(alloc, line),
-        Job::Equal => thousand_input(alloc),
-        Job::Usage => Input::with_room(alloc, 0, 0),
-        Job::Defined(count) => numbered_input(alloc, count),
-        Job::Memory => long_input(alloc, MEMORY_ROUNDS),
-    }
-}
-
-/// The options and the words of a line.
-fn line_input(alloc: Global, line: Line) -> Result<Input, AllocError> {
-    match line {
-        Line::Small => small_input(alloc),
-        Line::Long => long_input(alloc, LONG_ROUNDS),
-        Line::Many => many_input(alloc),
-    }
-}
-
-fn small_input(alloc: Global) -> Result<Input, AllocError> {
-    let mut input = Input::with_room(alloc, FIVE, 3)?;
-    input.declare_five(alloc)?;
-    input.say(alloc, "--output=x.txt")?;
-    input.say(alloc, "--verbose")?;
-    input.say(alloc, "in.txt")?;
+    let mut input = Input {
+        options: Vec::new(alloc),
+        words: Vec::new(alloc),
+    };
+    input.add(alloc, job)?;
     Ok(input)
-}
-
-fn long_input(alloc: Global, rounds: usize) -> Result<Input, AllocError>
-    requires { rounds < 100000 }
-{
-    let mut input = Input::with_room(alloc, FIVE, 4 * rounds)?;
-    input.declare_five(alloc)?;
-    for round in 0..rounds {
-        input.say_round(alloc, round)?;
-    }
-    Ok(input)
-}
-
-fn many_input(alloc: Global) -> Result<Input, AllocError> {
-    let mut input = Input::with_room(alloc, MANY, 2 * MANY)?;
-    for number in 0..MANY {
-        input.add_given(alloc, number)?;
-    }
-    Ok(input)
-}
-
-/// As many options as asked for, `n0000` and on, and no words.
-fn numbered_input(alloc: Global, count: usize) -> Result<Input, AllocError> {
-    let mut input = Input::with_room(alloc, 0, 0)?;
-    for number in 0..count {
-        input.options.push(numbered_option(alloc, number)?)?;
-    }
-    Ok(input)
-}
-
-/// 998 flags, then the flags `a` and `b`, and no words.
-fn thousand_input(alloc: Global) -> Result<Input, AllocError> {
-    let mut input = numbered_input(alloc, THOUSAND - 2)?;
-    input.declare(alloc, "a", "", Kind::Flag)?;
-    input.declare(alloc, "b", "", Kind::Flag)?;
-    Ok(input)
-}
-
-/// A word, a thousand times.
-pub fn thousand_of(alloc: Global, word: &str) -> Result<Vec<String>, AllocError> {
-    let mut words = Vec::with_capacity(alloc, THOUSAND)?;
-    for _ in 0..THOUSAND {
-        words.push(String::from_str(alloc, word)?)?;
-    }
-    Ok(words)
 }
 
 impl Input {
-    /// No options and no words, with room for so many.
-    fn with_room(alloc: Global, options: usize, words: usize) -> Result<Input, AllocError> {
-        Ok(Input {
-            options: Vec::with_capacity(alloc, options)?,
-            words: Vec::with_capacity(alloc, words)?,
-        })
+    /// Adds what a job declares and reads.
+    fn add(&mut self, alloc: Global, job: Job) -> Result<(), AllocError> {
+        match job {
+            Job::Whole(line) | Job::Read(line) | Job::Canonical(line) => self.add_line(alloc, line),
+            Job::Equal => self.add_thousand(alloc),
+            Job::Usage => Ok(()),
+            Job::Defined(count) => self.add_numbered(alloc, count),
+            Job::Memory => self.add_long(alloc, MEMORY_ROUNDS),
+        }
+    }
+
+    /// Adds the options and the words of a line.
+    fn add_line(&mut self, alloc: Global, line: Line) -> Result<(), AllocError> {
+        match line {
+            Line::Small => self.add_small(alloc),
+            Line::Long => self.add_long(alloc, LONG_ROUNDS),
+            Line::Many => self.add_many(alloc),
+        }
+    }
+
+    /// Adds the five options and three words.
+    fn add_small(&mut self, alloc: Global) -> Result<(), AllocError> {
+        self.declare_five(alloc)?;
+        self.say(alloc, "--output=x.txt")?;
+        self.say(alloc, "--verbose")?;
+        self.say(alloc, "in.txt")
+    }
+
+    /// Adds the five options and so many rounds of words, which take no more room than they need.
+    fn add_long(&mut self, alloc: Global, rounds: usize) -> Result<(), AllocError>
+        requires { rounds < 100000 }
+    {
+        self.declare_five(alloc)?;
+        self.words.reserve_exact(4 * rounds)?;
+        for round in 0..rounds {
+            self.say_round(alloc, round)?;
+        }
+        Ok(())
+    }
+
+    /// Adds many options, and two words for each.
+    fn add_many(&mut self, alloc: Global) -> Result<(), AllocError> {
+        for number in 0..MANY {
+            self.add_given(alloc, number)?;
+        }
+        Ok(())
+    }
+
+    /// Adds as many options as asked for, `n0000` and on, and no words.
+    fn add_numbered(&mut self, alloc: Global, count: usize) -> Result<(), AllocError> {
+        for number in 0..count {
+            self.options.push(numbered_option(alloc, number)?)?;
+        }
+        Ok(())
+    }
+
+    /// Adds 998 flags, then the flags `a` and `b`, and no words.
+    fn add_thousand(&mut self, alloc: Global) -> Result<(), AllocError> {
+        self.add_numbered(alloc, THOUSAND - 2)?;
+        self.declare(alloc, "a", "", Kind::Flag)?;
+        self.declare(alloc, "b", "", Kind::Flag)
     }
 
     /// Adds an option as the last.
@@ -194,8 +183,7 @@ impl Input {
         self.declare(alloc, "h", "help", Kind::Flag)?;
         self.declare(alloc, "v", "verbose", Kind::Flag)?;
         self.declare(alloc, "L", "", Kind::Argument)?;
-        self.declare(alloc, "c", "color", Kind::Argument)?;
-        Ok(())
+        self.declare(alloc, "c", "color", Kind::Argument)
     }
 
     /// Adds four words of the long line.
@@ -203,16 +191,14 @@ impl Input {
         self.say(alloc, "-v")?;
         self.say_numbered(alloc, "-Ldir", round)?;
         self.say(alloc, "--verbose")?;
-        self.say_numbered(alloc, "file", round)?;
-        Ok(())
+        self.say_numbered(alloc, "file", round)
     }
 
     /// Adds an option of the line with many options, the word that gives it, and a free word.
     fn add_given(&mut self, alloc: Global, number: usize) -> Result<(), AllocError> {
         self.options.push(given_option(alloc, number)?)?;
         self.words.push(given_word(alloc, number)?)?;
-        self.say_numbered(alloc, "file", number)?;
-        Ok(())
+        self.say_numbered(alloc, "file", number)
     }
 }
 

@@ -1,7 +1,7 @@
 //! The turns of a job, and what they add up to. The turns of each job stay a function of their own, so that
 //! no job is built otherwise for the sake of another.
 
-use crate::input::{Input, Named, input_of, thousand_of};
+use crate::input::{Named, THOUSAND, input_of};
 use crate::job::Job;
 use getopts::{Fail, Matches, Occurrences, Options};
 use std::alloc::{AllocError, Global};
@@ -12,59 +12,72 @@ const BRIEF: &str = "Usage: getopts_show [options] FILE";
 /// Does a job a number of turns, and answers the sum of what they took. The sum wraps.
 pub fn run(alloc: Global, job: Job, times: usize) -> Result<usize, Fail> {
     let input = input_of(alloc, job)?;
+    let options = declared(alloc, &input.options)?;
+    let words = lent(alloc, &input.words)?;
+    turns(alloc, job, times, &input.options, &options, &words)
+}
+
+/// The turns of a job with these options, declared once, and these words.
+fn turns(
+    alloc: Global,
+    job: Job,
+    times: usize,
+    named: &[Named],
+    options: &Options,
+    words: &[&str],
+) -> Result<usize, Fail> {
     match job {
-        Job::Whole(_) => whole(alloc, &input, times),
-        Job::Read(_) | Job::Memory => read(alloc, &input, times),
-        Job::Canonical(_) => canonical(alloc, &input, times),
-        Job::Equal => equal(alloc, &input.options, times),
+        Job::Whole(_) => whole(alloc, named, words, times),
+        Job::Read(_) | Job::Memory => read(alloc, options, words, times),
+        Job::Canonical(_) => canonical(alloc, options, words, times),
+        Job::Equal => equal(alloc, options, times),
         Job::Usage => usage(alloc, times),
-        Job::Defined(_) => defined(alloc, &input, times),
+        Job::Defined(_) => defined(alloc, named, options, words, times),
     }
 }
 
 /// Turns that declare the options, read the words, and take what the matches give.
 #[inline(never)]
-fn whole(alloc: Global, input: &Input, times: usize) -> Result<usize, Fail> {
-    let words = lent(alloc, &input.words)?;
+fn whole(alloc: Global, named: &[Named], words: &[&str], times: usize) -> Result<usize, Fail> {
     let mut sum = 0usize;
     for _ in 0..times {
-        let options = declared(alloc, &input.options)?;
-        let matches = options.parse_words(alloc, &words)?;
-        sum = sum.wrapping_add(taken(&matches, &input.options));
+        let options = declared(alloc, named)?;
+        let matches = options.parse_words(alloc, words)?;
+        sum = sum.wrapping_add(taken(&matches, named));
     }
     Ok(sum)
 }
 
 /// Turns that read the words. Each adds how many of them are free.
 #[inline(never)]
-fn read(alloc: Global, input: &Input, times: usize) -> Result<usize, Fail> {
-    let options = declared(alloc, &input.options)?;
-    let words = lent(alloc, &input.words)?;
+fn read(alloc: Global, options: &Options, words: &[&str], times: usize) -> Result<usize, Fail> {
     let mut sum = 0usize;
     for _ in 0..times {
-        sum = sum.wrapping_add(free_words(alloc, &options, &words)?);
+        sum = sum.wrapping_add(free_words(alloc, options, words)?);
     }
     Ok(sum)
 }
 
 /// Turns that write the canonical line. Each adds the lengths of its words.
 #[inline(never)]
-fn canonical(alloc: Global, input: &Input, times: usize) -> Result<usize, Fail> {
-    let options = declared(alloc, &input.options)?;
-    let words = lent(alloc, &input.words)?;
+fn canonical(
+    alloc: Global,
+    options: &Options,
+    words: &[&str],
+    times: usize,
+) -> Result<usize, Fail> {
     let mut sum = 0usize;
     for _ in 0..times {
-        sum = sum.wrapping_add(canonical_length(alloc, &options, &words)?);
+        sum = sum.wrapping_add(canonical_length(alloc, options, words)?);
     }
     Ok(sum)
 }
 
 /// Turns that compare the matches of clusters that say the same in another order. Each adds 1 where
 /// they are equal.
-fn equal(alloc: Global, named: &[Named], times: usize) -> Result<usize, Fail> {
-    let options = declared(alloc, named)?;
-    let matches = clusters(alloc, &options, "-ab")?;
-    let others = clusters(alloc, &options, "-ba")?;
+fn equal(alloc: Global, options: &Options, times: usize) -> Result<usize, Fail> {
+    let matches = clusters(alloc, options, "-ab")?;
+    let others = clusters(alloc, options, "-ba")?;
     Ok(equal_turns(&matches, &others, times))
 }
 
@@ -94,11 +107,17 @@ fn usage(alloc: Global, times: usize) -> Result<usize, Fail> {
 
 /// Turns that ask for each name whether it is defined. Each adds how many are.
 #[inline(never)]
-fn defined(alloc: Global, input: &Input, times: usize) -> Result<usize, Fail> {
-    let matches = read_anew(alloc, input)?;
+fn defined(
+    alloc: Global,
+    named: &[Named],
+    options: &Options,
+    words: &[&str],
+    times: usize,
+) -> Result<usize, Fail> {
+    let matches = options.parse_words(alloc, words)?;
     let mut sum = 0usize;
     for _ in 0..times {
-        sum = sum.wrapping_add(defined_count(&matches, &input.options));
+        sum = sum.wrapping_add(defined_count(&matches, named));
     }
     Ok(sum)
 }
@@ -131,22 +150,9 @@ fn lent(alloc: Global, words: &[String]) -> Result<Vec<&str>, AllocError> {
     Ok(lent)
 }
 
-/// The matches of the words.
-fn matches_of(alloc: Global, options: &Options, words: &[String]) -> Result<Matches, Fail> {
-    let words = lent(alloc, words)?;
-    options.parse_words(alloc, &words)
-}
-
-/// The matches of the input's words by its options, which are let go.
-fn read_anew(alloc: Global, input: &Input) -> Result<Matches, Fail> {
-    let options = declared(alloc, &input.options)?;
-    matches_of(alloc, &options, &input.words)
-}
-
 /// The matches of a thousand such words.
 fn clusters(alloc: Global, options: &Options, word: &str) -> Result<Matches, Fail> {
-    let words = thousand_of(alloc, word)?;
-    matches_of(alloc, options, &words)
+    options.parse_words(alloc, &[word; THOUSAND])
 }
 
 /// How many of the words are free.

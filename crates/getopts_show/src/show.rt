@@ -36,7 +36,7 @@ const MAIN_NAMES: [&str; 5] = ["output", "help", "verbose", "L", "color"];
 const BRIEF: &str = "Usage: getopts_show [options] FILE";
 
 /// What the program has to write, and the status that it ends with.
-#[derive(Debug, Drop)]
+#[derive(Drop)]
 struct Answer {
     text: String,
     status: u8,
