@@ -123,8 +123,10 @@ impl Input {
         Ok(())
     }
 
-    /// Adds many options, and two words for each.
+    /// Adds many options, and two words for each, which take no more room than they need.
     fn add_many(&mut self, alloc: Global) -> Result<(), AllocError> {
+        self.options.reserve_exact(MANY)?;
+        self.words.reserve_exact(2 * MANY)?;
         for number in 0..MANY {
             self.add_given(alloc, number)?;
         }

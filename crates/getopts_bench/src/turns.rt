@@ -12,12 +12,20 @@ const BRIEF: &str = "Usage: getopts_show [options] FILE";
 /// Does a job a number of turns, and answers the sum of what they took. The sum wraps.
 pub fn run(alloc: Global, job: Job, times: usize) -> Result<usize, Fail> {
     let input = input_of(alloc, job)?;
-    let options = declared(alloc, &input.options)?;
+    let options = declared_before(alloc, job, &input.options)?;
     let words = lent(alloc, &input.words)?;
     turns(alloc, job, times, &input.options, &options, &words)
 }
 
-/// The turns of a job with these options, declared once, and these words.
+/// The options that are declared before a job's turns: none where each turn declares them itself.
+fn declared_before(alloc: Global, job: Job, named: &[Named]) -> Result<Options, AllocError> {
+    match job {
+        Job::Whole(_) => Ok(Options::new(alloc)),
+        _ => declared(alloc, named),
+    }
+}
+
+/// The turns of a job with the options that were declared before them, and these words.
 fn turns(
     alloc: Global,
     job: Job,
