@@ -93,9 +93,3 @@ abbrev pub IsReadAs : {T E : Type 0} → (Text → Result T E → Type 0)
     → Option Text → Result (Option T) E → Type 0
 IsReadAs gives value answer =
     MatchOption value (answer ≡ Ok None) (λ text. IsSomeAnd (result_transpose answer) (gives text))
-
--- One group, one answer: a name that resolves to the same group has the same occurrences.
-abbrev pub OneGroupOneAnswer : List MatchedGroup → Text → Type 0
-OneGroupOneAnswer groups name = (other : Text)
-    → place_of groups other ≡ place_of groups name
-    → found_of groups other ≡ found_of groups name

@@ -32,21 +32,16 @@ abbrev pub main_at : List Group → ℕ → Text
 main_at groups place =
     option_map_or (λ group. main_name group.known.names) (slice_get groups place) []
 
--- the group at this place has a main name that holds no `=`
-abbrev pub HasPlainMain : List Group → ℕ → Type 0
-HasPlainMain groups place = holds_equals (main_at groups place) ≡ false
-
--- the group at this place is what its own main name resolves to
-abbrev pub AnswersMain : List Group → ℕ → Type 0
-AnswersMain groups place = resolution (names_of groups) (main_at groups place) ≡ Some place
-
 -- plain content: no mentioned group has a main name that holds `=`
 abbrev pub IsPlain : List Group → Content → Type 0
-IsPlain groups content = AllByRecursion (λ m. HasPlainMain groups m.group) content.mentions
+IsPlain groups content =
+    AllByRecursion (λ m. holds_equals (main_at groups m.group) ≡ false) content.mentions
 
 -- sound content: each mentioned group is what its own main name resolves to
 abbrev pub IsSound : List Group → Content → Type 0
-IsSound groups content = AllByRecursion (λ m. AnswersMain groups m.group) content.mentions
+IsSound groups content =
+    AllByRecursion (λ m. resolution (names_of groups) (main_at groups m.group) ≡ Some m.group)
+    content.mentions
 
 -- the canonical word of a mention: `--main`, or `--main=value` where it has a value
 abbrev pub canonical_word : List Group → Mention → Text
@@ -118,9 +113,6 @@ pub record HasCanonicalLine (options : Declared) (content : Content) : Type 0 wh
   pub says_nothing_else : (other : Content)
       → Says options (canonical_line options.groups content) other
       → other ≡ content
-  pub its_own : (other : Content)
-      → Says options (canonical_line options.groups content) other
-      → canonical_line options.groups other ≡ canonical_line options.groups content
   pub only : (other : Content) → IsSound options.groups other → IsPlain options.groups other
       → (canonical_line options.groups other ≡ canonical_line options.groups content)
       ↔ (other ≡ content)

@@ -42,12 +42,3 @@ IsCanonicalAnswer options words answer =
 abbrev pub KeepsLineLaws : Declared → Type 0
 KeepsLineLaws options = (words line : List Text) → (written : IsWritten options words line)
     → HasCanonicalLine options written.content
-
--- Two lines that `canonical` answers by the same groups, in styles and modes that may differ, are
--- equal exactly if the words that they were made of are accepted with the same content.
-abbrev pub OneAnswerOneContent : Declared → Type 0
-OneAnswerOneContent options = (style other_style : ParsingStyle) (long_only other_long_only : Bool)
-    (words others line other : List Text)
-    → (written : IsWritten (with_setting options style long_only) words line)
-    → (written_other : IsWritten (with_setting options other_style other_long_only) others other)
-    → (line ≡ other) ↔ (written.content ≡ written_other.content)

@@ -200,15 +200,12 @@ abbrev pub tail_words : Tail → List Text
 tail_words (stop words) = stop_word ∷ words
 tail_words tail = tail_frees tail
 
--- words that begin with one that isn't dashed
-abbrev pub BeginsFree : List Text → Type 0
-BeginsFree [] = ⊥
-BeginsFree (word ∷ words) = is_dashed word ≡ false
-
 -- a lawful tail; a rest begins with a word that isn't dashed, and stands only under
 -- `StopAtFirstFree`
 abbrev pub IsLawfulTail : Grammar → Tail → Type 0
-IsLawfulTail grammar (rest words) = BeginsFree words × (grammar.style ≡ StopAtFirstFree)
+IsLawfulTail grammar (rest []) = ⊥
+IsLawfulTail grammar (rest (word ∷ words)) =
+    (is_dashed word ≡ false) × (grammar.style ≡ StopAtFirstFree)
 IsLawfulTail grammar tail = ⊤
 
 -- a list of items and a tail
@@ -292,15 +289,13 @@ trailing_after before tail = None
 abbrev pub trailing_start : Reading → Option ℕ
 trailing_start reading = trailing_after (length (free_items reading.items)) reading.tail
 
--- a word in long form, with this name and this attached argument, which is neither the stop nor
--- undashed
+-- a word in long form, with this name and this attached argument, which is more than its dashes
 pub record IsLongForm (grammar : Grammar) (word name : Text) (argument : Option Text) : Type 0 where
   pub dashes : Dashes
   pub before : MayStandBefore grammar.long_only dashes name
   pub cut_once : holds_equals name ≡ false
   pub word_is : word ≡ long_word dashes name argument
-  pub dashed : is_dashed word ≡ true
-  pub no_stop : word ≢ stop_word
+  pub filled : word ≢ dash_text dashes
 
 -- a word in short form: in ordinary mode, `-` and this text, which isn't empty and doesn't begin
 -- with `-`
@@ -310,10 +305,12 @@ pub record IsShortForm (grammar : Grammar) (word text : Text) : Type 0 where
   pub filled : text ≢ []
   pub second : begins_with_dash text ≡ false
 
--- a word in short form that has this text after flags
+-- a word in short form that has this text after flags: in ordinary mode, with no `-` after its dash
 pub record HasAfterFlags (grammar : Grammar) (word text : Text) : Type 0 where
   pub bytes : List ℕ
-  pub short_form : IsShortForm grammar word (bytes ++ text)
+  pub ordinary : grammar.long_only ≡ false
+  pub word_is : word ≡ dash ∷ (bytes ++ text)
+  pub second : begins_with_dash (bytes ++ text) ≡ false
   pub each : AllByRecursion (IsFlag grammar) bytes
 
 -- The faults of a word where an item begins, with these words after it.

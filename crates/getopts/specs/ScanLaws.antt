@@ -77,10 +77,6 @@ pub record LongAttachedOrSeparate (grammar : Grammar) : Type 0 where
 -- flags, where the kind of `x` is Yes, but that positions of later items are one higher with the
 -- latter; an argument that is empty can't be attached.
 pub record ShortAttachedOrSeparate (grammar : Grammar) : Type 0 where
-  pub to_separate : (bytes : List ℕ) (option : ℕ) (argument : Text)
-      → grammar.kind (option ∷ []) ≡ Some Yes
-      → Respells grammar (cluster bytes (ends_in option (attached argument)))
-      (cluster bytes (ends_in option (separate argument)) ∷ []) AreHigherAfter
   pub either : (bytes : List ℕ) (option : ℕ) (argument : Text)
       → grammar.kind (option ∷ []) ≡ Some Yes
       → argument ≢ []
@@ -170,7 +166,6 @@ pub record StandsInItem (grammar : Grammar) (reading : Reading) (words : List Te
   pub items_are : reading.items ≡ before ++ item ∷ after
   pub mentioned :
       Contains (map (at_position (word_count before)) (mentions grammar item)) occurrence
-  pub below : occurrence.position < length words
   pub first_word : slice_get words occurrence.position ≡ slice_get (item_words item) 0
 
 -- Positions are indexes of words: each occurrence of a reading stands in an item, at its first

@@ -1,5 +1,5 @@
 -- The main theorem: what `parse` answers to which words, and when two canonical lines are equal.
-use Rattle.std.specs.Prelude.{◌≡◌, ◌↔◌, ◌⊎◌, List}
+use Rattle.std.specs.Prelude.{◌≡◌, ◌↔◌, ◌⊎◌, List, Result}
 use Rattle.getopts.specs.Accessors.{found_of, each_value}
 use Rattle.getopts.specs.Only.{IsTheOnly, AtMostOne}
 use Rattle.getopts.specs.Names.{Text, AreTexts}
@@ -9,7 +9,7 @@ use Rattle.getopts.specs.Scan.{Reading, IsScanFault}
 use Rattle.getopts.specs.Matches.{Matched, matches_of, IsCountFault}
 use Rattle.getopts.specs.Parse.{Reads, IsAccepted, BreaksCounts, HasNoReading, IsRefused}
 use Rattle.getopts.specs.Canon.{Content, content_of, IsPlain, canonical_line, IsCountKeeping, Says}
-use Rattle.getopts.specs.CanonAnswers.{IsAcceptedWith, IsWritten}
+use Rattle.getopts.specs.CanonAnswers.{IsParseAnswer}
 
 -- words have one reading at most
 abbrev pub OneReading : Declared → Type 0
@@ -32,28 +32,10 @@ RefusedExactlyWhen options = (words : List Text) (fault : Fault) → AreTexts wo
     ⊎ ((reading : Reading) × Reads options words reading
     × IsCountFault (matches_of options reading).groups fault)))
 
--- one of three holds, and no two of them
-abbrev pub ExactlyOne : Type 0 → Type 0 → Type 0 → Type 0
-ExactlyOne A B C = (A ⊎ (B ⊎ C)) × ¬ (A × B) × ¬ (A × C) × ¬ (B × C)
-
--- of any words one of three holds, and no two: they are accepted, they break the counts, or they
--- have no reading
-abbrev pub OneOfThree : Declared → Type 0
-OneOfThree options = (words : List Text) → AreTexts words → ExactlyOne
-    ((matches : Matched) × IsAccepted options words matches)
-    ((fault : Fault) × BreaksCounts options words fault)
-    ((fault : Fault) × HasNoReading options words fault)
-
--- A reading that keeps the counts gives the only matches, the only content, and, where that is
--- plain, the only canonical line.
-abbrev pub OneReadingGivesAll : Declared → Type 0
-OneReadingGivesAll options = (words : List Text) (reading : Reading)
-    → IsCountKeeping options reading words
-    → IsTheOnly (IsAccepted options words) (matches_of options reading)
-    × IsTheOnly (IsAcceptedWith options words) (content_of options reading)
-    × (IsPlain options.groups (content_of options reading)
-    → IsTheOnly (IsWritten options words)
-    (canonical_line options.groups (content_of options reading)))
+-- `parse` has one answer to any words, and no other: matches, or a fault
+abbrev pub HaveOneAnswer : Declared → Type 0
+HaveOneAnswer options = (words : List Text) → AreTexts words
+    → (answer : Result Matched Fault) × IsTheOnly (IsParseAnswer options words) answer
 
 -- two matches hold the same but for positions: each occurrence of each name has the same value, or
 -- none in both, and the free words are the same

@@ -67,16 +67,12 @@ words_of line =
     map encode_utf8_all
     (filter (λ piece. nat_lt 0 (length piece)) (slice_split is_whitespace (chars line)))
 
--- the words of each line of a description
-abbrev pub words_of_lines : Text → List (List Text)
-words_of_lines desc = map words_of (lines_of desc)
-
 -- the description breaks into the rows, where `IsBroken` says how a line's words may be broken: the
 -- rows are the texts of the runs of each line in turn
 pub record BreaksInto (IsBroken : List Text → List Run → Type 0) (desc : Text)
     (rows : List Text) : Type 0 where
   pub breakings : List (List Run)
-  pub each_line : AllZip IsBroken (words_of_lines desc) breakings
+  pub each_line : AllZip IsBroken (map words_of (lines_of desc)) breakings
   pub rows_are : rows ≡ map text_of (flat_map (λ runs. runs) breakings)
 
 -- the rows of a description for a limit: those of each line's tight breaking

@@ -25,7 +25,7 @@ fn copied(alloc: Global, text: Option<&str>) -> Result<Option<String>, AllocErro
 
 impl Matches {
     ghost use Rattle.getopts.specs.Accessors.{pair_view, IsDefined, AreDefined, AreHeldLawfully};
-    ghost use Rattle.getopts.specs.Accessors.{OneGroupOneAnswer, IsReadAs, place_of, found_in};
+    ghost use Rattle.getopts.specs.Accessors.{IsReadAs, place_of, found_in};
     ghost use Rattle.getopts.specs.Accessors.{found_of, is_present, positions_of, values_of};
     ghost use Rattle.getopts.specs.Accessors.{pairs_of, first_value, first_value_or};
     ghost use Rattle.getopts.specs.Accessors.{first_value_among};
@@ -75,7 +75,6 @@ impl Matches {
     /// call.
     pub fn opt_defined(&self, name: &str) -> bool
         ensures defined { IsTrue result ↔ IsDefined self.now.groups name.now }
-        ensures one_group { OneGroupOneAnswer self.now.groups name.now }
         ensures lawful { AreHeldLawfully self.now.groups }
     {
         self.opt_place(name).is_some()

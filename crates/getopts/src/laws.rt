@@ -5,14 +5,14 @@ ghost use Rattle.getopts.specs.Canon.{with_setting};
 ghost use Rattle.getopts.specs.declared.groups.ParsingStyle.{ParsingStyle};
 ghost use Rattle.std.specs.Prelude.{List, Bool};
 ghost use Rattle.getopts.specs.Accessors.{held_names};
-ghost use Rattle.getopts.specs.CanonAnswers.{IsParseAnswer, IsCanonicalAnswer, OneAnswerOneContent};
+ghost use Rattle.getopts.specs.CanonAnswers.{IsParseAnswer, IsCanonicalAnswer};
 ghost use Rattle.getopts.specs.CanonAnswers.{KeepsLineLaws};
 ghost use Rattle.getopts.specs.Names.{Text, MainNameResolves, OneByteIsShort, EmptyResolvesNot};
 ghost use Rattle.getopts.specs.Only.{AtMostOne};
 ghost use Rattle.getopts.specs.Options.{Declared, MayBeDeclared, names_of, grammar_of};
 ghost use Rattle.getopts.specs.Parse.{KeepsReadingLaws};
 ghost use Rattle.getopts.specs.Theorem.{OneReading, AcceptedExactlyWhen, RefusedExactlyWhen};
-ghost use Rattle.getopts.specs.Theorem.{OneOfThree, OneReadingGivesAll, OneContentHoldsSame};
+ghost use Rattle.getopts.specs.Theorem.{HaveOneAnswer, OneContentHoldsSame};
 ghost use Rattle.getopts.specs.Theorem.{OneLineOneContent};
 
 use crate::matches::Matches;
@@ -35,10 +35,7 @@ pub fn one_reading_one_canonical_line(options: &Options)
         → OneReading (with_setting options.now style long_only) }
     ensures accepted { AcceptedExactlyWhen options.now }
     ensures refused { RefusedExactlyWhen options.now }
-    ensures one_of_three { OneOfThree options.now }
-
-    // That reading gives the matches of `parse`, and the line of `canonical`.
-    ensures gives_all { OneReadingGivesAll options.now }
+    ensures one_answer { HaveOneAnswer options.now }
 
     // Words that say the same give matches that are the same but for positions.
     ensures holds_same { OneContentHoldsSame options.now }
@@ -47,7 +44,6 @@ pub fn one_reading_one_canonical_line(options: &Options)
     // answered. Each of either reads back in both styles and both modes, says nothing else, is its own, and
     // is that of no other content.
     ensures one_line_one_content { OneLineOneContent options.now }
-    ensures one_answer_one_content { OneAnswerOneContent options.now }
     ensures canonical_lines { (words : List Text) (content : Content)
         → Says options.now words content → IsPlain options.now.groups content
         → HasCanonicalLine options.now content }
@@ -81,6 +77,7 @@ pub fn names_resolve(options: &Options)
     ensures main_name { MainNameResolves (names_of options.now.groups) }
     ensures one_byte { OneByteIsShort (names_of options.now.groups) }
     ensures empty { EmptyResolvesNot (names_of options.now.groups) }
+    ensures declared { MayBeDeclared options.now }
 {
     let _groups = options.groups();
 }

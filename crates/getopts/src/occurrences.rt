@@ -14,14 +14,16 @@ use crate::line::LineOccurrences;
 use std::alloc::{AllocError, Global};
 use std::marker::Model;
 
-/// Occurrences of a line, by the places where they stand.
+/// The occurrences of one option group, in the order of the line, lent by the matches.
+///
+/// `Matches::occurrences_at` answers them. No text is copied.
 #[derive(Debug, Drop)]
-struct Placed<'m> {
+pub struct Occurrences<'m> {
     found: &'m LineOccurrences,
     places: &'m [usize],
 }
 
-impl<'m> Model for Placed<'m> {
+impl<'m> Model for Occurrences<'m> {
     ghost use Rattle.std.specs.Prelude.{List};
     ghost use Rattle.getopts.specs.Matches.{Found};
     ghost use Rattle.getopts.specs.Held.Occurrences.{founds_at, ArePlacesOf};
@@ -33,46 +35,6 @@ impl<'m> Model for Placed<'m> {
     ghost invariant = { λ a. ArePlacesOf a.found.now a.places.now };
 }
 
-impl<'m> Placed<'m> {
-    #[inline]
-    fn len(&self) -> usize
-        ensures { result ≡ length self.now }
-    {
-        self.places.len()
-    }
-
-    #[inline]
-    fn get(&self, nth: usize) -> Option<(usize, Option<&'m str>)>
-        ensures { option_map held_found result ≡ slice_get self.now nth }
-    {
-        let occurrence = self.found.at(*self.places.get(nth)?);
-        Some((occurrence.position, occurrence.value))
-    }
-
-    fn position(&self, nth: usize) -> Option<usize>
-        ensures { result ≡ option_map (λ found. found.position) (slice_get self.now nth) }
-    {
-        Some(self.found.position_at(*self.places.get(nth)?))
-    }
-}
-
-/// The occurrences of one option group, in the order of the line, lent by the matches.
-///
-/// `Matches::occurrences_at` answers them. No text is copied.
-#[derive(Debug, Drop)]
-pub struct Occurrences<'m> {
-    placed: Placed<'m>,
-}
-
-impl<'m> Model for Occurrences<'m> {
-    ghost use Rattle.std.specs.Prelude.{List};
-    ghost use Rattle.getopts.specs.Matches.{Found};
-
-    ghost Value = { List Found };
-
-    ghost view = { λ a. a.placed };
-}
-
 impl<'m> Occurrences<'m> {
     /// The occurrences of a line at these places.
     #[inline]
@@ -80,9 +42,7 @@ impl<'m> Occurrences<'m> {
         requires { ArePlacesOf found.now places.now }
         ensures { result ≡ founds_at found.now places.now }
     {
-        Occurrences {
-            placed: Placed { found, places },
-        }
+        Occurrences { found, places }
     }
 
     /// How many they are.
@@ -90,7 +50,7 @@ impl<'m> Occurrences<'m> {
     pub fn len(&self) -> usize
         ensures { result ≡ length self.now }
     {
-        self.placed.len()
+        self.places.len()
     }
 
     /// Whether there are none.
@@ -106,7 +66,15 @@ impl<'m> Occurrences<'m> {
     pub fn get(&self, nth: usize) -> Option<(usize, Option<&'m str>)>
         ensures { option_map held_found result ≡ slice_get self.now nth }
     {
-        self.placed.get(nth)
+        let occurrence = self.found.at(*self.places.get(nth)?);
+        Some((occurrence.position, occurrence.value))
+    }
+
+    /// The position of one of them, of which no value is read.
+    fn position(&self, nth: usize) -> Option<usize>
+        ensures { result ≡ option_map (λ found. found.position) (slice_get self.now nth) }
+    {
+        Some(self.found.position_at(*self.places.get(nth)?))
     }
 
     pub(crate) fn positions(&self, alloc: Global) -> Result<Vec<usize>, AllocError>
@@ -114,7 +82,7 @@ impl<'m> Occurrences<'m> {
     {
         let mut positions = Vec::with_capacity(alloc, self.len())?;
         for nth in 0..self.len() {
-            if let Some(position) = self.placed.position(nth) {
+            if let Some(position) = self.position(nth) {
                 positions.push(position)?;
             }
         }

@@ -3,7 +3,8 @@ use Rattle.std.proofs.Common.{◌≡◌, ℕ, false, zero, suc, ◌+◌, ◌<◌
 use Rattle.std.proofs.Common.{codes, get_or, map, refl, ap, ◌∙◌, sym, subst, arith}
 use Rattle.std.specs.Borrow.{Bor}
 use Rattle.std.specs.List.{AllByRecursion, flat_map}
-use Rattle.getopts.specs.Canon.{HasPlainMain}
+use Rattle.getopts.specs.Canon.{main_at}
+use Rattle.getopts.specs.Scan.{holds_equals}
 use Rattle.getopts.specs.Only.{AtMostOne}
 use Rattle.getopts.specs.CanonAnswers.{IsParseAnswer, IsUnwritable, IsWritten}
 use Rattle.getopts.specs.Fail.{Fault, Tells}
@@ -48,7 +49,7 @@ text_of_matches {words} {line} {matches} {text} written accepted plain is =
     (shown matches written.content accepted plain written.accepted)
 
 -- no main name of the program's groups holds `=`
-plain_main : (place : ℕ) → HasPlainMain program_groups place
+plain_main : (place : ℕ) → holds_equals (main_at program_groups place) ≡ false
 plain_main zero = refl
 plain_main (suc zero) = refl
 plain_main (suc (suc zero)) = refl
@@ -58,7 +59,7 @@ plain_main (suc (suc (suc (suc (suc place))))) = refl
 
 -- each content is plain
 always_plain : (mentioned : List Mention)
-    → AllByRecursion (λ (m : Mention). HasPlainMain program_groups m.group) mentioned
+    → AllByRecursion (λ (m : Mention). holds_equals (main_at program_groups m.group) ≡ false) mentioned
 always_plain [] = tt
 always_plain (m ∷ mentioned) = (plain_main m.group, always_plain mentioned)
 

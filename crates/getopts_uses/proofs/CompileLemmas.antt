@@ -31,7 +31,7 @@ module _ (holds_same : OneContentHoldsSame compile_options) where
     long_separate = λ file. same_job AreHigherAfter _ _ (long_law.either two (codes "output") file refl).to_longer;
     long_attached = λ file. same_job (λ position old new. AreHigherAfter position new old) _ _
         (long_law.either two (codes "output") file refl).to_shorter;
-    short_separate = λ file. same_job AreHigherAfter _ _ (short_law.to_separate [] 111 file refl);
+    short_separate = λ file filled. same_job AreHigherAfter _ _ (short_law.either [] 111 file refl filled).to_longer;
     short_attached = λ file filled. same_job (λ position old new. AreHigherAfter position new old) _ _
         (short_law.either [] 111 file refl filled).to_shorter;
   }

@@ -56,7 +56,7 @@ pub record OutputsMayBeAttached : Type 0 where
       → GivesTheSameJob (long_output (attached file)) (long_output (separate file))
   pub long_attached : (file : Text)
       → GivesTheSameJob (long_output (separate file)) (long_output (attached file))
-  pub short_separate : (file : Text)
+  pub short_separate : (file : Text) → file ≢ []
       → GivesTheSameJob (short_output (attached file)) (short_output (separate file))
   pub short_attached : (file : Text) → file ≢ []
       → GivesTheSameJob (short_output (separate file)) (short_output (attached file))

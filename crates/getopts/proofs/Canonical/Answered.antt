@@ -15,12 +15,12 @@ use Rattle.getopts.specs.Held.Line.{line_content}
 use Rattle.getopts.specs.Matches.{Matched, MatchedGroup, matches_of, matched, KeepsCount}
 use Rattle.getopts.specs.Matches.{KeepsCounts, IsCountFault}
 use Rattle.getopts.specs.Parse.{Reads, IsAccepted, BreaksCounts, IsRefused}
-use Rattle.getopts.specs.Canon.{Content, IsCountKeeping, content_of, main_at, HasPlainMain, IsPlain}
+use Rattle.getopts.specs.Canon.{Content, IsCountKeeping, content_of, main_at, IsPlain}
 use Rattle.getopts.specs.Canon.{canonical_line, IsAcceptedWith, Says}
 use Rattle.getopts.specs.Held.AcceptedLine.{IsAcceptedLine}
 use Rattle.std.specs.Str.{IsUtf8}
 use Rattle.getopts.specs.CanonAnswers.{IsWritten, IsUnwritable, IsParseAnswer}
-use Rattle.getopts.specs.CanonAnswers.{IsCanonicalAnswer, OneAnswerOneContent, KeepsLineLaws}
+use Rattle.getopts.specs.CanonAnswers.{IsCanonicalAnswer, KeepsLineLaws}
 use Rattle.getopts.specs.declared.accepted.AcceptedLine.{AcceptedLine}
 use Rattle.getopts.proofs.Canonical.Lines.{is_plain-true, is_plain-false, HasCanonicalLine-says}
 use Rattle.getopts.proofs.Canonical.Lines.{Says-accepted, IsSound-says}
@@ -43,7 +43,7 @@ holds_equals-found text false there at = sym (holds_equals-none text (λ k withi
 -- occurrences of groups whose main names hold no `=`
 pub plain-list_all : (groups : List Group) (found : List Occurrence)
     → list_all (λ o. not (holds_equals (main_at groups o.mention.group))) found ≡ true
-    → AllByRecursion (λ m. HasPlainMain groups m.group) (map (λ (o : Occurrence). o.mention) found)
+    → AllByRecursion (λ m. holds_equals (main_at groups m.group) ≡ false) (map (λ (o : Occurrence). o.mention) found)
 plain-list_all groups found all =
     is_plain-true groups (map (λ (o : Occurrence). o.mention) found)
     (list_all-map (λ m. not (holds_equals (main_at groups m.group))) (λ (o : Occurrence). o.mention) found ∙ all)
@@ -51,7 +51,7 @@ plain-list_all groups found all =
 -- an occurrence of a group whose main name holds `=`
 pub not_plain-list_all : (groups : List Group) (found : List Occurrence)
     → list_all (λ o. not (holds_equals (main_at groups o.mention.group))) found ≡ false
-    → ¬ (AllByRecursion (λ m. HasPlainMain groups m.group)
+    → ¬ (AllByRecursion (λ m. holds_equals (main_at groups m.group) ≡ false)
     (map (λ (o : Occurrence). o.mention) found))
 not_plain-list_all groups found some =
     is_plain-false groups (map (λ (o : Occurrence). o.mention) found)
@@ -126,19 +126,6 @@ pub KeepsLineLaws-lawful : (options : Declared) → AreLawfullyNamed options.gro
 KeepsLineLaws-lawful options lawful shorts words line written =
     HasCanonicalLine-says options words written.content lawful (named_here options lawful shorts)
     (Says-accepted options options.style options.long_only words written.content written.accepted) written.plain
-
--- the main theorem, of two answered lines
-pub OneAnswerOneContent-lawful : (options : Declared) → AreLawfullyNamed options.groups
-    → OneAnswerOneContent options
-OneAnswerOneContent-lawful options lawful style other_style long_only other_long_only words others
-    line other written written_other =
-    let says = Says-accepted options style long_only words written.content written.accepted in
-    let says_other = Says-accepted options other_style other_long_only others written_other.content written_other.accepted in
-    let tell = OneLineOneContent-lawful options lawful words others written.content written_other.content says
-    written.plain says_other written_other.plain in (
-      λ same. tell.0 (sym written.line_is ∙ same ∙ written_other.line_is),
-      λ same. written.line_is ∙ tell.1 same ∙ sym written_other.line_is,
-    )
 
 -- what an answered line meets, and what holds where none is answered
 pub IfSome-weaker : {X : Type 0} (answer : Option X) (P Q : X → Type 0) → ((x : X) → P x → Q x)

@@ -21,7 +21,7 @@ use Rattle.getopts.specs.Scan.{IsLawfulItem, AreWellFollowed, Reading, IsReading
 use Rattle.getopts.specs.Scan.{mention_of, mentions, Occurrence, occurrences_of, free_items}
 use Rattle.getopts.specs.ScanLaws.{mentions_of}
 use Rattle.getopts.specs.Matches.{found_at, matched, FitsCount, KeepsCounts}
-use Rattle.getopts.specs.Canon.{Content, content_of, main_at, HasPlainMain, AnswersMain}
+use Rattle.getopts.specs.Canon.{Content, content_of, main_at}
 use Rattle.getopts.specs.Canon.{IsPlain, IsSound, canonical_word, canonical_line, attached_value}
 use Rattle.getopts.specs.Canon.{canonical_item, canonical_reading, with_setting, IsAcceptedWith}
 use Rattle.getopts.specs.Canon.{Says, ReadsBack, HasCanonicalLine, HasNoItem, HasUnwritable}
@@ -38,6 +38,14 @@ use Rattle.getopts.proofs.Reading.Readings.{only_reading}
 use Rattle.getopts.proofs.Reading.Texts.{begins_with_dash-append, cut_at_equals-append}
 use Rattle.getopts.proofs.Reading.Turns.{IsNamed}
 use Rattle.getopts.specs.Held.Turn.{cut_at_equals}
+
+-- the group at this place has a main name that holds no `=`
+abbrev HasPlainMain : List Group → ℕ → Type 0
+HasPlainMain groups place = holds_equals (main_at groups place) ≡ false
+
+-- the group at this place is what its own main name resolves to
+abbrev pub AnswersMain : List Group → ℕ → Type 0
+AnswersMain groups place = resolution (names_of groups) (main_at groups place) ≡ Some place
 
 -- the group that a name resolves to is what its own main name resolves to
 pub AnswersMain-resolution : (groups : List Group) (name : Text) (place : ℕ)
@@ -426,7 +434,6 @@ HasCanonicalLine-says options words content lawful named says plain =
       sound = sound;
       reads_back = back;
       says_nothing_else = nothing_else;
-      its_own = λ other says_other. ap (canonical_line options.groups) (nothing_else other says_other);
       only = λ other sound_other plain_other.
           canonical_line-same options.groups other content lawful sound_other plain_other sound plain;
     }

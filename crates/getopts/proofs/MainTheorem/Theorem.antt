@@ -1,5 +1,5 @@
 -- The main theorem, of options that are lawfully named, by texts.
-use Rattle.std.proofs.Common.{◌⊎◌, List, refl, sym, subst, inl, inr, Option, Some, None}
+use Rattle.std.proofs.Common.{◌⊎◌, List, refl, sym, subst, inl, inr, Option, Some, None, Result, Ok, Err}
 use Rattle.std.specs.List.{AllByRecursion}
 use Rattle.std.specs.Str.{IsUtf8}
 use Rattle.getopts.specs.Names.{Text, AreTexts}
@@ -10,13 +10,13 @@ use Rattle.getopts.specs.Matches.{Matched, MatchedGroup, matches_of, KeepsCounts
 use Rattle.getopts.specs.Parse.{IsAccepted, BreaksCounts, HasNoReading, IsRefused}
 use Rattle.getopts.specs.Canon.{content_of, IsPlain, canonical_line, IsCountKeeping}
 use Rattle.getopts.specs.Canon.{HasCanonicalLine, Content, IsAcceptedWith, Says}
-use Rattle.getopts.specs.CanonAnswers.{IsWritten, OneAnswerOneContent}
+use Rattle.getopts.specs.CanonAnswers.{IsParseAnswer}
 use Rattle.getopts.specs.Theorem.{OneReading, AcceptedExactlyWhen, RefusedExactlyWhen}
-use Rattle.getopts.specs.Theorem.{OneOfThree, OneReadingGivesAll, OneLineOneContent}
+use Rattle.getopts.specs.Theorem.{HaveOneAnswer, OneLineOneContent}
+use Rattle.getopts.specs.Only.{IsTheOnly}
 use Rattle.getopts.proofs.Canonical.Lines.{HasCanonicalLine-says, OneLineOneContent-lawful}
 use Rattle.getopts.proofs.Canonical.Answered.{accepted_reads, breaking_reads, only_matches}
-use Rattle.getopts.proofs.Canonical.Answered.{not_refused, only_content, only_line}
-use Rattle.getopts.proofs.Canonical.Answered.{OneAnswerOneContent-lawful}
+use Rattle.getopts.proofs.Canonical.Answered.{not_refused, only_parse_answer}
 use Rattle.getopts.proofs.Parsing.Only.{IsTheOnly-from, meets}
 use Rattle.getopts.proofs.Parsing.Parsed.{only_reads, named_here, HasNoReading-fault}
 use Rattle.getopts.proofs.Reading.Readings.{only_reading, reading_or_fault}
@@ -66,17 +66,6 @@ module _ (options : Declared) (lawful : AreLawfullyNamed options.groups)
       → Says options words content → IsPlain options.groups content
       → HasCanonicalLine options content
   HasCanonicalLine-options words content says plain = HasCanonicalLine-says options words content lawful named says plain
-
-  written : (words : List Text) (reading : Reading) → IsCountKeeping options reading words
-      → IsPlain options.groups (content_of options reading)
-      → IsWritten options words
-      (canonical_line options.groups (content_of options reading))
-  written words reading keeps plain = record {
-    content = content_of options reading;
-    accepted = accepted_with words reading keeps;
-    plain = plain;
-    line_is = refl;
-  }
 
   -- accepted exactly when a reading keeps the counts
   pub AcceptedExactlyWhen-options : AcceptedExactlyWhen options
@@ -130,35 +119,18 @@ module _ (options : Declared) (lawful : AreLawfullyNamed options.groups)
     | inr fault ↦ inr (inr (fault.0, HasNoReading-fault options lawful shorts words texts fault.0 fault.1))
   ]
 
-  count_keeping : (words : List Text) (matches : Matched) (is : IsAccepted options words matches)
-      → IsCountKeeping options is.reading words
-  count_keeping words matches is = record { reads = accepted_reads options words matches is; keeps = is.counts }
-
-  pub OneOfThree-options : OneOfThree options
-  OneOfThree-options words texts = (
-    one_of_three words texts,
-    λ both. not_refused options words both.0.1.reading both.1.0 (count_keeping words both.0.0 both.0.1) (inr both.1.1),
-    λ both. not_refused options words both.0.1.reading both.1.0 (count_keeping words both.0.0 both.0.1) (inl both.1.1),
-    λ both. both.1.1.no_reading both.0.1.reading (breaking_reads options words both.0.0 both.0.1),
-  )
-
-  -- one reading gives the matches, the content and the canonical line
-  pub OneReadingGivesAll-options : OneReadingGivesAll options
-  OneReadingGivesAll-options words reading keeps = (
-    IsTheOnly-from (IsAccepted options words) (matches_of options reading) (accepted words reading keeps)
-        (λ other is. only_matches options words other (matches_of options reading) is (accepted words reading keeps)),
-    IsTheOnly-from (IsAcceptedWith options words) (content_of options reading) (accepted_with words reading keeps)
-        (λ other is. only_content options words other (content_of options reading) is (accepted_with words reading keeps)),
-    λ plain. IsTheOnly-from (IsWritten options words)
-        (canonical_line options.groups (content_of options reading)) (written words reading keeps plain)
-        (λ other is. only_line options words other (canonical_line options.groups
-        (content_of options reading)) is (written words reading keeps plain)),
-  )
+  -- `parse` has one answer
+  pub HaveOneAnswer-options : HaveOneAnswer options
+  HaveOneAnswer-options words texts = elim (one_of_three words texts) [
+    | inl is ↦ (Ok is.0, only_answer words (Ok is.0) is.1)
+    | inr (inl is) ↦ (Err is.0, only_answer words (Err is.0) (inr is.1))
+    | inr (inr is) ↦ (Err is.0, only_answer words (Err is.0) (inl is.1))
+  ] where
+    only_answer : (words : List Text) (answer : Result Matched Fault) → IsParseAnswer options words answer
+        → IsTheOnly (IsParseAnswer options words) answer
+    only_answer words answer is = IsTheOnly-from (IsParseAnswer options words) answer is
+        (λ other also. only_parse_answer options words other answer also is)
 
   -- two canonical lines
   pub OneLineOneContent-options : OneLineOneContent options
   OneLineOneContent-options = OneLineOneContent-lawful options lawful
-
-  -- two answers
-  pub OneAnswerOneContent-options : OneAnswerOneContent options
-  OneAnswerOneContent-options = OneAnswerOneContent-lawful options lawful

@@ -264,7 +264,6 @@ FitInPlace-cluster grammar names option argument new_argument back more kind fit
 -- a short argument attached or separate
 pub ShortAttachedOrSeparate_lem : (grammar : Grammar) → ShortAttachedOrSeparate grammar
 ShortAttachedOrSeparate_lem grammar = record {
-  to_separate = to_separate;
   either = λ names option argument kind filled. record {
     to_longer = to_separate names option argument kind;
     to_shorter = Respells-shorter grammar (cluster names (ends_in option (attached argument)))

@@ -227,14 +227,6 @@ PositionsAreWords_lem grammar = record { of_occurrence = stands } where
         after = found.after;
         items_are = found.items_are;
         mentioned = mentioned;
-        below = omega (
-          arith,
-          here,
-          ap length words_are,
-          length-append (spelled_all found.before [])
-              (spelled found.item more),
-          spells_word found.item more,
-        );
         first_word = ap (slice_get words) here ∙ ap (λ (ws : List Text). slice_get ws (word_count found.before)) words_are
             ∙ slice_get-append (spelled_all found.before []) (spelled found.item more) ∙ first_word-spelled found.item more;
       }

@@ -84,7 +84,7 @@ tail_read : (grammar : Grammar) (tail : Tail) → IsLawfulTail grammar tail
     → read grammar (tail_words tail) ≡ Ok (record { items = []; tail = tail })
 tail_read grammar line_end lawful = read_nil grammar
 tail_read grammar (stop words) lawful = read_tail grammar stop_word words (stop words) (turn_stop grammar words)
-tail_read grammar (rest []) lawful = absurd lawful.0
+tail_read grammar (rest []) lawful = absurd lawful
 tail_read grammar (rest (word ∷ words)) lawful =
     read_tail grammar word words (rest (word ∷ words))
     (turn_free grammar word words lawful.0 ∙ ap (λ (style : ParsingStyle). free_turn style word words) lawful.1)

@@ -15,7 +15,8 @@ use Rattle.getopts.specs.Scan.{separate, Dashes, one, two, End, flags, ends_in, 
 use Rattle.getopts.specs.Scan.{cluster, long_word, attached_argument, argument_words, item_words}
 use Rattle.getopts.specs.Scan.{end_text, end_words, MayStandBefore, FitsLong, FitsEnd, IsFlag}
 use Rattle.getopts.specs.Scan.{IsLawfulEnd, IsLawfulCluster, IsLawfulItem, is_bare, EndsOrIsDashed}
-use Rattle.getopts.specs.Scan.{stop, tail_words, IsLawfulTail, IsLongForm, IsShortForm}
+use Rattle.getopts.specs.Scan.{stop, tail_words, IsLawfulTail, IsLongForm, IsShortForm, dash_text}
+use Rattle.getopts.specs.Scan.{HasAfterFlags}
 use Rattle.getopts.specs.Scan.{IsFaultAt, unknown_name, unknown_character, unwanted_argument}
 use Rattle.getopts.specs.Scan.{long_unfinished, short_unfinished}
 use Rattle.getopts.specs.Held.Turn.{with_equals, Turn, ends, takes, faults, IsInLongForm}
@@ -65,8 +66,7 @@ module _ (grammar : Grammar) (dashes : Dashes) (word name : Text)
     before = before_front grammar.long_only dashes name (with_equals argument) form.before;
     cut_once = plain;
     word_is = form.word_is;
-    dashed = form.dashed;
-    no_stop = form.no_stop;
+    filled = form.filled;
   }
 
   -- an argument that its kind may have
@@ -156,9 +156,12 @@ module _ (grammar : Grammar) (word : Text) (bytes : List ℕ)
       → IsUtf8 word → IsFaultAt grammar word more (unrecognized_option (first_char (byte ∷ text)))
   unknown_flag named byte text more form resolved utf8 =
       let begins = begins_with_char byte text (IsUtf8-after_flags grammar named word bytes (byte ∷ text) form each utf8) in
+      let form_there = subst (λ (t : Text). IsShortForm grammar word (bytes ++ t)) begins.1.text_is form in
       rw begins.1.first (unknown_character begins.0 begins.1.rest begins.1.scalar (record {
         bytes = bytes;
-        short_form = subst (λ (t : Text). IsShortForm grammar word (bytes ++ t)) begins.1.text_is form;
+        ordinary = form_there.ordinary;
+        word_is = form_there.word_is;
+        second = form_there.second;
         each = each;
       }) (elim (cases_lt byte 128) [
         | inl ascii ↦ inr (rw (encode-ascii_byte begins.0 byte text begins.1.rest begins.1.text_is ascii) resolved)
@@ -176,7 +179,13 @@ module _ (grammar : Grammar) (word : Text) (bytes : List ℕ)
   byte_sound named byte (Some kind) (c ∷ text) more after form resolved flag =
       takes_end byte kind (attached (c ∷ text)) more form resolved (λ e. cc e) (λ bare. cc bare)
   byte_sound named byte (Some Yes) [] [] after form resolved flag =
-      λ utf8. short_unfinished byte (record { bytes = bytes; short_form = form; each = each }) resolved refl
+      λ utf8. short_unfinished byte (record {
+        bytes = bytes;
+        ordinary = form.ordinary;
+        word_is = form.word_is;
+        second = form.second;
+        each = each;
+      }) resolved refl
   byte_sound named byte (Some Yes) [] (next ∷ others) after form resolved flag =
       takes_end byte Yes (separate next) others form resolved tt (λ bare. cc bare)
   byte_sound named byte (Some Maybe) [] [] after form resolved flag = takes_end byte Maybe none [] form resolved tt (λ bare. tt)
@@ -219,9 +228,9 @@ pub turn_long : (grammar : Grammar) (dashes : Dashes) (word text : Text) (more :
     → IsInLongForm grammar dashes word text
     → turn grammar word more ≡ long_turn grammar dashes text more
 unfolding turn
-turn_long grammar two word [] more form = absurd (form.no_stop form.word_is)
+turn_long grammar two word [] more form = absurd (form.filled form.word_is)
 turn_long grammar two word (c ∷ text) more form = rw form.word_is refl
-turn_long grammar one word [] more form = let dashed = rw form.word_is at form.dashed in cc dashed
+turn_long grammar one word [] more form = absurd (form.filled form.word_is)
 turn_long grammar one word (c ∷ text) more form = rw (form.word_is, form.before.1, form.before.0) refl
 
 -- the turn of a word in short form
@@ -261,8 +270,7 @@ turn_sound grammar named (first ∷ second ∷ text) more = elim (cases_Bool (fi
       | inl long_only ↦ in_long one (dash ∷ second ∷ text) (second ∷ text) (record {
         before = (long_only, name);
         word_is = refl;
-        dashed = refl;
-        no_stop = λ e. let same : second ≡ dash = cc in false≢true (sym name ∙ eq-eqb second dash same);
+        filled = λ e. cc e;
       })
       | inr ordinary ↦
           let form : IsShortForm grammar (dash ∷ second ∷ text) (second ∷ text) =
@@ -280,7 +288,7 @@ turn_sound grammar named (first ∷ second ∷ text) more = elim (cases_Bool (fi
       → IsSoundTurn grammar (dash ∷ dash ∷ others) more (turn grammar (dash ∷ dash ∷ others) more)
   two_sound [] = rw (turn_stop grammar more) (tt, refl)
   two_sound (c ∷ others) = in_long two (dash ∷ dash ∷ c ∷ others) (c ∷ others)
-      (record { before = tt; word_is = refl; dashed = refl; no_stop = λ e. cc e })
+      (record { before = tt; word_is = refl; filled = λ e. cc e })
 
 -- Now the other way: what a line begins with settles the turn of its first word.
 
@@ -309,20 +317,17 @@ long_form_turn grammar word name argument more kind form resolved =
     turn_long grammar form.dashes word (name ++ with_equals argument) more (record {
       before = before_more grammar.long_only form.dashes name argument form.before;
       word_is = form.word_is;
-      dashed = form.dashed;
-      no_stop = form.no_stop;
+      filled = form.filled;
     }) ∙ long_turn_cut grammar form.dashes name argument more kind form.cut_once resolved
 
--- the word of a name that resolves, with its dashes and its argument, is dashed and not `--`
+-- the word of a name that resolves, with its dashes and its argument, is more than its dashes
 resolved_word : (grammar : Grammar) → IsNamed grammar
     → (dashes : Dashes) (name : Text) (argument : Option Text) (kind : HasArg)
-    → MayStandBefore grammar.long_only dashes name → grammar.kind name ≡ Some kind
-    → (is_dashed (long_word dashes name argument) ≡ true)
-    × (long_word dashes name argument ≢ stop_word)
-resolved_word grammar named dashes [] argument kind before resolved = let empty = named.empty in absurd (cc)
-resolved_word grammar named one (c ∷ name) argument kind before resolved =
-    (refl, λ e. let same : c ≡ dash = cc in false≢true (sym before.1 ∙ eq-eqb c dash same))
-resolved_word grammar named two (c ∷ name) argument kind before resolved = (refl, λ e. cc e)
+    → grammar.kind name ≡ Some kind
+    → long_word dashes name argument ≢ dash_text dashes
+resolved_word grammar named dashes [] argument kind resolved = let empty = named.empty in absurd (cc)
+resolved_word grammar named one (c ∷ name) argument kind resolved = λ e. cc e
+resolved_word grammar named two (c ∷ name) argument kind resolved = λ e. cc e
 
 -- flags go before what is left
 pub cluster_flags : (grammar : Grammar) (before names : List ℕ) (text : Text) (more : List Text)
@@ -425,7 +430,7 @@ spelled_turn grammar named (free word) more lawful followed = (
 spelled_turn grammar named (long dashes name argument) more lawful followed =
     let kind = lawful.resolves in
     let text = attached_argument argument in
-    let word = resolved_word grammar named dashes name text kind.0 lawful.before kind.1 in (
+    let word = resolved_word grammar named dashes name text kind.0 kind.1 in (
       argument,
       long_form_turn grammar (long_word dashes name text) name text (argument_words argument ++ more) (Some kind.0)
           (record {
@@ -433,8 +438,7 @@ spelled_turn grammar named (long dashes name argument) more lawful followed =
             before = lawful.before;
             cut_once = lawful.cut_once;
             word_is = refl;
-            dashed = word.0;
-            no_stop = word.1;
+            filled = word;
           }) kind.1 ∙ ap (chosen_turn (λ a. long dashes name a)) (long_chosen kind.0 name argument more kind.2),
       refl,
     )
@@ -484,6 +488,30 @@ unknown_turn grammar named word names c text (byte ∷ others) more e utf8 form 
     short_turn_byte grammar word names byte others more None form each (unknown_byte grammar named c byte others text e unknown)
     ∙ ap (λ (t : Text). faults (unrecognized_option t)) (rw e (first_char-append c text (rw e at utf8)))
 
+-- a text that begins with a character isn't empty
+filled-character : (bytes : List ℕ) (c : ℕ) (text : Text) → bytes ++ (encode_utf8 c ++ text) ≢ []
+filled-character bytes c text nil = absurd (omega (
+  arith,
+  ap length nil,
+  length-append bytes (encode_utf8 c ++ text),
+  length-append (encode_utf8 c) text,
+  length-encode c,
+  len_utf8_bounds c,
+))
+
+-- a word with a text after flags is in short form
+short_of : (grammar : Grammar) (word text : Text) (has : HasAfterFlags grammar word text)
+    → has.bytes ++ text ≢ [] → IsShortForm grammar word (has.bytes ++ text)
+short_of grammar word text has filled =
+    record { ordinary = has.ordinary; word_is = has.word_is; filled = filled; second = has.second }
+
+-- a word in long form is dashed
+long_dashed : (dashes : Dashes) (rest word : Text) → word ≡ dash_text dashes ++ rest
+    → word ≢ dash_text dashes → is_dashed word ≡ true
+long_dashed one [] word is filled = absurd (filled is)
+long_dashed one (c ∷ rest) word is filled = rw is refl
+long_dashed two rest word is filled = rw is refl
+
 -- a word with a fault
 pub fault_turn : (grammar : Grammar) → IsNamed grammar
     → (word : Text) (more : List Text) (fault : Fault) → IsUtf8 word
@@ -493,22 +521,29 @@ fault_turn grammar named word more fault utf8 (unknown_name name argument form u
 fault_turn grammar named word more fault utf8
     (unknown_character character text scalar has unknown) =
     unknown_turn grammar named word has.bytes character text _ more refl
-    (IsUtf8-after_flags grammar named word has.bytes (encode_utf8 character ++ text) has.short_form has.each utf8)
-    has.short_form has.each unknown
+    (IsUtf8-after_flags grammar named word has.bytes (encode_utf8 character ++ text)
+    (short_of grammar word _ has (filled-character has.bytes character text)) has.each utf8)
+    (short_of grammar word _ has (filled-character has.bytes character text)) has.each unknown
 fault_turn grammar named word more fault utf8 (unwanted_argument name argument form kind) =
     long_form_turn grammar word name (Some argument) more (Some No) form kind
 fault_turn grammar named word more fault utf8 (long_unfinished name form kind ended) =
     rw ended (long_form_turn grammar word name None [] (Some Yes) form kind)
 fault_turn grammar named word more fault utf8 (short_unfinished option has kind ended) =
-    rw ended (short_turn_byte grammar word has.bytes option [] [] (Some Yes) has.short_form has.each kind)
+    rw ended (short_turn_byte grammar word has.bytes option [] [] (Some Yes)
+    (short_of grammar word _ has (filled-append has.bytes option [])) has.each kind)
 
 -- a word with a fault is dashed
 pub fault_dashed : (grammar : Grammar) (word : Text) (more : List Text) (fault : Fault)
     → IsFaultAt grammar word more fault → is_dashed word ≡ true
-fault_dashed grammar word more fault (unknown_name name argument form unknown) = form.dashed
+fault_dashed grammar word more fault (unknown_name name argument form unknown) =
+    long_dashed form.dashes (name ++ with_equals argument) word form.word_is form.filled
 fault_dashed grammar word more fault (unknown_character character text scalar has unknown) =
-    short_dashed grammar word (has.bytes ++ (encode_utf8 character ++ text)) has.short_form
-fault_dashed grammar word more fault (unwanted_argument name argument form kind) = form.dashed
-fault_dashed grammar word more fault (long_unfinished name form kind ended) = form.dashed
+    short_dashed grammar word (has.bytes ++ (encode_utf8 character ++ text))
+    (short_of grammar word _ has (filled-character has.bytes character text))
+fault_dashed grammar word more fault (unwanted_argument name argument form kind) =
+    long_dashed form.dashes (name ++ with_equals (Some argument)) word form.word_is form.filled
+fault_dashed grammar word more fault (long_unfinished name form kind ended) =
+    long_dashed form.dashes (name ++ with_equals None) word form.word_is form.filled
 fault_dashed grammar word more fault (short_unfinished option has kind ended) =
-    short_dashed grammar word (has.bytes ++ option ∷ []) has.short_form
+    short_dashed grammar word (has.bytes ++ option ∷ [])
+    (short_of grammar word _ has (filled-append has.bytes option []))

@@ -9,7 +9,7 @@ use Rattle.std.proofs.lemmas.List.Concat.{flat_map-append}
 use Rattle.std.proofs.lemmas.Slice.Zip.{AllZip-map}
 use Rattle.getopts.specs.Names.{Text}
 use Rattle.getopts.specs.Wrap.{Run, text_of, IsTightBreaking, IsFewestBreaking, words_of}
-use Rattle.getopts.specs.Wrap.{words_of_lines, BreaksInto, IsDescriptionRows, joined, continued}
+use Rattle.getopts.specs.Wrap.{BreaksInto, IsDescriptionRows, joined, continued}
 use Rattle.getopts.specs.Wrap.{lines_of, AddsDescription, AddsLine}
 use Rattle.getopts.proofs.Lists.{all_zip_weaker}
 use Rattle.getopts.proofs.Wrapping.Breakings.{runs_of, runs_of-tight, runs_of-only}
@@ -79,8 +79,8 @@ each_tight limit (words ∷ lines) = (runs_of-tight limit words, each_tight limi
 pub rows_of-are : (limit : ℕ) (desc : Text)
     → IsDescriptionRows limit desc (rows_of limit (lines_of desc))
 rows_of-are limit desc = record {
-  breakings = map (runs_of limit) (words_of_lines desc);
-  each_line = each_tight limit (words_of_lines desc);
+  breakings = map (runs_of limit) (map words_of (lines_of desc));
+  each_line = each_tight limit (map words_of (lines_of desc));
   rows_are = refl;
 }
 
@@ -100,9 +100,9 @@ pub rows_only : (limit : ℕ) (desc : Text) (rows : List Text) → IsDescription
 rows_only limit desc rows are =
     let only : (words : List Text) (runs : List Run) → IsTightBreaking limit words runs → runs ≡ runs_of limit words = runs_of-only limit in
     let each = all_zip_weaker (IsTightBreaking limit) (λ words runs. runs ≡ runs_of limit words) only
-    (words_of_lines desc) are.breakings are.each_line in
+    (map words_of (lines_of desc)) are.breakings are.each_line in
     are.rows_are ∙ ap (λ (breakings : List (List Run)). map text_of (flat_map (λ runs. runs) breakings))
-    (AllZip-map (runs_of limit) (words_of_lines desc) are.breakings each)
+    (AllZip-map (runs_of limit) (map words_of (lines_of desc)) are.breakings each)
 
 -- its rows are exactly these
 pub rows_exactly : (limit : ℕ) (desc : Text) (rows others : List Text)
@@ -119,6 +119,6 @@ rows_fewest limit desc rows are_rows = record {
   breakings = are_rows.breakings;
   each_line = all_zip_weaker (IsTightBreaking limit) (IsFewestBreaking limit)
       (λ words runs tight. subst (IsFewestBreaking limit words) (sym (runs_of-only limit words runs tight))
-      (runs_of-is_fewest limit words)) (words_of_lines desc) are_rows.breakings are_rows.each_line;
+      (runs_of-is_fewest limit words)) (map words_of (lines_of desc)) are_rows.breakings are_rows.each_line;
   rows_are = are_rows.rows_are;
 }

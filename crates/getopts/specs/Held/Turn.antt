@@ -29,8 +29,7 @@ with_equals argument = option_map_or (λ text. equals_sign ∷ text) argument []
 pub record IsInLongForm (grammar : Grammar) (dashes : Dashes) (word text : Text) : Type 0 where
   pub before : MayStandBefore grammar.long_only dashes text
   pub word_is : word ≡ dash_text dashes ++ text
-  pub dashed : is_dashed word ≡ true
-  pub no_stop : word ≢ stop_word
+  pub filled : word ≢ dash_text dashes
 
 -- the argument of an option in long form, by the one attached to it and the words after its own;
 -- or its fault

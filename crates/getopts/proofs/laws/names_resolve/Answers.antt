@@ -14,4 +14,5 @@ returns c =
       main_name = λ name place held resolved at. resolution-main_name names name place held resolved at;
       one_byte = OneByteIsShort-lawful names lawful;
       empty = resolution-nil names lawful;
+      declared = record { named = c.groups-groups.ensures.lawful; shorts = c.groups-groups.ensures.shorts };
     }

@@ -4,10 +4,8 @@ use Rattle.getopts.proofs.MainTheorem.Callers.{OneContentHoldsSame_lem}
 use Rattle.getopts.proofs.Canonical.Lines.{IsSound-says}
 use Rattle.getopts.proofs.Parsing.Parsed.{keeps_laws}
 use Rattle.getopts.proofs.MainTheorem.Theorem.{OneReading-options, AcceptedExactlyWhen-options}
-use Rattle.getopts.proofs.MainTheorem.Theorem.{RefusedExactlyWhen-options, OneOfThree-options}
-use Rattle.getopts.proofs.MainTheorem.Theorem.{OneReadingGivesAll-options}
+use Rattle.getopts.proofs.MainTheorem.Theorem.{RefusedExactlyWhen-options, HaveOneAnswer-options}
 use Rattle.getopts.proofs.MainTheorem.Theorem.{OneLineOneContent-options}
-use Rattle.getopts.proofs.MainTheorem.Theorem.{OneAnswerOneContent-options}
 use Rattle.getopts.proofs.MainTheorem.Theorem.{HasCanonicalLine-options}
 use Rattle.getopts.proofs.Canonical.Answered.{KeepsLineLaws-lawful}
 use Rattle.getopts.proofs.laws.one_reading_one_canonical_line.Goals as goal
@@ -22,11 +20,9 @@ returns c =
       one_reading_in_each = λ style long_only. OneReading-options (with_setting options style long_only) lawful shorts;
       accepted = AcceptedExactlyWhen-options options lawful shorts;
       refused = RefusedExactlyWhen-options options lawful shorts;
-      one_of_three = OneOfThree-options options lawful shorts;
-      gives_all = OneReadingGivesAll-options options lawful shorts;
+      one_answer = HaveOneAnswer-options options lawful shorts;
       holds_same = OneContentHoldsSame_lem options (AcceptedExactlyWhen-options options lawful shorts);
       one_line_one_content = OneLineOneContent-options options lawful shorts;
-      one_answer_one_content = OneAnswerOneContent-options options lawful shorts;
       canonical_lines = HasCanonicalLine-options options lawful shorts;
       line_laws = KeepsLineLaws-lawful options lawful shorts;
       reading_laws = keeps_laws options lawful shorts;
