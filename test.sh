@@ -103,38 +103,38 @@ over_proved() {
     mkdir -p "$room/over/${rlib%/*}" &&
         tar --exclude=./.git --exclude=out --exclude=target -c . | tar -C "$room/over" -x &&
         cp -a "$rlib" "$room/over/${rlib%/*}/" &&
-        bash "$room/over/rust/over.sh" "$room/over/$rlib" archive &&
-        bash "$room/over/edits/try.sh" --jobs 1 --over "$room/over/$rlib" getopts_c
+        bash "$room/over/bindings/over.sh" "$room/over/$rlib" archive &&
+        bash "$room/over/tests/must-fail/try.sh" --jobs 1 --over "$room/over/$rlib" getopts_c
 }
 
 # edits: in a copy, tries the edits of the library.
 edits() {
     mkdir "$room/copy" &&
         tar --exclude=./.git --exclude=out --exclude=target -c . | tar -C "$room/copy" -x &&
-        bash "$room/copy/edits/try.sh" --jobs 1 getopts
+        bash "$room/copy/tests/must-fail/try.sh" --jobs 1 getopts
 }
 
 room=$(mktemp -d)
 trap 'kill $(jobs -p) 2>/dev/null || true; rm -rf "$room"' EXIT
 
 if [ -n "$quick" ]; then
-    begin "C and Rust" bash rust/test.sh --short "$@"
+    begin "C and Rust" bash bindings/test.sh --short "$@"
     if [ -x crates/getopts_refused/out/getopts_refused ] && [ -x crates/getopts_show/out/getopts_show ]; then
-        begin "refused memory" bash refused/run.sh
-        begin "the program and the system" python3 system/run.py
+        begin "refused memory" bash tests/memory/run.sh
+        begin "the program and the system" python3 tests/system/run.py
     else
         echo "skipped: refused memory, and the program and the system: the whole test builds their programs"
     fi
-    part "tests and programs of all crates, unproved" bash quick.sh
+    part "tests and programs of all crates, unproved" bash tests/unproved.sh
 else
     # Each of these begins beside the proofs, and waits for what it stands on.
     begin "edits of the library" edits
     begin "the archive over the proved library, and the edit of its crate" once getopts -- over_proved
-    begin "C and Rust" bash rust/test.sh --quick --after "$room/show" "$@"
+    begin "C and Rust" bash bindings/test.sh --quick --after "$room/show" "$@"
     (once getopts_show -- true >/dev/null; touch "$room/show") &
-    begin "refused memory" once getopts_refused getopts_show -- bash refused/run.sh
-    begin "the program and the system" once getopts_show -- python3 system/run.py
-    begin "recorded cases by the rules" once getopts_replay -- python3 beside/rules.py
+    begin "refused memory" once getopts_refused getopts_show -- bash tests/memory/run.sh
+    begin "the program and the system" once getopts_show -- python3 tests/system/run.py
+    begin "recorded cases by the rules" once getopts_replay -- python3 tests/differential/rules.py
     part "proofs, tests and programs of all crates" proofs
 fi
 part "code on the pages for callers" bash docs/quotes.sh

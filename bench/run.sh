@@ -57,14 +57,14 @@ equal 0 1
 usage 100 300
 defined-4000 0 1'
 
-peers='getopts rust/getopts lexopt pico-args clap'
+peers='getopts bindings/rust lexopt pico-args clap'
 
-part "building the peers' program, and once more over rust/getopts"
+part "building the peers' program, and once more over bindings/rust"
 "$here/peers/build.sh" "$out/peers" "${@:2}"
-"$here/peers/build.sh" "$out/over_ours" "$here/../rust/getopts"
+"$here/peers/build.sh" "$out/over_ours" "$here/../bindings/rust"
 # The program that has a peer, and the peer's name there.
 program_of() {
-    if [ "$1" = rust/getopts ]; then
+    if [ "$1" = bindings/rust ]; then
         theirs=$out/over_ours/target/release/peers name=getopts
     else
         theirs=$out/peers/target/release/peers name=$1
@@ -116,7 +116,7 @@ row() {
 }
 
 head() {
-    printf '%-16s %14s %14s %14s %14s %14s %14s\n' job 'this library' 'Rust crate' rust/getopts lexopt pico-args clap
+    printf '%-16s %14s %14s %14s %14s %14s %14s\n' job 'this library' 'Rust crate' bindings/rust lexopt pico-args clap
 }
 
 part 'counting instructions'

@@ -2,7 +2,7 @@
 # Runs the tests of all crates and compares what each program writes with its stored run, without any
 # proof, two crates at a time. The last line is 'N passed, M failed'.
 set -uo pipefail
-cd "$(dirname "$0")" || exit
+cd "$(dirname "$0")/.." || exit
 room=$(mktemp -d)
 touch "$room/sessions"
 trap 'while read -r session; do kill -- "-$session"; done <"$room/sessions" 2>/dev/null; rm -rf "$room"' EXIT
@@ -36,7 +36,7 @@ program() {
     fi
     if [ "$1" = getopts_replay ]; then
         # One run answers the recorded cases and what the rules ask beyond them.
-        aside python3 beside/rules.py --try >"$room/$1.wrote" 2>&1 || { tail -n 20 "$room/$1.wrote"; return 1; }
+        aside python3 tests/differential/rules.py --try >"$room/$1.wrote" 2>&1 || { tail -n 20 "$room/$1.wrote"; return 1; }
         echo "as stored, and by the rules: $(tail -n 1 "$room/$1.wrote")"
         return
     fi

@@ -20,7 +20,7 @@ import sys
 import tempfile
 
 HERE = pathlib.Path(__file__).resolve().parent
-SHOW = HERE.parent / "crates/getopts_show/out/getopts_show"
+SHOW = HERE.parent.parent / "crates/getopts_show/out/getopts_show"
 
 # The statuses: shown, refused, want of memory or words that are no text, and output that failed.
 SHOWN, REFUSED, NOTHING, NOT_WRITTEN = 0, 2, 3, 4
@@ -261,7 +261,7 @@ def counted(part, *given):
 def main():
     global runs, passed, failed
     if not os.access(SHOW, os.X_OK) or not shutil.which("rt"):
-        print(f"system/run.py: {SHOW} or rt is not there: run 'rt ci' first\n0 passed, 1 failed")
+        print(f"tests/system/run.py: {SHOW} or rt is not there: run 'rt ci' first\n0 passed, 1 failed")
         sys.exit(1)
     with tempfile.TemporaryDirectory() as folder:
         room = pathlib.Path(folder)

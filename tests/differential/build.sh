@@ -8,10 +8,10 @@
 set -euo pipefail
 here=$(cd "$(dirname "$0")" && pwd)
 if [ $# -ne 3 ]; then
-    echo 'usage: beside/build.sh WORK CRATE REGISTRY' >&2
+    echo 'usage: tests/differential/build.sh WORK CRATE REGISTRY' >&2
     exit 2
 fi
-command -v cargo >/dev/null || { echo 'beside/build.sh: there is no cargo on the path' >&2; exit 2; }
+command -v cargo >/dev/null || { echo 'tests/differential/build.sh: there is no cargo on the path' >&2; exit 2; }
 work=$1 crate=$2 registry=$3
 mkdir -p "$work/twin/.cargo"
 cp -r "$here/twin/." "$work/twin/"

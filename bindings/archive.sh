@@ -1,14 +1,14 @@
 #!/usr/bin/env bash
 # Makes the archive from the proved source, and puts it where cargo finds it, with its SHA-256.
 #
-#     rust/archive.sh [check]
+#     bindings/archive.sh [check]
 #
 # With check it changes nothing, and says whether the archive that is there is the one that the proved
 # source gives, byte for byte. Either proves what isn't proved yet: from nothing that takes about a quarter of
 # an hour.
 set -euo pipefail
 cd "$(dirname "$0")/.."
-here=rust/getopts/native/libgetopts_c.a
+here=bindings/rust/native/libgetopts_c.a
 made=crates/getopts_c/out/libgetopts_c.a
 
 if ! command -v rt >/dev/null; then
@@ -26,13 +26,13 @@ case ${1:-} in
 check)
     (cd crates/getopts_c && rt lib --jobs "${JOBS:-2}")
     if ! cmp "$made" "$here"; then
-        echo "$here isn't what the proved source gives: rust/archive.sh makes it anew"
+        echo "$here isn't what the proved source gives: bindings/archive.sh makes it anew"
         exit 1
     fi
     echo "$here is what the proved source gives"
     ;;
 *)
-    echo "usage: rust/archive.sh [check]"
+    echo "usage: bindings/archive.sh [check]"
     exit 2
     ;;
 esac

@@ -1,6 +1,6 @@
 #!/usr/bin/env bash
 # Tries the edits of this folder: each turns a body of its crate, and the prover has to refuse it.
-# usage: edits/try.sh [--jobs N] [--over RLIB] [--all | --plant] [CRATE..]
+# usage: tests/must-fail/try.sh [--jobs N] [--over RLIB] [--all | --plant] [CRATE..]
 #
 # An edit names the function that it turns, which is checked alone, with those that it calls: a quarter of a minute of
 # a processor each, and somewhat more where no earlier check left its work. With --all those in private/ too, which
@@ -8,7 +8,7 @@
 # proved library. With --plant it plants wrong bodies in each crate instead, and prints what the contracts let through.
 # Everything is done on copies of the repository, N at once (2 if left out). The last line is 'N passed, M failed'.
 set -euo pipefail
-top=$(cd "$(dirname "$0")/.." && pwd)
+top=$(cd "$(dirname "$0")/../.." && pwd)
 jobs=2 over= all= plant=
 while [ $# -gt 0 ]; do
     case $1 in
@@ -46,7 +46,7 @@ PY
 # try_edit COPY EDIT: says whether the check refuses the function that the edit turns.
 try_edit() {
     local copy=$1 edit=$2 crate name function status=0
-    crate=${edit#"$top"/edits/} name=$(basename "$edit" .edit)
+    crate=${edit#"$top"/tests/must-fail/} name=$(basename "$edit" .edit)
     crate=${crate%%/*}
     local folder=$copy/crates/$crate
     cp -a "$folder/src" "$copy/kept"
@@ -54,7 +54,7 @@ try_edit() {
         echo "FAILED: $crate: $name: $(cat "$copy/said")"
     else
         if [ -n "$over" ] && [ "$crate" = getopts_c ]; then
-            bash "$copy/rust/over.sh" "$over" only "$function" >"$copy/said" 2>&1 || status=$?
+            bash "$copy/bindings/over.sh" "$over" only "$function" >"$copy/said" 2>&1 || status=$?
         else
             (cd "$folder" && rt check --jobs 1 --only "$function") >"$copy/said" 2>&1 || status=$?
         fi
@@ -83,7 +83,7 @@ plant_in() {
 if [ $# = 0 ] && [ -n "$plant" ]; then
     mapfile -t crates < <(sed -n 's/^\([a-z_]*\).*:.*/\1/p' "$top/crates.txt")
 elif [ $# = 0 ]; then
-    mapfile -t crates < <(cd "$top/edits" && ls -d */ | tr -d /)
+    mapfile -t crates < <(cd "$top/tests/must-fail" && ls -d */ | tr -d /)
 else
     crates=("$@")
 fi
@@ -91,7 +91,7 @@ for crate in "${crates[@]}"; do
     if [ -n "$plant" ]; then
         echo "plant_in $crate"
     else
-        find "$top/edits/$crate" $([ -n "$all" ] || echo -maxdepth 1) -name '*.edit' | sort | sed 's/^/try_edit /'
+        find "$top/tests/must-fail/$crate" $([ -n "$all" ] || echo -maxdepth 1) -name '*.edit' | sort | sed 's/^/try_edit /'
     fi
 done >"$room/tasks"
 

@@ -23,18 +23,18 @@ if [ -z "$work" ]; then
     work=$(mktemp -d)
     trap 'rm -rf "$work"' EXIT
 fi
-command -v rt > /dev/null || { echo 'beside/run.sh: there is no rt on the path' >&2; exit 2; }
+command -v rt > /dev/null || { echo 'tests/differential/run.sh: there is no rt on the path' >&2; exit 2; }
 mkdir -p "$work"
 echo 'builds the twin over the Rust crate ..' >&2
 twin=$("$here/build.sh" "$work" "$crate" "$registry")
 echo "builds the twin over the Rust crate: $SECONDS s; proves and builds getopts_replay, some minutes at first .." >&2
 SECONDS=0
-(cd "$here/../crates/getopts_replay" && rt run < /dev/null > "$work/proof" 2>&1) || {
+(cd "$here/../../crates/getopts_replay" && rt run < /dev/null > "$work/proof" 2>&1) || {
     cat "$work/proof" >&2
     exit 2
 }
 echo "proves and builds getopts_replay: $SECONDS s" >&2
-replay=$here/../crates/getopts_replay/out/getopts_replay
+replay=$here/../../crates/getopts_replay/out/getopts_replay
 
 # Runs a command on the cases, and prints how long it took.
 timed() {

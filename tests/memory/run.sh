@@ -1,5 +1,5 @@
 #!/usr/bin/env bash
-# Runs the built programs where memory is refused. What else a system may do to the program is system/run.py's.
+# Runs the built programs where memory is refused. What else a system may do to the program is tests/system/run.py's.
 #
 # Of each row of getopts_refused, and of the program's own lines, the first request for memory is refused,
 # then the second, and so on until a run ends with none refused: once that one request alone, and once
@@ -8,11 +8,11 @@
 # It takes the programs that `rt ci` leaves in crates/NAME/out, or `rt run` in these two crates. What is
 # being done is told on standard error. The last line is 'N passed, N failed'.
 set -uo pipefail
-cd "$(dirname "$0")/.."
+cd "$(dirname "$0")/../.."
 
 # lacks WHAT: ends with a line that says what is lacking.
 lacks() {
-    echo "refused/run.sh: $1"
+    echo "tests/memory/run.sh: $1"
     echo "0 passed, 1 failed"
     exit 1
 }
@@ -20,9 +20,9 @@ lacks() {
 # part WHAT: says on standard error what is done next, and how long the part before took.
 doing= since=0
 part() {
-    [ -z "$doing" ] || echo "refused/run.sh: $doing: $((SECONDS - since)) s" >&2
+    [ -z "$doing" ] || echo "tests/memory/run.sh: $doing: $((SECONDS - since)) s" >&2
     doing=$1 since=$SECONDS
-    [ -z "$doing" ] || echo "refused/run.sh: $doing .." >&2
+    [ -z "$doing" ] || echo "tests/memory/run.sh: $doing .." >&2
 }
 
 room=$(mktemp -d)
@@ -30,8 +30,8 @@ trap 'rm -rf "$room"' EXIT
 rows=$PWD/crates/getopts_refused/out/getopts_refused
 show=$PWD/crates/getopts_show/out/getopts_show
 passed=0 failed=0 calls=0
-# shellcheck source=refused/loop.sh
-. refused/loop.sh
+# shellcheck source=tests/memory/loop.sh
+. tests/memory/loop.sh
 
 command -v rt >/dev/null || lacks "there is no rt on the path"
 for program in "$rows" "$show"; do
@@ -40,9 +40,9 @@ done
 
 # The toolchain's C compiler and linker.
 tools=$(dirname "$(rt doc)")/toolchain/bin
-if ! "$tools/clang" -O2 -Wall -Wextra -Werror -ffreestanding -nostdinc -fPIC -c refused/refuse.c -o "$room/refuse.o" ||
+if ! "$tools/clang" -O2 -Wall -Wextra -Werror -ffreestanding -nostdinc -fPIC -c tests/memory/refuse.c -o "$room/refuse.o" ||
     ! "$tools/ld.lld" -shared -o "$room/refuse.so" "$room/refuse.o"; then
-    lacks "refused/refuse.c can't be built"
+    lacks "tests/memory/refuse.c can't be built"
 fi
 
 # pass_or_fail WHAT WHY: counts a check, which failed where WHY says something.

@@ -47,7 +47,7 @@
 
 #[cfg(all(getopts_no_archive, not(doc)))]
 compile_error!(
-    "native/libgetopts_c.a is missing: take it from the repository, or make it by rust/archive.sh"
+    "native/libgetopts_c.a is missing: take it from the repository, or make it by bindings/archive.sh"
 );
 
 #[cfg(all(getopts_elsewhere, not(doc)))]

@@ -17,7 +17,7 @@ import shutil
 import subprocess
 import sys
 
-REPLAY = pathlib.Path(__file__).resolve().parent.parent / "crates/getopts_replay"
+REPLAY = pathlib.Path(__file__).resolve().parent.parent.parent / "crates/getopts_replay"
 KINDS = {  # of argument and of occurrence, by the call that declares the group
     "optflag": ("no", "optional"), "optflagmulti": ("no", "multi"), "optflagopt": ("maybe", "optional"),
     "optmulti": ("yes", "multi"), "optopt": ("yes", "optional"), "reqopt": ("yes", "req"),

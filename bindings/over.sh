@@ -1,8 +1,8 @@
 #!/usr/bin/env bash
 # Builds or checks the static library over the library getopts as it was proved already.
 #
-#     rust/over.sh RLIB archive           says whether the archive that is there is the one that this gives
-#     rust/over.sh RLIB only FUNCTION     checks one function of the static library, with those that it calls
+#     bindings/over.sh RLIB archive           says whether the archive that is there is the one that this gives
+#     bindings/over.sh RLIB only FUNCTION     checks one function of the static library, with those that it calls
 #
 # RLIB is the folder getopts.rlib that a proof of the library left (`rt ci` leaves one in crates/getopts/out/rlib).
 # `rt lib` would prove the library once more for the same bytes.
@@ -12,9 +12,9 @@ if [ $# -lt 2 ] || [ ! -d "$1" ]; then
     sed -n '4,5s/^# *//p' "$0" >&2
     exit 2
 fi
-command -v rt >/dev/null || { echo 'rust/over.sh: there is no rt on the path' >&2; exit 2; }
+command -v rt >/dev/null || { echo 'bindings/over.sh: there is no rt on the path' >&2; exit 2; }
 rlib=$(cd "$1" && pwd)
-here=$PWD/rust/getopts/native/libgetopts_c.a
+here=$PWD/bindings/rust/native/libgetopts_c.a
 kit=$(cd "$(dirname "$(realpath "$(command -v rt)")")/.." && pwd)
 words=(--crate-name getopts_c src/lib.rt --crate-type staticlib --jobs "${JOBS:-1}"
     --extern "std=$kit/rlibs/std.rlib" --extern "getopts=$rlib"
@@ -28,10 +28,10 @@ archive)
     made=out/libgetopts_c.a
     "$kit/bin/rattle" build "${words[@]}" --toolchain "$kit/toolchain" --backend llvm -o "$made"
     if ! cmp "$made" "$here"; then
-        echo "rust/getopts/native/libgetopts_c.a isn't what the proved source gives: rust/archive.sh makes it anew"
+        echo "bindings/rust/native/libgetopts_c.a isn't what the proved source gives: bindings/archive.sh makes it anew"
         exit 1
     fi
-    echo "rust/getopts/native/libgetopts_c.a is what the proved source gives"
+    echo "bindings/rust/native/libgetopts_c.a is what the proved source gives"
     ;;
 only)
     "$kit/bin/rattle" check "${words[@]}" --only "$3"

@@ -1,7 +1,7 @@
 #!/usr/bin/env bash
 # Tests the archive, the C layer and the Rust crate.
 #
-#     rust/test.sh [--quick | --short] [--after FILE] [CRATE]
+#     bindings/test.sh [--quick | --short] [--after FILE] [CRATE]
 #
 # CRATE is a folder that holds the crate getopts 0.2.24; without it cargo fetches that crate. CARGO_FLAGS
 # are handed to each cargo. With --quick nothing is proved, and with --short there are fewer random requests besides.
@@ -19,17 +19,17 @@ while [ $# -gt 0 ]; do
     esac
 done
 if [ $# -gt 1 ] || { [ $# = 1 ] && [ ! -f "$1/Cargo.toml" ]; }; then
-    echo "usage: rust/test.sh [--quick | --short] [--after FILE] [CRATE], where CRATE is a folder with the crate getopts" >&2
+    echo "usage: bindings/test.sh [--quick | --short] [--after FILE] [CRATE], where CRATE is a folder with the crate getopts" >&2
     exit 2
 fi
 crate=${1:+$(cd "$1" && pwd)}
 read -r -a flags <<<"${CARGO_FLAGS:-}"
-# shellcheck source=c/checks.sh
-. "$top/c/checks.sh"
-# shellcheck source=refused/loop.sh
-. "$top/refused/loop.sh"
+# shellcheck source=bindings/c/checks.sh
+. "$top/bindings/c/checks.sh"
+# shellcheck source=tests/memory/loop.sh
+. "$top/tests/memory/loop.sh"
 export CARGO_TARGET_DIR=$room/target
-here=$top/rust/getopts
+here=$top/bindings/rust
 archive=$here/native/libgetopts_c.a
 
 # The lines that the examples are run on.
@@ -70,7 +70,7 @@ refused() {
 
 # The archive, and whether it is the one that the proved source gives.
 if [ ! -f "$archive" ]; then
-    echo "there is no rust/getopts/native/libgetopts_c.a: rust/archive.sh makes it"
+    echo "there is no bindings/rust/native/libgetopts_c.a: bindings/archive.sh makes it"
     echo "0 passed, 1 failed"
     exit 1
 fi
@@ -79,7 +79,7 @@ no_proof=
 [ -n "$quick" ] && no_proof="nothing is proved"
 has rt || no_proof="there is no rt"
 if [ -z "$no_proof" ]; then
-    check "the archive is what the proved source gives" "$top/rust/archive.sh" check
+    check "the archive is what the proved source gives" "$top/bindings/archive.sh" check
 else
     skip "whether the archive is what the proved source gives: $no_proof"
 fi
@@ -90,7 +90,7 @@ check "the archive's size" [ "$size" -lt 200000 ]
 # The licences are the same wherever they stand.
 same_licences() {
     local folder file
-    for folder in crates/getopts rust/getopts; do
+    for folder in crates/getopts bindings/rust; do
         for file in LICENSE-MIT LICENSE-APACHE NOTICE; do
             cmp "$top/$file" "$top/$folder/$file" || return 1
         done
@@ -118,7 +118,7 @@ ask_show() {
 }
 
 # The exports, the layer and the installation are tested by a script of their own.
-"$top/c/test.sh" $short "$room/requests" >"$room/of_c"
+"$top/bindings/c/test.sh" $short "$room/requests" >"$room/of_c"
 sed '$d' "$room/of_c"
 read -r more_passed _ more_failed _ more_skipped _ <<<"$(tail -n 1 "$room/of_c")"
 passed=$((passed + more_passed)) failed=$((failed + more_failed)) skipped=$((skipped + ${more_skipped:-0}))
@@ -129,9 +129,9 @@ if [ -z "$compiler" ]; then
     skip "the C program: there is no C compiler"
 else
     strict=("$compiler" -std=c11 -O2 -Wall -Wextra -Wpedantic -Wshadow -Wconversion -Wno-sign-conversion -Werror)
-    check "the C program" "${strict[@]}" "$top"/c/{show,getopts,heap}.c "$archive" -o "$room/show"
+    check "the C program" "${strict[@]}" "$top"/bindings/c/{show,getopts,heap}.c "$archive" -o "$room/show"
     examples+=("$room/show")
-    if "$compiler" -O2 -ffreestanding -fPIC -shared -nostdlib "$top/refused/refuse.c" -o "$room/refuse.so"; then
+    if "$compiler" -O2 -ffreestanding -fPIC -shared -nostdlib "$top/tests/memory/refuse.c" -o "$room/refuse.so"; then
         preload=yes
         says "the C program under refused memory" refused "$room/show" 3 0
     else
@@ -159,7 +159,7 @@ fi
 # Its form, its pages and its package.
 formatted() {
     local folder
-    for folder in rust/getopts beside/twin; do
+    for folder in bindings/rust tests/differential/twin; do
         (cd "$top/$folder" && cargo fmt --check) || return 1
     done
 }
@@ -190,7 +190,7 @@ check "cargo package" packaged
 
 # twin NAME CRATE FLAG..: builds the twin of beside over the crate in a folder.
 twin() {
-    (unset CARGO_TARGET_DIR && CARGO_FLAGS="${*:3}" "$top/beside/build.sh" "$room/$1" "$2" '')
+    (unset CARGO_TARGET_DIR && CARGO_FLAGS="${*:3}" "$top/tests/differential/build.sh" "$room/$1" "$2" '')
 }
 ours=$room/ours/twin/target/release/twin
 theirs=$room/theirs/twin/target/release/twin
@@ -263,7 +263,7 @@ pub extern "C" fn rust_count() -> usize {
 }
 END
     cat >"$room/both/main.c" <<END
-#include "$top/c/getopts.h"
+#include "$top/bindings/c/getopts.h"
 size_t rust_count(void);
 int main(void) {
     static const struct getopts_option table[] = {
@@ -278,7 +278,7 @@ int main(void) {
     return count != 3 || rust_count() != 2;
 }
 END
-    (cd "$room/both" && cargo build --offline --release) && CC=$compiler "$top/c/install.sh" "$room/prefix" || return 1
+    (cd "$room/both" && cargo build --offline --release) && CC=$compiler "$top/bindings/c/install.sh" "$room/prefix" || return 1
     local c=$room/prefix/lib/libgetopts.a rust=$room/target/release/libboth.a
     for order in "$c $rust" "$rust $c"; do
         # shellcheck disable=SC2086
@@ -348,7 +348,7 @@ path = "lib.rs"
 default = ["unicode"]
 unicode = []
 [dependencies]
-getopts = { path = "$top/rust/getopts" }
+getopts = { path = "$top/bindings/rust" }
 [[test]]
 name = "public"
 path = "$crate/tests/public.rs"

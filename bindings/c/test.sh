@@ -2,7 +2,7 @@
 # Tests the exports, the layer over them, the example and the installation, as each C compiler of this machine
 # builds them, and under its sanitizers of addresses and of undefined behaviour.
 #
-#     c/test.sh [--short] [FOLDER]
+#     bindings/c/test.sh [--short] [FOLDER]
 #
 # The random requests that were lawful are left in FOLDER with their answers, as rows. They are 20,000, and 2,000 with
 # --short. What this machine lacks is skipped with a line that says so. The last line is 'N passed, M failed, K skipped'.
@@ -13,11 +13,11 @@ if [ "${1:-}" = --short ]; then
     shift
 fi
 here=$(cd "$(dirname "$0")" && pwd)
-top=$(dirname "$here")
+top=$(dirname "$(dirname "$here")")
 folder=${1:+$(mkdir -p "$1" && cd "$1" && pwd)}
-# shellcheck source=c/checks.sh
+# shellcheck source=bindings/c/checks.sh
 . "$here/checks.sh"
-archive=$top/rust/getopts/native/libgetopts_c.a
+archive=$top/bindings/rust/native/libgetopts_c.a
 replay=$top/crates/getopts_replay
 warnings=(-std=c11 -Wall -Wextra -Wpedantic -Wshadow -Wconversion -Wno-sign-conversion -Werror)
 plus_warnings=(-Wall -Wextra -Wpedantic -Werror)
@@ -27,7 +27,7 @@ wraps=-Wl,--wrap=malloc,--wrap=calloc,--wrap=realloc,--wrap=free
 sanitizers=(-fsanitize=address,undefined -fno-sanitize-recover=all -g -O1)
 
 if [ ! -f "$archive" ]; then
-    echo "there is no rust/getopts/native/libgetopts_c.a: rust/archive.sh makes it"
+    echo "there is no bindings/rust/native/libgetopts_c.a: bindings/archive.sh makes it"
     echo "0 passed, 1 failed"
     exit 1
 fi
@@ -129,7 +129,7 @@ else
     skip "the names of the archive: there is no nm"
 fi
 
-# What c/install.sh put somewhere, and programs that know it by pkg-config alone.
+# What bindings/c/install.sh put somewhere, and programs that know it by pkg-config alone.
 head_answers() {
     printf '1\n2\n3\n' >"$room/file"
     [ "$("$room/head" -n2 "$room/file")" = $'1\n2' ] &&
@@ -143,7 +143,7 @@ plus_answers() {
 prefix="$room/a prefix"
 if [ ${#compilers[@]} = 0 ] || ! has ar; then
     skip "the installation: there is no C compiler or no ar"
-elif check "c/install.sh" env CC="${compilers[0]}" "$here/install.sh" "$prefix"; then
+elif check "bindings/c/install.sh" env CC="${compilers[0]}" "$here/install.sh" "$prefix"; then
     if has pkg-config; then
         export PKG_CONFIG_PATH=$prefix/lib/pkgconfig
         eval "flags=($(pkg-config --cflags --libs getopts))"

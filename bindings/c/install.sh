@@ -1,7 +1,7 @@
 #!/usr/bin/env bash
 # Installs the library for C and C++ programs:
 #
-#     c/install.sh PREFIX
+#     bindings/c/install.sh PREFIX
 #
 # - PREFIX/lib/libgetopts.a: the proved archive, its heap and the layer of getopts.h
 # - PREFIX/include/getopts.h and getopts_c.h
@@ -11,17 +11,17 @@
 # CC, AR and CFLAGS are heeded, and DESTDIR, which is put before PREFIX where files are written.
 set -euo pipefail
 here=$(cd "$(dirname "$0")" && pwd)
-archive=$here/../rust/getopts/native/libgetopts_c.a
+archive=$here/../rust/native/libgetopts_c.a
 compiler=${CC:-cc}
 ar=${AR:-ar}
 
 fail() {
-    echo "c/install.sh: $1" >&2
+    echo "bindings/c/install.sh: $1" >&2
     exit 1
 }
 
-[ $# = 1 ] || fail "usage: c/install.sh PREFIX"
-[ -f "$archive" ] || fail "there is no rust/getopts/native/libgetopts_c.a: rust/archive.sh makes it"
+[ $# = 1 ] || fail "usage: bindings/c/install.sh PREFIX"
+[ -f "$archive" ] || fail "there is no bindings/rust/native/libgetopts_c.a: bindings/archive.sh makes it"
 for tool in "$compiler" "$ar"; do
     command -v "$tool" >/dev/null || fail "there is no $tool"
 done
@@ -60,5 +60,5 @@ install -d "$prefix/lib/pkgconfig" "$prefix/include" "$prefix/share/doc/getopts"
 install -m 644 "$room/libgetopts.a" "$prefix/lib"
 install -m 644 "$room/getopts.pc" "$prefix/lib/pkgconfig"
 install -m 644 "$here/getopts.h" "$here/getopts_c.h" "$prefix/include"
-install -m 644 "$here/../LICENSE-MIT" "$here/../LICENSE-APACHE" "$here/../NOTICE" "$prefix/share/doc/getopts"
+install -m 644 "$here/../../LICENSE-MIT" "$here/../../LICENSE-APACHE" "$here/../../NOTICE" "$prefix/share/doc/getopts"
 echo "installed in $prefix"

@@ -22,9 +22,9 @@ trap 'rm -rf "$work"' EXIT
 echo 'builds the twin over the Rust crate ..' >&2
 twin=$("$here/build.sh" "$work" "$crate" "$registry")
 echo "builds the twin over the Rust crate: $SECONDS s; chooses and answers cases .." >&2
-stored=$here/../crates/getopts_replay
+stored=$here/../../crates/getopts_replay
 {
-    echo '# Recorded by beside/record.sh. The Rust crate getopts 0.2.24 wrote the answers.'
+    echo '# Recorded by tests/differential/record.sh. The Rust crate getopts 0.2.24 wrote the answers.'
     "$twin" choose 1 60000 2000
 } > "$stored/stdin"
 "$twin" answer < "$stored/stdin" > "$stored/stdout"
