@@ -16,9 +16,7 @@ pub mod Occurrences
 pub mod Turn
 -- what scanning finds
 pub mod Line
--- what stands beside an accepted line
-pub mod Accepted
--- what is found in accepted words
-pub mod AcceptedLine
+-- what is found in words
+pub mod ReadLine
 -- groups with what a line gave to each
 pub mod Matched

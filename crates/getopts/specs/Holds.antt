@@ -23,20 +23,23 @@ HaveValuesByKind groups =
     AllByRecursion (λ group. AllByRecursion (λ found. FitsKind group.known.kind found.value)
     group.found) groups
 
--- What accepted matches tell of the declared options: their groups are those of the options, with
--- occurrences that keep the counts, stand in order and have values as their kinds want. Each declared
--- name is defined, each required option was given once, and each option that needs an argument and was
--- given has a value.
-pub record HoldDeclared (options : Declared) (groups : List MatchedGroup) : Type 0 where
+-- What matches hold of the declared options: their groups are those of the options, with occurrences that
+-- stand in order and have values as their kinds want. Each declared name is defined, and each option that
+-- needs an argument and was given has a value.
+pub record HoldGiven (options : Declared) (groups : List MatchedGroup) : Type 0 where
   pub same_groups : AreGroupsOf options groups
-  pub counts_kept : KeepsCounts groups
   pub positions_in_order : HavePositionsInOrder groups
   pub values_fit : HaveValuesByKind groups
   pub defined : (name : Text) → Declares options name → IsDefined groups name
-  pub required : (name : Text) → occurrence_of options.groups name ≡ Some Req
-      → length (found_of groups name) ≡ 1
   pub needed : (name : Text) → kind_of options.groups name ≡ Some Yes
       → 0 < length (found_of groups name) → IsSome (first_value (found_of groups name))
+
+-- What accepted matches hold of them besides: they keep the counts, so each required option was given once.
+pub record HoldDeclared (options : Declared) (groups : List MatchedGroup) : Type 0 where
+  pub given : HoldGiven options groups
+  pub counts_kept : KeepsCounts groups
+  pub required : (name : Text) → occurrence_of options.groups name ≡ Some Req
+      → length (found_of groups name) ≡ 1
 
 -- under `StopAtFirstFree` the free words are the last words of the line
 abbrev pub HaveLastWordsFree : Declared → List Text → List Text → Type 0

@@ -36,5 +36,3 @@ pub mod Usage
 
 -- what the code holds and what is seen of it, and what its functions find
 pub mod Held
--- wrong answers, which the public clauses refute
-pub mod Refuted

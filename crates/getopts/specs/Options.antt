@@ -47,10 +47,10 @@ with_group options group = record options { groups = options.groups ++ group ∷
 abbrev pub AreLawfullyNamed : List Group → Type 0
 AreLawfullyNamed groups = AllByRecursion (λ group. IsLawfullyNamed group.known.names) groups
 
--- options that may be declared: each group is lawfully named, and its short name is a text
-pub record MayBeDeclared (options : Declared) : Type 0 where
-  pub named : AreLawfullyNamed options.groups
-  pub shorts : AllByRecursion (λ group. IsUtf8 group.known.names.short) options.groups
+-- groups that may be declared: each is lawfully named, and its short name is a text
+pub record MayBeDeclared (groups : List Group) : Type 0 where
+  pub named : AreLawfullyNamed groups
+  pub shorts : AllByRecursion (λ group. IsUtf8 group.known.names.short) groups
 
 -- the names of each group
 abbrev pub names_of : List Group → List Names

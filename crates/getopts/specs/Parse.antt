@@ -1,4 +1,4 @@
--- The answers of `parse`: exactly one of three cases holds of the words.
+-- The results of `parse`: exactly one of three cases holds of the words.
 use Rattle.std.specs.Prelude.{◌≡◌, ◌⊎◌, List}
 use Rattle.getopts.specs.Only.{IsTheOnly}
 use Rattle.getopts.specs.Names.{Text}
@@ -13,6 +13,12 @@ use Rattle.getopts.specs.Matches.{Matched, matches_of, KeepsCounts, IsCountFault
 -- a reading of the words by these options
 abbrev pub Reads : Declared → List Text → Reading → Type 0
 Reads options words reading = IsReading (grammar_of options) reading words
+
+-- The words have one reading, and the matches are what it gives.
+pub record HasReading (options : Declared) (words : List Text) (matches : Matched) : Type 0 where
+  pub reading : Reading
+  pub only : IsTheOnly (Reads options words) reading
+  pub matches_are : matches ≡ matches_of options reading
 
 -- The words are accepted with these matches: they have one reading, which keeps the counts, and the
 -- matches are what it gives.

@@ -5,17 +5,17 @@ ghost use Rattle.std.specs.List.{list_all};
 ghost use Rattle.std.specs.Option.{option_copied};
 ghost use Rattle.std.specs.String.{string_bytes};
 ghost use Rattle.getopts.specs.Fail.{Tells};
-ghost use Rattle.getopts.specs.Held.Accepted.{IsHeldLine};
+ghost use Rattle.getopts.specs.Held.ReadLine.{IsOfGroups};
 ghost use Rattle.getopts.specs.Names.{texts};
 ghost use Rattle.getopts.specs.Held.Line.{line_content};
 ghost use Rattle.getopts.specs.Scan.{holds_equals, long_word, two};
 ghost use Rattle.getopts.specs.Canon.{main_at, canonical_line};
 
-use crate::accepted::AcceptedLine;
 use crate::fail::Fail;
 use crate::line::Line;
+use crate::matches::ReadLine;
 use crate::options::Options;
-use crate::words::words_from;
+use crate::parse::words_from;
 use std::alloc::{AllocError, Global};
 
 /// Whether a text holds `=`.
@@ -26,14 +26,14 @@ fn holds_equals(text: &str) -> bool
 }
 
 /// Whether no group with an occurrence has a main name that holds `=`.
-fn are_plain(options: &Options, accepted: &AcceptedLine) -> bool
-    requires { IsHeldLine options.now.groups accepted.now }
+fn are_plain(options: &Options, read: &ReadLine) -> bool
+    requires { IsOfGroups options.now.groups read.now }
     ensures { result
         ≡ list_all (λ o. not (holds_equals (main_at options.now.groups o.mention.group)))
-        accepted.now.line.found }
+        read.now.line.found }
 {
     for place in 0..options.group_count() {
-        if accepted.index.count(place) > 0 && holds_equals(options.main(place)) {
+        if read.index.count(place) > 0 && holds_equals(options.main(place)) {
             return false;
         }
     }

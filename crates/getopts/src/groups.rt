@@ -8,7 +8,7 @@ ghost use Rattle.std.specs.Cmp.Lexicographic.{pointwise};
 ghost use Rattle.std.specs.Cmp.Rules.{comparing};
 ghost use Rattle.std.proofs.Common.{rules};
 ghost use Rattle.getopts.specs.Names.{AreLawful};
-ghost use Rattle.getopts.specs.Options.{AreLawfullyNamed, group_of, knowns_of, names_of};
+ghost use Rattle.getopts.specs.Options.{MayBeDeclared, group_of, knowns_of, names_of};
 ghost use Rattle.getopts.specs.Canon.{main_at};
 ghost use Rattle.getopts.specs.Held.Groups.{known_view};
 ghost use Rattle.getopts.specs.Held.Table.{name_at, HaveNamesOfBytes};
@@ -187,7 +187,7 @@ impl Model for Groups {
 }
 
 impl Groups {
-    ghost use Rattle.getopts.specs.Held.Groups.{HaveTextsForShorts, group_view, kinds_of};
+    ghost use Rattle.getopts.specs.Held.Groups.{group_view, kinds_of};
     ghost use Rattle.getopts.specs.Same.{same_known};
 
     /// No groups. Takes no memory.
@@ -207,11 +207,9 @@ impl Groups {
         self.records.len()
     }
 
-    /// The groups are lawfully named, and their short names are texts: a law to cite, of which nothing
-    /// is left once built.
-    pub(crate) fn are_lawful(&self)
-        ensures lawful { AreLawfullyNamed self.now }
-        ensures shorts { HaveTextsForShorts self.now }
+    /// The groups may be declared: a law to cite, of which nothing is left once built.
+    pub(crate) fn may_be_declared(&self)
+        ensures { MayBeDeclared self.now }
     {
         let _records = &self.records;
     }

@@ -62,10 +62,10 @@ pub fn one_reading_one_canonical_line(options: &Options)
 /// The laws of readings and of answered lines, and that words which say the same hold the same, of any
 /// options that may be declared, where none need be there: a law to cite, which does nothing.
 pub fn declared_options_keep_laws()
-    ensures reading_laws { (options : Declared) → MayBeDeclared options
+    ensures reading_laws { (options : Declared) → MayBeDeclared options.groups
         → KeepsReadingLaws (grammar_of options) }
-    ensures line_laws { (options : Declared) → MayBeDeclared options → KeepsLineLaws options }
-    ensures holds_same { (options : Declared) → MayBeDeclared options
+    ensures line_laws { (options : Declared) → MayBeDeclared options.groups → KeepsLineLaws options }
+    ensures holds_same { (options : Declared) → MayBeDeclared options.groups
         → OneContentHoldsSame options }
 {}
 
@@ -77,7 +77,7 @@ pub fn names_resolve(options: &Options)
     ensures main_name { MainNameResolves (names_of options.now.groups) }
     ensures one_byte { OneByteIsShort (names_of options.now.groups) }
     ensures empty { EmptyResolvesNot (names_of options.now.groups) }
-    ensures declared { MayBeDeclared options.now }
+    ensures declared { MayBeDeclared options.now.groups }
 {
     let _groups = options.groups();
 }

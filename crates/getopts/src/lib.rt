@@ -1,11 +1,9 @@
 //! Command-line options: declared groups, a list of words, and the one reading of those words.
 #![tactic(auto)]
 
-mod accepted;
 mod accessors;
 mod adding;
 mod canon;
-mod counts;
 mod fail;
 mod groups;
 mod index;
@@ -18,12 +16,10 @@ mod names;
 mod occurrences;
 mod options;
 mod parse;
-mod refuted;
 mod row;
 mod scan;
 mod table;
 mod usage;
-mod words;
 pub mod wrap;
 
 pub use fail::Fail;
@@ -36,8 +32,8 @@ pub use matches::Matches;
 pub use names::names_lawful;
 pub use occurrences::Occurrences;
 pub use options::Options;
+pub use scan::are_texts;
 pub use usage::UsageRows;
-pub use words::are_texts;
 
 /// What `parse` answers: the matches of an accepted line, or why the line was refused.
 pub type Result = std::result::Result<Matches, Fail>;

@@ -4,7 +4,7 @@ ghost use Rattle.std.specs.Prelude.{◌≡◌, length};
 ghost use Rattle.std.specs.Cmp.Lexicographic.{pointwise};
 ghost use Rattle.getopts.specs.Matches.{matched};
 ghost use Rattle.getopts.specs.Held.Table.{IsTableOf};
-ghost use Rattle.getopts.specs.Held.Accepted.{index_of};
+ghost use Rattle.getopts.specs.Held.Index.{index_of};
 ghost use Rattle.getopts.specs.Options.{knowns_of, names_of};
 
 use crate::groups::Groups;
@@ -81,7 +81,7 @@ impl MatchedGroups {
     pub(crate) fn are_lawful(&self)
         ensures { AreHeldLawfully self.now }
     {
-        self.groups.are_lawful();
+        self.groups.may_be_declared();
     }
 
     /// The occurrences of the group at a place.

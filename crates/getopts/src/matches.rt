@@ -4,14 +4,23 @@ ghost use Rattle.std.specs.Prelude.{◌≡◌, map, IfOk};
 ghost use Rattle.std.specs.String.{string_bytes};
 ghost use Rattle.getopts.specs.Options.{knowns_of};
 ghost use Rattle.getopts.specs.Matches.{matched};
-ghost use Rattle.getopts.specs.Held.Accepted.{IsHeldLine};
+ghost use Rattle.getopts.specs.Held.ReadLine.{IsOfGroups};
 
-use crate::accepted::AcceptedLine;
 use crate::groups::Groups;
+use crate::index::Index;
 use crate::line::Line;
 use crate::matched::MatchedGroups;
+use crate::table::Table;
 use std::alloc::AllocError;
 use std::marker::Model;
+
+/// A line that was read, with the table of the names that it was read by, and where its options stand.
+#[derive(Drop)]
+pub(crate) struct ReadLine {
+    pub table: Table,
+    pub line: Line,
+    pub index: Index,
+}
 
 /// What an accepted line gave: the options by name, and the words that are no option.
 #[derive(Debug, Drop)]
@@ -39,15 +48,15 @@ impl Model for Matches {
 
 impl Matches {
     /// What a line gives to groups.
-    pub(crate) fn of_line(groups: Groups, accepted: AcceptedLine) -> Matches
-        requires { IsHeldLine groups accepted }
+    pub(crate) fn of_line(groups: Groups, read: ReadLine) -> Matches
+        requires { IsOfGroups groups read }
         ensures { result ≡ record {
-          groups = matched 0 (knowns_of groups) accepted.line.found;
-          free = map string_bytes accepted.line.free.items;
-          trailing_start = accepted.line.trailing_start;
+          groups = matched 0 (knowns_of groups) read.line.found;
+          free = map string_bytes read.line.free.items;
+          trailing_start = read.line.trailing_start;
         } }
     {
-        let AcceptedLine { table, line, index } = accepted;
+        let ReadLine { table, line, index } = read;
         let Line {
             found,
             free,

@@ -7,7 +7,7 @@ ghost use Rattle.std.specs.Cmp.Lexicographic.{pointwise};
 ghost use Rattle.std.specs.Cmp.Rules.{comparing};
 ghost use Rattle.std.proofs.Common.{rules};
 ghost use Rattle.getopts.specs.Names.{AreLawful};
-ghost use Rattle.getopts.specs.Options.{group_of, with_group, knowns_of, AreLawfullyNamed};
+ghost use Rattle.getopts.specs.Options.{group_of, with_group, knowns_of, MayBeDeclared};
 
 use crate::groups::{Group, Groups, HasArg, Kinds, Occur, ParsingStyle};
 use std::alloc::{AllocError, Global};
@@ -122,7 +122,7 @@ impl Options {
 // What the other modules read of options.
 impl Options {
     ghost use Rattle.getopts.specs.Canon.{main_at};
-    ghost use Rattle.getopts.specs.Held.Groups.{HaveTextsForShorts, group_view};
+    ghost use Rattle.getopts.specs.Held.Groups.{group_view};
 
     pub(crate) fn style(&self) -> ParsingStyle
         ensures { result ≡ self.now.style }
@@ -136,13 +136,12 @@ impl Options {
         self.long_only
     }
 
-    /// The groups. They are lawfully named, by texts.
+    /// The groups.
     pub(crate) fn groups(&self) -> &Groups
         ensures groups { result.now ≡ self.now.groups }
-        ensures lawful { AreLawfullyNamed self.now.groups }
-        ensures shorts { HaveTextsForShorts self.now.groups }
+        ensures declared { MayBeDeclared self.now.groups }
     {
-        self.groups.are_lawful();
+        self.groups.may_be_declared();
         &self.groups
     }
 

@@ -1,39 +1,87 @@
-//! Reading a line: the words that an iterator gives, read and counted.
+//! Reading a line: its words are scanned, and then its counts are checked.
 
-ghost use Rattle.std.specs.Prelude.{length, IfOk, IfErr, OnOk};
+ghost use Rattle.std.specs.Prelude.{◌≡◌, ◌↔◌, IsTrue, IfOk, IfErr, OnOk, length};
+ghost use Rattle.std.specs.Iterator.{IsFinite};
+ghost use Rattle.std.specs.Iterator.Runs.{WholeRun};
 ghost use Rattle.getopts.specs.Fail.{Tells};
+ghost use Rattle.getopts.specs.Matches.{matched, count_fault, FitsCount, KeepsCounts, IsCountFault};
 ghost use Rattle.getopts.specs.Names.{texts};
+ghost use Rattle.getopts.specs.Options.{knowns_of};
+ghost use Rattle.getopts.specs.Held.ReadLine.{IsOfGroups};
 
 use crate::fail::Fail;
-use crate::matches::Matches;
+use crate::groups::{Groups, Occur};
+use crate::index::Index;
+use crate::line::Line;
+use crate::matches::{Matches, ReadLine};
 use crate::options::Options;
-use crate::words::words_from;
-use std::alloc::Global;
+use crate::scan::{FIRST_ROOM, Scanner, are_texts};
+use crate::table::Table;
+use std::alloc::{AllocError, Global};
 
 impl Options {
-    ghost use Rattle.std.specs.Iterator.{IsFinite};
-    ghost use Rattle.std.specs.Iterator.Runs.{WholeRun};
     ghost use Rattle.getopts.specs.Options.{grammar_of};
     ghost use Rattle.getopts.specs.ScanLaws.{HavePositionsBelow};
-    ghost use Rattle.getopts.specs.Parse.{IsAccepted, IsRefused, KeepsReadingLaws};
-    ghost use Rattle.getopts.specs.Holds.{HoldDeclared, HaveLastWordsFree, Accepts};
+    ghost use Rattle.getopts.specs.Parse.{IsAccepted, IsRefused, HasReading, HasNoReading};
+    ghost use Rattle.getopts.specs.Parse.{KeepsReadingLaws};
+    ghost use Rattle.getopts.specs.Holds.{HoldDeclared, HoldGiven, HaveLastWordsFree, Accepts};
+    ghost use Rattle.getopts.specs.Held.ReadLine.{IsReadLine, IsAcceptedLine};
 
     /// Reads the words of a line, without the program's own name.
     ///
     /// Every list of words is one of three things, and only one: it has a reading that keeps the counts,
-    /// and the answer is what that reading gives; it has a reading that breaks them, and the answer is the
+    /// and the result is what that reading gives; it has a reading that breaks them, and the result is the
     /// fault of the first option, in order of definition, that is missing or came too often; or it has no
-    /// reading, and the answer is the first fault in the order of the words. `Fail::OutOfMemory` comes
-    /// where memory was refused, in place of any other answer. All items of the iterator are taken before
-    /// any of these answers.
-    ///
-    /// The iterator has to end; `words.iter().copied()` of a list of words does. A refusal gives no
-    /// matches, and the options stay as they are.
+    /// reading, and the result is the first fault in the order of the words. `Fail::OutOfMemory` comes
+    /// where memory was refused, in place of any other result. A refusal gives no matches, and the options
+    /// stay as they are.
     ///
     /// With an option `o`/`output` that needs an argument, `["-ofile", "x"]`, `["-o", "file", "x"]` and
     /// `["--output=file", "x"]` all give `output` the value `file`, and the free word `x`.
     ///
-    /// The Rust takes words that may be no UTF-8, and refuses those.
+    /// The Rust has no such call: its `parse` takes an iterator.
+    pub fn parse_words(&self, alloc: Global, words: &[&str]) -> crate::Result
+        ensures accepted { IfOk result (IsAccepted self.now (texts words.now)) }
+        ensures refused { IfErr result (λ fail. Tells fail
+            (IsRefused self.now (texts words.now))) }
+
+        // What was found of each declared option is as it is declared.
+        ensures declared { IfOk result (λ matches. HoldDeclared self.now matches.groups) }
+        ensures positions_below { IfOk result (λ matches.
+            HavePositionsBelow (length words.now) matches.groups) }
+        ensures free_last { IfOk result (λ matches.
+            HaveLastWordsFree self.now (texts words.now) matches.free) }
+
+        // By these options: other spellings of a line, lines one after the other, and where free words and
+        // occurrences stand.
+        ensures laws { OnOk result (KeepsReadingLaws (grammar_of self.now)) }
+    {
+        let accepted = self.accepted_line(alloc, words)?;
+        Ok(Matches::of_line(self.groups().clone()?, accepted))
+    }
+
+    /// Reads the words of a line, as `parse_words` does, whatever their counts.
+    ///
+    /// It is for a program that prints its help also where a required option is missing: it calls this
+    /// first, prints its help where the help option was given, and then calls `parse_words`. The result is
+    /// `Ok` exactly where the words have a reading. Then the matches are what that reading gives, though a
+    /// required option may be missing and an option that may come once may have come again. The faults of
+    /// the words themselves come as from `parse_words`. The Rust has no such call.
+    pub fn parse_ignoring_counts(&self, alloc: Global, words: &[&str]) -> crate::Result
+        ensures read { IfOk result (HasReading self.now (texts words.now)) }
+        ensures refused { IfErr result (λ fail. Tells fail
+            (HasNoReading self.now (texts words.now))) }
+        ensures given { IfOk result (λ matches. HoldGiven self.now matches.groups) }
+    {
+        let read = self.read_line(alloc, words)?;
+        Ok(Matches::of_line(self.groups().clone()?, read))
+    }
+
+    /// Reads the words of a line, as `parse_words` does, over the items of an iterator.
+    ///
+    /// The iterator has to end; `words.iter().copied()` of a list of words does. All its items are taken
+    /// before any result but `Fail::OutOfMemory`. The Rust takes words that may be no UTF-8, and refuses
+    /// those.
     pub fn parse<'a, I: Iterator<Item = &'a str> + Drop>(
         &self,
         alloc: Global,
@@ -45,35 +93,94 @@ impl Options {
             (λ run. Accepts self.now run.items matches)) }
         ensures refused { IfErr result (λ fail. Tells fail (λ fault. WholeRun I.next_gives args
             (λ run. IsRefused self.now (texts run.items) fault))) }
-
-        // What was found of each declared option is as it is declared.
-        ensures told { IfOk result (λ matches. HoldDeclared self.now matches.groups) }
-
-        // By these options: other spellings of a line, lines one after the other, and where free words and
-        // occurrences stand.
+        ensures declared { IfOk result (λ matches. HoldDeclared self.now matches.groups) }
         ensures laws { OnOk result (KeepsReadingLaws (grammar_of self.now)) }
     {
         let words = words_from(alloc, args)?;
         self.parse_words(alloc, &words)
     }
 
-    /// Reads the words of a line, as `parse` does, from a list that is lent.
-    ///
-    /// `options.parse_words(alloc, &words)` is `options.parse(alloc, words.iter().copied())` with no list
-    /// of words made for it, and its clauses are over the list itself. The Rust has no such call.
-    pub fn parse_words(&self, alloc: Global, words: &[&str]) -> crate::Result
-        ensures accepted { IfOk result (IsAccepted self.now (texts words.now)) }
+    /// Reads a line, and checks its counts.
+    pub(crate) fn accepted_line(&self, alloc: Global, words: &[&str]) -> Result<ReadLine, Fail>
+        ensures accepted { IfOk result (IsAcceptedLine self.now (texts words.now)) }
         ensures refused { IfErr result (λ fail. Tells fail
             (IsRefused self.now (texts words.now))) }
-        ensures told { IfOk result (λ matches. HoldDeclared self.now matches.groups) }
-        ensures positions_below { IfOk result (λ matches.
-            HavePositionsBelow (length words.now) matches.groups) }
-        ensures free_last { IfOk result (λ matches.
-            HaveLastWordsFree self.now (texts words.now) matches.free) }
-        ensures laws { OnOk result (KeepsReadingLaws (grammar_of self.now)) }
     {
-        let accepted = self.accepted_line(alloc, words)?;
-        let groups = self.groups().clone()?;
-        Ok(Matches::of_line(groups, accepted))
+        let read = self.read_line(alloc, words)?;
+        check_counts(alloc, self.groups(), &read)?;
+        Ok(read)
+    }
+
+    /// Reads a line, whatever its counts.
+    fn read_line(&self, alloc: Global, words: &[&str]) -> Result<ReadLine, Fail>
+        ensures read { IfOk result (IsReadLine self.now (texts words.now)) }
+        ensures refused { IfErr result (λ fail. Tells fail
+            (HasNoReading self.now (texts words.now))) }
+    {
+        are_texts(words);
+        let groups = self.groups();
+        let table = Table::of(alloc, groups)?;
+        let scanner = Scanner {
+            options: self,
+            table: &table,
+        };
+        let line = scanner.scan(alloc, words)?;
+        let index = Index::of(alloc, groups.len(), &line.found)?;
+        Ok(ReadLine { table, line, index })
+    }
+}
+
+/// The words that an iterator gives, in order. Each request for memory that fails is reported.
+pub(crate) fn words_from<'a, I: Iterator<Item = &'a str> + Drop>(
+    alloc: Global,
+    args: I,
+) -> Result<Vec<&'a str>, AllocError>
+    requires can { I.can_next args }
+    requires ends { IsFinite (I.remaining args) }
+    ensures { IfOk result (λ words. WholeRun I.next_gives args (λ run. words.items ≡ run.items)) }
+{
+    let room = args.size_hint().0.min(FIRST_ROOM);
+    let mut words = Vec::with_capacity(alloc, room)?;
+    for word in args {
+        words.push(word)?;
+    }
+    Ok(words)
+}
+
+/// Checks how often the options of a line came, group by group in order of definition.
+fn check_counts(alloc: Global, groups: &Groups, read: &ReadLine) -> Result<(), Fail>
+    requires { IsOfGroups groups.now read.now }
+    ensures ok { OnOk result (KeepsCounts (matched 0 (knowns_of groups.now) read.now.line.found)) }
+    ensures err { IfErr result (λ fail. Tells fail
+        (IsCountFault (matched 0 (knowns_of groups.now) read.now.line.found))) }
+{
+    for place in 0..groups.len() {
+        let count = read.index.count(place);
+        if !fits_count(groups.kinds_at(place).occurrence, count) {
+            return Err(count_fault(alloc, groups.main(place), count));
+        }
+    }
+    Ok(())
+}
+
+/// Whether an option may come so many times.
+fn fits_count(occurrence: Occur, count: usize) -> bool
+    ensures { IsTrue result ↔ FitsCount occurrence count }
+{
+    match occurrence {
+        Occur::Req => count == 1,
+        Occur::Optional => count <= 1,
+        Occur::Multi => true,
+    }
+}
+
+/// The fault of an option that came so many times.
+fn count_fault(alloc: Global, main: &str, count: usize) -> Fail
+    ensures { Tells result (λ fault. fault ≡ count_fault main.now count) }
+{
+    if count == 0 {
+        Fail::option_missing(alloc, main)
+    } else {
+        Fail::option_duplicated(alloc, main)
     }
 }

@@ -3,10 +3,10 @@
 ghost use Rattle.std.specs.Prelude.{◌≡◌, ◌≢◌, ◌<◌, ◌∷◌, ◌++◌, [], length, MatchOption, OnSome};
 ghost use Rattle.std.specs.Prelude.{Some, None, Err, false, IfOk, IfErr, slice_index, OnOk, map};
 ghost use Rattle.std.specs.String.{string_bytes};
-ghost use Rattle.std.specs.Str.{IsCharBoundary};
 ghost use Rattle.std.specs.Option.{option_copied};
 ghost use Rattle.getopts.specs.Fail.{Tells};
-ghost use Rattle.getopts.specs.Names.{Text, texts};
+ghost use Rattle.std.specs.Str.{IsCharBoundary, IsUtf8};
+ghost use Rattle.getopts.specs.Names.{AreTexts, Text, texts};
 ghost use Rattle.getopts.specs.Scan.{dash, is_dashed, holds_equals, IsScanFault};
 ghost use Rattle.getopts.specs.Held.Turn.{with_equals, first_char, chosen_end, Chooses};
 
@@ -15,8 +15,25 @@ use crate::groups::{HasArg, ParsingStyle};
 use crate::line::{Line, LineOccurrences, Occurrence};
 use crate::options::Options;
 use crate::table::Table;
-use crate::words::{FIRST_ROOM, are_texts};
 use std::alloc::{AllocError, Global};
+
+/// The words that there is room for before the first has come, at most: an iterator may give fewer
+/// than it promises, and a line may give no option.
+pub(crate) const FIRST_ROOM: usize = 1024;
+
+/// A `&str` is a text.
+fn is_text(word: &str)
+    ensures { IsUtf8 word.now }
+{}
+
+/// Each word is UTF-8, as its type says: a law to cite, of which nothing is left once built.
+pub fn are_texts(words: &[&str])
+    ensures { AreTexts (texts words.now) }
+{
+    for word in words {
+        is_text(word);
+    }
+}
 
 /// The options by which words are read, and the table of their names.
 #[derive(Clone, Copy)]
@@ -281,12 +298,12 @@ impl<'o> Scanner<'o> {
     /// Reads a line: its items, and what follows the stop or the first free word.
     pub(crate) fn scan(&self, alloc: Global, words: &[&str]) -> Result<Line, Fail>
         requires lawful { IsLawfulScanner self.now }
+        requires texts { AreTexts (texts words.now) }
         ensures ok { IfOk result (λ line.
             ReadsLine (scanner_grammar self.now) (texts words.now) line) }
         ensures err { IfErr result (λ fail. Tells fail
             (IsScanFault (scanner_grammar self.now) (texts words.now))) }
     {
-        are_texts(words);
         let stops = self.options.style() == ParsingStyle::StopAtFirstFree;
         let mut line = Line::with_capacity(alloc, words.len().min(FIRST_ROOM))?;
         let mut at = 0;

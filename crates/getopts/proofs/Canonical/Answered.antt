@@ -7,27 +7,28 @@ use Rattle.std.proofs.lemmas.List.Folds.{list_any_at, list_all-map}
 use Rattle.std.specs.List.{AllByRecursion, list_all}
 use Rattle.std.specs.String.{string_bytes}
 use Rattle.getopts.specs.Names.{Text}
-use Rattle.getopts.specs.Options.{Group, Declared, AreLawfullyNamed, grammar_of, knowns_of}
+use Rattle.getopts.specs.Options.{Group, Declared, MayBeDeclared, grammar_of, knowns_of}
 use Rattle.getopts.specs.Fail.{Fault}
 use Rattle.getopts.specs.Scan.{equals_sign, holds_equals, Reading, IsScanFault, Occurrence}
 use Rattle.getopts.specs.ScanLaws.{mentions_of}
 use Rattle.getopts.specs.Held.Line.{line_content}
 use Rattle.getopts.specs.Matches.{Matched, MatchedGroup, matches_of, matched, KeepsCount}
 use Rattle.getopts.specs.Matches.{KeepsCounts, IsCountFault}
-use Rattle.getopts.specs.Parse.{Reads, IsAccepted, BreaksCounts, IsRefused}
+use Rattle.getopts.specs.Parse.{Reads, IsAccepted, HasReading, BreaksCounts, IsRefused}
 use Rattle.getopts.specs.Canon.{Content, IsCountKeeping, content_of, main_at, IsPlain}
 use Rattle.getopts.specs.Canon.{canonical_line, IsAcceptedWith, Says}
-use Rattle.getopts.specs.Held.AcceptedLine.{IsAcceptedLine}
+use Rattle.getopts.specs.Held.ReadLine.{IsReadLine, IsAcceptedLine}
 use Rattle.std.specs.Str.{IsUtf8}
 use Rattle.getopts.specs.CanonAnswers.{IsWritten, IsUnwritable, IsParseAnswer}
 use Rattle.getopts.specs.CanonAnswers.{IsCanonicalAnswer, KeepsLineLaws}
-use Rattle.getopts.specs.declared.accepted.AcceptedLine.{AcceptedLine}
+use Rattle.getopts.specs.declared.matches.ReadLine.{ReadLine}
 use Rattle.getopts.proofs.Canonical.Lines.{is_plain-true, is_plain-false, HasCanonicalLine-says}
 use Rattle.getopts.proofs.Canonical.Lines.{Says-accepted, IsSound-says}
 use Rattle.getopts.proofs.Canonical.Lines.{HasUnwritable-content, OneLineOneContent-lawful}
 use Rattle.getopts.proofs.Parsing.Counts.{broken_count}
 use Rattle.getopts.proofs.Parsing.Only.{meets}
 use Rattle.getopts.proofs.Parsing.Parsed.{only_reads, named_here, groups_are, IsAccepted-reading}
+use Rattle.getopts.proofs.Parsing.Parsed.{HasReading-reading}
 use Rattle.getopts.proofs.Scanning.Words.{holds_equals-none}
 
 -- a test that finds `=` just where it is
@@ -62,7 +63,18 @@ pub count_keeping : (options : Declared) (words : List Text) (content : Content)
     (is : IsAcceptedWith options words content) → IsCountKeeping options is.reading words
 count_keeping options words content is = record { reads = meets (Reads options words) is.reading is.only; keeps = is.counts }
 
-module _ (options : Declared) (words : List Text) (accepted : AcceptedLine)
+-- the matches of a line that was read are those of its reading
+pub HasReading-line : (options : Declared) (words : List Text) (read : ReadLine)
+    → IsReadLine options words read → HasReading options words (record {
+      groups = matched 0 (knowns_of options.groups) read.line.found;
+      free = map string_bytes read.line.free.items;
+      trailing_start = read.line.trailing_start;
+    })
+HasReading-line options words read is =
+    HasReading-reading options is.declared words is.reads.reading is.reads.reads read.line.found is.reads.occurrences
+    (map string_bytes read.line.free.items) read.line.trailing_start is.reads.free is.reads.trailing
+
+module _ (options : Declared) (words : List Text) (accepted : ReadLine)
     (is : IsAcceptedLine options words accepted) where
   -- the matches of the line are accepted
   pub IsAccepted-line : IsAccepted options words (record {
@@ -70,23 +82,23 @@ module _ (options : Declared) (words : List Text) (accepted : AcceptedLine)
     free = map string_bytes accepted.line.free.items;
     trailing_start = accepted.line.trailing_start;
   })
-  IsAccepted-line = IsAccepted-reading options is.lawful is.shorts words is.reads.reading is.reads.reads
-      accepted.line.found is.reads.occurrences (map string_bytes accepted.line.free.items)
-      accepted.line.trailing_start is.keeps is.reads.free is.reads.trailing
+  IsAccepted-line = IsAccepted-reading options is.is_read.declared words is.is_read.reads.reading is.is_read.reads.reads
+      accepted.line.found is.is_read.reads.occurrences (map string_bytes accepted.line.free.items)
+      accepted.line.trailing_start is.keeps is.is_read.reads.free is.is_read.reads.trailing
 
   -- the words are accepted with what the line says
   pub IsAcceptedWith-line : IsAcceptedWith options words (line_content accepted.line)
   IsAcceptedWith-line =
-      let reading = is.reads.reading in
+      let reading = is.is_read.reads.reading in
       let told : map (λ (o : Occurrence). o.mention) accepted.line.found ≡ mentions_of (grammar_of options) reading =
-      ap (map (λ (o : Occurrence). o.mention)) is.reads.occurrences in
+      ap (map (λ (o : Occurrence). o.mention)) is.is_read.reads.occurrences in
       record {
         reading = reading;
-        only = only_reads options is.lawful is.shorts words reading is.reads.reads;
+        only = only_reads options is.is_read.declared words reading is.is_read.reads.reads;
         counts = subst KeepsCounts
-            (groups_are options is.lawful is.shorts words reading is.reads.reads accepted.line.found
-            is.reads.occurrences) is.keeps;
-        content_is = λ i. record { mentions = told i; free = is.reads.free i };
+            (groups_are options is.is_read.declared words reading is.is_read.reads.reads accepted.line.found
+            is.is_read.reads.occurrences) is.keeps;
+        content_is = λ i. record { mentions = told i; free = is.is_read.reads.free i };
       }
 
   -- and the line says it
@@ -120,11 +132,10 @@ module _ (options : Declared) (words : List Text) (accepted : AcceptedLine)
       }
 
 -- answered lines keep their laws
-pub KeepsLineLaws-lawful : (options : Declared) → AreLawfullyNamed options.groups
-    → AllByRecursion (λ group. IsUtf8 group.known.names.short) options.groups
+pub KeepsLineLaws-lawful : (options : Declared) → MayBeDeclared options.groups
     → KeepsLineLaws options
-KeepsLineLaws-lawful options lawful shorts words line written =
-    HasCanonicalLine-says options words written.content lawful (named_here options lawful shorts)
+KeepsLineLaws-lawful options declared words line written =
+    HasCanonicalLine-says options words written.content declared.named (named_here options declared)
     (Says-accepted options options.style options.long_only words written.content written.accepted) written.plain
 
 -- what an answered line meets, and what holds where none is answered

@@ -22,7 +22,7 @@ use Rattle.getopts.specs.Accessors.{AreHeldLawfully, found_in, place_of, values_
 use Rattle.getopts.specs.Same.{same_known, same_found, same_matched_group}
 use Rattle.getopts.specs.Accessors.{pair_view}
 use Rattle.getopts.specs.Matches.{found_part}
-use Rattle.getopts.specs.Held.Accepted.{index_of}
+use Rattle.getopts.specs.Held.Index.{index_of}
 use Rattle.getopts.proofs.Parsing.Counts.{length-matched}
 use Rattle.getopts.proofs.Held.Known.{length-knowns_of, names-knowns_of}
 use Rattle.getopts.proofs.Held.Index.{filter_map-places_of, places_of-within}

@@ -29,8 +29,8 @@ IsReadAs-weaker P Q follows (Some text) (Err error) read = follows text (Err err
 
 -- options that are written out may be declared where this test of their names says so
 pub MayBeDeclared-plain : (options : Declared) → are_plain options.groups ≡ true
-    → MayBeDeclared options
-MayBeDeclared-plain options plain = let lawful = lawful_groups options.groups plain in record { named = lawful.0; shorts = lawful.1 }
+    → MayBeDeclared options.groups
+MayBeDeclared-plain options plain = lawful_groups options.groups plain
 
 -- ---- lines that say the same
 

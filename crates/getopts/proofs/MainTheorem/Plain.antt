@@ -7,7 +7,7 @@ use Rattle.std.proofs.lemmas.Bool.{and_parts, ltb-true}
 use Rattle.std.proofs.lemmas.Bool.Decides.{nat_tests}
 use Rattle.std.proofs.lemmas.Str.{IsUtf8-from_ascii}
 use Rattle.getopts.specs.Names.{Text, Names, IsLawfullyNamed}
-use Rattle.getopts.specs.Options.{Group, AreLawfullyNamed}
+use Rattle.getopts.specs.Options.{Group, MayBeDeclared}
 
 -- whether a short name is empty, or one byte of ASCII
 abbrev pub is_plain_short : Text → Bool
@@ -45,11 +45,14 @@ abbrev pub are_plain : List Group → Bool
 are_plain groups = list_all (λ group. are_plain_names group.known.names) groups
 
 pub lawful_groups : (groups : List Group) → are_plain groups ≡ true
-    → AreLawfullyNamed groups × AllByRecursion (λ group. IsUtf8 group.known.names.short) groups
-lawful_groups [] plain = (tt, tt)
+    → MayBeDeclared groups
+lawful_groups [] plain = record { named = tt; shorts = tt }
 lawful_groups (group ∷ groups) plain =
     let names = group.known.names in
     let parts = and_parts (are_plain_names group.known.names) (are_plain groups) plain in
     let short = and_parts (is_plain_short names.short) (not (length names.long == 1) && nat_lt 0 (length names.short + length names.long)) parts.0 in
     let others = lawful_groups groups parts.1 in
-    ((plain_lawful names parts.0, others.0), (IsUtf8-from_ascii names.short (short_ascii names.short short.0), others.1))
+    record {
+      named = (plain_lawful names parts.0, others.named);
+      shorts = (IsUtf8-from_ascii names.short (short_ascii names.short short.0), others.shorts);
+    }

@@ -3,7 +3,7 @@ use Rattle.std.proofs.Common.{◌⊎◌, List, refl, sym, subst, inl, inr, Optio
 use Rattle.std.specs.List.{AllByRecursion}
 use Rattle.std.specs.Str.{IsUtf8}
 use Rattle.getopts.specs.Names.{Text, AreTexts}
-use Rattle.getopts.specs.Options.{Declared, AreLawfullyNamed, grammar_of}
+use Rattle.getopts.specs.Options.{Declared, MayBeDeclared, grammar_of}
 use Rattle.getopts.specs.Fail.{Fault}
 use Rattle.getopts.specs.Scan.{Reading, IsReading, IsScanFault}
 use Rattle.getopts.specs.Matches.{Matched, MatchedGroup, matches_of, KeepsCounts, IsCountFault}
@@ -33,10 +33,9 @@ KeepsCounts-cases groups = by_fault (first_count_fault groups) (first_count_faul
   by_fault None kept = inl kept
   by_fault (Some fault) is = inr (fault, is)
 
-module _ (options : Declared) (lawful : AreLawfullyNamed options.groups)
-    (shorts : AllByRecursion (λ group. IsUtf8 group.known.names.short) options.groups) where
+module _ (options : Declared) (declared : MayBeDeclared options.groups) where
   named : IsNamed (grammar_of options)
-  named = named_here options lawful shorts
+  named = named_here options declared
 
   -- words have one reading at most
   pub OneReading-options : OneReading options
@@ -47,7 +46,7 @@ module _ (options : Declared) (lawful : AreLawfullyNamed options.groups)
       → IsAccepted options words (matches_of options reading)
   accepted words reading keeps = record {
     reading = reading;
-    only = only_reads options lawful shorts words reading keeps.reads;
+    only = only_reads options declared words reading keeps.reads;
     counts = keeps.keeps;
     matches_are = refl;
   }
@@ -56,7 +55,7 @@ module _ (options : Declared) (lawful : AreLawfullyNamed options.groups)
       → IsAcceptedWith options words (content_of options reading)
   accepted_with words reading keeps = record {
     reading = reading;
-    only = only_reads options lawful shorts words reading keeps.reads;
+    only = only_reads options declared words reading keeps.reads;
     counts = keeps.keeps;
     content_is = refl;
   }
@@ -65,7 +64,7 @@ module _ (options : Declared) (lawful : AreLawfullyNamed options.groups)
   pub HasCanonicalLine-options : (words : List Text) (content : Content)
       → Says options words content → IsPlain options.groups content
       → HasCanonicalLine options content
-  HasCanonicalLine-options words content says plain = HasCanonicalLine-says options words content lawful named says plain
+  HasCanonicalLine-options words content says plain = HasCanonicalLine-says options words content declared.named named says plain
 
   -- accepted exactly when a reading keeps the counts
   pub AcceptedExactlyWhen-options : AcceptedExactlyWhen options
@@ -90,13 +89,13 @@ module _ (options : Declared) (lawful : AreLawfullyNamed options.groups)
       → IsCountFault (matches_of options reading).groups fault → BreaksCounts options words fault
   breaks_counts words fault reading reads breaks = record {
     reading = reading;
-    only = only_reads options lawful shorts words reading reads;
+    only = only_reads options declared words reading reads;
     breaks = breaks;
   }
 
   refused : (words : List Text) (fault : Fault) → AreTexts words → IsFirstFault words fault
       → IsRefused options words fault
-  refused words fault texts (inl scan) = inl (HasNoReading-fault options lawful shorts words texts fault scan)
+  refused words fault texts (inl scan) = inl (HasNoReading-fault options declared words texts fault scan)
   refused words fault texts (inr count) = inr (breaks_counts words fault count.0 count.1 count.2)
 
   -- refused exactly when none does
@@ -116,7 +115,7 @@ module _ (options : Declared) (lawful : AreLawfullyNamed options.groups)
       | inl keeps ↦ inl (matches_of options read.0, accepted words read.0 (record { reads = read.1; keeps = keeps }))
       | inr breaks ↦ inr (inl (breaks.0, breaks_counts words breaks.0 read.0 read.1 breaks.1))
     ]
-    | inr fault ↦ inr (inr (fault.0, HasNoReading-fault options lawful shorts words texts fault.0 fault.1))
+    | inr fault ↦ inr (inr (fault.0, HasNoReading-fault options declared words texts fault.0 fault.1))
   ]
 
   -- `parse` has one answer
@@ -133,4 +132,4 @@ module _ (options : Declared) (lawful : AreLawfullyNamed options.groups)
 
   -- two canonical lines
   pub OneLineOneContent-options : OneLineOneContent options
-  OneLineOneContent-options = OneLineOneContent-lawful options lawful
+  OneLineOneContent-options = OneLineOneContent-lawful options declared.named

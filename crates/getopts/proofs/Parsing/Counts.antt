@@ -12,7 +12,7 @@ use Rattle.getopts.specs.Fail.{Fault}
 use Rattle.getopts.specs.Scan.{Occurrence}
 use Rattle.getopts.specs.Matches.{Found, MatchedGroup, found_at, matched, KeepsCount, KeepsCounts}
 use Rattle.getopts.specs.Matches.{FitsCount, count_fault, IsCountFault}
-use Rattle.getopts.specs.Held.Accepted.{index_of}
+use Rattle.getopts.specs.Held.Index.{index_of}
 use Rattle.getopts.specs.Held.Groups.{kinds_of}
 use Rattle.getopts.specs.declared.groups.Kinds.{Kinds}
 use Rattle.getopts.proofs.Lists.{AllByRecursion-append, take-get, slice_get-drop}

@@ -17,9 +17,9 @@ use Rattle.getopts.specs.Matches.{Found, Matched, MatchedGroup, found_at, matche
 use Rattle.getopts.specs.Matches.{KeepsCounts}
 use Rattle.getopts.specs.Accessors.{IsDefined, place_of, found_of, found_in, first_value}
 use Rattle.getopts.specs.Scan.{FitsKind}
-use Rattle.getopts.specs.Parse.{IsAccepted}
+use Rattle.getopts.specs.Parse.{IsAccepted, HasReading}
 use Rattle.getopts.specs.Holds.{HaveLastWordsFree, AreGroupsOf, HaveValuesByKind}
-use Rattle.getopts.specs.Holds.{HoldDeclared, Accepts}
+use Rattle.getopts.specs.Holds.{HoldGiven, HoldDeclared, Accepts}
 use Rattle.getopts.specs.ScanLaws.{EndIn, HavePositionsBelow}
 use Rattle.getopts.specs.declared.groups.ParsingStyle.TheVariants.{FloatingFrees, StopAtFirstFree}
 use Rattle.getopts.specs.declared.groups.HasArg.{HasArg}
@@ -31,7 +31,8 @@ use Rattle.getopts.proofs.Canonical.Lines.{kind_at, FitsGroup, IsFitting-reading
 use Rattle.getopts.proofs.Held.Matches.{knowns-matched}
 use Rattle.getopts.proofs.Reading.Readings.{spelled_all-append}
 use Rattle.getopts.proofs.Held.Known.{names-knowns_of}
-use Rattle.getopts.proofs.Parsing.Parsed.{counts-accepted, positions_below-accepted}
+use Rattle.getopts.proofs.Parsing.Parsed.{HasReading-accepted, counts-accepted, positions_below-accepted}
+use Rattle.getopts.proofs.Parsing.Parsed.{HavePositionsInOrder-read}
 use Rattle.getopts.proofs.Scanning.Loop.{length-texts}
 
 -- each occurrence has a value, or none, as this kind of argument wants
@@ -188,21 +189,21 @@ kind_at-known (group ∷ groups) zero known there = ap (λ (k : Known). Some k.k
 kind_at-known (group ∷ groups) (suc i) known there = kind_at-known groups i known there
 
 module _ (options : Declared) (words : List Text) (matches : Matched)
-    (accepted : IsAccepted options words matches) where
+    (has : HasReading options words matches) where
   groups_are : matches.groups
-      ≡ matched 0 (knowns_of options.groups) (occurrences_of (grammar_of options) accepted.reading)
-  groups_are = ap (λ (m : Matched). m.groups) accepted.matches_are
+      ≡ matched 0 (knowns_of options.groups) (occurrences_of (grammar_of options) has.reading)
+  groups_are = ap (λ (m : Matched). m.groups) has.matches_are
 
-  -- accepted matches hold the groups of the options
-  AreGroupsOf-accepted : AreGroupsOf options matches.groups
-  AreGroupsOf-accepted = ap (map (λ (group : MatchedGroup). group.known)) groups_are
-      ∙ knowns-matched 0 (knowns_of options.groups) (occurrences_of (grammar_of options) accepted.reading)
+  -- matches hold the groups of the options
+  AreGroupsOf-read : AreGroupsOf options matches.groups
+  AreGroupsOf-read = ap (map (λ (group : MatchedGroup). group.known)) groups_are
+      ∙ knowns-matched 0 (knowns_of options.groups) (occurrences_of (grammar_of options) has.reading)
 
   -- and values as their kinds want
-  HaveValuesByKind-accepted : HaveValuesByKind matches.groups
-  HaveValuesByKind-accepted =
-      let occurrences = occurrences_of (grammar_of options) accepted.reading in
-      let fits = IsFitting-reading options accepted.reading words ((accepted.only accepted.reading).1 refl) in
+  HaveValuesByKind-read : HaveValuesByKind matches.groups
+  HaveValuesByKind-read =
+      let occurrences = occurrences_of (grammar_of options) has.reading in
+      let fits = IsFitting-reading options has.reading words ((has.only has.reading).1 refl) in
       let each : AllByRecursion (λ o. FitsGroup options.groups o.mention) occurrences =
       AllByRecursion-unmap (FitsGroup options.groups)
       (λ (o : Occurrence). o.mention) occurrences fits in
@@ -212,19 +213,26 @@ module _ (options : Declared) (words : List Text) (matches : Matched)
       (kind_at-known options.groups i known there)) each)
 
   -- and what the options declare of their groups
-  pub HoldDeclared-accepted : HoldDeclared options matches.groups
-  HoldDeclared-accepted =
-      let are = AreGroupsOf-accepted in
-      let counted = counts-accepted options words matches accepted in
-      record {
-        same_groups = are;
-        counts_kept = counted.0;
-        positions_in_order = counted.1;
-        values_fit = HaveValuesByKind-accepted;
-        defined = defined-groups options matches.groups are;
-        required = required-groups options matches.groups are counted.0;
-        needed = needed-groups options matches.groups are HaveValuesByKind-accepted;
-      }
+  pub HoldGiven-read : HoldGiven options matches.groups
+  HoldGiven-read = record {
+    same_groups = AreGroupsOf-read;
+    positions_in_order = HavePositionsInOrder-read options words matches has;
+    values_fit = HaveValuesByKind-read;
+    defined = defined-groups options matches.groups AreGroupsOf-read;
+    needed = needed-groups options matches.groups AreGroupsOf-read HaveValuesByKind-read;
+  }
+
+-- accepted matches keep the counts besides
+pub HoldDeclared-accepted : (options : Declared) (words : List Text) (matches : Matched)
+    → IsAccepted options words matches → HoldDeclared options matches.groups
+HoldDeclared-accepted options words matches accepted =
+    let given = HoldGiven-read options words matches (HasReading-accepted options words matches accepted) in
+    let counts = counts-accepted options words matches accepted in
+    record {
+      given = given;
+      counts_kept = counts;
+      required = required-groups options matches.groups given.same_groups counts;
+    }
 
 -- the words of a tail end in its free words
 EndIn-tail : (tail : Tail) → EndIn (tail_words tail) (tail_frees tail)

@@ -4,13 +4,14 @@ use Rattle.std.specs.List.{AllByRecursion}
 use Rattle.std.specs.Str.{IsUtf8}
 use Rattle.getopts.specs.Only.{IsTheOnly}
 use Rattle.getopts.specs.Names.{Text, AreTexts}
-use Rattle.getopts.specs.Options.{Declared, AreLawfullyNamed, knowns_of, grammar_of}
+use Rattle.getopts.specs.Options.{Declared, MayBeDeclared, knowns_of, grammar_of}
 use Rattle.getopts.specs.Fail.{Fault}
 use Rattle.getopts.specs.Scan.{Reading, IsReading, IsScanFault, Occurrence, occurrences_of}
 use Rattle.getopts.specs.Scan.{free_words, trailing_start}
 use Rattle.getopts.specs.Matches.{Matched, matched, matches_of, KeepsCounts, IsCountFault}
 use Rattle.getopts.specs.ScanLaws.{HavePositionsInOrder, HavePositionsBelow}
-use Rattle.getopts.specs.Parse.{Reads, IsAccepted, BreaksCounts, HasNoReading, KeepsReadingLaws}
+use Rattle.getopts.specs.Parse.{Reads, IsAccepted, HasReading, BreaksCounts}
+use Rattle.getopts.specs.Parse.{HasNoReading, KeepsReadingLaws}
 use Rattle.getopts.proofs.Lookup.Names.{named_grammar}
 use Rattle.getopts.proofs.Parsing.Only.{IsTheOnly-from, meets}
 use Rattle.getopts.proofs.Reading.Laws.{LongAttachedOrSeparate_lem, ShortAttachedOrSeparate_lem}
@@ -21,11 +22,10 @@ use Rattle.getopts.proofs.Reading.Positions.{PositionsAreWords_lem, HavePosition
 use Rattle.getopts.proofs.Reading.Readings.{only_reading, only_fault, no_reading}
 use Rattle.getopts.proofs.Reading.Turns.{IsNamed}
 
-module _ (options : Declared) (lawful : AreLawfullyNamed options.groups)
-    (shorts : AllByRecursion (λ group. IsUtf8 group.known.names.short) options.groups) where
+module _ (options : Declared) (declared : MayBeDeclared options.groups) where
   -- the grammar is one of names
   pub named_here : IsNamed (grammar_of options)
-  named_here = named_grammar options lawful shorts
+  named_here = named_grammar options declared
 
   module _ (words : List Text) where
     -- a reading is the only one
@@ -50,6 +50,21 @@ module _ (options : Declared) (lawful : AreLawfullyNamed options.groups)
       pub groups_are : matched 0 (knowns_of options.groups) occurrences
           ≡ (matches_of options reading).groups
       groups_are = ap (matched 0 (knowns_of options.groups)) occurrences_are
+
+      -- words with a reading have its matches
+      pub HasReading-reading : (frees : List Text) (trailing : Option ℕ)
+          → frees ≡ free_words reading → trailing ≡ trailing_start reading
+          → HasReading options words
+          (record {
+            groups = matched 0 (knowns_of options.groups) occurrences;
+            free = frees;
+            trailing_start = trailing;
+          })
+      HasReading-reading frees trailing free_are trailing_is = record {
+        reading = reading;
+        only = only_reads reading reads;
+        matches_are = λ i. record { groups = groups_are i; free = free_are i; trailing_start = trailing_is i };
+      }
 
       -- a reading that keeps the counts is accepted
       pub IsAccepted-reading : (frees : List Text) (trailing : Option ℕ)
@@ -93,16 +108,27 @@ module _ (options : Declared) (lawful : AreLawfullyNamed options.groups)
     positions = PositionsAreWords_lem (grammar_of options);
   }
 
--- accepted matches keep the counts, and their positions are in order
+-- accepted words have a reading
+pub HasReading-accepted : (options : Declared) (words : List Text) (matches : Matched)
+    → IsAccepted options words matches → HasReading options words matches
+HasReading-accepted options words matches accepted = record {
+  reading = accepted.reading;
+  only = accepted.only;
+  matches_are = accepted.matches_are;
+}
+
+-- accepted matches keep the counts
 pub counts-accepted : (options : Declared) (words : List Text) (matches : Matched)
-    → IsAccepted options words matches
-    → KeepsCounts matches.groups × HavePositionsInOrder matches.groups
+    → IsAccepted options words matches → KeepsCounts matches.groups
 counts-accepted options words matches accepted =
-    let groups : (matches_of options accepted.reading).groups ≡ matches.groups = ap (λ (m : Matched). m.groups) (sym accepted.matches_are) in (
-      subst KeepsCounts groups accepted.counts,
-      subst HavePositionsInOrder groups
-          (HavePositionsInOrder-matched (grammar_of options) accepted.reading 0 (knowns_of options.groups)),
-    )
+    subst KeepsCounts (ap (λ (m : Matched). m.groups) (sym accepted.matches_are)) accepted.counts
+
+-- positions are in order
+pub HavePositionsInOrder-read : (options : Declared) (words : List Text) (matches : Matched)
+    → HasReading options words matches → HavePositionsInOrder matches.groups
+HavePositionsInOrder-read options words matches has =
+    subst HavePositionsInOrder (ap (λ (m : Matched). m.groups) (sym has.matches_are))
+    (HavePositionsInOrder-matched (grammar_of options) has.reading 0 (knowns_of options.groups))
 
 -- the positions of accepted matches are below the number of words
 pub positions_below-accepted : (options : Declared) (words : List Text) (matches : Matched)

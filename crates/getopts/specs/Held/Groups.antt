@@ -1,11 +1,10 @@
 -- What is seen of groups that are held or borrowed.
 use Rattle.std.specs.Prelude.{◌≡◌, ◌==◌, ℕ, ◌-◌, ◌≤◌, Bool, List, [], ◌∷◌, length, take, drop}
-use Rattle.std.specs.List.{AllByRecursion}
 use Rattle.std.specs.Ordering.{on, eq_of_both}
-use Rattle.std.specs.Str.{IsUtf8, IsCharBoundary}
+use Rattle.std.specs.Str.{IsCharBoundary}
 use Rattle.std.specs.String.{string_bytes}
 use Rattle.getopts.specs.Names.{Text, Names}
-use Rattle.getopts.specs.Options.{Known, Group, AreLawfullyNamed}
+use Rattle.getopts.specs.Options.{Known, Group, MayBeDeclared}
 use Rattle.getopts.specs.Same.{same_known}
 use Rattle.getopts.specs.declared.names.Names.{Names as HeldNames}
 use Rattle.getopts.specs.declared.groups.Kinds.{Kinds}
@@ -71,19 +70,14 @@ AreTextsOf text start [] = start ≡ length text
 AreTextsOf text start (group ∷ groups) =
     AreEndsOf text start group × AreTextsOf text group.desc_end groups
 
--- the short names of groups are texts
-abbrev pub HaveTextsForShorts : List Group → Type 0
-HaveTextsForShorts groups = AllByRecursion (λ group. IsUtf8 group.known.names.short) groups
-
 -- the groups that are held
 abbrev pub groups_view : Inside → List Group
 groups_view inside = groups_from (string_bytes inside.text) 0 inside.records.items
 
--- the one text is that of lawfully named groups, whose short names are texts
+-- the one text is that of groups that may be declared
 pub record HoldGroups (inside : Inside) : Type 0 where
   pub parts : AreTextsOf (string_bytes inside.text) 0 inside.records.items
-  pub lawful : AreLawfullyNamed (groups_view inside)
-  pub shorts : HaveTextsForShorts (groups_view inside)
+  pub declared : MayBeDeclared (groups_view inside)
 
 -- whether the ends and the kinds of two records are the same
 abbrev pub same_record : GroupRecord → GroupRecord → Bool

@@ -3,8 +3,7 @@ use Rattle.std.specs.Prelude.{◌≡◌, false, None, List, [], map}
 use Rattle.std.specs.Option.{option_copied}
 use Rattle.std.specs.String.{string_bytes}
 use Rattle.getopts.specs.Names.{Text}
-use Rattle.getopts.specs.Options.{Grammar, AreLawfullyNamed, names_of, grammar_of}
-use Rattle.getopts.specs.Held.Groups.{HaveTextsForShorts}
+use Rattle.getopts.specs.Options.{Grammar, MayBeDeclared, names_of, grammar_of}
 use Rattle.getopts.specs.Held.Table.{IsTableOf}
 use Rattle.getopts.specs.Canon.{Content}
 use Rattle.getopts.specs.Scan.{Dashes, is_dashed, stop_word, Occurrence, Reading, IsReading}
@@ -27,10 +26,9 @@ occurrence_view held = record {
 abbrev pub scanner_grammar : Scanner → Grammar
 scanner_grammar scanner = grammar_of scanner.options.now
 
--- the options of a scanner are lawfully named, by texts, and its table is that of their names
+-- the options of a scanner are declared, and its table is that of their names
 pub record IsLawfulScanner (scanner : Scanner) : Type 0 where
-  pub lawful : AreLawfullyNamed scanner.options.now.groups
-  pub shorts : HaveTextsForShorts scanner.options.now.groups
+  pub declared : MayBeDeclared scanner.options.now.groups
   pub table : IsTableOf (names_of scanner.options.now.groups) scanner.table.now
 
 -- what a word is to a line

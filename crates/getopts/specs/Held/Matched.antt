@@ -3,7 +3,7 @@ use Rattle.std.specs.Prelude.{◌≡◌, List, length}
 use Rattle.getopts.specs.Options.{knowns_of, names_of}
 use Rattle.getopts.specs.Matches.{MatchedGroup, matched}
 use Rattle.getopts.specs.Held.Table.{IsTableOf}
-use Rattle.getopts.specs.Held.Accepted.{index_of}
+use Rattle.getopts.specs.Held.Index.{index_of}
 use Rattle.getopts.specs.declared.matched.MatchedGroups.TheInside.{Inside}
 
 -- the groups, each with what was found of it

@@ -8,7 +8,7 @@ use Rattle.getopts.specs.Names.{main_name}
 use Rattle.getopts.specs.Options.{Group}
 use Rattle.getopts.specs.Matches.{found_at}
 use Rattle.getopts.specs.Scan.{Occurrence, holds_equals}
-use Rattle.getopts.specs.Held.Accepted.{index_of}
+use Rattle.getopts.specs.Held.Index.{index_of}
 use Rattle.getopts.specs.Canon.{main_at}
 use Rattle.getopts.proofs.Parsing.Counts.{length-found_at, list_all-by_group}
 use Rattle.getopts.proofs.Parsing.Counts.{list_all-fails_by_group}
@@ -38,22 +38,22 @@ returns-then-holds_equals c =
     let groups = c.args.options.now.groups in
     let holds : holds_equals (main_at groups c.loop-place.place) ≡ true =
     sym (c.holds_equals.ensures ∙ ap holds_equals c.main.ensures) ∙ c.if-holds_equals.true in
-    let some : 0 < length (found_at c.loop-place.place c.args.accepted.now.line.found) =
+    let some : 0 < length (found_at c.loop-place.place c.args.read.now.line.found) =
     omega (
       arith,
-      counted groups c.args.accepted.now.line.found c.args.accepted.now.index c.loop-place.place
+      counted groups c.args.read.now.line.found c.args.read.now.index c.loop-place.place
           c.count.result c.requires.index (omega arith) c.count.ensures,
       c.if-count-gt0.true,
     ) in
     sym (list_all-fails_by_group (λ group. not (holds_equals (main_at groups group))) c.loop-place.place
-    c.args.accepted.now.line.found (ap not holds) some)
+    c.args.read.now.line.found (ap not holds) some)
 
 pub loop-place-preserved : goal.loop-place-preserved
 loop-place-preserved c =
     let groups = c.args.options.now.groups in
-    let found = c.args.accepted.now.line.found in
+    let found = c.args.read.now.line.found in
     let place = c.loop-place.place in
-    let counted = counted groups found c.args.accepted.now.index place c.count.result c.requires.index (omega arith) c.count.ensures in
+    let counted = counted groups found c.args.read.now.index place c.count.result c.requires.index (omega arith) c.count.ensures in
     let passes : ℕ → Type 0 = λ group. 0 < length (found_at group found) → not (holds_equals (main_at groups group)) ≡ true in
     let last : passes place = elim c.else-count-gt0.branch [
       | else-count-gt0-via-then-count-gt0+else-holds_equals w ↦ λ some. ap not
@@ -65,7 +65,7 @@ loop-place-preserved c =
 pub returns : goal.returns
 returns c =
     let groups = c.args.options.now.groups in
-    let found = c.args.accepted.now.line.found in
+    let found = c.args.read.now.line.found in
     sym (list_all-by_group (λ group. not (holds_equals (main_at groups group))) found (λ group some. elim (cases_lt group (length groups)) [
       | inl within ↦ c.loop-place.invariant group (omega arith) some
       | inr past ↦ plain_past groups group (omega arith)

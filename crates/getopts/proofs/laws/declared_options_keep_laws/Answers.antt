@@ -7,7 +7,7 @@ use Rattle.getopts.proofs.laws.declared_options_keep_laws.Goals as goal
 
 pub returns : goal.returns
 returns c = record {
-  reading_laws = λ options may. keeps_laws options may.named may.shorts;
-  line_laws = λ options may. KeepsLineLaws-lawful options may.named may.shorts;
-  holds_same = λ options may. OneContentHoldsSame_lem options (AcceptedExactlyWhen-options options may.named may.shorts);
+  reading_laws = λ options may. keeps_laws options may;
+  line_laws = λ options may. KeepsLineLaws-lawful options may;
+  holds_same = λ options may. OneContentHoldsSame_lem options (AcceptedExactlyWhen-options options may);
 }

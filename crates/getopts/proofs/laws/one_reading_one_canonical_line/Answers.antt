@@ -13,18 +13,17 @@ use Rattle.getopts.proofs.laws.one_reading_one_canonical_line.Goals as goal
 pub returns : goal.returns
 returns c =
     let options = c.args.options.now in
-    let lawful = c.groups-groups.ensures.lawful in
-    let shorts = c.groups-groups.ensures.shorts in
+    let declared = c.groups-groups.ensures.declared in
     record {
-      one_reading = OneReading-options options lawful shorts;
-      one_reading_in_each = λ style long_only. OneReading-options (with_setting options style long_only) lawful shorts;
-      accepted = AcceptedExactlyWhen-options options lawful shorts;
-      refused = RefusedExactlyWhen-options options lawful shorts;
-      one_answer = HaveOneAnswer-options options lawful shorts;
-      holds_same = OneContentHoldsSame_lem options (AcceptedExactlyWhen-options options lawful shorts);
-      one_line_one_content = OneLineOneContent-options options lawful shorts;
-      canonical_lines = HasCanonicalLine-options options lawful shorts;
-      line_laws = KeepsLineLaws-lawful options lawful shorts;
-      reading_laws = keeps_laws options lawful shorts;
+      one_reading = OneReading-options options declared;
+      one_reading_in_each = λ style long_only. OneReading-options (with_setting options style long_only) declared;
+      accepted = AcceptedExactlyWhen-options options declared;
+      refused = RefusedExactlyWhen-options options declared;
+      one_answer = HaveOneAnswer-options options declared;
+      holds_same = OneContentHoldsSame_lem options (AcceptedExactlyWhen-options options declared);
+      one_line_one_content = OneLineOneContent-options options declared;
+      canonical_lines = HasCanonicalLine-options options declared;
+      line_laws = KeepsLineLaws-lawful options declared;
+      reading_laws = keeps_laws options declared;
       sound = IsSound-says options;
     }

@@ -53,12 +53,14 @@ invariant_of-self-2 c =
     let same = (pushed c).1 in
     record {
       parts = (pushed c).0;
-      lawful = rw same
-          (AllByRecursion-append (λ (g : Group). IsLawfullyNamed g.known.names) _ (group c ∷ []) c.self.invariant.lawful
-          (c.requires, tt));
-      shorts = rw same
-          (AllByRecursion-append (λ (g : Group). Rattle.std.specs.Str.IsUtf8 g.known.names.short) _ (group c ∷ [])
-          c.self.invariant.shorts (c.utf8.short, tt));
+      declared = record {
+        named = rw same
+            (AllByRecursion-append (λ (g : Group). IsLawfullyNamed g.known.names) _ (group c ∷ [])
+            c.self.invariant.declared.named (c.requires, tt));
+        shorts = rw same
+            (AllByRecursion-append (λ (g : Group). Rattle.std.specs.Str.IsUtf8 g.known.names.short) _ (group c ∷ [])
+            c.self.invariant.declared.shorts (c.utf8.short, tt));
+      };
     }
 
 pub returns-clause-ok : goal.returns-clause-ok

@@ -2,7 +2,7 @@
 use Rattle.std.proofs.Common.{◌≡◌, ◌∙◌, length, sym}
 use Rattle.getopts.specs.Options.{knowns_of}
 use Rattle.getopts.specs.Matches.{matched}
-use Rattle.getopts.specs.Held.Accepted.{index_of}
+use Rattle.getopts.specs.Held.Index.{index_of}
 use Rattle.getopts.proofs.matched.MatchedGroupsClone.clone.Goals as goal
 
 pub invariant_of-result : goal.invariant_of-result

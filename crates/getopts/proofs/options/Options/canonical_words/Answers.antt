@@ -17,8 +17,8 @@ returns-else-are_plain-clause-unwritable c =
 
 pub returns-in_ok-canonical_line-clause-laws : goal.returns-in_ok-canonical_line-clause-laws
 returns-in_ok-canonical_line-clause-laws c =
-    KeepsLineLaws-lawful c.args.self.now c.in_ok-accepted.ensures.accepted.lawful c.in_ok-accepted.ensures.accepted.shorts
+    KeepsLineLaws-lawful c.args.self.now c.in_ok-accepted.ensures.accepted.is_read.declared
 
 pub returns-else-are_plain-clause-laws : goal.returns-else-are_plain-clause-laws
 returns-else-are_plain-clause-laws c =
-    KeepsLineLaws-lawful c.args.self.now c.in_ok-accepted.ensures.accepted.lawful c.in_ok-accepted.ensures.accepted.shorts
+    KeepsLineLaws-lawful c.args.self.now c.in_ok-accepted.ensures.accepted.is_read.declared

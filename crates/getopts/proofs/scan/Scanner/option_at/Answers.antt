@@ -21,7 +21,7 @@ pub returns-else-is_ascii : goal.returns-else-is_ascii
 returns-else-is_ascii c =
     let wide : 128 ≤ slice_index c.args.text.now c.args.at = grind (arith, common_steps) in
     record {
-      option = wide_unknown c.args.self.now.options.now c.requires.lawful.lawful c.requires.lawful.shorts
+      option = wide_unknown c.args.self.now.options.now c.requires.lawful.declared
           (slice_index c.args.text.now c.args.at) wide;
       ascii = tt;
     }

@@ -1,6 +1,6 @@
 -- The words are those that the iterator gave so far.
 use Rattle.std.proofs.Common.{◌≡◌}
-use Rattle.getopts.proofs.words.words_from.Given as goal
+use Rattle.getopts.proofs.parse.words_from.Given as goal
 
 abbrev pub invariant-loop-word : goal.invariant-loop-word
 invariant-loop-word g l = l.words.items ≡ l.yielded

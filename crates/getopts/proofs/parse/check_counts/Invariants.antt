@@ -2,7 +2,7 @@
 use Rattle.std.proofs.Common.{take}
 use Rattle.getopts.specs.Options.{knowns_of}
 use Rattle.getopts.specs.Matches.{matched, KeepsCounts}
-use Rattle.getopts.proofs.counts.counted.Given as goal
+use Rattle.getopts.proofs.parse.check_counts.Given as goal
 
 abbrev pub invariant-loop-place : goal.invariant-loop-place
-invariant-loop-place l = KeepsCounts (take l.place (matched 0 (knowns_of l.groups) l.fn.found))
+invariant-loop-place l = KeepsCounts (take l.place (matched 0 (knowns_of l.groups) l.read.line.found))

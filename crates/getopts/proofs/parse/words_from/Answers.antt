@@ -1,7 +1,7 @@
 -- After the last word the run is whole.
 use Rattle.std.proofs.Common.{◌∙◌, sym, subst}
 use Rattle.std.proofs.iter.SoFar.{exit_by}
-use Rattle.getopts.proofs.words.words_from.Goals as goal
+use Rattle.getopts.proofs.parse.words_from.Goals as goal
 
 pub returns : goal.returns
 returns g c =

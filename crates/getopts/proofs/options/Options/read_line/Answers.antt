@@ -1,0 +1,36 @@
+-- The line that was read and its scan fault are those of the declared options.
+use Rattle.std.proofs.lemmas.Result.{err_from_is_err_and}
+use Rattle.getopts.specs.Names.{texts}
+use Rattle.getopts.specs.Options.{grammar_of}
+use Rattle.getopts.specs.Scan.{IsScanFault}
+use Rattle.getopts.specs.Parse.{HasNoReading}
+use Rattle.getopts.proofs.Parsing.Faults.{Tells-weaker}
+use Rattle.getopts.proofs.Parsing.Parsed.{HasNoReading-fault}
+use Rattle.getopts.proofs.options.Options.read_line.Goals as goal
+
+pub scan-requires : goal.scan-requires
+scan-requires c = record {
+  lawful = record {
+    declared = c.groups-groups.ensures.declared;
+    table = rw c.groups-groups.ensures.groups at c.in_ok-table.ensures;
+  };
+  texts = c.are_texts.ensures;
+}
+
+pub returns-in_err-line-clause-refused : goal.returns-in_err-line-clause-refused
+returns-in_err-line-clause-refused c =
+    let left = err_from_is_err_and c.from_residual-in_err-line.result c.from_residual-in_err-line.ensures.1 in
+    rw (left.1, left.2)
+    (Tells-weaker c.in_err-line.field-0.0 (IsScanFault (grammar_of c.args.self.now) (texts c.args.words.now))
+    (HasNoReading c.args.self.now (texts c.args.words.now)) c.in_err-line.ensures.err
+    (HasNoReading-fault c.args.self.now c.groups-groups.ensures.declared (texts c.args.words.now) c.are_texts.ensures))
+
+pub returns-clause-read : goal.returns-clause-read
+returns-clause-read c = record {
+  declared = c.groups-groups.ensures.declared;
+  of_groups = record {
+    table = rw c.groups-groups.ensures.groups at c.in_ok-table.ensures;
+    index = rw (c.len.ensures.len, c.groups-groups.ensures.groups) at c.in_ok-index.ensures;
+  };
+  reads = c.in_ok-line.ensures.ok;
+}

@@ -1,0 +1,26 @@
+-- What is found in words, as the code holds it: what they give, the table of names that they were read by, and
+-- where the occurrences stand.
+use Rattle.std.specs.Prelude.{◌≡◌, List, length}
+use Rattle.getopts.specs.Names.{Text}
+use Rattle.getopts.specs.Options.{Group, Declared, MayBeDeclared, names_of, knowns_of, grammar_of}
+use Rattle.getopts.specs.Matches.{matched, KeepsCounts}
+use Rattle.getopts.specs.Held.Index.{index_of}
+use Rattle.getopts.specs.Held.Line.{ReadsLine}
+use Rattle.getopts.specs.Held.Table.{IsTableOf}
+use Rattle.getopts.specs.declared.matches.ReadLine.{ReadLine}
+
+-- a line that was read holds the table and the index of these groups
+pub record IsOfGroups (groups : List Group) (read : ReadLine) : Type 0 where
+  pub table : IsTableOf (names_of groups) read.table
+  pub index : read.index ≡ index_of (length groups) read.line.found
+
+-- words were read to this line by declared options
+pub record IsReadLine (options : Declared) (words : List Text) (read : ReadLine) : Type 0 where
+  pub declared : MayBeDeclared options.groups
+  pub of_groups : IsOfGroups options.groups read
+  pub reads : ReadsLine (grammar_of options) words read.line
+
+-- and the line keeps the counts
+pub record IsAcceptedLine (options : Declared) (words : List Text) (read : ReadLine) : Type 0 where
+  pub is_read : IsReadLine options words read
+  pub keeps : KeepsCounts (matched 0 (knowns_of options.groups) read.line.found)
