@@ -1,5 +1,5 @@
 -- The answers of `canonical`: what it answers to accepted words, and what holds of contents.
-use Rattle.std.specs.Prelude.{◌≡◌, ◌↔◌, Bool, List, Option, MatchOption, Result, MatchResult}
+use Rattle.std.specs.Prelude.{◌≡◌, List, Option, MatchOption, Result, MatchResult}
 use Rattle.getopts.specs.Names.{Text}
 use Rattle.getopts.specs.Options.{Declared}
 use Rattle.getopts.specs.Fail.{Fault}
@@ -7,8 +7,7 @@ use Rattle.getopts.specs.Matches.{Matched}
 use Rattle.getopts.specs.Parse.{IsAccepted, IsRefused}
 pub use Rattle.getopts.specs.Canon.{IsAcceptedWith}
 use Rattle.getopts.specs.Canon.{Content, IsPlain, IsSound, canonical_line, HasCanonicalLine}
-use Rattle.getopts.specs.Canon.{HasUnwritable, with_setting}
-use Rattle.getopts.specs.declared.groups.ParsingStyle.{ParsingStyle}
+use Rattle.getopts.specs.Canon.{HasUnwritable}
 
 -- The words are accepted with a content that is plain, and this is its canonical line.
 pub record IsWritten (options : Declared) (words line : List Text) : Type 0 where

@@ -7,7 +7,7 @@ use Rattle.getopts.specs.Options.{Declared, grammar_of}
 use Rattle.getopts.specs.Fail.{Fault}
 use Rattle.getopts.specs.Scan.{Reading, IsScanFault}
 use Rattle.getopts.specs.Matches.{Matched, matches_of, IsCountFault}
-use Rattle.getopts.specs.Parse.{Reads, IsAccepted, BreaksCounts, HasNoReading, IsRefused}
+use Rattle.getopts.specs.Parse.{Reads, IsAccepted, IsRefused}
 use Rattle.getopts.specs.Canon.{Content, content_of, IsPlain, canonical_line, IsCountKeeping, Says}
 use Rattle.getopts.specs.CanonAnswers.{IsParseAnswer}
 

@@ -1,7 +1,7 @@
 //! The canonical line: what a line says, written again with main names alone.
 
-ghost use Rattle.std.specs.Prelude.{◌≡◌, map, IfOk, IfErr, IfSome, IfNone, OnOk, not};
-ghost use Rattle.std.specs.List.{list_all};
+ghost use Rattle.std.specs.Prelude.{◌≡◌, ◌<◌, length, map, IfOk, IfErr, IfSome, IfNone, OnOk, not};
+ghost use Rattle.std.specs.List.{AllByRecursion, list_all};
 ghost use Rattle.std.specs.Option.{option_copied};
 ghost use Rattle.std.specs.String.{string_bytes};
 ghost use Rattle.getopts.specs.Fail.{Tells};
@@ -12,10 +12,11 @@ ghost use Rattle.getopts.specs.Scan.{holds_equals, long_word, two};
 ghost use Rattle.getopts.specs.Canon.{main_at, canonical_line};
 
 use crate::fail::Fail;
-use crate::line::Line;
+use crate::groups::Groups;
 use crate::matches::ReadLine;
 use crate::options::Options;
 use crate::parse::words_from;
+use crate::scan::Line;
 use std::alloc::{AllocError, Global};
 
 /// Whether a text holds `=`.
@@ -26,14 +27,14 @@ fn holds_equals(text: &str) -> bool
 }
 
 /// Whether no group with an occurrence has a main name that holds `=`.
-fn are_plain(options: &Options, read: &ReadLine) -> bool
-    requires { IsOfGroups options.now.groups read.now }
+fn are_plain(groups: &Groups, read: &ReadLine) -> bool
+    requires { IsOfGroups groups.now read.now }
     ensures { result
-        ≡ list_all (λ o. not (holds_equals (main_at options.now.groups o.mention.group)))
+        ≡ list_all (λ o. not (holds_equals (main_at groups.now o.mention.group)))
         read.now.line.found }
 {
-    for place in 0..options.group_count() {
-        if read.index.count(place) > 0 && holds_equals(options.main(place)) {
+    for place in 0..groups.len() {
+        if read.index.count(place) > 0 && holds_equals(groups.main(place)) {
             return false;
         }
     }
@@ -66,18 +67,18 @@ fn canonical_word(alloc: Global, main: &str, value: Option<&str>) -> Result<Stri
 }
 
 /// The words of the occurrences, then `--`, then the free words.
-fn canonical_line(alloc: Global, options: &Options, line: Line) -> Result<Vec<String>, AllocError>
+fn canonical_line(alloc: Global, groups: &Groups, line: Line) -> Result<Vec<String>, AllocError>
+    requires { AllByRecursion (λ o. o.mention.group < length groups.now) line.found }
     ensures { IfOk result (λ words. map string_bytes words.items
-        ≡ canonical_line options.now.groups (line_content line)) }
+        ≡ canonical_line groups.now (line_content line)) }
 {
     let Line { found, free, .. } = line;
     let room = found.len().saturating_add(free.len()).saturating_add(1);
     let mut words = Vec::with_capacity(alloc, room)?;
     for place in 0..found.len() {
-        if let Some(occurrence) = found.get(place) {
-            let main = options.main(occurrence.group);
-            words.push(canonical_word(alloc, main, occurrence.value)?)?;
-        }
+        let occurrence = found.at(place);
+        let main = groups.main(occurrence.group);
+        words.push(canonical_word(alloc, main, occurrence.value)?)?;
     }
     words.push(String::from_str(alloc, "--")?)?;
     for word in free {
@@ -146,8 +147,9 @@ impl Options {
         ensures laws { OnOk result (KeepsLineLaws self.now) }
     {
         let accepted = self.accepted_line(alloc, words)?;
-        if are_plain(self, &accepted) {
-            Ok(Some(canonical_line(alloc, self, accepted.line)?))
+        let groups = self.groups();
+        if are_plain(groups, &accepted) {
+            Ok(Some(canonical_line(alloc, groups, accepted.line)?))
         } else {
             Ok(None)
         }

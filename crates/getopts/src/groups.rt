@@ -214,7 +214,7 @@ impl Groups {
         let _records = &self.records;
     }
 
-    /// The kinds of the group at a place, where there is one.
+    /// The kinds of the group at a place.
     #[inline(always)]
     pub(crate) fn kinds_at(&self, place: usize) -> Kinds
         requires { place < length self.now }
@@ -224,32 +224,28 @@ impl Groups {
         self.records[place].kinds
     }
 
-    /// The main name of the group at a place. Past the last group it is empty.
+    /// The main name of the group at a place.
     pub(crate) fn main(&self, place: usize) -> &str
+        requires { place < length self.now }
         ensures { result.now ≡ main_at self.now place }
     {
-        match self.known(place) {
-            Some(known) => known.names.main(),
-            None => "",
-        }
+        self.known(place).names.main()
     }
 
     /// The name of this number, where each group in turn has two, the short one first. Past the last
-    /// it is empty.
+    /// it is empty: the calls that sort and search a table want closures which take every entry.
     pub(crate) fn name(&self, number: usize) -> &str
         ensures { result.now ≡ name_at (names_of self.now) number }
     {
         let place = number / 2;
+        if place >= self.len() {
+            return "";
+        }
+        let names = self.known(place).names;
         if number % 2 == 0 {
-            match self.known(place) {
-                Some(known) => known.names.short,
-                None => "",
-            }
+            names.short
         } else {
-            match self.known(place) {
-                Some(known) => known.names.long,
-                None => "",
-            }
+            names.long
         }
     }
 
@@ -262,28 +258,30 @@ impl Groups {
 
     /// What is known of the group at a place: its texts start where those of the one before it end.
     #[inline]
-    pub(crate) fn known(&self, place: usize) -> Option<Known<'_>>
-        ensures { option_map known_view result
+    pub(crate) fn known(&self, place: usize) -> Known<'_>
+        requires { place < length self.now }
+        ensures { Some (known_view result)
             ≡ option_map (λ group. group.known) (slice_get self.now place) }
     {
-        let group = *self.records.get(place)?;
+        let group = self.records[place];
         let start = start_of(&self.records, place);
         let short = &self.text[start..group.short_end];
         let long = &self.text[group.short_end..group.long_end];
         let names = Names { short, long };
         let kinds = group.kinds;
-        Some(Known { names, kinds })
+        Known { names, kinds }
     }
 
     /// The group at a place.
-    pub(crate) fn get(&self, place: usize) -> Option<Group<'_>>
-        ensures { option_map group_view result ≡ slice_get self.now place }
+    pub(crate) fn get(&self, place: usize) -> Group<'_>
+        requires { place < length self.now }
+        ensures { Some (group_view result) ≡ slice_get self.now place }
     {
-        let group = *self.records.get(place)?;
-        let known = self.known(place)?;
+        let group = self.records[place];
+        let known = self.known(place);
         let hint = &self.text[group.long_end..group.hint_end];
         let desc = &self.text[group.hint_end..group.desc_end];
-        Some(Group { known, hint, desc })
+        Group { known, hint, desc }
     }
 
     /// Whether the names and the kinds of each group in order are the same, whatever their help.

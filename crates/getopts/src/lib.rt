@@ -2,16 +2,12 @@
 #![tactic(auto)]
 
 mod accessors;
-mod adding;
 mod canon;
 mod fail;
 mod groups;
 mod index;
 mod laws;
-mod line;
-mod matched;
 mod matches;
-mod matches_eq;
 mod names;
 mod occurrences;
 mod options;
@@ -30,7 +26,7 @@ pub use laws::{
 };
 pub use matches::Matches;
 pub use names::names_lawful;
-pub use occurrences::Occurrences;
+pub use occurrences::{Occurrences, OccurrencesIter};
 pub use options::Options;
 pub use scan::are_texts;
 pub use usage::UsageRows;

@@ -1,15 +1,18 @@
-//! What an accepted line gave, as it is held: options with their values, and free words.
+//! What an accepted line gave, as it is held: options with their values by group, and free words.
 
-ghost use Rattle.std.specs.Prelude.{◌≡◌, map, IfOk};
+ghost use Rattle.std.specs.Prelude.{◌≡◌, ◌==◌, ◌↔◌, IsTrue, map, IfOk};
+ghost use Rattle.std.specs.Cmp.Lexicographic.{pointwise};
+ghost use Rattle.std.specs.Cmp.Rules.{comparing};
 ghost use Rattle.std.specs.String.{string_bytes};
-ghost use Rattle.getopts.specs.Options.{knowns_of};
+ghost use Rattle.std.proofs.Common.{rules};
 ghost use Rattle.getopts.specs.Matches.{matched};
+ghost use Rattle.getopts.specs.Options.{knowns_of};
 ghost use Rattle.getopts.specs.Held.ReadLine.{IsOfGroups};
 
 use crate::groups::Groups;
 use crate::index::Index;
-use crate::line::Line;
-use crate::matched::MatchedGroups;
+use crate::occurrences::{LineOccurrences, Occurrences};
+use crate::scan::Line;
 use crate::table::Table;
 use std::alloc::AllocError;
 use std::marker::Model;
@@ -64,7 +67,12 @@ impl Matches {
         } = line;
         Matches {
             free,
-            groups: MatchedGroups::of(groups, table, found, index),
+            groups: MatchedGroups {
+                groups,
+                table,
+                found,
+                index,
+            },
             trailing_start,
         }
     }
@@ -82,6 +90,140 @@ impl Clone for Matches {
             free: self.free.clone()?,
             groups: self.groups.clone()?,
             trailing_start: self.trailing_start,
+        })
+    }
+}
+
+/// Whether two lists of words are the same.
+fn same_words(words: &[String], others: &[String]) -> bool
+    ensures { result
+        ≡ pointwise (pointwise ◌==◌) (map string_bytes words.now) (map string_bytes others.now) }
+{
+    words == others
+}
+
+impl PartialEq for Matches {
+    ghost use Rattle.getopts.specs.Same.{same_matches};
+
+    ghost eq = { same_matches };
+
+    ghost laws = { Prim.search (comparing, rules) depth 14 };
+
+    /// Whether both hold the same: the groups' names and kinds, each group's positions and values, the
+    /// free words and the trailing start.
+    ///
+    /// Hints and descriptions don't count, nor does the order between options of different groups in
+    /// one cluster: after `-ab` and after `-ba` the matches are equal. Takes no memory; reads the
+    /// occurrences of both once.
+    fn eq(&self, other: &Matches) -> bool
+        ensures answer { result ≡ same_matches self.now other.now }
+        ensures same { IsTrue result ↔ (self.now ≡ other.now) }
+    {
+        self.groups.same(&other.groups)
+            && same_words(&self.free, &other.free)
+            && self.trailing_start == other.trailing_start
+    }
+}
+
+impl Eq for Matches {
+    ghost laws = { Prim.search (comparing, rules) depth 14 };
+}
+
+/// Groups, and what a line gave to each of them.
+#[derive(Debug)]
+pub(crate) struct MatchedGroups {
+    groups: Groups,
+    table: Table,
+    found: LineOccurrences,
+    index: Index,
+}
+
+impl Drop for MatchedGroups {
+    fn drop(self) {
+        let MatchedGroups {
+            groups: _,
+            table: _,
+            found: _,
+            index: _,
+        } = self;
+    }
+}
+
+impl Model for MatchedGroups {
+    ghost use Rattle.std.specs.Prelude.{List};
+    ghost use Rattle.getopts.specs.Matches.{MatchedGroup};
+    ghost use Rattle.getopts.specs.Held.Matched.{groups_view, KeepsGroups};
+
+    ghost Value = { List MatchedGroup };
+
+    ghost view = { groups_view };
+
+    ghost invariant = { KeepsGroups };
+}
+
+impl MatchedGroups {
+    ghost use Rattle.getopts.specs.Accessors.{AreHeldLawfully, place_of, found_in, found_of};
+    ghost use Rattle.getopts.specs.Same.{same_matched_group};
+
+    /// The place of the group that a name resolves to.
+    pub(crate) fn place_of(&self, name: &str) -> Option<usize>
+        ensures { result ≡ place_of self.now name.now }
+    {
+        self.table.resolve(&self.groups, name)
+    }
+
+    /// The groups are lawfully named: a law to cite, of which nothing is left once built.
+    pub(crate) fn are_lawful(&self)
+        ensures { AreHeldLawfully self.now }
+    {
+        self.groups.may_be_declared();
+    }
+
+    /// The occurrences of the group at a place.
+    pub(crate) fn occurrences_at(&self, place: usize) -> Occurrences<'_>
+        ensures { result ≡ found_in self.now place }
+    {
+        Occurrences::of(&self.found, self.index.places(place))
+    }
+
+    /// The occurrences of the group that a name resolves to. Of an undefined name there are none.
+    pub(crate) fn occurrences_of(&self, name: &str) -> Occurrences<'_>
+        ensures { result ≡ found_of self.now name.now }
+    {
+        match self.place_of(name) {
+            Some(place) => self.occurrences_at(place),
+            None => Occurrences::of(&self.found, &[]),
+        }
+    }
+
+    /// Whether the groups are the same, with their occurrences.
+    pub(crate) fn same(&self, other: &MatchedGroups) -> bool
+        ensures { result ≡ pointwise same_matched_group self.now other.now }
+    {
+        if !self.groups.same_knowns(&other.groups) {
+            return false;
+        }
+        for place in 0..self.groups.len() {
+            if !self
+                .occurrences_at(place)
+                .same(&other.occurrences_at(place))
+            {
+                return false;
+            }
+        }
+        true
+    }
+}
+
+impl Clone for MatchedGroups {
+    ghost is_clone = { λ a b. b ≡ a };
+
+    fn clone(&self) -> Result<MatchedGroups, AllocError> {
+        Ok(MatchedGroups {
+            groups: self.groups.clone()?,
+            table: self.table.clone()?,
+            found: self.found.clone()?,
+            index: self.index.clone()?,
         })
     }
 }

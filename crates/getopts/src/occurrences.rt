@@ -1,22 +1,209 @@
-//! The occurrences of one option group among those that matches hold.
+//! What a line gives: options in the order of the line, with their values, held together; and those of one group.
 
-ghost use Rattle.std.specs.Prelude.{◌≡◌, ◌↔◌, IsTrue, [], map, length, slice_get, IfOk};
+ghost use Rattle.std.specs.Prelude.{◌≡◌, ◌==◌, ◌↔◌, ◌<◌, ◌≤◌, ◌^◌, ◌*◌, ◌+◌, ◌/◌, ◌%◌, ◌∷◌, ◌++◌, []};
+ghost use Rattle.std.specs.Prelude.{Some, IfOk, OnOk, OnErr, IsTrue, map, length, get_or, slice_get};
 ghost use Rattle.std.specs.Cmp.Lexicographic.{pointwise};
+ghost use Rattle.std.specs.Iterator.{YieldsFirstBy, item_count};
 ghost use Rattle.std.specs.Option.{option_copied, option_map};
 ghost use Rattle.std.specs.String.{string_bytes};
 ghost use Rattle.getopts.specs.Accessors.{positions_of, values_of, pairs_of, first_value};
-ghost use Rattle.getopts.specs.Accessors.{first_value_or};
-ghost use Rattle.getopts.specs.Held.Occurrences.{founds_at, ArePlacesOf};
-ghost use Rattle.getopts.specs.Accessors.{held_found, pair_view};
+ghost use Rattle.getopts.specs.Accessors.{first_value_or, held_found, pair_view};
+ghost use Rattle.getopts.specs.Held.Occurrences.{founds_at, ArePlacesOf, value_ends};
 ghost use Rattle.getopts.specs.Same.{same_found};
 
-use crate::line::LineOccurrences;
 use std::alloc::{AllocError, Global};
 use std::marker::Model;
 
+/// One option that the words give: the place of its group, the index of its item's first word, and its
+/// value.
+#[derive(Clone, Copy)]
+pub(crate) struct Occurrence<'w> {
+    pub group: usize,
+    pub position: usize,
+    pub value: Option<&'w str>,
+}
+
+/// One option that a line gives. One number says where the values of the line end up to this option's
+/// own, and whether it has one.
+#[derive(Clone, Copy, Debug)]
+pub(crate) struct OccurrenceRecord {
+    pub group: usize,
+    pub position: usize,
+    packed: usize,
+}
+
+impl OccurrenceRecord {
+    ghost use Rattle.getopts.specs.Held.Occurrences.{values_end, has_value};
+
+    /// Where the values end, up to this option's own.
+    #[inline(always)]
+    fn values_end(&self) -> usize
+        ensures { result ≡ values_end self.now }
+    {
+        self.packed / 2
+    }
+
+    /// Whether it has a value.
+    #[inline(always)]
+    fn has_value(&self) -> bool
+        ensures { result ≡ has_value self.now }
+    {
+        self.packed % 2 == 1
+    }
+}
+
+/// Where the values of the options before a place end.
+#[inline(always)]
+fn values_start(records: &[OccurrenceRecord], place: usize) -> usize
+    requires { place ≤ length records.now }
+    ensures { result ≡ get_or (0 ∷ value_ends records.now) place 0 }
+{
+    if place == 0 {
+        return 0;
+    }
+    records[place - 1].values_end()
+}
+
+/// Where the values end and whether an option has one, as one number. A text has less than 2^63
+/// bytes, so there is room for both.
+#[inline(always)]
+fn packed(end: usize, has_value: bool) -> usize
+    requires { end < 2 ^ 63 }
+    ensures end { result / 2 ≡ end }
+    ensures value { (result % 2 == 1) ≡ has_value }
+{
+    if has_value { 2 * end + 1 } else { 2 * end }
+}
+
+/// The bytes that there is room for with each option, once one has a value: so few values grow nothing
+/// again.
+const VALUE_BYTES: usize = 8;
+
+/// Adds a value, the first with room for so many.
+#[inline(always)]
+fn push_value(values: &mut String, value: &str, room: usize) -> Result<(), AllocError>
+    ensures ok { OnOk result (string_bytes values.new ≡ string_bytes values.old ++ value.now) }
+    ensures err { OnErr result (string_bytes values.new ≡ string_bytes values.old) }
+{
+    if value.is_empty() {
+        return Ok(());
+    }
+    if values.is_empty() {
+        values.reserve(room.saturating_mul(VALUE_BYTES))?;
+    }
+    values.push_str(value)
+}
+
+/// The options that a line gives, in order, and their values as one text.
+#[derive(Debug)]
+pub(crate) struct LineOccurrences {
+    pub records: Vec<OccurrenceRecord>,
+    values: String,
+}
+
+impl Drop for LineOccurrences {
+    fn drop(self) {
+        let LineOccurrences {
+            records: _,
+            values: _,
+        } = self;
+    }
+}
+
+impl Model for LineOccurrences {
+    ghost use Rattle.std.specs.Prelude.{List};
+    ghost use Rattle.getopts.specs.Scan.{Occurrence};
+    ghost use Rattle.getopts.specs.Held.Occurrences.{found_view, HaveTheirValues};
+
+    ghost Value = { List Occurrence };
+
+    ghost view = { found_view };
+
+    ghost invariant = { HaveTheirValues };
+}
+
+impl LineOccurrences {
+    ghost use Rattle.getopts.specs.Held.Line.{occurrence_view};
+
+    /// No options, with room for so many.
+    pub(crate) fn with_capacity(alloc: Global, room: usize) -> Result<LineOccurrences, AllocError>
+        ensures { IfOk result (λ found. found ≡ []) }
+    {
+        Ok(LineOccurrences {
+            records: Vec::with_capacity(alloc, room)?,
+            values: String::new(alloc),
+        })
+    }
+
+    pub(crate) fn len(&self) -> usize
+        ensures { result ≡ length self.now }
+    {
+        self.records.len()
+    }
+
+    /// The occurrence at a place.
+    #[inline(always)]
+    pub(crate) fn at(&self, place: usize) -> Occurrence<'_>
+        requires { place < length self.now }
+        ensures { slice_get self.now place ≡ Some (occurrence_view result) }
+    {
+        let held = self.records[place];
+        let value = if held.has_value() {
+            Some(&self.values[values_start(&self.records, place)..held.values_end()])
+        } else {
+            None
+        };
+        Occurrence {
+            group: held.group,
+            position: held.position,
+            value,
+        }
+    }
+
+    /// The position of the occurrence at a place, of which no value is read.
+    #[inline]
+    pub(crate) fn position_at(&self, place: usize) -> usize
+        requires { place < length self.now }
+        ensures { Some result ≡ option_map (λ o. o.position) (slice_get self.now place) }
+    {
+        self.records[place].position
+    }
+
+    /// Adds an occurrence as the last.
+    #[inline(always)]
+    pub(crate) fn push(&mut self, occurrence: Occurrence<'_>) -> Result<(), AllocError>
+        ensures { OnOk result (self.new ≡ self.old ++ occurrence_view occurrence.entry ∷ []) }
+    {
+        self.records.reserve(1)?;
+        let value = occurrence.value.unwrap_or("");
+        push_value(&mut self.values, value, self.records.capacity())?;
+        self.records.push_reserved(OccurrenceRecord {
+            group: occurrence.group,
+            position: occurrence.position,
+            packed: packed(self.values.len(), occurrence.value.is_some()),
+        });
+        Ok(())
+    }
+}
+
+impl Clone for LineOccurrences {
+    ghost is_clone = { λ a b. b ≡ a };
+
+    fn clone(&self) -> Result<LineOccurrences, AllocError> {
+        Ok(LineOccurrences {
+            records: self.records.clone()?,
+            values: self.values.clone()?,
+        })
+    }
+}
+
 /// The occurrences of one option group, in the order of the line, lent by the matches.
 ///
-/// `Matches::occurrences_at` answers them. No text is copied.
+/// `Matches::occurrences_at` returns them. No text is copied. They can be gone over:
+///
+/// ```
+/// for (position, value) in matches.occurrences_at(place) { .. }
+/// ```
 #[derive(Debug, Drop)]
 pub struct Occurrences<'m> {
     found: &'m LineOccurrences,
@@ -66,15 +253,29 @@ impl<'m> Occurrences<'m> {
     pub fn get(&self, nth: usize) -> Option<(usize, Option<&'m str>)>
         ensures { option_map held_found result ≡ slice_get self.now nth }
     {
-        let occurrence = self.found.at(*self.places.get(nth)?);
-        Some((occurrence.position, occurrence.value))
+        if nth < self.len() {
+            Some(self.at(nth))
+        } else {
+            None
+        }
     }
 
-    /// The position of one of them, of which no value is read.
-    fn position(&self, nth: usize) -> Option<usize>
-        ensures { result ≡ option_map (λ found. found.position) (slice_get self.now nth) }
+    /// The position and the value of one that is there.
+    #[inline]
+    fn at(&self, nth: usize) -> (usize, Option<&'m str>)
+        requires { nth < length self.now }
+        ensures { slice_get self.now nth ≡ Some (held_found result) }
     {
-        Some(self.found.position_at(*self.places.get(nth)?))
+        let occurrence = self.found.at(self.places[nth]);
+        (occurrence.position, occurrence.value)
+    }
+
+    /// The position of one that is there, of which no value is read.
+    fn position_at(&self, nth: usize) -> usize
+        requires { nth < length self.now }
+        ensures { Some result ≡ option_map (λ found. found.position) (slice_get self.now nth) }
+    {
+        self.found.position_at(self.places[nth])
     }
 
     pub(crate) fn positions(&self, alloc: Global) -> Result<Vec<usize>, AllocError>
@@ -82,9 +283,7 @@ impl<'m> Occurrences<'m> {
     {
         let mut positions = Vec::with_capacity(alloc, self.len())?;
         for nth in 0..self.len() {
-            if let Some(position) = self.position(nth) {
-                positions.push(position)?;
-            }
+            positions.push(self.position_at(nth))?;
         }
         Ok(positions)
     }
@@ -94,7 +293,7 @@ impl<'m> Occurrences<'m> {
     {
         let mut values = Vec::new(alloc);
         for nth in 0..self.len() {
-            if let Some((_, Some(value))) = self.get(nth) {
+            if let (_, Some(value)) = self.at(nth) {
                 values.push(String::from_str(alloc, value)?)?;
             }
         }
@@ -106,7 +305,7 @@ impl<'m> Occurrences<'m> {
     {
         let mut pairs = Vec::new(alloc);
         for nth in 0..self.len() {
-            if let Some((position, Some(value))) = self.get(nth) {
+            if let (position, Some(value)) = self.at(nth) {
                 pairs.push((position, String::from_str(alloc, value)?))?;
             }
         }
@@ -142,5 +341,54 @@ impl<'m> Occurrences<'m> {
             }
         }
         true
+    }
+}
+
+impl<'m> IntoIterator for Occurrences<'m> {
+    type Item = (usize, Option<&'m str>);
+
+    type IntoIter = OccurrencesIter<'m>;
+
+    ghost into_iter_gives = { λ occurrences iterator. iterator ≡ occurrences };
+
+    fn into_iter(self) -> OccurrencesIter<'m> {
+        OccurrencesIter {
+            occurrences: self,
+            next: 0,
+        }
+    }
+}
+
+/// The occurrences of one option group that are still to come, each with its position and its value if it has
+/// one.
+#[derive(Debug, Drop)]
+pub struct OccurrencesIter<'m> {
+    occurrences: Occurrences<'m>,
+    next: usize,
+}
+
+impl<'m> Model for OccurrencesIter<'m> {
+    ghost use Rattle.std.specs.Prelude.{List, drop};
+    ghost use Rattle.getopts.specs.Matches.{Found};
+
+    ghost Value = { List Found };
+
+    ghost view = { λ a. drop a.next a.occurrences };
+}
+
+impl<'m> Iterator for OccurrencesIter<'m> {
+    type Item = (usize, Option<&'m str>);
+
+    ghost next_gives = { YieldsFirstBy held_found (λ rest. rest) };
+
+    ghost remaining = { item_count (λ rest. rest) };
+
+    fn next(&mut self) -> Option<(usize, Option<&'m str>)> {
+        if self.next >= self.occurrences.len() {
+            return None;
+        }
+        let occurrence = self.occurrences.at(self.next);
+        self.next += 1;
+        Some(occurrence)
     }
 }

@@ -12,7 +12,6 @@ ghost use Rattle.getopts.specs.Held.ReadLine.{IsOfGroups};
 use crate::fail::Fail;
 use crate::groups::{Groups, Occur};
 use crate::index::Index;
-use crate::line::Line;
 use crate::matches::{Matches, ReadLine};
 use crate::options::Options;
 use crate::scan::{FIRST_ROOM, Scanner, are_texts};

@@ -12,7 +12,7 @@ ghost use Rattle.getopts.specs.Held.Turn.{with_equals, first_char, chosen_end, C
 
 use crate::fail::Fail;
 use crate::groups::{HasArg, ParsingStyle};
-use crate::line::{Line, LineOccurrences, Occurrence};
+use crate::occurrences::{LineOccurrences, Occurrence};
 use crate::options::Options;
 use crate::table::Table;
 use std::alloc::{AllocError, Global};
@@ -32,6 +32,29 @@ pub fn are_texts(words: &[&str])
 {
     for word in words {
         is_text(word);
+    }
+}
+
+/// What a line gives.
+#[derive(Drop)]
+pub(crate) struct Line {
+    pub found: LineOccurrences,
+    pub free: Vec<String>,
+    pub trailing_start: Option<usize>,
+}
+
+impl Line {
+    ghost use Rattle.getopts.specs.Held.Line.{IsEmptyLine};
+
+    /// A line that gives nothing, with room for so many options and so many free words.
+    pub(crate) fn with_capacity(alloc: Global, room: usize) -> Result<Line, AllocError>
+        ensures { IfOk result IsEmptyLine }
+    {
+        Ok(Line {
+            found: LineOccurrences::with_capacity(alloc, room)?,
+            free: Vec::with_capacity(alloc, room)?,
+            trailing_start: None,
+        })
     }
 }
 

@@ -75,7 +75,7 @@ impl Options {
         ensures text { IfOk result (λ text.
             string_bytes text ≡ short_usage_text self.now program_name.now) }
     {
-        let room = room_for(program_name, self.group_count(), OPTION_ROOM);
+        let room = room_for(program_name, self.groups().len(), OPTION_ROOM);
         let mut text = String::with_capacity(alloc, room)?;
         text.push_str("Usage: ")?;
         text.push_str(program_name)?;
@@ -112,7 +112,7 @@ impl Options {
         ensures text { IfOk result (λ text.
             IsTheOnly (IsUsageText self.now brief.now) (string_bytes text)) }
     {
-        let room = room_for(brief, self.group_count(), ROW_ROOM);
+        let room = room_for(brief, self.groups().len(), ROW_ROOM);
         let mut text = String::with_capacity(alloc, room)?;
         text.push_str(brief)?;
         text.push_str("\n\nOptions:\n")?;
@@ -159,13 +159,12 @@ impl Options {
             IsTheOnly (AreUsageRows self.now) (map string_bytes rows.items)) }
     {
         let layout = self.layout();
-        let mut rows = Vec::with_capacity(alloc, self.group_count())?;
-        for place in 0..self.group_count() {
-            if let Some(group) = self.group(place) {
-                let mut row = String::with_capacity(alloc, ROW_ROOM)?;
-                push_row(&mut row, layout, group)?;
-                rows.push(row)?;
-            }
+        let groups = self.groups();
+        let mut rows = Vec::with_capacity(alloc, groups.len())?;
+        for place in 0..groups.len() {
+            let mut row = String::with_capacity(alloc, ROW_ROOM)?;
+            push_row(&mut row, layout, groups.get(place))?;
+            rows.push(row)?;
         }
         Ok(rows)
     }
@@ -175,11 +174,10 @@ impl Options {
         ensures { OnOk result (AddsRows self.now (string_bytes text.old) (string_bytes text.new)) }
     {
         let layout = self.layout();
-        for place in 0..self.group_count() {
-            if let Some(group) = self.group(place) {
-                push_parting(text, place > 0, "\n")?;
-                push_row(text, layout, group)?;
-            }
+        let groups = self.groups();
+        for place in 0..groups.len() {
+            push_parting(text, place > 0, "\n")?;
+            push_row(text, layout, groups.get(place))?;
         }
         Ok(())
     }
@@ -189,11 +187,10 @@ impl Options {
         ensures { OnOk result (string_bytes text.new ≡ string_bytes text.old
             ++ joined (codes " ") (map option_text self.now.groups)) }
     {
-        for place in 0..self.group_count() {
-            if let Some(group) = self.group(place) {
-                push_parting(text, place > 0, " ")?;
-                push_option(text, group)?;
-            }
+        let groups = self.groups();
+        for place in 0..groups.len() {
+            push_parting(text, place > 0, " ")?;
+            push_option(text, groups.get(place))?;
         }
         Ok(())
     }
@@ -206,9 +203,7 @@ impl Options {
         let groups = self.groups();
         let mut any_short = false;
         for place in 0..groups.len() {
-            if let Some(known) = groups.known(place) {
-                any_short |= !known.names.short.is_empty();
-            }
+            any_short |= !groups.known(place).names.short.is_empty();
         }
         Layout {
             long_only: self.is_long_only(),

@@ -10,6 +10,7 @@ use Rattle.getopts.specs.Names.{Text}
 use Rattle.getopts.specs.Options.{Group, Declared, MayBeDeclared, grammar_of, knowns_of}
 use Rattle.getopts.specs.Fail.{Fault}
 use Rattle.getopts.specs.Scan.{equals_sign, holds_equals, Reading, IsScanFault, Occurrence}
+use Rattle.getopts.specs.Scan.{occurrences_of}
 use Rattle.getopts.specs.ScanLaws.{mentions_of}
 use Rattle.getopts.specs.Held.Line.{line_content}
 use Rattle.getopts.specs.Matches.{Matched, MatchedGroup, matches_of, matched, KeepsCount}
@@ -18,13 +19,14 @@ use Rattle.getopts.specs.Parse.{Reads, IsAccepted, HasReading, BreaksCounts, IsR
 use Rattle.getopts.specs.Canon.{Content, IsCountKeeping, content_of, main_at, IsPlain}
 use Rattle.getopts.specs.Canon.{canonical_line, IsAcceptedWith, Says}
 use Rattle.getopts.specs.Held.ReadLine.{IsReadLine, IsAcceptedLine}
-use Rattle.std.specs.Str.{IsUtf8}
 use Rattle.getopts.specs.CanonAnswers.{IsWritten, IsUnwritable, IsParseAnswer}
 use Rattle.getopts.specs.CanonAnswers.{IsCanonicalAnswer, KeepsLineLaws}
 use Rattle.getopts.specs.declared.matches.ReadLine.{ReadLine}
 use Rattle.getopts.proofs.Canonical.Lines.{is_plain-true, is_plain-false, HasCanonicalLine-says}
 use Rattle.getopts.proofs.Canonical.Lines.{Says-accepted, IsSound-says}
-use Rattle.getopts.proofs.Canonical.Lines.{HasUnwritable-content, OneLineOneContent-lawful}
+use Rattle.getopts.proofs.Canonical.Lines.{HasUnwritable-content}
+use Rattle.getopts.proofs.Canonical.Lines.{FitsGroup, FitsGroup-within, IsFitting-reading}
+use Rattle.getopts.proofs.Lists.{AllByRecursion-follows, AllByRecursion-unmap}
 use Rattle.getopts.proofs.Parsing.Counts.{broken_count}
 use Rattle.getopts.proofs.Parsing.Only.{meets}
 use Rattle.getopts.proofs.Parsing.Parsed.{only_reads, named_here, groups_are, IsAccepted-reading}
@@ -85,6 +87,17 @@ module _ (options : Declared) (words : List Text) (accepted : ReadLine)
   IsAccepted-line = IsAccepted-reading options is.is_read.declared words is.is_read.reads.reading is.is_read.reads.reads
       accepted.line.found is.is_read.reads.occurrences (map string_bytes accepted.line.free.items)
       accepted.line.trailing_start is.keeps is.is_read.reads.free is.is_read.reads.trailing
+
+  -- its occurrences are of the groups
+  pub groups_within : AllByRecursion (λ o. o.mention.group < length options.groups) accepted.line.found
+  groups_within =
+      let reading = is.is_read.reads.reading in
+      let fits = IsFitting-reading options reading words is.is_read.reads.reads in
+      subst (AllByRecursion (λ o. o.mention.group < length options.groups)) (sym is.is_read.reads.occurrences)
+      (AllByRecursion-follows (λ o. FitsGroup options.groups o.mention) (λ o. o.mention.group < length options.groups)
+      (λ o fits. FitsGroup-within options.groups o.mention fits) (occurrences_of (grammar_of options) reading)
+      (AllByRecursion-unmap (FitsGroup options.groups) (λ (o : Occurrence). o.mention)
+      (occurrences_of (grammar_of options) reading) fits))
 
   -- the words are accepted with what the line says
   pub IsAcceptedWith-line : IsAcceptedWith options words (line_content accepted.line)

@@ -1,5 +1,5 @@
 -- The laws of the canonical line.
-use Rattle.std.proofs.Common.{◌≡◌, ◌≢◌, ◌⊎◌, ◌↔◌, ℕ, suc, ◌+◌, ◌==◌, Bool, true, false, not}
+use Rattle.std.proofs.Common.{◌≡◌, ◌<◌, ◌≢◌, ◌⊎◌, ◌↔◌, ℕ, zero, suc, ◌+◌, ◌==◌, Bool, true, false, not}
 use Rattle.std.proofs.Common.{List, [], ◌∷◌, ◌++◌, length, map, Option, Some, None, refl, sym, ap}
 use Rattle.std.proofs.Common.{◌∙◌, subst, inl, inr, arith, append-nil}
 use Rattle.std.proofs.lemmas.Bool.{cases_Bool, and_parts, not-true, or_cases, or_left, or_right}
@@ -69,6 +69,15 @@ kind_at groups place = option_map (λ (group : Group). group.known.kind) (slice_
 -- a mentioned group is there, and its kind may have the value
 abbrev pub FitsGroup : List Group → Mention → Type 0
 FitsGroup groups m = (kind : HasArg) × (kind_at groups m.group ≡ Some kind) × FitsKind kind m.value
+
+-- such a group is there
+pub FitsGroup-within : (groups : List Group) (m : Mention) → FitsGroup groups m → m.group < length groups
+FitsGroup-within groups m fits = there groups m.group fits.0 fits.1 where
+  there : (groups : List Group) (place : ℕ) (kind : HasArg) → kind_at groups place ≡ Some kind
+      → place < length groups
+  there [] place kind is = cc is
+  there (group ∷ groups) zero kind is = omega arith
+  there (group ∷ groups) (suc place) kind is = omega (arith, there groups place kind is)
 
 -- fitting content: each mentioned group is there, and its kind may have the value
 abbrev pub IsFitting : List Group → Content → Type 0

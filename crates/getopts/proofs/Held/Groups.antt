@@ -1,7 +1,7 @@
 -- Groups by their records: where their texts end, also after one more, the numbers of their names,
 -- and when two lists of groups are the same.
 use Rattle.std.proofs.Common.{◌≡◌, ◌&&◌, ℕ, zero, suc, ◌-◌, ◌<◌, ◌≤◌, List, [], ◌∷◌, map, ◌++◌}
-use Rattle.std.proofs.Common.{length, get_or, take, drop, slice_get, Option, Some, None, refl, ap}
+use Rattle.std.proofs.Common.{length, get_or, take, drop, slice_get, Option, Some, refl, ap}
 use Rattle.std.proofs.Common.{sym, ◌∙◌, ◌/◌, ◌%◌, subst, arith, append_assoc, length-append}
 use Rattle.std.proofs.Math.Seq.{drop-append_seam}
 use Rattle.std.specs.Bool.{Decides}
@@ -37,6 +37,12 @@ pub length-groups_from : (text : Text) (start : ℕ) (records : List GroupRecord
     → length (groups_from text start records) ≡ length records
 length-groups_from text start [] = refl
 length-groups_from text start (r ∷ records) = ap suc (length-groups_from text r.desc_end records)
+
+-- the record of a group that is there
+pub record_within : (text : Text) (start : ℕ) (records : List GroupRecord) (groups : List Group) (place : ℕ)
+    → groups_from text start records ≡ groups → place < length groups → place < length records
+record_within text start records groups place are within =
+    omega (arith, within, ap (λ (groups : List Group). length groups) are, length-groups_from text start records)
 
 -- where the texts of the group at a place start
 abbrev pub start_at : ℕ → List GroupRecord → ℕ → ℕ
@@ -106,13 +112,12 @@ name_at-long (first ∷ groups) (suc (suc number)) known at odd =
     name_at-long groups number known (rw half at at) (omega (arith, odd))
 
 -- past the last group there is none
-pub name_at-past : (groups : List Group) (number : ℕ) → known_at groups (number / 2) ≡ None
+pub name_at-past : (groups : List Group) (number : ℕ) → length groups ≤ number / 2
     → name_at (names_of groups) number ≡ []
 name_at-past [] number past = refl
-name_at-past (first ∷ groups) zero past = cc past
-name_at-past (first ∷ groups) (suc zero) past = cc past
-name_at-past (first ∷ groups) (suc (suc number)) past =
-    let half : suc (suc number) / 2 ≡ suc (number / 2) = omega arith in name_at-past groups number (rw half at past)
+name_at-past (first ∷ groups) zero past = absurd (omega (arith, past))
+name_at-past (first ∷ groups) (suc zero) past = absurd (omega (arith, past))
+name_at-past (first ∷ groups) (suc (suc number)) past = name_at-past groups number (omega (arith, past))
 
 -- ---- one more group
 

@@ -11,7 +11,7 @@ use Rattle.getopts.specs.Scan.{Occurrence}
 use Rattle.getopts.specs.Held.Pieces.{pieces}
 use Rattle.getopts.specs.Held.Texts.{IsWellCut}
 use Rattle.getopts.specs.Held.Occurrences.{values_end, record_view, value_ends, with_values}
-use Rattle.getopts.specs.declared.line.OccurrenceRecord.{OccurrenceRecord}
+use Rattle.getopts.specs.declared.occurrences.OccurrenceRecord.{OccurrenceRecord}
 use Rattle.getopts.proofs.Held.Pieces.{length-pieces, pieces-at}
 use Rattle.getopts.proofs.Held.Texts.{texts_push}
 

@@ -8,7 +8,7 @@ use Rattle.std.specs.Option.{option_copied, option_eq, option_map}
 use Rattle.std.proofs.lemmas.List.{length-map, map-append, take_all}
 use Rattle.std.proofs.lemmas.Bool.{and_from, and_parts, and_left, and_right, false≢true}
 use Rattle.std.proofs.lemmas.List.Elements.{filter_map-append}
-use Rattle.std.proofs.lemmas.Option.{slice_get-map, slice_get_past}
+use Rattle.std.proofs.lemmas.Option.{slice_get-map}
 use Rattle.getopts.specs.Names.{Text}
 use Rattle.getopts.specs.Matches.{Found}
 use Rattle.getopts.specs.Accessors.{positions_of, values_of, pair_of, pairs_of}
@@ -55,9 +55,9 @@ module _ (occurrences : List Occurrence) (places : List ℕ)
   pub length-founds : length founds ≡ length places
   length-founds = length-map (filter_map (λ place. slice_get occurrences place) places) found_part ∙ length-at_places occurrences places all
 
-  -- past the last place there is nothing
-  pub founds-past : (i : ℕ) → length places ≤ i → slice_get founds i ≡ None
-  founds-past i past = slice_get_past founds i (omega (arith, length-founds))
+  -- an occurrence that is there has its place
+  pub place_within : (seen : List Found) (i : ℕ) → founds ≡ seen → i < length seen → i < length places
+  place_within seen i are within = omega (arith, within, length-founds, ap (λ (fs : List Found). length fs) are)
 
   -- the occurrence at one of the places
   pub founds-at : (i place : ℕ) → slice_get places i ≡ Some place

@@ -1,21 +1,19 @@
 -- The main theorem, of options that are lawfully named, by texts.
 use Rattle.std.proofs.Common.{◌⊎◌, List, refl, sym, subst, inl, inr, Option, Some, None, Result, Ok, Err}
-use Rattle.std.specs.List.{AllByRecursion}
-use Rattle.std.specs.Str.{IsUtf8}
 use Rattle.getopts.specs.Names.{Text, AreTexts}
 use Rattle.getopts.specs.Options.{Declared, MayBeDeclared, grammar_of}
 use Rattle.getopts.specs.Fail.{Fault}
 use Rattle.getopts.specs.Scan.{Reading, IsReading, IsScanFault}
 use Rattle.getopts.specs.Matches.{Matched, MatchedGroup, matches_of, KeepsCounts, IsCountFault}
 use Rattle.getopts.specs.Parse.{IsAccepted, BreaksCounts, HasNoReading, IsRefused}
-use Rattle.getopts.specs.Canon.{content_of, IsPlain, canonical_line, IsCountKeeping}
+use Rattle.getopts.specs.Canon.{content_of, IsPlain, IsCountKeeping}
 use Rattle.getopts.specs.Canon.{HasCanonicalLine, Content, IsAcceptedWith, Says}
 use Rattle.getopts.specs.CanonAnswers.{IsParseAnswer}
 use Rattle.getopts.specs.Theorem.{OneReading, AcceptedExactlyWhen, RefusedExactlyWhen}
 use Rattle.getopts.specs.Theorem.{HaveOneAnswer, OneLineOneContent}
 use Rattle.getopts.specs.Only.{IsTheOnly}
 use Rattle.getopts.proofs.Canonical.Lines.{HasCanonicalLine-says, OneLineOneContent-lawful}
-use Rattle.getopts.proofs.Canonical.Answered.{accepted_reads, breaking_reads, only_matches}
+use Rattle.getopts.proofs.Canonical.Answered.{accepted_reads, breaking_reads}
 use Rattle.getopts.proofs.Canonical.Answered.{not_refused, only_parse_answer}
 use Rattle.getopts.proofs.Parsing.Only.{IsTheOnly-from, meets}
 use Rattle.getopts.proofs.Parsing.Parsed.{only_reads, named_here, HasNoReading-fault}

@@ -1,7 +1,5 @@
 -- What is found in words by lawfully named options is what `parse` answers.
 use Rattle.std.proofs.Common.{◌≡◌, ℕ, List, length, Option, ap, sym, subst}
-use Rattle.std.specs.List.{AllByRecursion}
-use Rattle.std.specs.Str.{IsUtf8}
 use Rattle.getopts.specs.Only.{IsTheOnly}
 use Rattle.getopts.specs.Names.{Text, AreTexts}
 use Rattle.getopts.specs.Options.{Declared, MayBeDeclared, knowns_of, grammar_of}

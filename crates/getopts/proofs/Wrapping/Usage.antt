@@ -1,6 +1,6 @@
 -- Groups one after the other, and what the rows of a usage text are.
 use Rattle.std.proofs.Common.{◌≡◌, ℕ, zero, suc, ◌+◌, ◌-◌, ◌<◌, ◌≤◌, Bool, true, not, ◌||◌, List}
-use Rattle.std.proofs.Common.{[], ◌∷◌, ◌++◌, Option, Some, None, length, take, drop, refl, ap, sym}
+use Rattle.std.proofs.Common.{[], ◌∷◌, ◌++◌, Some, length, take, drop, refl, ap, sym}
 use Rattle.std.proofs.Common.{◌∙◌, subst, arith, codes, append_assoc}
 use Rattle.std.specs.Prelude.{Result, Ok, Err, OnOk, slice_get, nat_lt, if◌then◌else◌}
 use Rattle.std.specs.List.{AllZip}
@@ -9,8 +9,8 @@ use Rattle.std.proofs.Math.Bool.{or-false}
 use Rattle.std.proofs.lemmas.Bool.Decides.{nat_tests}
 use Rattle.std.proofs.lemmas.List.{take_all, take_more, drop_at}
 use Rattle.std.proofs.lemmas.List.Folds.{list_any-append}
-use Rattle.std.proofs.lemmas.Option.{slice_get_within, get_or_from_slice_get, slice_get-get_or}
-use Rattle.std.proofs.lemmas.Option.{none-some, same_Some}
+use Rattle.std.proofs.lemmas.Option.{slice_get_within, get_or_from_slice_get}
+use Rattle.std.proofs.lemmas.Option.{same_Some}
 use Rattle.std.proofs.lemmas.Slice.Zip.{all_zipped_more}
 use Rattle.getopts.specs.Held.Groups.{group_view}
 use Rattle.getopts.specs.Names.{Text, is_empty}
@@ -61,23 +61,14 @@ each_is_the_only {X} {Y} R (x ∷ xs) (y ∷ ys) all = λ other. (
 
 -- ---- groups, one after the other
 
-module _ {Held Seen : Type 0} (view : Held → Seen) where
-  -- one more group, where one was found at the next place
-  pub group_more : (groups : List Seen) (place : ℕ) (found : Option Held) (group : Held)
-      → option_map view found ≡ slice_get groups place → found ≡ Some group
-      → take (place + 1) groups ≡ take place groups ++ view group ∷ []
-  group_more groups place found group got is =
-      let at : slice_get groups place ≡ Some (view group) = sym got ∙ ap (option_map view) is in
-      take_more groups place (view group) (slice_get_within groups place (view group) at)
-      ∙ ap (λ (last : Seen). take place groups ++ last ∷ []) (get_or_from_slice_get groups place (view group) (view group) at)
-
-  -- one was found at each place within the list
-  pub group_missing : (groups : List Seen) (place : ℕ) (found : Option Held)
-      → place < length groups → option_map view found ≡ slice_get groups place
-      → ((group : Held) → found ≡ Some group → ⊥) → ⊥
-  group_missing groups place (Some group) within got missing = missing group refl
-  group_missing [] place None within got missing = absurd (omega arith)
-  group_missing (first ∷ groups) place None within got missing = none-some _ (got ∙ slice_get-get_or (first ∷ groups) place first within)
+-- one more group, where this one is the next
+pub group_more : (groups : List Group) (place : ℕ) (group : Group)
+    → Some group ≡ slice_get groups place
+    → take (place + 1) groups ≡ take place groups ++ group ∷ []
+group_more groups place group is =
+    let at : slice_get groups place ≡ Some group = sym is in
+    take_more groups place group (slice_get_within groups place group at)
+    ∙ ap (λ (last : Group). take place groups ++ last ∷ []) (get_or_from_slice_get groups place group group at)
 
 -- whether a group has a short name
 abbrev pub has_short : Group → Bool
@@ -101,7 +92,7 @@ any_short_more groups place group at so_far now so_far_is now_is =
     ∙ ap (λ so_far. so_far || has_short group) so_far_is
     ∙ ap (λ last. any_short (take place groups) || last) (sym (or-false (has_short group)))
     ∙ sym (list_any-append has_short (take place groups) (group ∷ []))
-    ∙ ap any_short (sym (group_more (λ (g : Group). g) groups place (Some group) group (sym at) refl))
+    ∙ ap any_short (sym (group_more groups place group (sym at)))
 
 -- one more text after the texts of the groups before it
 pub text_more : (separator : Text) (texts : List Text) (place : ℕ)
@@ -161,17 +152,17 @@ AreRowsBefore options place rows =
     (take place options.groups) rows
 
 -- one more row
-pub rows_more : (options : Declared) (place : ℕ) (found : Option Borrowed) (group : Borrowed)
-    → option_map group_view found ≡ slice_get options.groups place → found ≡ Some group
+pub rows_more : (options : Declared) (place : ℕ) (group : Borrowed)
+    → Some (group_view group) ≡ slice_get options.groups place
     → (long_only among_shorts : Bool) → long_only ≡ options.long_only
     → among_shorts ≡ any_short options.groups → (rows : List Text) (row : Text)
     → AreRowsBefore options place rows
     → IsTheOnly (IsUsageRow long_only among_shorts (group_view group)) row
     → AreRowsBefore options (place + 1) (rows ++ row ∷ [])
-rows_more options place found group view is long_only among_shorts long_only_is among_shorts_is rows
+rows_more options place group is long_only among_shorts long_only_is among_shorts_is rows
     row each only =
     let Only : Group → Text → Type 0 = λ group row. IsTheOnly (IsUsageRow options.long_only (any_short options.groups) group) row in
-    rw (group_more group_view options.groups place found group view is)
+    rw (group_more options.groups place (group_view group) is)
     (all_zipped_more Only (take place options.groups) rows (group_view group) row each (rw (long_only_is, among_shorts_is) at only))
 
 -- with the last one these are the only usage rows

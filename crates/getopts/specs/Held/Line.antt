@@ -9,8 +9,8 @@ use Rattle.getopts.specs.Canon.{Content}
 use Rattle.getopts.specs.Scan.{Dashes, is_dashed, stop_word, Occurrence, Reading, IsReading}
 use Rattle.getopts.specs.Scan.{occurrences_of, free_words, trailing_start, IsShortForm}
 use Rattle.getopts.specs.Held.Turn.{IsInLongForm}
-use Rattle.getopts.specs.declared.line.Occurrence.{Occurrence as Held}
-use Rattle.getopts.specs.declared.line.Line.{Line}
+use Rattle.getopts.specs.declared.occurrences.Occurrence.{Occurrence as Held}
+use Rattle.getopts.specs.declared.scan.Line.{Line}
 use Rattle.getopts.specs.declared.scan.Scanner.{Scanner}
 use Rattle.getopts.specs.declared.scan.Shape.{Shape}
 use Rattle.getopts.specs.declared.scan.Shape.TheVariants as shape

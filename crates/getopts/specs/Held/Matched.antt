@@ -4,7 +4,7 @@ use Rattle.getopts.specs.Options.{knowns_of, names_of}
 use Rattle.getopts.specs.Matches.{MatchedGroup, matched}
 use Rattle.getopts.specs.Held.Table.{IsTableOf}
 use Rattle.getopts.specs.Held.Index.{index_of}
-use Rattle.getopts.specs.declared.matched.MatchedGroups.TheInside.{Inside}
+use Rattle.getopts.specs.declared.matches.MatchedGroups.TheInside.{Inside}
 
 -- the groups, each with what was found of it
 abbrev pub groups_view : Inside → List MatchedGroup

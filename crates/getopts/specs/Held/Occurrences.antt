@@ -8,8 +8,8 @@ use Rattle.getopts.specs.Matches.{Found, found_part}
 use Rattle.getopts.specs.Scan.{Occurrence}
 use Rattle.getopts.specs.Held.Pieces.{pieces}
 use Rattle.getopts.specs.Held.Texts.{IsWellCut}
-use Rattle.getopts.specs.declared.line.OccurrenceRecord.{OccurrenceRecord}
-use Rattle.getopts.specs.declared.line.LineOccurrences.TheInside.{Inside}
+use Rattle.getopts.specs.declared.occurrences.OccurrenceRecord.{OccurrenceRecord}
+use Rattle.getopts.specs.declared.occurrences.LineOccurrences.TheInside.{Inside}
 
 -- where the values end up to that of an occurrence
 abbrev pub values_end : OccurrenceRecord → ℕ

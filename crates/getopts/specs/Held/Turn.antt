@@ -1,13 +1,13 @@
 -- What the first word of a line gives, with the words after it. The clauses of `scan` say that the
 -- code finds this, and the lemmas on readings, that it is what the definitions of `Scan` say.
-use Rattle.std.specs.Prelude.{◌≡◌, ◌≢◌, ◌==◌, ℕ, true, List, [], ◌∷◌, ◌++◌, length, map, Option}
+use Rattle.std.specs.Prelude.{◌≡◌, ◌≢◌, ◌==◌, ℕ, List, [], ◌∷◌, ◌++◌, length, map, Option}
 use Rattle.std.specs.Prelude.{Some, None, Result, Ok, Err, if◌then◌else◌, encode_utf8}
 use Rattle.std.specs.Option.{option_map_or}
 use Rattle.std.specs.Str.{chars}
 use Rattle.getopts.specs.Names.{Text}
 use Rattle.getopts.specs.Options.{Grammar}
 use Rattle.getopts.specs.Fail.{Fault, argument_missing, unrecognized_option, unexpected_argument}
-use Rattle.getopts.specs.Scan.{equals_sign, is_dashed, stop_word, Argument, none, attached}
+use Rattle.getopts.specs.Scan.{equals_sign, is_dashed, Argument, none, attached}
 use Rattle.getopts.specs.Scan.{separate, Dashes, dash_text, flags, ends_in, Item, long, cluster}
 use Rattle.getopts.specs.Scan.{value_of, argument_words, MayStandBefore, free_items, Tail}
 use Rattle.getopts.specs.Scan.{Occurrence, at_position, mentions}

@@ -35,7 +35,7 @@ plain_past groups place past =
 
 pub returns-then-holds_equals : goal.returns-then-holds_equals
 returns-then-holds_equals c =
-    let groups = c.args.options.now.groups in
+    let groups = c.args.groups.now in
     let holds : holds_equals (main_at groups c.loop-place.place) ≡ true =
     sym (c.holds_equals.ensures ∙ ap holds_equals c.main.ensures) ∙ c.if-holds_equals.true in
     let some : 0 < length (found_at c.loop-place.place c.args.read.now.line.found) =
@@ -50,7 +50,7 @@ returns-then-holds_equals c =
 
 pub loop-place-preserved : goal.loop-place-preserved
 loop-place-preserved c =
-    let groups = c.args.options.now.groups in
+    let groups = c.args.groups.now in
     let found = c.args.read.now.line.found in
     let place = c.loop-place.place in
     let counted = counted groups found c.args.read.now.index place c.count.result c.requires.index (omega arith) c.count.ensures in
@@ -64,7 +64,7 @@ loop-place-preserved c =
 
 pub returns : goal.returns
 returns c =
-    let groups = c.args.options.now.groups in
+    let groups = c.args.groups.now in
     let found = c.args.read.now.line.found in
     sym (list_all-by_group (λ group. not (holds_equals (main_at groups group))) found (λ group some. elim (cases_lt group (length groups)) [
       | inl within ↦ c.loop-place.invariant group (omega arith) some

@@ -1,28 +1,18 @@
 -- Groups are known alike where each of them is.
-use Rattle.std.proofs.Common.{◌≡◌, ◌∙◌, not, Option, Some, None, refl, sym, ap, inl, inr, arith}
+use Rattle.std.proofs.Common.{◌≡◌, ◌∙◌, not, sym, ap, inl, inr, arith}
 use Rattle.std.proofs.Common.{slice_get, length}
 use Rattle.std.proofs.lemmas.Bool.{cases_Bool, cases_lt, not-true, not-false, false≢true}
 use Rattle.std.proofs.lemmas.List.{length-map}
 use Rattle.std.proofs.lemmas.Option.{slice_get-map}
 use Rattle.std.specs.Cmp.Lexicographic.{pointwise, pointwise_decides}
-use Rattle.std.specs.Option.{option_eq, option_map}
+use Rattle.std.specs.Option.{option_eq}
 use Rattle.getopts.specs.Options.{Group, knowns_of}
 use Rattle.getopts.specs.Same.{same_known}
-use Rattle.getopts.specs.Held.Groups.{known_view, same_known_view}
-use Rattle.getopts.specs.declared.groups.Known.{Known as HeldKnown}
 use Rattle.getopts.proofs.Lists.{same_by_places}
 use Rattle.getopts.proofs.Held.Options.{same_known-decides}
 use Rattle.getopts.proofs.Held.Same.{options_decide}
 use Rattle.getopts.proofs.groups.Groups.same_each.Goals as goal
 use Rattle.getopts.proofs.groups.Groups.same_each.Goals.{After-ne}
-
--- borrowed groups are the same where what is known of them is
-viewed : (o p : Option HeldKnown)
-    → option_eq same_known_view o p ≡ option_eq same_known (option_map known_view o) (option_map known_view p)
-viewed None None = refl
-viewed None (Some b) = refl
-viewed (Some a) None = refl
-viewed (Some a) (Some b) = refl
 
 -- the test at a place is that of what is known there
 tested : (c : After-ne) → c.ne.result
@@ -31,7 +21,7 @@ tested : (c : After-ne) → c.ne.result
 tested c =
     let here = c.known.ensures ∙ sym (slice_get-map (λ (g : Group). g.known) c.args.self.now c.loop-place.place) in
     let there = c.known-in-loop-place.ensures ∙ sym (slice_get-map (λ (g : Group). g.known) c.args.other.now c.loop-place.place) in
-    c.ne.ensures ∙ ap not (viewed c.known.result c.known-in-loop-place.result ∙ (λ i. option_eq same_known (here i) (there i)))
+    c.ne.ensures ∙ ap not (λ i. option_eq same_known (here i) (there i))
 
 pub returns-then-ne : goal.returns-then-ne
 returns-then-ne c =

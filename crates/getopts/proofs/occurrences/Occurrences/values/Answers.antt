@@ -1,8 +1,8 @@
 -- One more occurrence has its value, if any.
-use Rattle.std.proofs.Common.{arith}
+use Rattle.std.proofs.Common.{Some, sym, arith}
 use Rattle.std.proofs.lemmas.Grind.{common_steps}
 use Rattle.getopts.proofs.Held.Occurrences.{values-more}
 use Rattle.getopts.proofs.occurrences.Occurrences.values.Goals as goal
 
 pub loop-nth-preserved : goal.loop-nth-preserved
-loop-nth-preserved c = let more = values-more c.args.self.now c.loop-nth.nth c.get.result c.get.ensures in grind (arith, common_steps)
+loop-nth-preserved c = let more = values-more c.args.self.now c.loop-nth.nth (Some c.at.result) (sym c.at.ensures) in grind (arith, common_steps)

@@ -1,7 +1,0 @@
--- There are as many occurrences as are held.
-use Rattle.std.proofs.Common.{arith}
-use Rattle.getopts.proofs.Held.Line.{length-with_values}
-use Rattle.getopts.proofs.line.LineOccurrences.len.Goals as goal
-
-pub returns : goal.returns
-returns c = rw (← c.self.view_is) (grind (arith, length-with_values))

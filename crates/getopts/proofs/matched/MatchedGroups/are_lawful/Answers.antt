@@ -1,6 +1,0 @@
--- What matches keep of names holds of the groups that are seen.
-use Rattle.getopts.proofs.Held.Matches.{AreHeldLawfully-matched}
-use Rattle.getopts.proofs.matched.MatchedGroups.are_lawful.Goals as goal
-
-pub returns : goal.returns
-returns c = rw (← c.self.view_is) (AreHeldLawfully-matched 0 c.self.inside.groups c.self.inside.found c.may_be_declared.ensures.named)

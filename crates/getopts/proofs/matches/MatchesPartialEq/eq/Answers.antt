@@ -1,0 +1,17 @@
+-- The test of two matches says exactly that they are equal.
+use Rattle.std.proofs.Common.{◌≡◌, arith}
+use Rattle.std.proofs.lemmas.Grind.{common_steps}
+use Rattle.std.proofs.lemmas.Bool.Decides.{Decides-at}
+use Rattle.getopts.specs.Same.{same_matches}
+use Rattle.getopts.proofs.Held.Same.{same_matches-decides}
+use Rattle.getopts.proofs.matches.MatchesPartialEq.eq.Goals as goal
+
+pub returns-then-same_words-clause-same : goal.returns-then-same_words-clause-same
+returns-then-same_words-clause-same c =
+    let answer : c.eq.result ≡ same_matches c.args.self.now c.args.other.now = grind (arith, common_steps) in
+    Decides-at _ _ answer (same_matches-decides c.args.self.now c.args.other.now)
+
+pub returns-else-same_words-clause-same : goal.returns-else-same_words-clause-same
+returns-else-same_words-clause-same c =
+    let answer : c.if-same.value ≡ same_matches c.args.self.now c.args.other.now = grind (arith, common_steps) in
+    Decides-at _ _ answer (same_matches-decides c.args.self.now c.args.other.now)

@@ -1,0 +1,23 @@
+-- The occurrence at a place of the group is the one at its place in the line.
+use Rattle.std.proofs.Common.{get_or, ap, arith, ◌∙◌}
+use Rattle.std.specs.Option.{option_map}
+use Rattle.getopts.specs.Matches.{found_part}
+use Rattle.std.proofs.lemmas.Option.{slice_get-get_or}
+use Rattle.getopts.proofs.Held.Occurrences.{founds-at, place_within}
+use Rattle.getopts.proofs.occurrences.Occurrences.at.Goals as goal
+
+pub offset_bounds-self-inside-nth : goal.offset_bounds-self-inside-nth
+offset_bounds-self-inside-nth c =
+    let within = place_within _ _ c.self.invariant _ _ c.self.view_is c.requires in omega (arith, within, c.self.told)
+
+pub bounds-self-inside-nth : goal.bounds-self-inside-nth
+bounds-self-inside-nth c = place_within _ _ c.self.invariant _ _ c.self.view_is c.requires
+
+pub returns : goal.returns
+returns c =
+    let place = get_or c.self.inside.places.now c.args.nth 0 in
+    let within = place_within _ _ c.self.invariant _ _ c.self.view_is c.requires in
+    rw (← c.self.view_is)
+    (founds-at c.self.inside.found.now c.self.inside.places.now c.self.invariant c.args.nth place
+    (slice_get-get_or c.self.inside.places.now c.args.nth 0 within)
+    ∙ ap (option_map found_part) c.at-occurrence.ensures)

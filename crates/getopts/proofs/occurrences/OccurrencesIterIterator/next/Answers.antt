@@ -1,0 +1,9 @@
+-- The next occurrence is the first of those that are left.
+use Rattle.getopts.specs.Accessors.{held_found}
+use Rattle.getopts.proofs.Lists.{drop-next}
+use Rattle.getopts.proofs.occurrences.OccurrencesIterIterator.next.Goals as goal
+
+pub returns-clause-steps : goal.returns-clause-steps
+returns-clause-steps c =
+    rw (← c.self.view_is)
+    (drop-next c.self.inside.occurrences c.self.inside.next (held_found c.at-occurrence.result) c.at-occurrence.ensures)
