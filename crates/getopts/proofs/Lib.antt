@@ -5,7 +5,7 @@ pub mod Lists
 -- how words read: a tool of the proofs, read word by word, and what holds of all readings
 pub mod Reading
 -- how the code scans: a word, an item, a cluster, and the line up to a place
-pub mod Scanning
+pub mod Scanner
 -- what names resolve to, and the table that they are looked up in
 pub mod Lookup
 -- what is held, and what is seen of it
@@ -14,7 +14,7 @@ pub mod Held
 pub mod Parsing
 -- canonical lines, and the answer of `canonical`
 pub mod Canonical
--- the main theorem, lemmas for callers, and the wrong answers that are refuted
+-- the main theorem, and lemmas for callers
 pub mod MainTheorem
 -- descriptions in rows, and usage texts
 pub mod Wrapping

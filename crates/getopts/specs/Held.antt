@@ -1,9 +1,7 @@
--- What the code holds and what is seen of it, and what its functions find.
+-- What the code holds, and what is seen of it.
 
--- lists cut at places
+-- lists and texts cut at places
 pub mod Pieces
--- texts held as one
-pub mod Texts
 -- groups, by their records
 pub mod Groups
 -- the table of names
@@ -12,11 +10,7 @@ pub mod Table
 pub mod Index
 -- the occurrences of a line, and those of one group
 pub mod Occurrences
--- what the first word of a line gives, word by word
-pub mod Turn
 -- what scanning finds
 pub mod Line
--- what is found in words
-pub mod ReadLine
--- groups with what a line gave to each
-pub mod Matched
+-- lines that were read, and groups with what a line gave to each
+pub mod Matches

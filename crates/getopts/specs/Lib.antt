@@ -34,5 +34,7 @@ pub mod Wrap
 pub mod Usage
 -- Cited by private clauses alone, and by the views of private types.
 
--- what the code holds and what is seen of it, and what its functions find
+-- what the first word of a line gives, with the words after it
+pub mod Turn
+-- what the code holds, and what is seen of it
 pub mod Held

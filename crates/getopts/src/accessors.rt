@@ -38,8 +38,8 @@ impl Matches {
         ensures place { result ≡ place_of self.now.groups name.now }
         ensures lawful { AreHeldLawfully self.now.groups }
     {
-        self.groups.are_lawful();
-        self.groups.place_of(name)
+        self.held.are_lawful();
+        self.held.place_of(name)
     }
 
     /// The occurrences of the option group at a place, in the order of the line, lent and not copied.
@@ -50,21 +50,21 @@ impl Matches {
     pub fn occurrences_at(&self, place: usize) -> Occurrences<'_>
         ensures { result ≡ found_in self.now.groups place }
     {
-        self.groups.occurrences_at(place)
+        self.held.occurrences_at(place)
     }
 
     /// The groups that matches hold are lawfully named.
     pub(crate) fn are_held_lawfully(&self)
         ensures { AreHeldLawfully self.now.groups }
     {
-        self.groups.are_lawful();
+        self.held.are_lawful();
     }
 
     /// Whether an option was given. An undefined one wasn't.
     fn has(&self, name: &str) -> bool
         ensures { result ≡ is_present self.now.groups name.now }
     {
-        !self.groups.occurrences_of(name).is_empty()
+        !self.held.occurrences_of(name).is_empty()
     }
 
     /// Whether a name resolves to a group.
@@ -87,7 +87,7 @@ impl Matches {
         requires { IsDefined self.now.groups name.now }
         ensures { result ≡ length (found_of self.now.groups name.now) }
     {
-        self.groups.occurrences_of(name).len()
+        self.held.occurrences_of(name).len()
     }
 
     /// Whether an option was given at least once, by any of its names.
@@ -116,7 +116,7 @@ impl Matches {
         ensures count { IfOk result (λ positions. vec_len positions
             ≡ length (found_of self.now.groups name.now)) }
     {
-        self.groups.occurrences_of(name).positions(alloc)
+        self.held.occurrences_of(name).positions(alloc)
     }
 
     /// The values of an option's occurrences, in the order of the line.
@@ -129,7 +129,7 @@ impl Matches {
         ensures { IfOk result (λ values. map string_bytes values.items
             ≡ values_of (found_of self.now.groups name.now)) }
     {
-        self.groups.occurrences_of(name).values(alloc)
+        self.held.occurrences_of(name).values(alloc)
     }
 
     /// The positions and values of those of an option's occurrences that have a value, in the order of
@@ -149,7 +149,7 @@ impl Matches {
         ensures texts { IfOk result (λ pairs. map (λ pair. string_bytes pair.1) pairs.items
             ≡ values_of (found_of self.now.groups name.now)) }
     {
-        self.groups.occurrences_of(name).pairs(alloc)
+        self.held.occurrences_of(name).pairs(alloc)
     }
 
     /// The value of an option's first occurrence.
@@ -163,7 +163,7 @@ impl Matches {
         ensures { IfOk result (λ value. option_map string_bytes value
             ≡ first_value (found_of self.now.groups name.now)) }
     {
-        copied(alloc, self.groups.occurrences_of(name).first_value())
+        copied(alloc, self.held.occurrences_of(name).first_value())
     }
 
     /// The value of an option's first occurrence, or `def` where that has none.
@@ -181,7 +181,7 @@ impl Matches {
         ensures { IfOk result (λ value. option_map string_bytes value
             ≡ first_value_or (found_of self.now.groups name.now) def.now) }
     {
-        copied(alloc, self.groups.occurrences_of(name).first_value_or(def))
+        copied(alloc, self.held.occurrences_of(name).first_value_or(def))
     }
 
     /// The value of an option's first occurrence, read as a `T`.
@@ -194,7 +194,7 @@ impl Matches {
         ensures { IsReadAs T.from_str_gives
             (first_value (found_of self.now.groups name.now)) result }
     {
-        match self.groups.occurrences_of(name).first_value() {
+        match self.held.occurrences_of(name).first_value() {
             Some(text) => Ok(Some(text.parse()?)),
             None => Ok(None),
         }
@@ -210,7 +210,7 @@ impl Matches {
         ensures { MatchOption (first_value (found_of self.now.groups name.now))
             (result ≡ Ok def) (λ text. T.from_str_gives text result) }
     {
-        match self.groups.occurrences_of(name).first_value() {
+        match self.held.occurrences_of(name).first_value() {
             Some(text) => text.parse(),
             None => Ok(def),
         }
@@ -253,7 +253,7 @@ impl Matches {
         ensures { option_copied result ≡ first_value_among self.now.groups (map T.text names.now) }
     {
         for name in names {
-            if let Some(value) = self.groups.occurrences_of(name.as_str()).first_value() {
+            if let Some(value) = self.held.occurrences_of(name.as_str()).first_value() {
                 return Some(value);
             }
         }

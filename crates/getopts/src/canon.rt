@@ -5,7 +5,7 @@ ghost use Rattle.std.specs.List.{AllByRecursion, list_all};
 ghost use Rattle.std.specs.Option.{option_copied};
 ghost use Rattle.std.specs.String.{string_bytes};
 ghost use Rattle.getopts.specs.Fail.{Tells};
-ghost use Rattle.getopts.specs.Held.ReadLine.{IsOfGroups};
+ghost use Rattle.getopts.specs.Held.Matches.{IsOfGroups};
 ghost use Rattle.getopts.specs.Names.{texts};
 ghost use Rattle.getopts.specs.Held.Line.{line_content};
 ghost use Rattle.getopts.specs.Scan.{holds_equals, long_word, two};

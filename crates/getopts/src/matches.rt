@@ -7,7 +7,7 @@ ghost use Rattle.std.specs.String.{string_bytes};
 ghost use Rattle.std.proofs.Common.{rules};
 ghost use Rattle.getopts.specs.Matches.{matched};
 ghost use Rattle.getopts.specs.Options.{knowns_of};
-ghost use Rattle.getopts.specs.Held.ReadLine.{IsOfGroups};
+ghost use Rattle.getopts.specs.Held.Matches.{IsOfGroups};
 
 use crate::groups::Groups;
 use crate::index::Index;
@@ -31,7 +31,7 @@ pub struct Matches {
     /// The free words, in the order of the line. They are the caller's to change: no call that asks
     /// for an option, and not `free_trailing_start` either, reads them.
     pub free: Vec<String>,
-    pub(crate) groups: MatchedGroups,
+    pub(crate) held: MatchedGroups,
     pub(crate) trailing_start: Option<usize>,
 }
 
@@ -43,7 +43,7 @@ impl Model for Matches {
     ghost Value = { Matched };
 
     ghost view = { λ a. record {
-      groups = a.groups;
+      groups = a.held;
       free = map string_bytes a.free.items;
       trailing_start = a.trailing_start;
     } };
@@ -67,7 +67,7 @@ impl Matches {
         } = line;
         Matches {
             free,
-            groups: MatchedGroups {
+            held: MatchedGroups {
                 groups,
                 table,
                 found,
@@ -88,7 +88,7 @@ impl Clone for Matches {
     {
         Ok(Matches {
             free: self.free.clone()?,
-            groups: self.groups.clone()?,
+            held: self.held.clone()?,
             trailing_start: self.trailing_start,
         })
     }
@@ -119,7 +119,7 @@ impl PartialEq for Matches {
         ensures answer { result ≡ same_matches self.now other.now }
         ensures same { IsTrue result ↔ (self.now ≡ other.now) }
     {
-        self.groups.same(&other.groups)
+        self.held.same(&other.held)
             && same_words(&self.free, &other.free)
             && self.trailing_start == other.trailing_start
     }
@@ -152,11 +152,11 @@ impl Drop for MatchedGroups {
 impl Model for MatchedGroups {
     ghost use Rattle.std.specs.Prelude.{List};
     ghost use Rattle.getopts.specs.Matches.{MatchedGroup};
-    ghost use Rattle.getopts.specs.Held.Matched.{groups_view, KeepsGroups};
+    ghost use Rattle.getopts.specs.Held.Matches.{matched_view, KeepsGroups};
 
     ghost Value = { List MatchedGroup };
 
-    ghost view = { groups_view };
+    ghost view = { matched_view };
 
     ghost invariant = { KeepsGroups };
 }

@@ -2,7 +2,7 @@
 
 ghost use Rattle.std.specs.Prelude.{◌≡◌, ◌↔◌, IsTrue};
 ghost use Rattle.getopts.specs.Names.{AreLawful};
-ghost use Rattle.getopts.specs.Held.Texts.{IsOfBytes};
+ghost use Rattle.getopts.specs.Held.Pieces.{IsOfBytes};
 
 /// Whether an option group may have these two names.
 ///

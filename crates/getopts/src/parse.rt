@@ -7,7 +7,7 @@ ghost use Rattle.getopts.specs.Fail.{Tells};
 ghost use Rattle.getopts.specs.Matches.{matched, count_fault, FitsCount, KeepsCounts, IsCountFault};
 ghost use Rattle.getopts.specs.Names.{texts};
 ghost use Rattle.getopts.specs.Options.{knowns_of};
-ghost use Rattle.getopts.specs.Held.ReadLine.{IsOfGroups};
+ghost use Rattle.getopts.specs.Held.Matches.{IsOfGroups};
 
 use crate::fail::Fail;
 use crate::groups::{Groups, Occur};
@@ -24,7 +24,7 @@ impl Options {
     ghost use Rattle.getopts.specs.Parse.{IsAccepted, IsRefused, HasReading, HasNoReading};
     ghost use Rattle.getopts.specs.Parse.{KeepsReadingLaws};
     ghost use Rattle.getopts.specs.Holds.{HoldDeclared, HoldGiven, HaveLastWordsFree, Accepts};
-    ghost use Rattle.getopts.specs.Held.ReadLine.{IsReadLine, IsAcceptedLine};
+    ghost use Rattle.getopts.specs.Held.Matches.{IsReadLine, IsAcceptedLine};
 
     /// Reads the words of a line, without the program's own name.
     ///

@@ -1,8 +1,8 @@
 //! The row of one group in a usage text: its head, and its description beside or below that.
 ghost use Rattle.std.specs.Prelude.{◌≡◌, ◌++◌, string_bytes, OnOk};
 ghost use Rattle.getopts.specs.Held.Groups.{names_view, group_view};
-ghost use Rattle.getopts.specs.Usage.{AddsTheOnly, IsUsageRow, argument_part, head, long_part};
-ghost use Rattle.getopts.specs.Usage.{padding, short_part};
+ghost use Rattle.getopts.specs.Usage.{AddsTheOnly, IsUsageRow, argument_part, has_columns, head};
+ghost use Rattle.getopts.specs.Usage.{long_part, padding, short_part};
 ghost use Rattle.getopts.specs.Wrap.{width_of};
 
 use crate::groups::{Group, HasArg, Known};
@@ -51,13 +51,21 @@ fn push_head(text: &mut String, layout: Layout, group: Group<'_>) -> Result<(), 
 {
     text.push_str("    ")?;
     let Known { names, kinds } = group.known;
-    push_short(text, layout, names)?;
-    push_long(text, layout, names.long)?;
+    let wide = has_columns(names.long);
+    push_short(text, layout, names, wide)?;
+    push_long(text, layout, names.long, wide)?;
     push_argument(text, kinds.kind, group.hint)
 }
 
-/// Adds the short name with its dash, or what stands in its place.
-fn push_short(text: &mut String, layout: Layout, names: Names<'_>) -> Result<(), AllocError>
+/// Adds the short name with its dash, or what stands in its place, where `wide` tells whether the long name
+/// takes a column.
+fn push_short(
+    text: &mut String,
+    layout: Layout,
+    names: Names<'_>,
+    wide: bool,
+) -> Result<(), AllocError>
+    requires { wide ≡ has_columns names.long.now }
     ensures { OnOk result (string_bytes text.new ≡ string_bytes text.old
         ++ short_part layout.any_short (names_view names.entry)) }
 {
@@ -66,16 +74,17 @@ fn push_short(text: &mut String, layout: Layout, names: Names<'_>) -> Result<(),
     } else {
         text.push('-')?;
         text.push_str(names.short)?;
-        text.push_str(if width_of(names.long) > 0 { ", " } else { " " })
+        text.push_str(if wide { ", " } else { " " })
     }
 }
 
-/// Adds the long name with its dashes, where it takes a column.
-fn push_long(text: &mut String, layout: Layout, long: &str) -> Result<(), AllocError>
+/// Adds the long name with its dashes, where it takes a column, which `wide` tells.
+fn push_long(text: &mut String, layout: Layout, long: &str, wide: bool) -> Result<(), AllocError>
+    requires { wide ≡ has_columns long.now }
     ensures { OnOk result (string_bytes text.new ≡ string_bytes text.old
         ++ long_part layout.long_only long.now) }
 {
-    if width_of(long) == 0 {
+    if !wide {
         return Ok(());
     }
     text.push_str(if layout.long_only { "-" } else { "--" })?;
@@ -109,6 +118,13 @@ fn padding_after(head: &str) -> &'static str
     } else {
         NEXT_ROW
     }
+}
+
+/// Whether a text takes a column.
+fn has_columns(text: &str) -> bool
+    ensures { result ≡ has_columns text.now }
+{
+    width_of(text) > 0
 }
 
 /// The columns that a text takes.

@@ -8,7 +8,7 @@ ghost use Rattle.getopts.specs.Fail.{Tells};
 ghost use Rattle.std.specs.Str.{IsCharBoundary, IsUtf8};
 ghost use Rattle.getopts.specs.Names.{AreTexts, Text, texts};
 ghost use Rattle.getopts.specs.Scan.{dash, is_dashed, holds_equals, IsScanFault};
-ghost use Rattle.getopts.specs.Held.Turn.{with_equals, first_char, chosen_end, Chooses};
+ghost use Rattle.getopts.specs.Turn.{with_equals, first_char, chosen_end, Chooses};
 
 use crate::fail::Fail;
 use crate::groups::{HasArg, ParsingStyle};
@@ -182,7 +182,7 @@ impl<'o> Scanner<'o> {
     ghost use Rattle.getopts.specs.Held.Line.{scanner_grammar, IsLawfulScanner, HasShape};
     ghost use Rattle.getopts.specs.Held.Line.{ReadsLine};
     ghost use Rattle.getopts.specs.Scan.{Dashes};
-    ghost use Rattle.getopts.specs.Held.Turn.{faults, long_turn, cluster_turn, AddsItem};
+    ghost use Rattle.getopts.specs.Turn.{faults, long_turn, cluster_turn, AddsItem};
 
     /// The place and the kind of argument of the option that a name resolves to.
     fn option(&self, name: &str) -> Option<(usize, HasArg)>

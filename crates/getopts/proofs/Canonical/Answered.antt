@@ -18,7 +18,7 @@ use Rattle.getopts.specs.Matches.{KeepsCounts, IsCountFault}
 use Rattle.getopts.specs.Parse.{Reads, IsAccepted, HasReading, BreaksCounts, IsRefused}
 use Rattle.getopts.specs.Canon.{Content, IsCountKeeping, content_of, main_at, IsPlain}
 use Rattle.getopts.specs.Canon.{canonical_line, IsAcceptedWith, Says}
-use Rattle.getopts.specs.Held.ReadLine.{IsReadLine, IsAcceptedLine}
+use Rattle.getopts.specs.Held.Matches.{IsReadLine, IsAcceptedLine}
 use Rattle.getopts.specs.CanonAnswers.{IsWritten, IsUnwritable, IsParseAnswer}
 use Rattle.getopts.specs.CanonAnswers.{IsCanonicalAnswer, KeepsLineLaws}
 use Rattle.getopts.specs.declared.matches.ReadLine.{ReadLine}
@@ -31,7 +31,7 @@ use Rattle.getopts.proofs.Parsing.Counts.{broken_count}
 use Rattle.getopts.proofs.Parsing.Only.{meets}
 use Rattle.getopts.proofs.Parsing.Parsed.{only_reads, named_here, groups_are, IsAccepted-reading}
 use Rattle.getopts.proofs.Parsing.Parsed.{HasReading-reading}
-use Rattle.getopts.proofs.Scanning.Words.{holds_equals-none}
+use Rattle.getopts.proofs.Scanner.Words.{holds_equals-none}
 
 -- a test that finds `=` just where it is
 pub holds_equals-found : (text : Text) (found : Bool)

@@ -15,7 +15,7 @@ use Rattle.getopts.specs.Options.{Grammar, kind_of, grammar_of}
 use Rattle.getopts.specs.Scan.{dash, equals_sign, begins_with_dash, holds_equals, stop_word}
 use Rattle.getopts.specs.Scan.{Argument, none, attached, separate, one, two, flags, ends_in}
 use Rattle.getopts.specs.Scan.{end_text, attached_argument, argument_words, value_of, FitsKind}
-use Rattle.getopts.specs.Held.Turn.{with_equals}
+use Rattle.getopts.specs.Turn.{with_equals}
 use Rattle.getopts.specs.Scan.{Item, free, long, cluster, spelled_all, FitsLong, FitsEnd, IsFlag}
 use Rattle.getopts.specs.Scan.{IsLawfulItem, AreWellFollowed, Reading, IsReading, Mention}
 use Rattle.getopts.specs.Scan.{mention_of, mentions, Occurrence, occurrences_of, free_items}
@@ -37,7 +37,7 @@ use Rattle.getopts.proofs.Reading.Positions.{mentions_of-items}
 use Rattle.getopts.proofs.Reading.Readings.{only_reading}
 use Rattle.getopts.proofs.Reading.Texts.{begins_with_dash-append, cut_at_equals-append}
 use Rattle.getopts.proofs.Reading.Turns.{IsNamed}
-use Rattle.getopts.specs.Held.Turn.{cut_at_equals}
+use Rattle.getopts.specs.Turn.{cut_at_equals}
 
 -- the group at this place has a main name that holds no `=`
 abbrev HasPlainMain : List Group → ℕ → Type 0

@@ -21,7 +21,7 @@ use Rattle.getopts.specs.Options.{Known, Group, names_of}
 use Rattle.getopts.specs.Held.Pieces.{pieces, AreEnds}
 use Rattle.getopts.specs.Same.{same_group}
 use Rattle.getopts.specs.Held.Table.{name_at, HaveNamesOfBytes}
-use Rattle.getopts.specs.Held.Texts.{IsOfBytes}
+use Rattle.getopts.specs.Held.Pieces.{IsOfBytes}
 use Rattle.getopts.specs.Held.Groups.{known_with, kinds_of, same_kinds, same_record, between}
 use Rattle.getopts.specs.Held.Groups.{group_by, groups_from, IsEnd, AreEndsOf, AreTextsOf}
 use Rattle.getopts.specs.declared.groups.GroupRecord.{GroupRecord}

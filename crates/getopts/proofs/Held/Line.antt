@@ -9,7 +9,7 @@ use Rattle.std.specs.Option.{option_map}
 use Rattle.getopts.specs.Names.{Text}
 use Rattle.getopts.specs.Scan.{Occurrence}
 use Rattle.getopts.specs.Held.Pieces.{pieces}
-use Rattle.getopts.specs.Held.Texts.{IsWellCut}
+use Rattle.getopts.specs.Held.Pieces.{IsWellCut}
 use Rattle.getopts.specs.Held.Occurrences.{values_end, record_view, value_ends, with_values}
 use Rattle.getopts.specs.declared.occurrences.OccurrenceRecord.{OccurrenceRecord}
 use Rattle.getopts.proofs.Held.Pieces.{length-pieces, pieces-at}

@@ -104,14 +104,6 @@ known-there (known ∷ knowns) zero kinds there =
     (known, refl, sym (ap (λ (k : Kinds). k.occurrence) same))
 known-there (known ∷ knowns) (suc i) kinds there = known-there knowns i kinds there
 
--- where no group is at a place, the list ends before it
-pub none_known : (knowns : List Known) (i : ℕ)
-    → None ≡ option_map kinds_of (slice_get knowns i)
-    → length knowns ≤ i
-none_known [] i none = zero-le
-none_known (known ∷ knowns) zero none = cc none
-none_known (known ∷ knowns) (suc i) none = omega (arith, none_known knowns i none)
-
 -- a test of groups that passes for each group with occurrences passes for each occurrence
 pub list_all-by_group : (p : ℕ → Bool) (occurrences : List Occurrence)
     → ((group : ℕ) → 0 < length (found_at group occurrences) → p group ≡ true)

@@ -33,7 +33,7 @@ use Rattle.getopts.proofs.Reading.Readings.{spelled_all-append}
 use Rattle.getopts.proofs.Held.Known.{names-knowns_of}
 use Rattle.getopts.proofs.Parsing.Parsed.{HasReading-accepted, counts-accepted, positions_below-accepted}
 use Rattle.getopts.proofs.Parsing.Parsed.{HavePositionsInOrder-read}
-use Rattle.getopts.proofs.Scanning.Loop.{length-texts}
+use Rattle.getopts.proofs.Scanner.Loop.{length-texts}
 
 -- each occurrence has a value, or none, as this kind of argument wants
 abbrev HaveValuesFor : HasArg → List Found → Type 0

@@ -12,7 +12,7 @@ use Rattle.getopts.specs.Scan.{EndsOrIsDashed, AreWellFollowed, Tail, line_end, 
 use Rattle.getopts.specs.Scan.{tail_words, IsLawfulTail, Reading, IsReading, IsFaultAt, IsScanFault}
 use Rattle.getopts.specs.declared.groups.ParsingStyle.{ParsingStyle}
 use Rattle.getopts.proofs.Lists.{AllByRecursion-right}
-use Rattle.getopts.specs.Held.Turn.{Turn, ends, takes, faults}
+use Rattle.getopts.specs.Turn.{Turn, ends, takes, faults}
 use Rattle.getopts.proofs.Reading.Turns.{IsNamed, turn, spelled, free_turn, with_items, after_turn}
 use Rattle.getopts.proofs.Reading.Turns.{read_both, read}
 use Rattle.getopts.proofs.Reading.Steps.{BeginsWith, TakesItem, spelled_turn, fault_turn}

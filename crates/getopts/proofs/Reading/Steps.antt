@@ -19,9 +19,9 @@ use Rattle.getopts.specs.Scan.{stop, tail_words, IsLawfulTail, IsLongForm, IsSho
 use Rattle.getopts.specs.Scan.{HasAfterFlags}
 use Rattle.getopts.specs.Scan.{IsFaultAt, unknown_name, unknown_character, unwanted_argument}
 use Rattle.getopts.specs.Scan.{long_unfinished, short_unfinished}
-use Rattle.getopts.specs.Held.Turn.{with_equals, Turn, ends, takes, faults, IsInLongForm}
-use Rattle.getopts.specs.Held.Turn.{chosen_long, chosen_end, chosen_turn, named_turn, cut_at_equals}
-use Rattle.getopts.specs.Held.Turn.{long_turn, first_char, byte_turn, cluster_turn}
+use Rattle.getopts.specs.Turn.{with_equals, Turn, ends, takes, faults, IsInLongForm}
+use Rattle.getopts.specs.Turn.{chosen_long, chosen_end, chosen_turn, named_turn, cut_at_equals}
+use Rattle.getopts.specs.Turn.{long_turn, first_char, byte_turn, cluster_turn}
 use Rattle.getopts.specs.declared.groups.HasArg.{HasArg}
 use Rattle.getopts.specs.declared.groups.HasArg.TheVariants.{Yes, No, Maybe}
 use Rattle.getopts.specs.declared.groups.ParsingStyle.{ParsingStyle}

@@ -7,7 +7,7 @@ use Rattle.getopts.specs.Options.{Grammar}
 use Rattle.getopts.specs.Fail.{Fault}
 use Rattle.getopts.specs.Scan.{dash, none, separate, one, two, Item, free, item_words, line_end}
 use Rattle.getopts.specs.Scan.{stop, rest, Reading}
-use Rattle.getopts.specs.Held.Turn.{Turn, ends, takes, faults, long_turn, cluster_turn}
+use Rattle.getopts.specs.Turn.{Turn, ends, takes, faults, long_turn, cluster_turn}
 use Rattle.getopts.specs.declared.groups.ParsingStyle.{ParsingStyle}
 use Rattle.getopts.specs.declared.groups.ParsingStyle.TheVariants.{FloatingFrees, StopAtFirstFree}
 

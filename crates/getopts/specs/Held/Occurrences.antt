@@ -7,7 +7,7 @@ use Rattle.getopts.specs.Names.{Text}
 use Rattle.getopts.specs.Matches.{Found, found_part}
 use Rattle.getopts.specs.Scan.{Occurrence}
 use Rattle.getopts.specs.Held.Pieces.{pieces}
-use Rattle.getopts.specs.Held.Texts.{IsWellCut}
+use Rattle.getopts.specs.Held.Pieces.{IsWellCut}
 use Rattle.getopts.specs.declared.occurrences.OccurrenceRecord.{OccurrenceRecord}
 use Rattle.getopts.specs.declared.occurrences.LineOccurrences.TheInside.{Inside}
 

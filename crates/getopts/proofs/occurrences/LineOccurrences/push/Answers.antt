@@ -6,7 +6,7 @@ use Rattle.std.specs.Borrow.{Bor}
 use Rattle.std.specs.Option.{option_copied, is_some, unwrap_or}
 use Rattle.std.specs.String.{string_bytes}
 use Rattle.getopts.specs.Names.{Text}
-use Rattle.getopts.specs.Held.Texts.{IsWellCut}
+use Rattle.getopts.specs.Held.Pieces.{IsWellCut}
 use Rattle.getopts.specs.Held.Occurrences.{value_ends, with_values, record_view}
 use Rattle.getopts.specs.declared.occurrences.OccurrenceRecord.{OccurrenceRecord}
 use Rattle.getopts.proofs.Held.Line.{with_values-push}

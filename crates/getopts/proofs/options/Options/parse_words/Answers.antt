@@ -4,7 +4,7 @@ use Rattle.getopts.specs.Names.{texts}
 use Rattle.getopts.specs.ScanLaws.{HavePositionsBelow}
 use Rattle.getopts.proofs.Canonical.Answered.{IsAccepted-line}
 use Rattle.getopts.proofs.Parsing.Parsed.{positions_below-accepted, keeps_laws}
-use Rattle.getopts.proofs.Scanning.Loop.{length-texts}
+use Rattle.getopts.proofs.Scanner.Loop.{length-texts}
 use Rattle.getopts.proofs.Parsing.Holds.{HoldDeclared-accepted, HaveLastWordsFree-accepted}
 use Rattle.getopts.proofs.options.Options.parse_words.Goals as goal
 

@@ -7,12 +7,12 @@ use Rattle.getopts.specs.Fail.{unrecognized_option}
 use Rattle.getopts.specs.Names.{texts}
 use Rattle.getopts.specs.Held.Line.{scanner_grammar}
 use Rattle.getopts.specs.Scan.{cluster, ends_in}
-use Rattle.getopts.specs.Held.Turn.{faults, first_char, chosen_turn, cluster_turn}
+use Rattle.getopts.specs.Turn.{faults, first_char, chosen_turn, cluster_turn}
 use Rattle.getopts.proofs.Parsing.Faults.{Tells-one, Tells-weaker}
-use Rattle.getopts.proofs.Scanning.Clusters.{FlagsRead-none, FlagsRead-more, AddsItem-flags}
-use Rattle.getopts.proofs.Scanning.Clusters.{AddsItem-ends, cluster_turn-byte, cluster_turn-ends}
-use Rattle.getopts.proofs.Scanning.Clusters.{text_from}
-use Rattle.getopts.proofs.Scanning.Words.{slice_range-one}
+use Rattle.getopts.proofs.Scanner.Clusters.{FlagsRead-none, FlagsRead-more, AddsItem-flags}
+use Rattle.getopts.proofs.Scanner.Clusters.{AddsItem-ends, cluster_turn-byte, cluster_turn-ends}
+use Rattle.getopts.proofs.Scanner.Clusters.{text_from}
+use Rattle.getopts.proofs.Scanner.Words.{slice_range-one}
 use Rattle.getopts.proofs.scan.Scanner.cluster.Goals as goal
 
 pub names-init : goal.names-init

@@ -1,7 +1,7 @@
 -- The bytes before this place are flags, and their occurrences were added.
 use Rattle.getopts.specs.Names.{texts}
 use Rattle.getopts.specs.Held.Line.{scanner_grammar}
-use Rattle.getopts.proofs.Scanning.Clusters.{FlagsRead}
+use Rattle.getopts.proofs.Scanner.Clusters.{FlagsRead}
 use Rattle.getopts.proofs.scan.Scanner.cluster.Given as goal
 
 abbrev pub invariant-names : goal.invariant-names

@@ -5,10 +5,10 @@ use Rattle.getopts.specs.Fail.{argument_missing, unrecognized_option, unexpected
 use Rattle.getopts.specs.Names.{texts}
 use Rattle.getopts.specs.Held.Line.{scanner_grammar}
 use Rattle.getopts.specs.Scan.{none, attached, separate}
-use Rattle.getopts.specs.Held.Turn.{chosen_long, Chooses}
+use Rattle.getopts.specs.Turn.{chosen_long, Chooses}
 use Rattle.getopts.specs.declared.groups.HasArg.TheVariants.{Yes, No}
-use Rattle.getopts.proofs.Scanning.Items.{Chooses-ok, Chooses-maybe, Tells-long, AddsItem-long}
-use Rattle.getopts.proofs.Scanning.Items.{texts-first, texts-none}
+use Rattle.getopts.proofs.Scanner.Items.{Chooses-ok, Chooses-maybe, Tells-long, AddsItem-long}
+use Rattle.getopts.proofs.Scanner.Items.{texts-first, texts-none}
 use Rattle.getopts.proofs.scan.Scanner.long.Goals as goal
 use Rattle.getopts.proofs.scan.Scanner.long.Goals.{in-No-None, in-Yes-None+in-Some-first}
 use Rattle.getopts.proofs.scan.Scanner.long.Goals.{in-Yes-Some, in-Maybe-default}

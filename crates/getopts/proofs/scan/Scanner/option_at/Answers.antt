@@ -3,7 +3,7 @@ use Rattle.std.proofs.Common.{◌≡◌, ◌<◌, ◌≤◌, ◌∷◌, [], slic
 use Rattle.std.proofs.lemmas.Grind.{common_steps}
 use Rattle.std.proofs.lemmas.Str.{IsCharBoundary-after_ascii}
 use Rattle.getopts.proofs.Lookup.Names.{wide_unknown}
-use Rattle.getopts.proofs.Scanning.Words.{slice_range-one}
+use Rattle.getopts.proofs.Scanner.Words.{slice_range-one}
 use Rattle.getopts.proofs.scan.Scanner.option_at.Goals as goal
 
 pub range-requires-clause-end_boundary : goal.range-requires-clause-end_boundary

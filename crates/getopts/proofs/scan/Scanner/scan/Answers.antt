@@ -13,9 +13,9 @@ use Rattle.getopts.proofs.Lookup.Names.{named_grammar}
 use Rattle.getopts.proofs.Reading.Readings.{read_nil}
 use Rattle.getopts.proofs.Reading.Steps.{turn_long, turn_short}
 use Rattle.getopts.proofs.Reading.Turns.{IsNamed, read}
-use Rattle.getopts.proofs.Scanning.Loop.{ReadSoFar-none, ReadSoFar-free, ReadSoFar-added}
-use Rattle.getopts.proofs.Scanning.Loop.{IsReading-tail, IsReading-rest, IsReading-stop, Tells-word}
-use Rattle.getopts.proofs.Scanning.Loop.{argument_words-most, length-texts, trailing_after-stop}
+use Rattle.getopts.proofs.Scanner.Loop.{ReadSoFar-none, ReadSoFar-free, ReadSoFar-added}
+use Rattle.getopts.proofs.Scanner.Loop.{IsReading-tail, IsReading-rest, IsReading-stop, Tells-word}
+use Rattle.getopts.proofs.Scanner.Loop.{argument_words-most, length-texts, trailing_after-stop}
 use Rattle.getopts.proofs.scan.Scanner.scan.Goals as goal
 
 -- a scanner's names are texts

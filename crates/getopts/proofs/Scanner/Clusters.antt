@@ -9,8 +9,8 @@ use Rattle.getopts.specs.Names.{Text}
 use Rattle.getopts.specs.Options.{Grammar}
 use Rattle.getopts.specs.Scan.{none, flags, ends_in, cluster, IsFlag, Occurrence, at_position}
 use Rattle.getopts.specs.Scan.{mention_of, mentions}
-use Rattle.getopts.specs.Held.Turn.{chosen_end, chosen_turn, byte_turn, cluster_turn, Chooses}
-use Rattle.getopts.specs.Held.Turn.{AddsItem}
+use Rattle.getopts.specs.Turn.{chosen_end, chosen_turn, byte_turn, cluster_turn, Chooses}
+use Rattle.getopts.specs.Turn.{AddsItem}
 use Rattle.getopts.specs.declared.groups.HasArg.{HasArg}
 use Rattle.getopts.specs.declared.groups.HasArg.TheVariants.{No}
 use Rattle.getopts.proofs.Reading.Steps.{byte_turn-end}

@@ -6,8 +6,8 @@ use Rattle.getopts.specs.Options.{Grammar}
 use Rattle.getopts.specs.Scan.{Argument, none, attached, Dashes, long, argument_words}
 use Rattle.getopts.specs.Scan.{value_of, holds_equals, Occurrence, at_position}
 use Rattle.getopts.specs.Fail.{Fault, Tells}
-use Rattle.getopts.specs.Held.Turn.{with_equals, faults, chosen_long, chosen_end, chosen_turn}
-use Rattle.getopts.specs.Held.Turn.{named_turn, long_turn, Chooses, AddsItem}
+use Rattle.getopts.specs.Turn.{with_equals, faults, chosen_long, chosen_end, chosen_turn}
+use Rattle.getopts.specs.Turn.{named_turn, long_turn, Chooses, AddsItem}
 use Rattle.getopts.specs.declared.fail.Fail.{Fail}
 use Rattle.getopts.specs.declared.groups.HasArg.{HasArg}
 use Rattle.getopts.specs.declared.groups.HasArg.TheVariants.{Maybe}
@@ -24,12 +24,6 @@ pub Chooses-maybe : (name : Text) (value : Option Text) (after : List Text)
     → Chooses (chosen_long Maybe name value after) value 0
 Chooses-maybe name None after = Chooses-ok none
 Chooses-maybe name (Some text) after = Chooses-ok (attached text)
-
--- an option that ends a cluster takes the text after it, where there is one
-pub Chooses-attached : (kind : HasArg) (name rest : Text) (after : List Text)
-    → eqb (length rest) 0 ≡ false → Chooses (chosen_end kind name rest after) (Some rest) 0
-Chooses-attached kind name [] after filled = cc filled
-Chooses-attached kind name (byte ∷ rest) after filled = Chooses-ok (attached (byte ∷ rest))
 
 -- A text in long form, by its name and the argument that is attached.
 module _ (grammar : Grammar) (dashes : Dashes) (text name : Text) (argument : Option Text)

@@ -1,12 +1,13 @@
--- What is found in words, as the code holds it: what they give, the table of names that they were read by, and
--- where the occurrences stand.
+-- What words gave, as the code holds it: a line that was read, with the table of names that it was read by
+-- and where the occurrences stand; and groups with what a line gave to each.
 use Rattle.std.specs.Prelude.{◌≡◌, List, length}
 use Rattle.getopts.specs.Names.{Text}
 use Rattle.getopts.specs.Options.{Group, Declared, MayBeDeclared, names_of, knowns_of, grammar_of}
-use Rattle.getopts.specs.Matches.{matched, KeepsCounts}
+use Rattle.getopts.specs.Matches.{MatchedGroup, matched, KeepsCounts}
 use Rattle.getopts.specs.Held.Index.{index_of}
 use Rattle.getopts.specs.Held.Line.{ReadsLine}
 use Rattle.getopts.specs.Held.Table.{IsTableOf}
+use Rattle.getopts.specs.declared.matches.MatchedGroups.TheInside.{Inside}
 use Rattle.getopts.specs.declared.matches.ReadLine.{ReadLine}
 
 -- a line that was read holds the table and the index of these groups
@@ -24,3 +25,12 @@ pub record IsReadLine (options : Declared) (words : List Text) (read : ReadLine)
 pub record IsAcceptedLine (options : Declared) (words : List Text) (read : ReadLine) : Type 0 where
   pub is_read : IsReadLine options words read
   pub keeps : KeepsCounts (matched 0 (knowns_of options.groups) read.line.found)
+
+-- the groups, each with what was found of it
+abbrev pub matched_view : Inside → List MatchedGroup
+matched_view inside = matched 0 (knowns_of inside.groups) inside.found
+
+-- they keep their table, and where the occurrences of each group stand
+pub record KeepsGroups (inside : Inside) : Type 0 where
+  pub table : IsTableOf (names_of inside.groups) inside.table
+  pub index : inside.index ≡ index_of (length inside.groups) inside.found

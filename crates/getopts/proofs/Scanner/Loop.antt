@@ -14,7 +14,7 @@ use Rattle.getopts.specs.Scan.{is_dashed, stop_word, Argument, none, separate, I
 use Rattle.getopts.specs.Scan.{argument_words, item_words, Occurrence, at_position, word_count}
 use Rattle.getopts.specs.Scan.{occurrences_after, mentions, free_items, Tail, stop, rest}
 use Rattle.getopts.specs.Scan.{trailing_after, IsReading, IsScanFault}
-use Rattle.getopts.specs.Held.Turn.{Turn, ends, takes, faults, AddsItem}
+use Rattle.getopts.specs.Turn.{Turn, ends, takes, faults, AddsItem}
 use Rattle.getopts.specs.declared.fail.Fail.{Fail}
 use Rattle.getopts.specs.declared.groups.ParsingStyle.TheVariants.{FloatingFrees, StopAtFirstFree}
 use Rattle.getopts.proofs.Lists.{drop_past}

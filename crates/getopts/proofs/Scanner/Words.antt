@@ -18,8 +18,3 @@ holds_equals-none text h = list_any_none (λ c. eqb c equals_sign) text
 pub slice_range-one : (text : Text) (i : ℕ) → i < length text
     → slice_range text i (i + 1) ≡ slice_index text i ∷ []
 slice_range-one text i within = grind (arith, common_steps)
-
--- a text of no length is empty
-pub empty-length : (text : Text) → eqb (length text) 0 ≡ true → text ≡ []
-empty-length [] h = refl
-empty-length (c ∷ text) h = grind (arith, nat_tests)
