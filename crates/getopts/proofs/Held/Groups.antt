@@ -2,33 +2,46 @@
 -- and when two lists of groups are the same.
 use Rattle.std.proofs.Common.{◌≡◌, ◌&&◌, ℕ, zero, suc, ◌-◌, ◌<◌, ◌≤◌, List, [], ◌∷◌, map, ◌++◌}
 use Rattle.std.proofs.Common.{length, get_or, take, drop, slice_get, Option, Some, refl, ap}
-use Rattle.std.proofs.Common.{sym, ◌∙◌, ◌/◌, ◌%◌, subst, arith, append_assoc, length-append}
-use Rattle.std.proofs.Math.Seq.{drop-append_seam}
+use Rattle.std.proofs.Common.{sym, ◌∙◌, ◌*◌, ◌/◌, ◌%◌, subst, arith}
 use Rattle.std.specs.Bool.{Decides}
+use Rattle.std.specs.List.{All}
 use Rattle.std.specs.Cmp.Lexicographic.{pointwise, pointwise_decides}
 use Rattle.std.specs.Option.{option_map}
 use Rattle.std.specs.Str.{IsUtf8, IsCharBoundary, bytes_eq}
 use Rattle.std.proofs.lemmas.Bool.Decides.{Decides-and, Decides-like, Decides-eqb}
 use Rattle.std.proofs.lemmas.Bool.Decides.{same_from_decides}
-use Rattle.std.proofs.lemmas.List.{take-append-le, drop-append-le, length-drop, take_all}
-use Rattle.std.proofs.lemmas.List.{append-nil}
 use Rattle.std.proofs.lemmas.List.Elements.{All-nil, All-take, All-drop}
 use Rattle.std.proofs.lemmas.Option.{same_Some}
 use Rattle.std.proofs.lemmas.Slice.Eq.{bytes_eq-Decides}
-use Rattle.std.proofs.lemmas.Str.{IsUtf8-append, IsUtf8-nil, IsCharBoundary-at_seam}
 use Rattle.getopts.specs.Names.{Text}
 use Rattle.getopts.specs.Options.{Known, Group, names_of}
-use Rattle.getopts.specs.Held.Pieces.{pieces, AreEnds}
+use Rattle.getopts.specs.Held.Pieces.{pieces, AreEnds, IsWellCut}
 use Rattle.getopts.specs.Same.{same_group}
 use Rattle.getopts.specs.Held.Table.{name_at, HaveNamesOfBytes}
 use Rattle.getopts.specs.Held.Pieces.{IsOfBytes}
-use Rattle.getopts.specs.Held.Groups.{known_with, kinds_of, same_kinds, same_record, between}
-use Rattle.getopts.specs.Held.Groups.{group_by, groups_from, IsEnd, AreEndsOf, AreTextsOf}
+use Rattle.getopts.specs.Held.Groups.{known_with, kinds_of, same_kinds, same_record}
+use Rattle.getopts.specs.Held.Groups.{text_ends, groups_with}
 use Rattle.getopts.specs.declared.groups.GroupRecord.{GroupRecord}
 use Rattle.getopts.specs.declared.groups.Kinds.{Kinds}
 use Rattle.getopts.proofs.Held.Options.{same_known-decides, same_group-decides}
-use Rattle.getopts.proofs.Held.Pieces.{pieces_tell}
-use Rattle.getopts.proofs.Held.Texts.{IsCharBoundary-append}
+use Rattle.getopts.proofs.Held.Pieces.{pieces_tell, length-pieces}
+use Rattle.getopts.proofs.Held.Texts.{texts_push}
+
+-- what stands in a text from one place to another
+abbrev pub between : Text → ℕ → ℕ → Text
+between text start end = take (end - start) (drop start text)
+
+-- a group by its record, where its texts start here in the text of all
+abbrev pub group_by : Text → ℕ → GroupRecord → Group
+group_by text start r = record {
+  known = known_with r.kinds (between text start r.short_end) (between text r.short_end r.long_end);
+  hint = between text r.long_end r.hint_end;
+  description = between text r.hint_end r.desc_end;
+}
+
+-- groups by their records, where the texts of the first start here
+abbrev pub groups_from : Text → ℕ → List GroupRecord → List Group
+groups_from text start records = groups_with records (pieces text start (text_ends records))
 
 -- ---- at a place
 
@@ -56,22 +69,31 @@ groups_from-at text start [] i = refl
 groups_from-at text start (r ∷ records) zero = refl
 groups_from-at text start (r ∷ records) (suc i) = groups_from-at text r.desc_end records i
 
--- where its texts end
-pub AreEndsOf-at : (text : Text) (start : ℕ) (records : List GroupRecord) (i : ℕ) (r : GroupRecord)
-    → AreTextsOf text start records → slice_get records i ≡ Some r
-    → AreEndsOf text (start_at start records i) r
-AreEndsOf-at text start [] i r ends at = cc at
-AreEndsOf-at text start (first ∷ records) zero r ends at = subst (AreEndsOf text start) (same_Some first r at) ends.0
-AreEndsOf-at text start (first ∷ records) (suc i) r ends at = AreEndsOf-at text first.desc_end records i r ends.1 at
+-- where the texts of a group start and end, in order and between characters
+pub record AreEndsOf (text : Text) (start : ℕ) (r : GroupRecord) : Type 0 where
+  pub start_at : IsCharBoundary text start
+  pub short : (start ≤ r.short_end) × IsCharBoundary text r.short_end
+  pub long : (r.short_end ≤ r.long_end) × IsCharBoundary text r.long_end
+  pub hint : (r.long_end ≤ r.hint_end) × IsCharBoundary text r.hint_end
+  pub description : (r.hint_end ≤ r.desc_end) × IsCharBoundary text r.desc_end
 
--- the text of all may be cut where its texts start
-pub boundary_at : (text : Text) (start : ℕ) (records : List GroupRecord) (i : ℕ)
-    → IsCharBoundary text start → AreTextsOf text start records → i < length records
-    → IsCharBoundary text (start_at start records i)
-boundary_at text start [] i cut ends within = absurd (omega arith)
-boundary_at text start (r ∷ records) zero cut ends within = cut
-boundary_at text start (r ∷ records) (suc i) cut ends within =
-    boundary_at text r.desc_end records i ends.0.description.boundary ends.1 (omega arith)
+-- those of the group at a place
+pub AreEndsOf-at : (text : Text) (start : ℕ) (records : List GroupRecord) (i : ℕ) (r : GroupRecord)
+    → IsCharBoundary text start → AreEnds text start (text_ends records)
+    → All (IsCharBoundary text) (text_ends records) → slice_get records i ≡ Some r
+    → AreEndsOf text (start_at start records i) r
+AreEndsOf-at text start [] i r starts in_order cut at = cc at
+AreEndsOf-at text start (first ∷ records) zero r starts in_order cut at =
+    subst (AreEndsOf text start) (same_Some first r at) (record {
+      start_at = starts;
+      short = (in_order.0, cut 0 0 (omega arith));
+      long = (in_order.1.0, cut 1 0 (omega arith));
+      hint = (in_order.1.1.0, cut 2 0 (omega arith));
+      description = (in_order.1.1.1.0, cut 3 0 (omega arith));
+    })
+AreEndsOf-at text start (first ∷ records) (suc i) r starts in_order cut at =
+    AreEndsOf-at text first.desc_end records i r (cut 3 0 (omega arith)) in_order.1.1.1.1
+    (λ k d within. cut (suc (suc (suc (suc k)))) d (omega (arith, within))) at
 
 -- ---- the numbers of names
 
@@ -121,61 +143,36 @@ name_at-past (first ∷ groups) (suc (suc number)) past = name_at-past groups nu
 
 -- ---- one more group
 
--- what stands in a text stands there with more after it
-between-append : (text more : Text) (start end : ℕ) → start ≤ end → end ≤ length text
-    → between (text ++ more) start end ≡ between text start end
-between-append text more start end ordered within =
-    let room : end - start ≤ length (drop start text) = omega (arith, length-drop start text) in
-    ap (λ (rest : Text). take (end - start) rest) (drop-append-le start text more (omega arith))
-    ∙ take-append-le (end - start) (drop start text) more room
+-- each group has four texts
+length-text_ends : (records : List GroupRecord) → length (text_ends records) ≡ 4 * length records
+length-text_ends [] = refl
+length-text_ends (r ∷ records) = omega (arith, length-text_ends records)
 
--- what was added to a text stands from its end on
-between-added : (text added rest : Text)
-    → between ((text ++ added) ++ rest) (length text) (length (text ++ added)) ≡ added
-between-added text added rest =
-    between-append (text ++ added) rest (length text) (length (text ++ added)) (omega (arith, length-append text added)) (omega arith)
-    ∙ rw (drop-append_seam text added) (take_all _ added (omega (arith, length-append text added)))
+module _ (added : GroupRecord) where
+  -- the texts of one more group end after those of the others
+  text_ends-push : (records : List GroupRecord) → text_ends (records ++ added ∷ [])
+      ≡ (((text_ends records ++ added.short_end ∷ []) ++ added.long_end ∷ []) ++ added.hint_end ∷ [])
+      ++ added.desc_end ∷ []
+  text_ends-push [] = refl
+  text_ends-push (r ∷ records) =
+      ap (λ ends. r.short_end ∷ r.long_end ∷ r.hint_end ∷ r.desc_end ∷ ends) (text_ends-push records)
 
-module _ (text more : Text) (utf8 : IsUtf8 more) where
-  -- an end stays one with more after it
-  IsEnd-append : (start end : ℕ) → IsEnd text start end → IsEnd (text ++ more) start end
-  IsEnd-append start end is = record {
-    in_order = is.in_order;
-    boundary = IsCharBoundary-append text more utf8 end is.boundary;
-  }
-
-  AreEndsOf-append : (start : ℕ) (r : GroupRecord) → AreEndsOf text start r
-      → AreEndsOf (text ++ more) start r
-  AreEndsOf-append start r ends = record {
-    short = IsEnd-append start r.short_end ends.short;
-    long = IsEnd-append r.short_end r.long_end ends.long;
-    hint = IsEnd-append r.long_end r.hint_end ends.hint;
-    description = IsEnd-append r.hint_end r.desc_end ends.description;
-  }
-
-  -- a group stays what it is
-  group_by-append : (start : ℕ) (r : GroupRecord) → AreEndsOf text start r
-      → group_by (text ++ more) start r ≡ group_by text start r
-  group_by-append start r ends =
-      let short = between-append text more start r.short_end ends.short.in_order ends.short.boundary.0 in
-      let long = between-append text more r.short_end r.long_end ends.long.in_order ends.long.boundary.0 in
-      let hint = between-append text more r.long_end r.hint_end ends.hint.in_order ends.hint.boundary.0 in
-      let description = between-append text more r.hint_end r.desc_end ends.description.in_order ends.description.boundary.0 in
-      λ i. record { known = known_with r.kinds (short i) (long i); hint = hint i; description = description i }
-
-  -- one more record, whose texts are what was added
-  module _ (added : GroupRecord) (ends : AreEndsOf (text ++ more) (length text) added)
-      (at_end : added.desc_end ≡ length (text ++ more)) where
-    AreTextsOf-push : (start : ℕ) (records : List GroupRecord) → AreTextsOf text start records
-        → AreTextsOf (text ++ more) start (records ++ added ∷ [])
-    AreTextsOf-push start [] are = (subst (λ n. AreEndsOf (text ++ more) n added) (sym are) ends, at_end)
-    AreTextsOf-push start (r ∷ records) are = (AreEndsOf-append start r are.0, AreTextsOf-push r.desc_end records are.1)
-
-    groups_from-push : (start : ℕ) (records : List GroupRecord) → AreTextsOf text start records
-        → groups_from (text ++ more) start (records ++ added ∷ [])
-        ≡ groups_from text start records ++ group_by (text ++ more) (length text) added ∷ []
-    groups_from-push start [] are = ap (λ n. group_by (text ++ more) n added ∷ []) are
-    groups_from-push start (r ∷ records) are = λ i. group_by-append start r are.0 i ∷ groups_from-push r.desc_end records are.1 i
+  -- and it has the four texts after theirs
+  groups_with-push : (short long hint description : Text) (records : List GroupRecord) (texts : List Text)
+      → length texts ≡ 4 * length records
+      → groups_with (records ++ added ∷ [])
+      ((((texts ++ short ∷ []) ++ long ∷ []) ++ hint ∷ []) ++ description ∷ [])
+      ≡ groups_with records texts
+      ++ record { known = known_with added.kinds short long; hint = hint; description = description } ∷ []
+  groups_with-push short long hint description [] [] fits = refl
+  groups_with-push short long hint description [] (a ∷ texts) fits = absurd (omega (arith, fits))
+  groups_with-push short long hint description (r ∷ records) [] fits = absurd (omega (arith, fits))
+  groups_with-push short long hint description (r ∷ records) (a ∷ []) fits = absurd (omega (arith, fits))
+  groups_with-push short long hint description (r ∷ records) (a ∷ b ∷ []) fits = absurd (omega (arith, fits))
+  groups_with-push short long hint description (r ∷ records) (a ∷ b ∷ c ∷ []) fits = absurd (omega (arith, fits))
+  groups_with-push short long hint description (r ∷ records) (a ∷ b ∷ c ∷ d ∷ texts) fits =
+      ap (λ (groups : List Group). record { known = known_with r.kinds a b; hint = c; description = d } ∷ groups)
+      (groups_with-push short long hint description records texts (omega (arith, fits)))
 
 -- The record of a group whose four texts were added one after the other.
 module _ (text short long hint description one two three all : Text) (one_is : one ≡ text ++ short)
@@ -184,79 +181,44 @@ module _ (text short long hint description one two three all : Text) (one_is : o
     (hint_end : added.hint_end ≡ length three) (desc_end : added.desc_end ≡ length all)
     (short_utf8 : IsUtf8 short) (long_utf8 : IsUtf8 long) (hint_utf8 : IsUtf8 hint)
     (description_utf8 : IsUtf8 description) where
-  abbrev more : Text
-  more = short ++ (long ++ (hint ++ description))
-
-  -- an end between what stands before it and the rest, and what stands before it
-  at_end : (before piece rest grown : Text) (end : ℕ) → grown ≡ before ++ piece → end ≡ length grown
-      → all ≡ grown ++ rest → IsUtf8 rest
-      → IsEnd all (length before) end × (between all (length before) end ≡ piece)
-  at_end before piece rest grown end grown_is end_is is utf8 = (
-    record {
-      in_order = omega (arith, end_is, ap length grown_is, length-append before piece);
-      boundary = subst (IsCharBoundary all) (sym end_is) (IsCharBoundary-at_seam all grown rest is utf8);
-    },
-    (λ i. between ((is ∙ ap (λ (t : Text). t ++ rest) grown_is) i) (length before) ((end_is ∙ ap length grown_is) i))
-        ∙ between-added before piece rest,
-  )
-
-  at_short : IsEnd all (length text) added.short_end
-      × (between all (length text) added.short_end ≡ short)
-  at_short = at_end text short (long ++ (hint ++ description)) one added.short_end one_is short_end
-      (rw (all_is, three_is, two_is) (simp append_assoc))
-      (IsUtf8-append long _ long_utf8 (IsUtf8-append hint description hint_utf8 description_utf8))
-
-  at_long : IsEnd all (length one) added.long_end × (between all (length one) added.long_end ≡ long)
-  at_long = at_end one long (hint ++ description) two added.long_end two_is long_end (rw (all_is, three_is) (simp append_assoc))
-      (IsUtf8-append hint description hint_utf8 description_utf8)
-
-  at_hint : IsEnd all (length two) added.hint_end × (between all (length two) added.hint_end ≡ hint)
-  at_hint = at_end two hint description three added.hint_end three_is hint_end all_is description_utf8
-
-  at_description : IsEnd all (length three) added.desc_end
-      × (between all (length three) added.desc_end ≡ description)
-  at_description = at_end three description [] all added.desc_end all_is desc_end (sym (append-nil all)) IsUtf8-nil
-
-  -- with it the texts are again all that stands there, and it is the last group
-  pub groups_pushed : (records : List GroupRecord) → AreTextsOf text 0 records
-      → AreTextsOf all 0 (records ++ added ∷ [])
+  -- with it the text is again cut where all texts end, and it is the last group
+  pub groups_pushed : (records : List GroupRecord) → IsWellCut text (text_ends records)
+      → IsWellCut all (text_ends (records ++ added ∷ []))
       × (groups_from all 0 (records ++ added ∷ [])
       ≡ groups_from text 0 records
       ++ record { known = known_with added.kinds short long; hint = hint; description = description } ∷ [])
-  groups_pushed records are =
-      let parts : (((text ++ short) ++ long) ++ hint) ++ description ≡ text ++ more = simp append_assoc in
-      let whole : text ++ more ≡ all = sym (all_is ∙ ap (λ (t : Text). t ++ description) (three_is
-      ∙ ap (λ (t : Text). t ++ hint) (two_is ∙ ap (λ (t : Text). t ++ long) one_is)) ∙ parts) in
-      let utf8 : IsUtf8 more = IsUtf8-append short _ short_utf8 (IsUtf8-append long _ long_utf8
-      (IsUtf8-append hint description hint_utf8 description_utf8)) in
-      let ends : AreEndsOf all (length text) added = record {
-        short = at_short.0;
-        long = rw short_end at_long.0;
-        hint = rw long_end at_hint.0;
-        description = rw hint_end at_description.0;
-      } in
-      let long_is : between all added.short_end added.long_end ≡ long = rw short_end at_long.1 in
-      let hint_is : between all added.long_end added.hint_end ≡ hint = rw long_end at_hint.1 in
-      let description_is : between all added.hint_end added.desc_end ≡ description = rw hint_end at_description.1 in
-      let group_is : group_by all (length text) added
-      ≡ record { known = known_with added.kinds short long; hint = hint; description = description } =
-      λ i. record { known = known_with added.kinds (at_short.1 i) (long_is i); hint = hint_is i; description = description_is i } in (
-        subst (λ t. AreTextsOf t 0 (records ++ added ∷ [])) whole
-            (AreTextsOf-push text more utf8 added (subst (λ t. AreEndsOf t (length text) added) (sym whole) ends)
-            (desc_end ∙ ap length (sym whole)) 0 records are),
-        ap (λ (t : Text). groups_from t 0 (records ++ added ∷ [])) (sym whole)
-            ∙ groups_from-push text more utf8 added (subst (λ t. AreEndsOf t (length text) added) (sym whole) ends)
-            (desc_end ∙ ap length (sym whole)) 0 records are
-            ∙ ap (λ (g : Group). groups_from text 0 records ++ g ∷ [])
-            (ap (λ (t : Text). group_by t (length text) added) whole ∙ group_is),
+  groups_pushed records cut =
+      let ends = text_ends records in
+      let at = λ (end : ℕ) (size : ℕ) (is : end ≡ size) (before : List ℕ). ap (λ (n : ℕ). before ++ n ∷ []) is in
+      let first = texts_push text short one ends (ends ++ added.short_end ∷ []) one_is
+      (at added.short_end (length one) short_end ends) short_utf8 cut in
+      let second = texts_push one long two (ends ++ added.short_end ∷ [])
+      ((ends ++ added.short_end ∷ []) ++ added.long_end ∷ []) two_is
+      (at added.long_end (length two) long_end (ends ++ added.short_end ∷ [])) long_utf8 first.0 in
+      let third = texts_push two hint three ((ends ++ added.short_end ∷ []) ++ added.long_end ∷ [])
+      (((ends ++ added.short_end ∷ []) ++ added.long_end ∷ []) ++ added.hint_end ∷ []) three_is
+      (at added.hint_end (length three) hint_end ((ends ++ added.short_end ∷ []) ++ added.long_end ∷ []))
+      hint_utf8 second.0 in
+      let last = texts_push three description all
+      (((ends ++ added.short_end ∷ []) ++ added.long_end ∷ []) ++ added.hint_end ∷ [])
+      ((((ends ++ added.short_end ∷ []) ++ added.long_end ∷ []) ++ added.hint_end ∷ []) ++ added.desc_end ∷ []) all_is
+      (at added.desc_end (length all) desc_end
+      (((ends ++ added.short_end ∷ []) ++ added.long_end ∷ []) ++ added.hint_end ∷ [])) description_utf8 third.0 in
+      let cut_there = text_ends-push added records in
+      let texts = pieces text 0 ends in
+      let pieces_are : pieces all 0 (text_ends (records ++ added ∷ []))
+      ≡ (((texts ++ short ∷ []) ++ long ∷ []) ++ hint ∷ []) ++ description ∷ [] =
+      ap (pieces all 0) cut_there ∙ last.1
+      ∙ ap (λ (ts : List Text). ts ++ description ∷ []) (third.1
+      ∙ ap (λ (ts : List Text). ts ++ hint ∷ []) (second.1
+      ∙ ap (λ (ts : List Text). ts ++ long ∷ []) first.1)) in
+      let as_many : length texts ≡ 4 * length records = length-pieces text 0 ends ∙ length-text_ends records in (
+        subst (IsWellCut all) (sym cut_there) last.0,
+        ap (groups_with (records ++ added ∷ [])) pieces_are
+            ∙ groups_with-push added short long hint description records texts as_many,
       )
 
 -- ---- the same
-
--- where the texts of groups end, in order
-abbrev all_ends : List GroupRecord → List ℕ
-all_ends [] = []
-all_ends (r ∷ records) = r.short_end ∷ r.long_end ∷ r.hint_end ∷ r.desc_end ∷ all_ends records
 
 -- the texts of groups, in order
 abbrev all_texts : List Group → List Text
@@ -265,24 +227,16 @@ all_texts (g ∷ groups) = g.known.names.short ∷ g.known.names.long ∷ g.hint
 
 -- they are the pieces of the text of all
 all_texts-from : (text : Text) (start : ℕ) (records : List GroupRecord)
-    → all_texts (groups_from text start records) ≡ pieces text start (all_ends records)
+    → all_texts (groups_from text start records) ≡ pieces text start (text_ends records)
 all_texts-from text start [] = refl
 all_texts-from text start (r ∷ records) =
     ap (λ (more : List Text). between text start r.short_end ∷ between text r.short_end r.long_end
     ∷ between text r.long_end r.hint_end ∷ between text r.hint_end r.desc_end ∷ more)
     (all_texts-from text r.desc_end records)
 
-AreEnds-from : (text : Text) (start : ℕ) (records : List GroupRecord)
-    → AreTextsOf text start records → AreEnds text start (all_ends records)
-AreEnds-from text start [] are = are
-AreEnds-from text start (r ∷ records) are = (
-  are.0.short.in_order,
-  (are.0.long.in_order, (are.0.hint.in_order, (are.0.description.in_order, AreEnds-from text r.desc_end records are.1))),
-)
-
 -- records are told by the ends of texts, and by the kinds of the groups
 records_told : (text other : Text) (start other_start : ℕ) (records others : List GroupRecord)
-    → all_ends records ≡ all_ends others
+    → text_ends records ≡ text_ends others
     → groups_from text start records ≡ groups_from other other_start others → records ≡ others
 records_told text other start other_start [] [] ends same = refl
 records_told text other start other_start [] (o ∷ others) ends same = cc ends
@@ -292,7 +246,7 @@ records_told text other start other_start (r ∷ records) (o ∷ others) ends sa
     let long : r.long_end ≡ o.long_end = cc ends in
     let hint : r.hint_end ≡ o.hint_end = cc ends in
     let description : r.desc_end ≡ o.desc_end = cc ends in
-    let more_ends : all_ends records ≡ all_ends others = cc ends in
+    let more_ends : text_ends records ≡ text_ends others = cc ends in
     let first : group_by text start r ≡ group_by other other_start o = cc same in
     let kinds : r.kinds ≡ o.kinds = ap (λ (g : Group). kinds_of g.known) first in
     let more : groups_from text r.desc_end records ≡ groups_from other o.desc_end others = cc same in
@@ -330,15 +284,15 @@ same_record-decides a b = Decides-like (same_record a b)
 
 -- groups are the same where their records and the text of all their texts are
 pub same_groups : (text other : Text) (records others : List GroupRecord)
-    → AreTextsOf text 0 records → AreTextsOf other 0 others
+    → IsWellCut text (text_ends records) → IsWellCut other (text_ends others)
     → (bytes_eq text other && pointwise same_record records others)
     ≡ pointwise same_group (groups_from text 0 records) (groups_from other 0 others)
-same_groups text other records others are other_are =
+same_groups text other records others cut other_cut =
     let by_parts : Decides (bytes_eq text other && pointwise same_record records others) ((text ≡ other) × (records ≡ others)) =
     Decides-and _ _ (bytes_eq-Decides text other) (pointwise_decides same_record-decides records others) in
     let told : groups_from text 0 records ≡ groups_from other 0 others → (text ≡ other) × (records ≡ others) = λ e.
-    let parts = pieces_tell text other 0 (all_ends records) (all_ends others)
-    (AreEnds-from text 0 records are) (AreEnds-from other 0 others other_are)
+    let parts = pieces_tell text other 0 (text_ends records) (text_ends others)
+    cut.in_order other_cut.in_order
     (sym (all_texts-from text 0 records) ∙ ap all_texts e ∙ all_texts-from other 0 others) in
     (parts.0, records_told text other 0 0 records others parts.1 e) in
     same_from_decides _ _

@@ -1,7 +1,7 @@
 -- The counts of groups, one after the other.
 use Rattle.std.proofs.Common.{◌≡◌, ◌==◌, ◌&&◌, ◌<◌, ◌+◌, ℕ, zero, suc, Bool, true, false, cond}
 use Rattle.std.proofs.Common.{List, [], ◌∷◌, ◌++◌, length, map, take, drop, slice_get, unwrap_or}
-use Rattle.std.proofs.Common.{Option, Some, None, option_map, ◌≤◌, zero-le, refl, ap, ◌∙◌, sym}
+use Rattle.std.proofs.Common.{Option, Some, option_map, refl, ap, ◌∙◌, sym}
 use Rattle.std.proofs.Common.{subst, inl, inr, arith, add-zero, zero-add}
 use Rattle.std.specs.List.{filter, list_all}
 use Rattle.std.proofs.lemmas.Bool.{and_from, cases_eq, eq-eqb, ne_eqb}

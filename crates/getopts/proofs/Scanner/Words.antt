@@ -1,6 +1,6 @@
 -- Lemmas on single words.
-use Rattle.std.proofs.Common.{◌≡◌, ◌≢◌, ◌<◌, ◌+◌, ℕ, true, false, eqb, [], ◌∷◌, length, get_or}
-use Rattle.std.proofs.Common.{slice_index, slice_range, refl, arith}
+use Rattle.std.proofs.Common.{◌≡◌, ◌≢◌, ◌<◌, ◌+◌, ℕ, false, eqb, [], ◌∷◌, length, get_or}
+use Rattle.std.proofs.Common.{slice_index, slice_range, arith}
 use Rattle.std.proofs.lemmas.List.{get_or_default}
 use Rattle.std.proofs.lemmas.List.Folds.{list_any_none}
 use Rattle.std.proofs.lemmas.Bool.Decides.{nat_tests}

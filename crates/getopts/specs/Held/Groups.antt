@@ -1,11 +1,11 @@
 -- What is seen of groups that are held or borrowed.
-use Rattle.std.specs.Prelude.{◌≡◌, ◌==◌, ℕ, ◌-◌, ◌≤◌, Bool, List, [], ◌∷◌, length, take, drop}
+use Rattle.std.specs.Prelude.{◌==◌, ℕ, Bool, List, [], ◌∷◌}
 use Rattle.std.specs.Ordering.{on, eq_of_both}
-use Rattle.std.specs.Str.{IsCharBoundary}
 use Rattle.std.specs.String.{string_bytes}
 use Rattle.getopts.specs.Names.{Text, Names}
 use Rattle.getopts.specs.Options.{Known, Group, MayBeDeclared}
 use Rattle.getopts.specs.Same.{same_known}
+use Rattle.getopts.specs.Held.Pieces.{pieces, IsWellCut}
 use Rattle.getopts.specs.declared.names.Names.{Names as HeldNames}
 use Rattle.getopts.specs.declared.groups.Kinds.{Kinds}
 use Rattle.getopts.specs.declared.groups.GroupRecord.{GroupRecord}
@@ -33,50 +33,29 @@ kinds_of known = record { kind = known.kind; occurrence = known.occurrence }
 abbrev pub same_kinds : Kinds → Kinds → Bool
 same_kinds = on (λ kinds. known_with kinds [] []) same_known
 
--- what stands in a text from one place to another
-abbrev pub between : Text → ℕ → ℕ → Text
-between text start end = take (end - start) (drop start text)
+-- where the texts of groups end, in order
+abbrev pub text_ends : List GroupRecord → List ℕ
+text_ends [] = []
+text_ends (group ∷ groups) =
+    group.short_end ∷ group.long_end ∷ group.hint_end ∷ group.desc_end ∷ text_ends groups
 
--- a group by its record, where its texts start here in the text of all
-abbrev pub group_by : Text → ℕ → GroupRecord → Group
-group_by text start group = record {
-  known = known_with group.kinds (between text start group.short_end)
-      (between text group.short_end group.long_end);
-  hint = between text group.long_end group.hint_end;
-  description = between text group.hint_end group.desc_end;
-}
-
--- groups by their records, where the texts of the first start here
-abbrev pub groups_from : Text → ℕ → List GroupRecord → List Group
-groups_from text start [] = []
-groups_from text start (group ∷ groups) =
-    group_by text start group ∷ groups_from text group.desc_end groups
-
--- a text ends no earlier than it starts, and where the text of all may be cut
-pub record IsEnd (text : Text) (start end : ℕ) : Type 0 where
-  pub in_order : start ≤ end
-  pub boundary : IsCharBoundary text end
-
--- where the four texts of a group end
-pub record AreEndsOf (text : Text) (start : ℕ) (group : GroupRecord) : Type 0 where
-  pub short : IsEnd text start group.short_end
-  pub long : IsEnd text group.short_end group.long_end
-  pub hint : IsEnd text group.long_end group.hint_end
-  pub description : IsEnd text group.hint_end group.desc_end
-
--- the texts of groups are all that stands in the text from here on
-abbrev pub AreTextsOf : Text → ℕ → List GroupRecord → Type 0
-AreTextsOf text start [] = start ≡ length text
-AreTextsOf text start (group ∷ groups) =
-    AreEndsOf text start group × AreTextsOf text group.desc_end groups
+-- groups by their kinds, each with the next four of these texts
+abbrev pub groups_with : List GroupRecord → List Text → List Group
+groups_with (group ∷ groups) (short ∷ long ∷ hint ∷ description ∷ texts) = record {
+  known = known_with group.kinds short long;
+  hint = hint;
+  description = description;
+} ∷ groups_with groups texts
+groups_with groups texts = []
 
 -- the groups that are held
 abbrev pub groups_view : Inside → List Group
-groups_view inside = groups_from (string_bytes inside.text) 0 inside.records.items
+groups_view inside =
+    groups_with inside.records.items (pieces (string_bytes inside.text) 0 (text_ends inside.records.items))
 
--- the one text is that of groups that may be declared
+-- the one text is cut where the texts of groups end, which may be declared
 pub record HoldGroups (inside : Inside) : Type 0 where
-  pub parts : AreTextsOf (string_bytes inside.text) 0 inside.records.items
+  pub cut : IsWellCut (string_bytes inside.text) (text_ends inside.records.items)
   pub declared : MayBeDeclared (groups_view inside)
 
 -- whether the ends and the kinds of two records are the same

@@ -1,14 +1,16 @@
 -- The help of a group stands after its names.
 use Rattle.std.proofs.Common.{◌≡◌, ◌∙◌, Some, slice_get, sym, ap, arith}
 use Rattle.std.proofs.lemmas.Option.{same_Some}
+use Rattle.std.proofs.lemmas.Str.{IsUtf8-string_bytes, IsCharBoundary-start}
 use Rattle.std.specs.Option.{option_map}
 use Rattle.std.specs.String.{string_bytes}
 use Rattle.getopts.specs.Names.{Text}
 use Rattle.getopts.specs.Options.{Group}
-use Rattle.getopts.specs.Held.Groups.{AreEndsOf, known_view, group_by, between}
+use Rattle.getopts.specs.Held.Groups.{known_view}
 use Rattle.std.proofs.lemmas.List.{get_or_read}
 use Rattle.getopts.proofs.Lists.{slice_get-read}
-use Rattle.getopts.proofs.Held.Groups.{start_at, record_within, groups_from-at, AreEndsOf-at}
+use Rattle.getopts.proofs.Held.Groups.{start_at, record_within, groups_from-at, AreEndsOf, AreEndsOf-at}
+use Rattle.getopts.proofs.Held.Groups.{group_by, between}
 use Rattle.getopts.proofs.groups.Groups.get.Goals as goal
 use Rattle.getopts.proofs.groups.Groups.get.Goals.{After-deref}
 
@@ -27,27 +29,28 @@ record_at c =
 ends : (c : After-deref) → AreEndsOf (string_bytes c.self.inside.text)
     (start_at 0 c.self.inside.records.items c.args.place) c.index-group.result.now
 ends c = AreEndsOf-at (string_bytes c.self.inside.text) 0 c.self.inside.records.items c.args.place c.index-group.result.now
-    c.self.invariant.parts (record_at c)
+    (IsCharBoundary-start (string_bytes c.self.inside.text) (IsUtf8-string_bytes c.self.inside.text))
+    c.self.invariant.cut.in_order c.self.invariant.cut.between_characters (record_at c)
 
 pub range-hint-requires-clause-start_le_end : goal.range-hint-requires-clause-start_le_end
-range-hint-requires-clause-start_le_end c = (ends c).hint.in_order
+range-hint-requires-clause-start_le_end c = (ends c).hint.0
 
 pub range-hint-requires-clause-start_boundary : goal.range-hint-requires-clause-start_boundary
-range-hint-requires-clause-start_boundary c = λ _. rw c.deref.ensures (ends c).long.boundary
+range-hint-requires-clause-start_boundary c = λ _. rw c.deref.ensures (ends c).long.1
 
 pub range-hint-requires-clause-end_boundary : goal.range-hint-requires-clause-end_boundary
-range-hint-requires-clause-end_boundary c = rw c.deref.ensures (ends c).hint.boundary
+range-hint-requires-clause-end_boundary c = rw c.deref.ensures (ends c).hint.1
 
 pub range-desc-requires-clause-start_le_end : goal.range-desc-requires-clause-start_le_end
-range-desc-requires-clause-start_le_end c = (ends (goal.at.range-desc-requires-clause-start_le_end c).After-deref).description.in_order
+range-desc-requires-clause-start_le_end c = (ends (goal.at.range-desc-requires-clause-start_le_end c).After-deref).description.0
 
 pub range-desc-requires-clause-start_boundary : goal.range-desc-requires-clause-start_boundary
 range-desc-requires-clause-start_boundary c =
-    λ _. rw c.deref-2.ensures (ends (goal.at.range-desc-requires-clause-start_boundary c).After-deref).hint.boundary
+    λ _. rw c.deref-2.ensures (ends (goal.at.range-desc-requires-clause-start_boundary c).After-deref).hint.1
 
 pub range-desc-requires-clause-end_boundary : goal.range-desc-requires-clause-end_boundary
 range-desc-requires-clause-end_boundary c =
-    rw c.deref-2.ensures (ends (goal.at.range-desc-requires-clause-end_boundary c).After-deref).description.boundary
+    rw c.deref-2.ensures (ends (goal.at.range-desc-requires-clause-end_boundary c).After-deref).description.1
 
 pub returns : goal.returns
 returns c =

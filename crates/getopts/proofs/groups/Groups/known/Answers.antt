@@ -1,13 +1,10 @@
 -- The texts of a group start where those of the one before it end.
 use Rattle.std.proofs.Common.{◌≡◌, Some, slice_get, refl, sym, subst, arith}
-use Rattle.std.proofs.lemmas.Option.{slice_get_within}
 use Rattle.std.proofs.lemmas.Str.{IsUtf8-string_bytes, IsCharBoundary-start}
-use Rattle.std.specs.Str.{IsCharBoundary}
 use Rattle.std.specs.String.{string_bytes}
-use Rattle.getopts.specs.Held.Groups.{AreEndsOf}
 use Rattle.std.proofs.lemmas.List.{get_or_read}
 use Rattle.getopts.proofs.Lists.{slice_get-read}
-use Rattle.getopts.proofs.Held.Groups.{start_at, record_within, groups_from-at, AreEndsOf-at, boundary_at}
+use Rattle.getopts.proofs.Held.Groups.{start_at, record_within, groups_from-at, AreEndsOf, AreEndsOf-at}
 use Rattle.getopts.proofs.groups.Groups.known.Goals as goal
 use Rattle.getopts.proofs.groups.Groups.known.Goals.{After-deref-2}
 
@@ -31,14 +28,9 @@ ends : (c : After-deref-2)
     → AreEndsOf (string_bytes c.self.inside.text) c.start_of-start.result c.index-group.result.now
 ends c = let text = string_bytes c.self.inside.text in
     subst (λ start. AreEndsOf text start c.index-group.result.now) (starts c)
-    (AreEndsOf-at text 0 c.self.inside.records.items c.args.place c.index-group.result.now c.self.invariant.parts (record_at c))
-
-begins : (c : After-deref-2)
-    → IsCharBoundary (string_bytes c.self.inside.text) c.start_of-start.result
-begins c = let text = string_bytes c.self.inside.text in
-    subst (IsCharBoundary text) (starts c)
-    (boundary_at text 0 c.self.inside.records.items c.args.place (IsCharBoundary-start text (IsUtf8-string_bytes c.self.inside.text))
-    c.self.invariant.parts (slice_get_within c.self.inside.records.items c.args.place c.index-group.result.now (record_at c)))
+    (AreEndsOf-at text 0 c.self.inside.records.items c.args.place c.index-group.result.now
+    (IsCharBoundary-start text (IsUtf8-string_bytes c.self.inside.text)) c.self.invariant.cut.in_order
+    c.self.invariant.cut.between_characters (record_at c))
 
 pub start_of-start-requires : goal.start_of-start-requires
 start_of-start-requires c =
@@ -46,24 +38,24 @@ start_of-start-requires c =
     rw c.deref.ensures.value (omega (arith, within))
 
 pub range-short-requires-clause-start_le_end : goal.range-short-requires-clause-start_le_end
-range-short-requires-clause-start_le_end c = (ends c).short.in_order
+range-short-requires-clause-start_le_end c = (ends c).short.0
 
 pub range-short-requires-clause-start_boundary : goal.range-short-requires-clause-start_boundary
-range-short-requires-clause-start_boundary c = λ _. rw c.deref-2.ensures (begins c)
+range-short-requires-clause-start_boundary c = λ _. rw c.deref-2.ensures (ends c).start_at
 
 pub range-short-requires-clause-end_boundary : goal.range-short-requires-clause-end_boundary
-range-short-requires-clause-end_boundary c = rw c.deref-2.ensures (ends c).short.boundary
+range-short-requires-clause-end_boundary c = rw c.deref-2.ensures (ends c).short.1
 
 pub range-long-requires-clause-start_le_end : goal.range-long-requires-clause-start_le_end
-range-long-requires-clause-start_le_end c = (ends (goal.at.range-long-requires-clause-start_le_end c).After-deref-2).long.in_order
+range-long-requires-clause-start_le_end c = (ends (goal.at.range-long-requires-clause-start_le_end c).After-deref-2).long.0
 
 pub range-long-requires-clause-start_boundary : goal.range-long-requires-clause-start_boundary
 range-long-requires-clause-start_boundary c =
-    λ _. rw c.deref-3.ensures (ends (goal.at.range-long-requires-clause-start_boundary c).After-deref-2).short.boundary
+    λ _. rw c.deref-3.ensures (ends (goal.at.range-long-requires-clause-start_boundary c).After-deref-2).short.1
 
 pub range-long-requires-clause-end_boundary : goal.range-long-requires-clause-end_boundary
 range-long-requires-clause-end_boundary c =
-    rw c.deref-3.ensures (ends (goal.at.range-long-requires-clause-end_boundary c).After-deref-2).long.boundary
+    rw c.deref-3.ensures (ends (goal.at.range-long-requires-clause-end_boundary c).After-deref-2).long.1
 
 pub returns : goal.returns
 returns c =

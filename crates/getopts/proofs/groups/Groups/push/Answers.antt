@@ -4,10 +4,11 @@ use Rattle.std.proofs.lemmas.Grind.{common_steps}
 use Rattle.std.specs.String.{string_bytes}
 use Rattle.getopts.specs.Names.{IsLawfullyNamed}
 use Rattle.getopts.specs.Options.{Group, group_of}
-use Rattle.getopts.specs.Held.Groups.{AreTextsOf, groups_from}
+use Rattle.getopts.specs.Held.Groups.{text_ends}
+use Rattle.getopts.specs.Held.Pieces.{IsWellCut}
 use Rattle.getopts.specs.declared.groups.GroupRecord.{GroupRecord}
 use Rattle.getopts.proofs.Lists.{AllByRecursion-append}
-use Rattle.getopts.proofs.Held.Groups.{groups_pushed}
+use Rattle.getopts.proofs.Held.Groups.{groups_from, groups_pushed}
 use Rattle.getopts.proofs.groups.Groups.push.Goals as goal
 use Rattle.getopts.proofs.groups.Groups.push.Goals.{then-is_empty+in_ok-reserve+in_ok-reserve-2}
 use Rattle.getopts.proofs.groups.Groups.push.Goals.{else-is_empty+in_ok-reserve-3+in_ok-reserve-4}
@@ -35,7 +36,7 @@ items c = c.push_reserved.ensures.items ∙ ap (λ (records : List GroupRecord).
 
 pushed : (c : goal.After-push_reserved)
     → let text = string_bytes c.push_reserved-desc_end.new.texts in
-    let records = c.push_reserved.new.self.items in AreTextsOf text 0 records
+    let records = c.push_reserved.new.self.items in IsWellCut text (text_ends records)
     × (groups_from text 0 records
     ≡ groups_from (string_bytes c.self.inside.text) 0 c.self.inside.records.items ++ group c ∷ [])
 pushed c =
@@ -46,13 +47,13 @@ pushed c =
     (grind (arith, common_steps)) (grind (arith, common_steps)) (grind (arith, common_steps)) (grind (arith, common_steps))
     (added c) c.push_reserved-short_end.ensures.end c.push_reserved-long_end.ensures.end c.push_reserved-hint_end.ensures.end
     c.push_reserved-desc_end.ensures.end c.utf8.short c.utf8.long c.utf8.hint c.utf8.desc
-    c.self.inside.records.items c.self.invariant.parts)
+    c.self.inside.records.items c.self.invariant.cut)
 
 pub invariant_of-self-2 : goal.invariant_of-self-2
 invariant_of-self-2 c =
     let same = (pushed c).1 in
     record {
-      parts = (pushed c).0;
+      cut = (pushed c).0;
       declared = record {
         named = rw same
             (AllByRecursion-append (λ (g : Group). IsLawfullyNamed g.known.names) _ (group c ∷ [])

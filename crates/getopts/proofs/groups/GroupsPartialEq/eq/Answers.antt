@@ -7,12 +7,12 @@ returns-then-eq c =
     rw (
       ← c.self.view_is,
       ← c.other.view_is,
-      ← same_groups _ _ _ _ c.self.invariant.parts
-          c.other.invariant.parts,
+      ← same_groups _ _ _ _ c.self.invariant.cut
+          c.other.invariant.cut,
       ← c.eq.ensures,
       c.if-eq.true,
     ) c.eq-then-eq.ensures
 
 pub returns-else-eq : goal.returns-else-eq
 returns-else-eq c =
-    rw (← c.self.view_is, ← c.other.view_is, ← same_groups _ _ _ _ c.self.invariant.parts c.other.invariant.parts, ← c.eq.ensures, c.if-eq.false)
+    rw (← c.self.view_is, ← c.other.view_is, ← same_groups _ _ _ _ c.self.invariant.cut c.other.invariant.cut, ← c.eq.ensures, c.if-eq.false)
