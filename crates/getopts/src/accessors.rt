@@ -1,10 +1,11 @@
-//! What matches answer when they are asked for an option by a name.
+//! What matches return when they are asked for an option by a name.
 
 ghost use Rattle.std.specs.Prelude.{◌≡◌, ◌↔◌, Some, Ok, IsTrue, map, length, vec_len, ◌<◌, IfOk};
 ghost use Rattle.std.specs.Prelude.{MatchOption};
 ghost use Rattle.std.specs.List.{list_any};
 ghost use Rattle.std.specs.Option.{option_copied, option_map};
 ghost use Rattle.std.specs.String.{string_bytes};
+ghost use Rattle.getopts.specs.Accessors as Spec;
 ghost use Rattle.getopts.specs.Names.{texts};
 
 use crate::matches::Matches;
@@ -24,19 +25,13 @@ fn copied(alloc: Global, text: Option<&str>) -> Result<Option<String>, AllocErro
 }
 
 impl Matches {
-    ghost use Rattle.getopts.specs.Accessors.{pair_view, IsDefined, AreDefined, AreHeldLawfully};
-    ghost use Rattle.getopts.specs.Accessors.{IsReadAs, place_of, found_in};
-    ghost use Rattle.getopts.specs.Accessors.{found_of, is_present, positions_of, values_of};
-    ghost use Rattle.getopts.specs.Accessors.{pairs_of, first_value, first_value_or};
-    ghost use Rattle.getopts.specs.Accessors.{first_value_among};
-
     /// The place of the option group that a name resolves to, from 0, in the order of declaration.
     ///
-    /// Names of one group have the same place. The answer is `None` where `opt_defined` is false. The
+    /// Names of one group have the same place. The result is `None` where `opt_defined` is false. The
     /// Rust has no such call.
     pub fn opt_place(&self, name: &str) -> Option<usize>
-        ensures place { result ≡ place_of self.now.groups name.now }
-        ensures lawful { AreHeldLawfully self.now.groups }
+        ensures place { result ≡ Spec.place_of self.now.groups name.now }
+        ensures lawful { Spec.AreHeldLawfully self.now.groups }
     {
         self.held.are_lawful();
         self.held.place_of(name)
@@ -44,25 +39,25 @@ impl Matches {
 
     /// The occurrences of the option group at a place, in the order of the line, lent and not copied.
     ///
-    /// `opt_place` answers the place of a name. There are none where the option wasn't given, nor past
+    /// `opt_place` returns the place of a name. There are none where the option wasn't given, nor past
     /// the last group. After `-v -o x` by `optopt("o",..)` and `optflag("v",..)` those at 0 are one of
     /// position 1 and value `x`. The Rust has no such call.
     pub fn occurrences_at(&self, place: usize) -> Occurrences<'_>
-        ensures { result ≡ found_in self.now.groups place }
+        ensures { result ≡ Spec.found_in self.now.groups place }
     {
         self.held.occurrences_at(place)
     }
 
     /// The groups that matches hold are lawfully named.
     pub(crate) fn are_held_lawfully(&self)
-        ensures { AreHeldLawfully self.now.groups }
+        ensures { Spec.AreHeldLawfully self.now.groups }
     {
         self.held.are_lawful();
     }
 
     /// Whether an option was given. An undefined one wasn't.
     fn has(&self, name: &str) -> bool
-        ensures { result ≡ is_present self.now.groups name.now }
+        ensures { result ≡ Spec.is_present self.now.groups name.now }
     {
         !self.held.occurrences_of(name).is_empty()
     }
@@ -71,11 +66,11 @@ impl Matches {
     ///
     /// This is the test for the condition of the calls that ask for one option. Such a call panics in
     /// the Rust where the name is undefined; here the caller shows that it is defined. A name is given
-    /// without dashes: `opt_defined("verbose")`. Two names of one group get the same answer of each
+    /// without dashes: `opt_defined("verbose")`. Two names of one group get the same result from each
     /// call.
     pub fn opt_defined(&self, name: &str) -> bool
-        ensures defined { IsTrue result ↔ IsDefined self.now.groups name.now }
-        ensures lawful { AreHeldLawfully self.now.groups }
+        ensures defined { IsTrue result ↔ Spec.IsDefined self.now.groups name.now }
+        ensures lawful { Spec.AreHeldLawfully self.now.groups }
     {
         self.opt_place(name).is_some()
     }
@@ -84,8 +79,8 @@ impl Matches {
     ///
     /// The name has to be defined, which `opt_defined` tests.
     pub fn opt_count(&self, name: &str) -> usize
-        requires { IsDefined self.now.groups name.now }
-        ensures { result ≡ length (found_of self.now.groups name.now) }
+        requires { Spec.IsDefined self.now.groups name.now }
+        ensures { result ≡ length (Spec.found_of self.now.groups name.now) }
     {
         self.held.occurrences_of(name).len()
     }
@@ -94,9 +89,9 @@ impl Matches {
     ///
     /// The name has to be defined, which `opt_defined` tests.
     pub fn opt_present(&self, name: &str) -> bool
-        requires { IsDefined self.now.groups name.now }
-        ensures present { result ≡ is_present self.now.groups name.now }
-        ensures counted { IsTrue result ↔ (0 < length (found_of self.now.groups name.now)) }
+        requires { Spec.IsDefined self.now.groups name.now }
+        ensures present { result ≡ Spec.is_present self.now.groups name.now }
+        ensures counted { IsTrue result ↔ (0 < length (Spec.found_of self.now.groups name.now)) }
     {
         self.has(name)
     }
@@ -110,11 +105,11 @@ impl Matches {
     ///
     /// The Rust counts items: there a separate argument adds nothing.
     pub fn opt_positions(&self, alloc: Global, name: &str) -> Result<Vec<usize>, AllocError>
-        requires { IsDefined self.now.groups name.now }
+        requires { Spec.IsDefined self.now.groups name.now }
         ensures positions { IfOk result (λ positions. positions.items
-            ≡ positions_of (found_of self.now.groups name.now)) }
+            ≡ Spec.positions_of (Spec.found_of self.now.groups name.now)) }
         ensures count { IfOk result (λ positions. vec_len positions
-            ≡ length (found_of self.now.groups name.now)) }
+            ≡ length (Spec.found_of self.now.groups name.now)) }
     {
         self.held.occurrences_of(name).positions(alloc)
     }
@@ -125,9 +120,9 @@ impl Matches {
     /// there are none where the option wasn't given. The name has to be defined, which `opt_defined`
     /// tests. An error comes only where memory was refused.
     pub fn opt_strs(&self, alloc: Global, name: &str) -> Result<Vec<String>, AllocError>
-        requires { IsDefined self.now.groups name.now }
+        requires { Spec.IsDefined self.now.groups name.now }
         ensures { IfOk result (λ values. map string_bytes values.items
-            ≡ values_of (found_of self.now.groups name.now)) }
+            ≡ Spec.values_of (Spec.found_of self.now.groups name.now)) }
     {
         self.held.occurrences_of(name).values(alloc)
     }
@@ -143,32 +138,32 @@ impl Matches {
         alloc: Global,
         name: &str,
     ) -> Result<Vec<(usize, String)>, AllocError>
-        requires { IsDefined self.now.groups name.now }
-        ensures pairs { IfOk result (λ pairs. map pair_view pairs.items
-            ≡ pairs_of (found_of self.now.groups name.now)) }
+        requires { Spec.IsDefined self.now.groups name.now }
+        ensures pairs { IfOk result (λ pairs. map Spec.pair_view pairs.items
+            ≡ Spec.pairs_of (Spec.found_of self.now.groups name.now)) }
         ensures texts { IfOk result (λ pairs. map (λ pair. string_bytes pair.1) pairs.items
-            ≡ values_of (found_of self.now.groups name.now)) }
+            ≡ Spec.values_of (Spec.found_of self.now.groups name.now)) }
     {
         self.held.occurrences_of(name).pairs(alloc)
     }
 
     /// The value of an option's first occurrence.
     ///
-    /// The answer is `None` where the option wasn't given, and also where its first occurrence has no
+    /// The result is `None` where the option wasn't given, and also where its first occurrence has no
     /// value, even if a later one has: `opt_strs` gives those. Of a required option that needs an
     /// argument it is there. The name has to be defined, which `opt_defined` tests. An error comes only
     /// where memory was refused.
     pub fn opt_str(&self, alloc: Global, name: &str) -> Result<Option<String>, AllocError>
-        requires { IsDefined self.now.groups name.now }
+        requires { Spec.IsDefined self.now.groups name.now }
         ensures { IfOk result (λ value. option_map string_bytes value
-            ≡ first_value (found_of self.now.groups name.now)) }
+            ≡ Spec.first_value (Spec.found_of self.now.groups name.now)) }
     {
         copied(alloc, self.held.occurrences_of(name).first_value())
     }
 
     /// The value of an option's first occurrence, or `def` where that has none.
     ///
-    /// The answer is `None` only where the option wasn't given. After `--color` alone
+    /// The result is `None` only where the option wasn't given. After `--color` alone
     /// `opt_default(alloc, "color", "always")` is `always`. The name has to be defined, which
     /// `opt_defined` tests. An error comes only where memory was refused.
     pub fn opt_default(
@@ -177,22 +172,22 @@ impl Matches {
         name: &str,
         def: &str,
     ) -> Result<Option<String>, AllocError>
-        requires { IsDefined self.now.groups name.now }
+        requires { Spec.IsDefined self.now.groups name.now }
         ensures { IfOk result (λ value. option_map string_bytes value
-            ≡ first_value_or (found_of self.now.groups name.now) def.now) }
+            ≡ Spec.first_value_or (Spec.found_of self.now.groups name.now) def.now) }
     {
         copied(alloc, self.held.occurrences_of(name).first_value_or(def))
     }
 
     /// The value of an option's first occurrence, read as a `T`.
     ///
-    /// The answer is `Ok(None)` where there is no such value, as where the option wasn't given, and the
+    /// The result is `Ok(None)` where there is no such value, as where the option wasn't given, and the
     /// error is the one that reading gives. The name has to be defined, which `opt_defined` tests. The
     /// text is lent to the reading, where the Rust copies it first.
     pub fn opt_get<T: FromStr>(&self, name: &str) -> Result<Option<T>, T::Err>
-        requires { IsDefined self.now.groups name.now }
-        ensures { IsReadAs T.from_str_gives
-            (first_value (found_of self.now.groups name.now)) result }
+        requires { Spec.IsDefined self.now.groups name.now }
+        ensures { Spec.IsReadAs T.from_str_gives
+            (Spec.first_value (Spec.found_of self.now.groups name.now)) result }
     {
         match self.held.occurrences_of(name).first_value() {
             Some(text) => Ok(Some(text.parse()?)),
@@ -202,12 +197,12 @@ impl Matches {
 
     /// The value of an option's first occurrence, read as a `T`, or `def` where there is no such value.
     ///
-    /// The answer is `def` where the option wasn't given. The error is the one that reading gives: a text
+    /// The result is `def` where the option wasn't given. The error is the one that reading gives: a text
     /// that can't be read isn't answered with `def`. The name has to be defined, which `opt_defined`
     /// tests. The text is lent to the reading, where the Rust copies it first.
     pub fn opt_get_default<T: FromStr + Drop>(&self, name: &str, def: T) -> Result<T, T::Err>
-        requires { IsDefined self.now.groups name.now }
-        ensures { MatchOption (first_value (found_of self.now.groups name.now))
+        requires { Spec.IsDefined self.now.groups name.now }
+        ensures { MatchOption (Spec.first_value (Spec.found_of self.now.groups name.now))
             (result ≡ Ok def) (λ text. T.from_str_gives text result) }
     {
         match self.held.occurrences_of(name).first_value() {
@@ -232,25 +227,26 @@ impl Matches {
     /// A name that no option has counts as not given, so any names may be asked for.
     pub fn opts_present(&self, names: &[String]) -> bool
         ensures { result
-            ≡ list_any (λ name. is_present self.now.groups (string_bytes name)) names.now }
+            ≡ list_any (λ name. Spec.is_present self.now.groups (string_bytes name)) names.now }
     {
         names.iter().any(|name| self.has(name.as_str()))
     }
 
     /// Whether the option of some name in the list was given, where all names are defined.
     ///
-    /// `opt_defined` tests a name. The answer is false where none of the options was given. The Rust takes
+    /// `opt_defined` tests a name. The result is false where none of the options was given. The Rust takes
     /// any list of texts, and doesn't look at the names after the first that was given.
     pub fn opts_present_any(&self, names: &[&str]) -> bool
-        requires { AreDefined self.now.groups (texts names.now) }
-        ensures { result ≡ list_any (λ name. is_present self.now.groups name.now) names.now }
+        requires { Spec.AreDefined self.now.groups (texts names.now) }
+        ensures { result ≡ list_any (λ name. Spec.is_present self.now.groups name.now) names.now }
     {
         names.iter().any(|name| self.has(name))
     }
 
     /// The value of the first occurrence, by the first of these names whose option has one there.
     fn first_among<T: AsStr>(&self, names: &[T]) -> Option<&str>
-        ensures { option_copied result ≡ first_value_among self.now.groups (map T.text names.now) }
+        ensures { option_copied result
+            ≡ Spec.first_value_among self.now.groups (map T.text names.now) }
     {
         for name in names {
             if let Some(value) = self.held.occurrences_of(name.as_str()).first_value() {
@@ -263,12 +259,12 @@ impl Matches {
     /// The value for the first name in the list whose option's first occurrence has a value.
     ///
     /// All names have to be defined, which `opt_defined` tests of each, where the Rust doesn't look at the
-    /// names after that one. The answer is `None` where no option of them has a value. An error comes only
-    /// where memory was refused.
+    /// names after that one. The result is `None` where no option of them has a value in its first
+    /// occurrence, also where a later one has. An error comes only where memory was refused.
     pub fn opts_str(&self, alloc: Global, names: &[String]) -> Result<Option<String>, AllocError>
-        requires { AreDefined self.now.groups (map string_bytes names.now) }
+        requires { Spec.AreDefined self.now.groups (map string_bytes names.now) }
         ensures { IfOk result (λ value. option_map string_bytes value
-            ≡ first_value_among self.now.groups (map string_bytes names.now)) }
+            ≡ Spec.first_value_among self.now.groups (map string_bytes names.now)) }
     {
         copied(alloc, self.first_among(names))
     }
@@ -276,16 +272,17 @@ impl Matches {
     /// The value for the first name in the list whose option's first occurrence has a value, as
     /// `opts_str` gives it.
     ///
-    /// All names have to be defined, which `opt_defined` tests of each. The answer is `None` where no option
-    /// of them has a value. The Rust takes any list of texts. An error comes only where memory was refused.
+    /// All names have to be defined, which `opt_defined` tests of each. The result is `None` where no option
+    /// of them has a value in its first occurrence, also where a later one has. The Rust takes any list of
+    /// texts. An error comes only where memory was refused.
     pub fn opts_str_first(
         &self,
         alloc: Global,
         names: &[&str],
     ) -> Result<Option<String>, AllocError>
-        requires { AreDefined self.now.groups (texts names.now) }
+        requires { Spec.AreDefined self.now.groups (texts names.now) }
         ensures { IfOk result (λ value. option_map string_bytes value
-            ≡ first_value_among self.now.groups (texts names.now)) }
+            ≡ Spec.first_value_among self.now.groups (texts names.now)) }
     {
         copied(alloc, self.first_among(names))
     }

@@ -4,12 +4,12 @@ ghost use Rattle.std.specs.Prelude.{◌≡◌, ◌<◌, length, map, IfOk, IfErr
 ghost use Rattle.std.specs.List.{AllByRecursion, list_all};
 ghost use Rattle.std.specs.Option.{option_copied};
 ghost use Rattle.std.specs.String.{string_bytes};
+ghost use Rattle.getopts.specs.Scan as Scan;
+ghost use Rattle.getopts.specs.Canon as Spec;
 ghost use Rattle.getopts.specs.Fail.{Tells};
 ghost use Rattle.getopts.specs.Held.Matches.{IsOfGroups};
 ghost use Rattle.getopts.specs.Names.{texts};
 ghost use Rattle.getopts.specs.Held.Line.{line_content};
-ghost use Rattle.getopts.specs.Scan.{holds_equals, long_word, two};
-ghost use Rattle.getopts.specs.Canon.{main_at, canonical_line};
 
 use crate::fail::Fail;
 use crate::groups::Groups;
@@ -21,7 +21,7 @@ use std::alloc::{AllocError, Global};
 
 /// Whether a text holds `=`.
 fn holds_equals(text: &str) -> bool
-    ensures { result ≡ holds_equals text.now }
+    ensures { result ≡ Scan.holds_equals text.now }
 {
     text.contains('=')
 }
@@ -30,7 +30,7 @@ fn holds_equals(text: &str) -> bool
 fn are_plain(groups: &Groups, read: &ReadLine) -> bool
     requires { IsOfGroups groups.now read.now }
     ensures { result
-        ≡ list_all (λ o. not (holds_equals (main_at groups.now o.mention.group)))
+        ≡ list_all (λ o. not (Scan.holds_equals (Spec.main_at groups.now o.mention.group)))
         read.now.line.found }
 {
     for place in 0..groups.len() {
@@ -44,7 +44,7 @@ fn are_plain(groups: &Groups, read: &ReadLine) -> bool
 /// The word of an occurrence: `--main`, or `--main=value` where it has a value.
 fn canonical_word(alloc: Global, main: &str, value: Option<&str>) -> Result<String, AllocError>
     ensures { IfOk result (λ word.
-        string_bytes word ≡ long_word two main.now (option_copied value.entry)) }
+        string_bytes word ≡ Scan.long_word Scan.two main.now (option_copied value.entry)) }
 {
     let room = main.len().saturating_add(2);
     match value {
@@ -70,7 +70,7 @@ fn canonical_word(alloc: Global, main: &str, value: Option<&str>) -> Result<Stri
 fn canonical_line(alloc: Global, groups: &Groups, line: Line) -> Result<Vec<String>, AllocError>
     requires { AllByRecursion (λ o. o.mention.group < length groups.now) line.found }
     ensures { IfOk result (λ words. map string_bytes words.items
-        ≡ canonical_line groups.now (line_content line)) }
+        ≡ Spec.canonical_line groups.now (line_content line)) }
 {
     let Line { found, free, .. } = line;
     let room = found.len().saturating_add(free.len()).saturating_add(1);
@@ -103,13 +103,13 @@ impl Options {
     /// `["--verbose", "--output=file", "--", "x"]`, and no words give `["--"]`. Positions, and where free
     /// words stood among the options, are not kept.
     ///
-    /// The answer is `None` where an option that the line gives has a main name that holds `=`: the
+    /// The result is `None` where an option that the line gives has a main name that holds `=`: the
     /// long name `p=x` can't be written with two dashes, since `--p=x` is the name `p` with the argument
     /// `x`. Such an option does no harm where it is declared and not given.
     ///
     /// Errors come where `parse` gives them, and are the same. `Fail::OutOfMemory` comes where memory was
-    /// refused, in place of any other answer. As in `parse`, the iterator has to end, all its items are
-    /// taken before any answer but that one, and the options stay as they are. The Rust has no such call.
+    /// refused, in place of any other result. As in `parse`, the iterator has to end, all its items are
+    /// taken before any result but that one, and the options stay as they are. The Rust has no such call.
     pub fn canonical<'a, I: Iterator<Item = &'a str> + Drop>(
         &self,
         alloc: Global,

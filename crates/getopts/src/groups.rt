@@ -140,7 +140,7 @@ fn start_of(records: &[GroupRecord], place: usize) -> usize
     records[place - 1].desc_end
 }
 
-/// Adds a text that there is room for, and answers where it ends.
+/// Adds a text that there is room for, and returns where it ends.
 #[inline(always)]
 fn push_reserved(texts: &mut String, text: &str) -> usize
     requires { string_len texts.old + length text.now ≤ string_capacity texts.old }

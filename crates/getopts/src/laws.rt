@@ -18,7 +18,7 @@ ghost use Rattle.getopts.specs.Theorem.{OneLineOneContent};
 use crate::matches::Matches;
 use crate::options::Options;
 
-/// The main theorem: memory refusals aside, `parse` answers `Ok` exactly when the words have a
+/// The main theorem: memory refusals aside, `parse` returns `Ok` exactly when the words have a
 /// reading that keeps the counts, holding that only reading, and otherwise the first fault; and
 /// where no used main name holds `=`, two accepted lines, in styles and modes that may differ, have
 /// equal canonical lines exactly if they read to the same occurrences and free words, and a
@@ -91,8 +91,8 @@ pub fn held_names_resolve(matches: &Matches)
     matches.are_held_lawfully();
 }
 
-/// Equal input, equal answers: one set of options and one list of words have one answer of `parse`, and
-/// one of `canonical`. Want of memory, which may come in place of either, is no such answer.
+/// Equal input, equal answers: one set of options and one list of words have one result of `parse`, and
+/// one of `canonical`. Out of memory, which may come in place of either, is not one.
 ///
 /// This is a law to cite, which does nothing.
 pub fn equal_input_equal_answers()

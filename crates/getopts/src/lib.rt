@@ -31,5 +31,5 @@ pub use options::Options;
 pub use scan::are_texts;
 pub use usage::UsageRows;
 
-/// What `parse` answers: the matches of an accepted line, or why the line was refused.
+/// What `parse` returns: the matches of an accepted line, or why the line was refused.
 pub type Result = std::result::Result<Matches, Fail>;

@@ -5,6 +5,7 @@ ghost use Rattle.std.specs.Cmp.Lexicographic.{pointwise};
 ghost use Rattle.std.specs.Cmp.Rules.{comparing};
 ghost use Rattle.std.specs.String.{string_bytes};
 ghost use Rattle.std.proofs.Common.{rules};
+ghost use Rattle.getopts.specs.Accessors as Spec;
 ghost use Rattle.getopts.specs.Matches.{matched};
 ghost use Rattle.getopts.specs.Options.{knowns_of};
 ghost use Rattle.getopts.specs.Held.Matches.{IsOfGroups};
@@ -162,33 +163,32 @@ impl Model for MatchedGroups {
 }
 
 impl MatchedGroups {
-    ghost use Rattle.getopts.specs.Accessors.{AreHeldLawfully, place_of, found_in, found_of};
     ghost use Rattle.getopts.specs.Same.{same_matched_group};
 
     /// The place of the group that a name resolves to.
     pub(crate) fn place_of(&self, name: &str) -> Option<usize>
-        ensures { result ≡ place_of self.now name.now }
+        ensures { result ≡ Spec.place_of self.now name.now }
     {
         self.table.resolve(&self.groups, name)
     }
 
     /// The groups are lawfully named: a law to cite, of which nothing is left once built.
     pub(crate) fn are_lawful(&self)
-        ensures { AreHeldLawfully self.now }
+        ensures { Spec.AreHeldLawfully self.now }
     {
         self.groups.may_be_declared();
     }
 
     /// The occurrences of the group at a place.
     pub(crate) fn occurrences_at(&self, place: usize) -> Occurrences<'_>
-        ensures { result ≡ found_in self.now place }
+        ensures { result ≡ Spec.found_in self.now place }
     {
         Occurrences::of(&self.found, self.index.places(place))
     }
 
     /// The occurrences of the group that a name resolves to. Of an undefined name there are none.
     pub(crate) fn occurrences_of(&self, name: &str) -> Occurrences<'_>
-        ensures { result ≡ found_of self.now name.now }
+        ensures { result ≡ Spec.found_of self.now name.now }
     {
         match self.place_of(name) {
             Some(place) => self.occurrences_at(place),

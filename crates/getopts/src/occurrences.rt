@@ -1,13 +1,13 @@
-//! What a line gives: options in the order of the line, with their values, held together; and those of one group.
+//! What a line gives: its options with their values, held together, and those of one group.
 
-ghost use Rattle.std.specs.Prelude.{◌≡◌, ◌==◌, ◌↔◌, ◌<◌, ◌≤◌, ◌^◌, ◌*◌, ◌+◌, ◌/◌, ◌%◌, ◌∷◌, ◌++◌, []};
-ghost use Rattle.std.specs.Prelude.{Some, IfOk, OnOk, OnErr, IsTrue, map, length, get_or, slice_get};
+ghost use Rattle.std.specs.Prelude.{◌≡◌, ◌==◌, ◌↔◌, ◌<◌, ◌≤◌, ◌^◌, ◌*◌, ◌+◌, ◌/◌, ◌%◌, ◌∷◌, ◌++◌};
+ghost use Rattle.std.specs.Prelude.{[], Some, IfOk, OnOk, OnErr, IsTrue, map, length, get_or};
+ghost use Rattle.std.specs.Prelude.{slice_get};
 ghost use Rattle.std.specs.Cmp.Lexicographic.{pointwise};
 ghost use Rattle.std.specs.Iterator.{YieldsFirstBy, item_count};
 ghost use Rattle.std.specs.Option.{option_copied, option_map};
 ghost use Rattle.std.specs.String.{string_bytes};
-ghost use Rattle.getopts.specs.Accessors.{positions_of, values_of, pairs_of, first_value};
-ghost use Rattle.getopts.specs.Accessors.{first_value_or, held_found, pair_view};
+ghost use Rattle.getopts.specs.Accessors as Spec;
 ghost use Rattle.getopts.specs.Held.Occurrences.{founds_at, ArePlacesOf, value_ends};
 ghost use Rattle.getopts.specs.Same.{same_found};
 
@@ -251,7 +251,7 @@ impl<'m> Occurrences<'m> {
     /// none.
     #[inline]
     pub fn get(&self, nth: usize) -> Option<(usize, Option<&'m str>)>
-        ensures { option_map held_found result ≡ slice_get self.now nth }
+        ensures { option_map Spec.held_found result ≡ slice_get self.now nth }
     {
         if nth < self.len() {
             Some(self.at(nth))
@@ -264,7 +264,7 @@ impl<'m> Occurrences<'m> {
     #[inline]
     fn at(&self, nth: usize) -> (usize, Option<&'m str>)
         requires { nth < length self.now }
-        ensures { slice_get self.now nth ≡ Some (held_found result) }
+        ensures { slice_get self.now nth ≡ Some (Spec.held_found result) }
     {
         let occurrence = self.found.at(self.places[nth]);
         (occurrence.position, occurrence.value)
@@ -279,7 +279,7 @@ impl<'m> Occurrences<'m> {
     }
 
     pub(crate) fn positions(&self, alloc: Global) -> Result<Vec<usize>, AllocError>
-        ensures { IfOk result (λ positions. positions.items ≡ positions_of self.now) }
+        ensures { IfOk result (λ positions. positions.items ≡ Spec.positions_of self.now) }
     {
         let mut positions = Vec::with_capacity(alloc, self.len())?;
         for nth in 0..self.len() {
@@ -289,7 +289,7 @@ impl<'m> Occurrences<'m> {
     }
 
     pub(crate) fn values(&self, alloc: Global) -> Result<Vec<String>, AllocError>
-        ensures { IfOk result (λ values. map string_bytes values.items ≡ values_of self.now) }
+        ensures { IfOk result (λ values. map string_bytes values.items ≡ Spec.values_of self.now) }
     {
         let mut values = Vec::new(alloc);
         for nth in 0..self.len() {
@@ -301,7 +301,7 @@ impl<'m> Occurrences<'m> {
     }
 
     pub(crate) fn pairs(&self, alloc: Global) -> Result<Vec<(usize, String)>, AllocError>
-        ensures { IfOk result (λ pairs. map pair_view pairs.items ≡ pairs_of self.now) }
+        ensures { IfOk result (λ pairs. map Spec.pair_view pairs.items ≡ Spec.pairs_of self.now) }
     {
         let mut pairs = Vec::new(alloc);
         for nth in 0..self.len() {
@@ -314,7 +314,7 @@ impl<'m> Occurrences<'m> {
 
     /// The value of the first occurrence.
     pub(crate) fn first_value(&self) -> Option<&'m str>
-        ensures { option_copied result ≡ first_value self.now }
+        ensures { option_copied result ≡ Spec.first_value self.now }
     {
         let (_, value) = self.get(0)?;
         value
@@ -322,7 +322,7 @@ impl<'m> Occurrences<'m> {
 
     /// The value of the first occurrence, or this text where that has none.
     pub(crate) fn first_value_or(&self, fallback: &'m str) -> Option<&'m str>
-        ensures { option_copied result ≡ first_value_or self.now fallback.now }
+        ensures { option_copied result ≡ Spec.first_value_or self.now fallback.now }
     {
         let (_, value) = self.get(0)?;
         Some(value.unwrap_or(fallback))
@@ -359,8 +359,7 @@ impl<'m> IntoIterator for Occurrences<'m> {
     }
 }
 
-/// The occurrences of one option group that are still to come, each with its position and its value if it has
-/// one.
+/// The occurrences of one option group that are still to come, each with its position and its value.
 #[derive(Debug, Drop)]
 pub struct OccurrencesIter<'m> {
     occurrences: Occurrences<'m>,
@@ -379,7 +378,7 @@ impl<'m> Model for OccurrencesIter<'m> {
 impl<'m> Iterator for OccurrencesIter<'m> {
     type Item = (usize, Option<&'m str>);
 
-    ghost next_gives = { YieldsFirstBy held_found (λ rest. rest) };
+    ghost next_gives = { YieldsFirstBy Spec.held_found (λ rest. rest) };
 
     ghost remaining = { item_count (λ rest. rest) };
 

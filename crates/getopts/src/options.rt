@@ -68,7 +68,7 @@ impl Options {
     /// `options.add_group("o", "output", "write to FILE", "FILE", HasArg::Yes, Occur::Multi)?` does what
     /// `opt` does. It is for whoever goes on after an error: its contract says that the options are then
     /// as they were, and options may be added to in a loop. The calls named as in the Rust stand on it;
-    /// they answer the options for a chain, and so can't say what an error leaves. The names have to be
+    /// they return the options for a chain, and so can't say what an error leaves. The names have to be
     /// lawful, which `names_lawful` tests. An error comes only where memory was refused. The Rust has no
     /// such call.
     pub fn add_group(
@@ -95,7 +95,7 @@ impl Options {
     /// Sets what the first free word does to the words after it. The groups and the mode stay.
     ///
     /// `options.parsing_style(ParsingStyle::StopAtFirstFree)` makes all words from the first free one on
-    /// free, as a program that runs another one wants. The answer is the same options. As in the Rust, it
+    /// free, as a program that runs another one wants. The result is the same options. As in the Rust, it
     /// takes no memory.
     pub fn parsing_style(&mut self, style: ParsingStyle) -> &mut Options
         ensures set { result.now ≡ record self.old { style = style } }
@@ -108,7 +108,7 @@ impl Options {
     /// Sets whether the mode is long-only. The groups and the style stay.
     ///
     /// In long-only mode a long name follows one dash or two, and no short names are joined in a word:
-    /// after `options.long_only(true)` the word `-verbose` is the option `verbose`. The answer is the same
+    /// after `options.long_only(true)` the word `-verbose` is the option `verbose`. The result is the same
     /// options. As in the Rust, it takes no memory.
     pub fn long_only(&mut self, long_only: bool) -> &mut Options
         ensures set { result.now ≡ record self.old { long_only = long_only } }
@@ -129,10 +129,10 @@ impl Options {
     ///
     /// What differs from the Rust: the names have to be lawful, which `names_lawful` tests. The Rust
     /// panics in this call where one is too long or too short, and takes two empty names, on which
-    /// `parse` then panics. The answer is a `Result`, so calls are chained with `?`: in it is a reference
+    /// `parse` then panics. The result is a `Result`, so calls are chained with `?`: in it is a reference
     /// to the same options. An error comes only where memory was refused, and leaves the options as they
     /// were: that is proved of `add_group`, on which this call stands, and can't be said of this call, whose
-    /// answer borrows from the options.
+    /// result borrows from the options.
     pub fn opt(
         &mut self,
         short_name: &str,
@@ -155,7 +155,7 @@ impl Options {
     /// Adds an option that takes no argument and may come once.
     ///
     /// `options.optflag("q", "quiet", "say less")?` reads `-q` and `--quiet`, once on a line. As in the
-    /// Rust, usage texts show no hint for it. The condition on the names, the answer and an error are
+    /// Rust, usage texts show no hint for it. The condition on the names, the result and an error are
     /// those of `opt`.
     pub fn optflag(
         &mut self,
@@ -175,7 +175,7 @@ impl Options {
     /// Adds an option that takes no argument and may come any number of times.
     ///
     /// `options.optflagmulti("v", "verbose", "say more")?` reads `-v`, `-vvv` and `-v --verbose`. As in the
-    /// Rust, usage texts show no hint for it. The condition on the names, the answer and an error are those
+    /// Rust, usage texts show no hint for it. The condition on the names, the result and an error are those
     /// of `opt`.
     pub fn optflagmulti(
         &mut self,
@@ -198,7 +198,7 @@ impl Options {
     /// `-cauto`, and `-c auto`. A long name has its argument after `=` alone, so `--color auto` leaves `auto`
     /// as a free word. A short name leaves a next word that begins with a dash and goes on: after `-c -v`
     /// the option has no argument, and `-v` is an option of its own; `-c -` has the argument `-`. The
-    /// condition on the names, the answer and an error are those of `opt`.
+    /// condition on the names, the result and an error are those of `opt`.
     pub fn optflagopt(
         &mut self,
         short_name: &str,
@@ -225,7 +225,7 @@ impl Options {
     /// Adds an option that needs an argument and may come any number of times.
     ///
     /// `options.optmulti("L", "", "add a folder", "DIR")?` reads `-L a -Lb` as two folders. The condition on
-    /// the names, the answer and an error are those of `opt`.
+    /// the names, the result and an error are those of `opt`.
     pub fn optmulti(
         &mut self,
         short_name: &str,
@@ -245,7 +245,7 @@ impl Options {
     /// Adds an option that needs an argument and may come once.
     ///
     /// `options.optopt("o", "output", "set the output file", "NAME")?` reads `-o a`, `-oa`, `--output a` and
-    /// `--output=a`. The condition on the names, the answer and an error are those of `opt`.
+    /// `--output=a`. The condition on the names, the result and an error are those of `opt`.
     pub fn optopt(
         &mut self,
         short_name: &str,
@@ -272,7 +272,7 @@ impl Options {
     /// Adds an option that needs an argument and comes exactly once: a line without it is refused.
     ///
     /// `options.reqopt("i", "input", "read this file", "NAME")?` reads `-i a`, and refuses a line without
-    /// `input` by `Fail::OptionMissing`. The condition on the names, the answer and an error are those of
+    /// `input` by `Fail::OptionMissing`. The condition on the names, the result and an error are those of
     /// `opt`.
     pub fn reqopt(
         &mut self,

@@ -3,8 +3,8 @@
 ghost use Rattle.std.specs.Prelude.{◌≡◌, ◌↔◌, IsTrue, IfOk, IfErr, OnOk, length};
 ghost use Rattle.std.specs.Iterator.{IsFinite};
 ghost use Rattle.std.specs.Iterator.Runs.{WholeRun};
+ghost use Rattle.getopts.specs.Matches as Spec;
 ghost use Rattle.getopts.specs.Fail.{Tells};
-ghost use Rattle.getopts.specs.Matches.{matched, count_fault, FitsCount, KeepsCounts, IsCountFault};
 ghost use Rattle.getopts.specs.Names.{texts};
 ghost use Rattle.getopts.specs.Options.{knowns_of};
 ghost use Rattle.getopts.specs.Held.Matches.{IsOfGroups};
@@ -149,9 +149,10 @@ pub(crate) fn words_from<'a, I: Iterator<Item = &'a str> + Drop>(
 /// Checks how often the options of a line came, group by group in order of definition.
 fn check_counts(alloc: Global, groups: &Groups, read: &ReadLine) -> Result<(), Fail>
     requires { IsOfGroups groups.now read.now }
-    ensures ok { OnOk result (KeepsCounts (matched 0 (knowns_of groups.now) read.now.line.found)) }
+    ensures ok { OnOk result
+        (Spec.KeepsCounts (Spec.matched 0 (knowns_of groups.now) read.now.line.found)) }
     ensures err { IfErr result (λ fail. Tells fail
-        (IsCountFault (matched 0 (knowns_of groups.now) read.now.line.found))) }
+        (Spec.IsCountFault (Spec.matched 0 (knowns_of groups.now) read.now.line.found))) }
 {
     for place in 0..groups.len() {
         let count = read.index.count(place);
@@ -164,7 +165,7 @@ fn check_counts(alloc: Global, groups: &Groups, read: &ReadLine) -> Result<(), F
 
 /// Whether an option may come so many times.
 fn fits_count(occurrence: Occur, count: usize) -> bool
-    ensures { IsTrue result ↔ FitsCount occurrence count }
+    ensures { IsTrue result ↔ Spec.FitsCount occurrence count }
 {
     match occurrence {
         Occur::Req => count == 1,
@@ -175,7 +176,7 @@ fn fits_count(occurrence: Occur, count: usize) -> bool
 
 /// The fault of an option that came so many times.
 fn count_fault(alloc: Global, main: &str, count: usize) -> Fail
-    ensures { Tells result (λ fault. fault ≡ count_fault main.now count) }
+    ensures { Tells result (λ fault. fault ≡ Spec.count_fault main.now count) }
 {
     if count == 0 {
         Fail::option_missing(alloc, main)

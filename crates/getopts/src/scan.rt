@@ -4,10 +4,10 @@ ghost use Rattle.std.specs.Prelude.{◌≡◌, ◌≢◌, ◌<◌, ◌∷◌, �
 ghost use Rattle.std.specs.Prelude.{Some, None, Err, false, IfOk, IfErr, slice_index, OnOk, map};
 ghost use Rattle.std.specs.String.{string_bytes};
 ghost use Rattle.std.specs.Option.{option_copied};
+ghost use Rattle.getopts.specs.Scan as Spec;
 ghost use Rattle.getopts.specs.Fail.{Tells};
 ghost use Rattle.std.specs.Str.{IsCharBoundary, IsUtf8};
 ghost use Rattle.getopts.specs.Names.{AreTexts, Text, texts};
-ghost use Rattle.getopts.specs.Scan.{dash, is_dashed, holds_equals, IsScanFault};
 ghost use Rattle.getopts.specs.Turn.{with_equals, first_char, chosen_end, Chooses};
 
 use crate::fail::Fail;
@@ -101,8 +101,8 @@ fn push_copies(alloc: Global, copies: &mut Vec<String>, words: &[&str]) -> Resul
 
 /// The text after a dash at the front.
 fn after_dash(text: &str) -> Option<&str>
-    ensures { MatchOption result ((rest : Text) → text.now ≢ dash ∷ rest)
-        (λ rest. text.now ≡ dash ∷ rest.now) }
+    ensures { MatchOption result ((rest : Text) → text.now ≢ Spec.dash ∷ rest)
+        (λ rest. text.now ≡ Spec.dash ∷ rest.now) }
 {
     if text.is_empty() || text.as_bytes()[0] != b'-' {
         return None;
@@ -113,7 +113,7 @@ fn after_dash(text: &str) -> Option<&str>
 /// The name of a text in long form, and its attached argument. Names are short, so its bytes are
 /// looked at one by one.
 fn name_and_argument(text: &str) -> (&str, Option<&str>)
-    ensures name { holds_equals result.0.now ≡ false }
+    ensures name { Spec.holds_equals result.0.now ≡ false }
     ensures text { text.now ≡ result.0.now ++ with_equals (option_copied result.1) }
 {
     let bytes = text.as_bytes();
@@ -127,7 +127,7 @@ fn name_and_argument(text: &str) -> (&str, Option<&str>)
 
 /// Whether a word is dashed: it begins with `-` and goes on.
 fn is_dashed(word: &str) -> bool
-    ensures { result ≡ is_dashed word.now }
+    ensures { result ≡ Spec.is_dashed word.now }
 {
     match word.as_bytes() {
         [b'-', _, ..] => true,
@@ -181,7 +181,6 @@ fn ending<'w>(
 impl<'o> Scanner<'o> {
     ghost use Rattle.getopts.specs.Held.Line.{scanner_grammar, IsLawfulScanner, HasShape};
     ghost use Rattle.getopts.specs.Held.Line.{ReadsLine};
-    ghost use Rattle.getopts.specs.Scan.{Dashes};
     ghost use Rattle.getopts.specs.Turn.{faults, long_turn, cluster_turn, AddsItem};
 
     /// The place and the kind of argument of the option that a name resolves to.
@@ -198,7 +197,7 @@ impl<'o> Scanner<'o> {
     }
 
     /// Reads an item in long form, by its text after the dashes and the words after its first. Adds
-    /// its occurrence, and answers how many of those words it used.
+    /// its occurrence, and returns how many of those words it used.
     fn long<'w>(
         &self,
         alloc: Global,
@@ -209,11 +208,11 @@ impl<'o> Scanner<'o> {
     ) -> Result<usize, Fail>
         requires lawful { IsLawfulScanner self.now }
         ensures ok { let grammar = scanner_grammar self.now in
-            IfOk result (λ used. (dashes : Dashes)
+            IfOk result (λ used. (dashes : Spec.Dashes)
             → AddsItem grammar (long_turn grammar dashes text.now (texts after.now)) position used
             found.old found.new) }
         ensures err { let grammar = scanner_grammar self.now in
-            IfErr result (λ fail. (dashes : Dashes) → Tells fail (λ fault.
+            IfErr result (λ fail. (dashes : Spec.Dashes) → Tells fail (λ fault.
             long_turn grammar dashes text.now (texts after.now) ≡ faults fault)) }
     {
         let (name, argument) = name_and_argument(text);
@@ -258,7 +257,7 @@ impl<'o> Scanner<'o> {
     }
 
     /// Reads a cluster, by its text after the dash and the words after its first. Adds its occurrences,
-    /// and answers how many of those words it used.
+    /// and returns how many of those words it used.
     fn cluster(
         &self,
         alloc: Global,
@@ -325,7 +324,7 @@ impl<'o> Scanner<'o> {
         ensures ok { IfOk result (λ line.
             ReadsLine (scanner_grammar self.now) (texts words.now) line) }
         ensures err { IfErr result (λ fail. Tells fail
-            (IsScanFault (scanner_grammar self.now) (texts words.now))) }
+            (Spec.IsScanFault (scanner_grammar self.now) (texts words.now))) }
     {
         let stops = self.options.style() == ParsingStyle::StopAtFirstFree;
         let mut line = Line::with_capacity(alloc, words.len().min(FIRST_ROOM))?;

@@ -123,7 +123,7 @@ impl Options {
 
     /// What a closure makes of the rows of the usage text.
     ///
-    /// All rows are made first. Then the closure is called once, with the rows, and its answer is
+    /// All rows are made first. Then the closure is called once, with the rows, and its result is
     /// handed back as it is. Where memory for the rows is refused, the closure is not called.
     ///
     /// ```
@@ -143,7 +143,7 @@ impl Options {
     ) -> Result<String, AllocError>
         requires { F.IsAlwaysCallable formatter }
 
-        // The closure, as it was handed in, gives this answer for the usage rows. No other list of
+        // The closure, as it was handed in, gives this result for the usage rows. No other list of
         // texts is the usage rows.
         ensures called { OnOk result ((rows : List Text) ×
             IsTheOnly (AreUsageRows self.now) rows × F.post formatter rows result) }

@@ -1,9 +1,8 @@
 //! Descriptions in rows: the lines of a text, each broken into as few rows as its words allow.
 ghost use Rattle.std.specs.Prelude.{◌≡◌, ◌+◌, ◌<◌, ◌≤◌, ◌∷◌, ◌++◌, map, string_bytes, IfOk, OnOk};
 ghost use Rattle.std.specs.Str.Lines.{lines};
+ghost use Rattle.getopts.specs.Wrap as Spec;
 ghost use Rattle.getopts.specs.Only.{IsTheOnly};
-ghost use Rattle.getopts.specs.Wrap.{BreaksInto, IsDescriptionRows, IsFewestBreaking};
-ghost use Rattle.getopts.specs.Wrap.{AddsDescription, AddsLine, parting, width_of};
 
 use std::alloc::{AllocError, Global};
 use unicode_width::UnicodeWidthStr;
@@ -33,11 +32,11 @@ pub fn each_split_within(alloc: Global, desc: &str, lim: usize) -> Result<Vec<St
     // These are the description's rows, byte for byte, and no other list is: in each line every row
     // fits or is one word, and none could take in the line's next word.
     ensures rows { IfOk result (λ rows.
-        IsTheOnly (IsDescriptionRows lim desc.now) (map string_bytes rows.items)) }
+        IsTheOnly (Spec.IsDescriptionRows lim desc.now) (map string_bytes rows.items)) }
 
     // In each line no fitting way to break its words has fewer rows.
     ensures fewest { IfOk result (λ rows.
-        BreaksInto (IsFewestBreaking lim) desc.now (map string_bytes rows.items)) }
+        Spec.BreaksInto (Spec.IsFewestBreaking lim) desc.now (map string_bytes rows.items)) }
 {
     // A row holds no line end, and all rows together are no longer than the description.
     let mut text = String::with_capacity(alloc, desc.len())?;
@@ -65,7 +64,7 @@ pub(crate) fn push_description(
     lim: usize,
     separator: &str,
 ) -> Result<(), AllocError>
-    ensures { OnOk result (AddsDescription lim separator.now desc.now
+    ensures { OnOk result (Spec.AddsDescription lim separator.now desc.now
         (string_bytes text.old) (string_bytes text.new)) }
 {
     let mut begun = false;
@@ -75,7 +74,7 @@ pub(crate) fn push_description(
     Ok(())
 }
 
-/// Adds the rows of one line, where `begun` tells whether any row came before them. The answer is
+/// Adds the rows of one line, where `begun` says whether any row came before them. The result is
 /// whether any has come now.
 fn push_line(
     text: &mut String,
@@ -84,7 +83,7 @@ fn push_line(
     lim: usize,
     separator: &str,
 ) -> Result<bool, AllocError>
-    ensures { IfOk result (λ now_begun. AddsLine lim separator.now line.now begun now_begun
+    ensures { IfOk result (λ now_begun. Spec.AddsLine lim separator.now line.now begun now_begun
         (string_bytes text.old) (string_bytes text.new)) }
 {
     let mut words = line.split_whitespace();
@@ -101,7 +100,7 @@ fn push_line(
 }
 
 /// Adds a word after a row of so many columns: to that row where it has room, and else to a new one.
-/// The answer is the columns of the row that the word stands in.
+/// The result is the columns of the row that the word stands in.
 #[tactic(auto, unfolding(crate::specs::Wrap::width_of))]
 fn push_word(
     text: &mut String,
@@ -110,11 +109,11 @@ fn push_word(
     lim: usize,
     separator: &str,
 ) -> Result<usize, AllocError>
-    ensures joins { columns + (1 + width_of word.now) ≤ lim → IfOk result (λ now.
-        (now ≡ columns + (1 + width_of word.now))
+    ensures joins { columns + (1 + Spec.width_of word.now) ≤ lim → IfOk result (λ now.
+        (now ≡ columns + (1 + Spec.width_of word.now))
         × (string_bytes text.new ≡ string_bytes text.old ++ 32 ∷ word.now)) }
-    ensures begins { lim < columns + (1 + width_of word.now) → IfOk result (λ now.
-        (now ≡ width_of word.now)
+    ensures begins { lim < columns + (1 + Spec.width_of word.now) → IfOk result (λ now.
+        (now ≡ Spec.width_of word.now)
         × (string_bytes text.new ≡ string_bytes text.old ++ (separator.now ++ word.now))) }
 {
     let width = word.width();
@@ -129,14 +128,14 @@ fn push_word(
     Ok(now)
 }
 
-/// Adds the separator, where `begun` tells that anything came before.
+/// Adds the separator, where `begun` says that anything came before.
 pub(crate) fn push_parting(
     text: &mut String,
     begun: bool,
     separator: &str,
 ) -> Result<(), AllocError>
     ensures { OnOk result (string_bytes text.new ≡ string_bytes text.old
-        ++ parting begun separator.now) }
+        ++ Spec.parting begun separator.now) }
 {
     if begun {
         text.push_str(separator)
