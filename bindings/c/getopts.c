@@ -1,5 +1,8 @@
 #include "getopts.h"
 
+#include <errno.h>
+#include <stdarg.h>
+#include <stdio.h>
 #include <stdlib.h>
 #include <string.h>
 
@@ -20,7 +23,7 @@ struct given {
 struct reading {
     void *block;
     const char *message;
-    const size_t *places; /* of each name, one more than the place of its group, or 0; NULL for a fault */
+    const size_t *places; /* of each name, one more than the place of its group, or 0; NULL if nothing was read */
     struct given *groups;
     char *const *free_words;
     size_t free_count, trailing; /* trailing is one more than the trailing start, or 0 */
@@ -31,6 +34,7 @@ struct getopts {
     size_t groups;
     unsigned modes;
     struct reading reading;
+    char wrong[128]; /* what is wrong with the table, or "" */
     uint8_t kinds[];
 };
 
@@ -67,23 +71,69 @@ static bool join(struct block *to, char *const *texts, size_t count) {
     return true;
 }
 
-struct getopts *getopts_new(const struct getopts_option *table, unsigned modes) {
+/* GETOPTS_OK if a text is UTF-8, and else GETOPTS_BAD. Of a text that isn't ASCII the archive says it: its usage
+ * line has no room. */
+static uint32_t check_text(const char *text) {
+    struct getopts_sizes sizes;
+    const uint8_t *bytes = (const uint8_t *)text;
+    size_t ascii = 0;
+    while (bytes[ascii] > 0 && bytes[ascii] < 0x80)
+        ascii++;
+    if (bytes[ascii] == 0)
+        return GETOPTS_OK;
+    uint32_t status = getopts_c_short_usage(NULL, 0, NULL, 0, NULL, 0, bytes, strlen(text), NULL, 0, &sizes);
+    return status == GETOPTS_TOO_SMALL ? GETOPTS_OK : status;
+}
+
+static uint32_t wrong(struct getopts *options, const char *format, ...) {
+    va_list values;
+    va_start(values, format);
+    vsnprintf(options->wrong, sizeof options->wrong, format, values);
+    va_end(values);
+    return GETOPTS_BAD;
+}
+
+/* Checks a row of a table, whose four texts are these. */
+static uint32_t check_row(struct getopts *options, size_t row, char *const *texts, unsigned kind) {
+    static const char *const names[] = { "short name", "long name", "hint", "description" };
+    size_t short_len = strlen(texts[0]), long_len = strlen(texts[1]);
+    uint32_t status = GETOPTS_OK;
+    if (short_len > 1)
+        return wrong(options, "table[%zu]: short name '%.40s' has %zu bytes", row, texts[0], short_len);
+    if (long_len == 1)
+        return wrong(options, "table[%zu]: long name '%s' has 1 byte", row, texts[1]);
+    if (short_len + long_len == 0)
+        return wrong(options, "table[%zu]: both names are empty", row);
+    if (kind > GETOPTS_MAYBE + GETOPTS_MULTI || kind % GETOPTS_REQ > GETOPTS_MAYBE)
+        return wrong(options, "table[%zu]: %u is no kind", row, kind);
+    for (size_t nth = 0; status == GETOPTS_OK && nth < 4; nth++)
+        if ((status = check_text(texts[nth])) == GETOPTS_BAD)
+            return wrong(options, "table[%zu]: the %s isn't UTF-8", row, names[nth]);
+    return status;
+}
+
+struct getopts *getopts_new(const struct getopts_option *table, enum getopts_modes modes) {
     size_t groups = 0;
     while (table[groups].short_name != NULL || table[groups].long_name != NULL)
         groups++;
     struct getopts *options = calloc(1, sizeof *options + groups);
     char **texts = malloc((4 * groups + 1) * sizeof *texts);
-    bool whole = options != NULL && texts != NULL;
-    for (size_t nth = 0; whole && nth < groups; nth++, table++) {
-        const char *of[] = { table->short_name, table->long_name, table->hint, table->description };
-        for (size_t text = 0; text < 4; text++)
-            texts[4 * nth + text] = (char *)(of[text] != NULL ? of[text] : "");
-        options->kinds[nth] = table->kind;
+    uint32_t status = options != NULL && texts != NULL ? GETOPTS_OK : GETOPTS_NO_MEMORY;
+    for (size_t row = 0; status == GETOPTS_OK && row < groups; row++) {
+        const char *of[] = { table[row].short_name, table[row].long_name, table[row].hint, table[row].description };
+        for (size_t nth = 0; nth < 4; nth++)
+            texts[4 * row + nth] = (char *)(of[nth] != NULL ? of[nth] : "");
+        options->kinds[row] = (uint8_t)table[row].kind;
+        status = check_row(options, row, texts + 4 * row, (unsigned)table[row].kind);
     }
-    if (whole && join(&options->texts, texts, 4 * groups)) {
+    if (status == GETOPTS_OK && (unsigned)modes > GETOPTS_STOP + GETOPTS_LONG_ONLY)
+        status = wrong(options, "%u is no sum of modes", (unsigned)modes);
+    if (status == GETOPTS_BAD)
+        groups = 0;
+    if (status != GETOPTS_NO_MEMORY && join(&options->texts, texts, 4 * groups)) {
         options->groups = groups;
-        options->modes = modes;
-        options->reading = (struct reading){ .message = "", .free_words = no_words };
+        options->modes = (unsigned)modes;
+        options->reading = (struct reading){ .message = options->wrong, .free_words = no_words };
     } else {
         free(options);
         options = NULL;
@@ -92,23 +142,16 @@ struct getopts *getopts_new(const struct getopts_option *table, unsigned modes) 
     return options;
 }
 
-/* GETOPTS_BAD where the options aren't lawful or the text isn't UTF-8: there is no room for an answer. */
-static uint32_t tried(const struct getopts *options, const char *text) {
-    struct getopts_sizes sizes;
-    return getopts_c_short_usage(OPTIONS(options), (const uint8_t *)text, strlen(text), NULL, 0, &sizes);
-}
-
-/* The status of bad options or words: the first word that isn't UTF-8 becomes the name of a fault. */
-static uint32_t blamed(const struct getopts *options, size_t count, char *const *words, struct block *to) {
-    static const struct getopts none;
-    uint32_t status = tried(options, "");
-    for (size_t nth = 0; status == GETOPTS_TOO_SMALL && nth < count; nth++)
-        if ((status = tried(&none, words[nth])) == GETOPTS_BAD) {
+/* The status of words of which one isn't UTF-8. The first such word becomes the name of a fault. */
+static uint32_t blame(size_t count, char *const *words, struct block *to) {
+    uint32_t status = GETOPTS_OK;
+    for (size_t nth = 0; status == GETOPTS_OK && nth < count; nth++)
+        if ((status = check_text(words[nth])) == GETOPTS_BAD) {
             to->sizes.bytes = strlen(words[nth]);
             memcpy(to->bytes, words[nth], to->sizes.bytes);
             return GETOPTS_UNRECOGNIZED_OPTION;
         }
-    return status;
+    return status == GETOPTS_OK ? GETOPTS_BAD : status;
 }
 
 /* Asks with a guessed room, in which all words fit, and once more where that was too small. */
@@ -116,7 +159,8 @@ static uint32_t ask(const struct getopts *options, line_call *call, int given, c
     struct block *answer) {
     size_t count = given > 0 ? (size_t)given : 0;
     struct block line = { 0 };
-    uint32_t status = join(&line, words, count) ? GETOPTS_TOO_SMALL : GETOPTS_NO_MEMORY;
+    uint32_t status = options->wrong[0] != '\0' ? GETOPTS_BAD
+        : join(&line, words, count) ? GETOPTS_TOO_SMALL : GETOPTS_NO_MEMORY;
     struct getopts_sizes *sizes = &answer->sizes;
     *answer = (struct block){ .sizes = { 3 * options->groups + 4 * count + 8, 2 * line.sizes.bytes + 64 } };
     while (status == GETOPTS_TOO_SMALL) {
@@ -127,7 +171,7 @@ static uint32_t ask(const struct getopts *options, line_call *call, int given, c
                 answer->bytes, sizes->bytes, sizes);
     }
     free(line.numbers);
-    return status == GETOPTS_BAD ? blamed(options, count, words, answer) : status;
+    return status == GETOPTS_BAD && answer->bytes != NULL ? blame(count, words, answer) : status;
 }
 
 /* Copies a text, puts a zero after it, and goes on to what comes next. */
@@ -147,17 +191,18 @@ static char *const *cut(char **texts, char *to, const size_t *lens, size_t count
     return texts;
 }
 
-/* Takes an answer apart, of which every number and byte is there. */
-static bool read_back(struct reading *reading, uint32_t status, const struct block *answer, size_t groups) {
+/* Takes an answer apart, of which every number and byte is there: where nothing was read, only its name. */
+static bool read_back(struct reading *reading, uint32_t status, const struct block *fault,
+    const struct block *answer, size_t groups) {
     static const char *const around[][2] = {
         { "", "" }, { "Argument to option '", "' missing" }, { "Unrecognized option: '", "'" },
         { "Required option '", "' missing" }, { "Option '", "' given more than once" },
         { "Option '", "' does not take an argument" },
     };
-    const size_t *number = answer->numbers, room = answer->sizes.numbers + 1;
+    const size_t *number = answer->numbers, room = answer->sizes.numbers + 1, len = fault->sizes.bytes;
     const uint8_t *bytes = answer->bytes;
     struct found *found = malloc(room * (sizeof *found + sizeof *reading->groups + sizeof *number
-        + sizeof *reading->free_words + 1) + answer->sizes.bytes + 64);
+        + sizeof *reading->free_words + 1) + answer->sizes.bytes + len + 64);
     if (found == NULL)
         return false;
     *reading = (struct reading){ .block = found, .message = "", .free_words = no_words };
@@ -165,12 +210,13 @@ static bool read_back(struct reading *reading, uint32_t status, const struct blo
     size_t *places = (size_t *)(given + room);
     char **words = (char **)(places + room), *to = (char *)(words + room);
     if (status != GETOPTS_OK) {
-        size_t before = strlen(around[status][0]), len = answer->sizes.bytes;
         reading->message = strcpy(to, around[status][0]);
-        memcpy(to + before, bytes, len);
-        strcpy(to + before + len, around[status][1]);
-        return true;
+        to += strlen(to);
+        memcpy(to, fault->bytes, len);
+        to = strcpy(to + len, around[status][1]) + strlen(around[status][1]) + 1;
     }
+    if (number == NULL)
+        return true;
     reading->places = memcpy(places, number, 2 * groups * sizeof *number);
     number += 2 * groups + 1;
     for (; groups > 0; groups--, given++) {
@@ -185,16 +231,25 @@ static bool read_back(struct reading *reading, uint32_t status, const struct blo
 }
 
 int getopts_read(struct getopts *options, int count, char *const *words) {
-    struct block answer;
+    struct block fault = { 0 }, answer = { 0 };
     struct reading reading;
-    uint32_t status = ask(options, getopts_c_parse, count, words, &answer);
-    if (status < GETOPTS_NO_MEMORY && !read_back(&reading, status, &answer, options->groups))
+    uint32_t status = ask(options, getopts_c_parse, count, words, &answer), again = GETOPTS_OK;
+    if (status != GETOPTS_OK) {
+        fault = answer;
+        answer = (struct block){ 0 };
+    }
+    if (status == GETOPTS_OPTION_MISSING || status == GETOPTS_OPTION_DUPLICATED)
+        again = ask(options, getopts_c_parse_ignoring_counts, count, words, &answer);
+    if (again != GETOPTS_OK
+        || (status < GETOPTS_NO_MEMORY && !read_back(&reading, status, &fault, &answer, options->groups)))
         status = GETOPTS_NO_MEMORY;
+    free(fault.numbers);
     free(answer.numbers);
-    options->reading.message = status == GETOPTS_BAD ? "The table of options isn't lawful" : "Out of memory";
     if (status < GETOPTS_NO_MEMORY) {
         free(options->reading.block);
         options->reading = reading;
+    } else {
+        options->reading.message = status == GETOPTS_BAD ? options->wrong : "Out of memory";
     }
     return (int)status;
 }
@@ -234,6 +289,21 @@ const char *getopts_value(const struct getopts *options, const char *name, size_
     return nth < given.count ? given.found[nth].value : NULL;
 }
 
+bool getopts_long_value(const struct getopts *options, const char *name, size_t nth, long *value) {
+    const char *text = getopts_value(options, name, nth);
+    int error = errno;
+    char *end;
+    if (text == NULL)
+        return true;
+    errno = 0;
+    long number = strtol(text, &end, 10);
+    bool fits = errno == 0 && end != text && *end == '\0' && strchr("+-0123456789", text[0]) != NULL;
+    errno = error;
+    if (fits)
+        *value = number;
+    return fits;
+}
+
 int getopts_free_count(const struct getopts *options) {
     return (int)options->reading.free_count;
 }
@@ -250,7 +320,7 @@ static char *usage(const struct getopts *options, bool whole, const char *start)
     struct getopts_sizes sizes = { 0, 1024 };
     const uint8_t *from = (const uint8_t *)start;
     uint8_t *text = NULL;
-    uint32_t status = GETOPTS_TOO_SMALL;
+    uint32_t status = options->wrong[0] != '\0' ? GETOPTS_BAD : GETOPTS_TOO_SMALL;
     while (status == GETOPTS_TOO_SMALL) {
         free(text);
         text = malloc(sizes.bytes + 1);

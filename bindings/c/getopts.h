@@ -1,41 +1,51 @@
 /* Command-line options for C: a table of options, as getopt_long has one, read by a proved library.
  *
  *     static const struct getopts_option table[] = {
- *         { "o", "output", "FILE", "write to FILE", GETOPTS_YES + GETOPTS_OPTIONAL },
+ *         { "o", "output", "FILE", "write to FILE", GETOPTS_YES + GETOPTS_REQ },
  *         { "v", "verbose", NULL, "say more", GETOPTS_NO + GETOPTS_MULTI },
- *         { NULL, NULL, NULL, NULL, 0 },
+ *         { "h", "help", NULL, "print this help", GETOPTS_NO },
+ *         { NULL, NULL, NULL, NULL, GETOPTS_NO },
  *     };
  *
- *     struct getopts *options = getopts_new(table, 0);
- *     if (options == NULL || getopts_read(options, argc - 1, argv + 1) != GETOPTS_OK) ..
+ *     struct getopts *options = getopts_new(table, GETOPTS_ORDINARY);
+ *     int status = getopts_read(options, argc - 1, argv + 1);
+ *     if (getopts_count(options, "help") > 0) ..
+ *     if (status != GETOPTS_OK) .. getopts_message(options) ..
  *     const char *output = getopts_value(options, "output", 0);
  *
- * What is given to these calls isn't kept. Texts and words may hold any bytes but zero, and end with one.
- * There is no global state: what is told here of one struct getopts holds of each by itself. Two threads may
- * ask one at once while none reads or deletes it. */
+ * The calls keep no pointer to what they are given. Texts and words may hold any bytes but zero, and end with a
+ * zero byte. There is no global state. Two threads may call functions on one struct getopts at a time, unless
+ * one of them reads or deletes it.
+ *
+ * A statically linked program grows by 110 KB at most. */
 #ifndef GETOPTS_H
 #define GETOPTS_H
 
 #include "getopts_c.h"
 
-/* The version of the Rust crate getopts that this behaves as. */
-#define GETOPTS_VERSION "0.2.24"
+/* The version of this layer. A program that was compiled for it works with each later one of the same first
+ * number. */
+#define GETOPTS_VERSION "1.0.0"
+
+/* The version of the Rust crate getopts that it behaves as. */
+#define GETOPTS_CRATE_VERSION "0.2.24"
 
 #ifdef __cplusplus
 extern "C" {
 #endif
 
-/* A row of a table. The last row of a table has neither name: both are NULL. */
+/* A row of a table. In the last row of a table both names are NULL. */
 struct getopts_option {
     const char *short_name;  /* of one byte; "" or NULL for none */
     const char *long_name;   /* of more than one byte; "" or NULL for none */
-    const char *hint;        /* how usage texts name the argument; "" or NULL for none */
+    const char *hint;        /* the argument's name in usage texts; "" or NULL for none */
     const char *description; /* for the usage text; "" or NULL for none */
-    uint8_t kind;            /* such as GETOPTS_YES + GETOPTS_OPTIONAL, see getopts_c.h */
+    enum getopts_kind kind;  /* such as GETOPTS_YES + GETOPTS_REQ, see getopts_c.h; 0 is a plain flag */
 };
 
-/* How a table is read: add what holds. */
-enum {
+/* How words are read: one of these, or both modes added. */
+enum getopts_modes {
+    GETOPTS_ORDINARY = 0, /* neither of the two */
     GETOPTS_STOP = 1,     /* all words from the first free one on are free */
     GETOPTS_LONG_ONLY = 2 /* long names follow one dash or two, and no short names are joined */
 };
@@ -43,62 +53,83 @@ enum {
 /* Options, and what the last reading gave. */
 struct getopts;
 
-/* Options by a table. NULL where memory was refused. */
-struct getopts *getopts_new(const struct getopts_option *table, unsigned modes);
+/* Makes options from a table. Returns NULL if out of memory. If a row of the table is wrong, getopts_message
+ * says which and why, such as "table[2]: short name 'ab' has 2 bytes", and each reading returns GETOPTS_BAD. */
+struct getopts *getopts_new(const struct getopts_option *table, enum getopts_modes modes);
 
-/* Reads words, such as argc - 1 and argv + 1, and answers GETOPTS_OK or one of these:
+/* Reads words, such as argc - 1 and argv + 1. Returns GETOPTS_OK, or why it fails:
  *
- * - a fault, GETOPTS_ARGUMENT_MISSING to GETOPTS_UNEXPECTED_ARGUMENT: the words are refused, and nothing
- *   is given by the calls below. A word that isn't UTF-8 is an unrecognized option.
- * - GETOPTS_NO_MEMORY: memory was refused, and what was read before stays.
- * - GETOPTS_BAD: a name or a kind of the table isn't lawful, or a text of it isn't UTF-8. */
+ * - GETOPTS_OPTION_MISSING, GETOPTS_OPTION_DUPLICATED: a required option is missing, or an option was given more
+ *   often than it may. The calls below return what was read, so that a program can look for its help option.
+ * - GETOPTS_ARGUMENT_MISSING, GETOPTS_UNRECOGNIZED_OPTION, GETOPTS_UNEXPECTED_ARGUMENT: the words can't be read,
+ *   and the calls below return nothing. A word that isn't UTF-8 is an unrecognized option.
+ * - GETOPTS_NO_MEMORY: out of memory; what was read before stays.
+ * - GETOPTS_BAD: a row of the table is wrong. */
 int getopts_read(struct getopts *options, int count, char *const *words);
 
-/* What the last reading answered, as a text: "Unrecognized option: 'x'". Where it was GETOPTS_OK, or nothing
- * was read, it is "". The text is there until the next reading. */
+/* Why the last reading failed, such as "Unrecognized option: 'x'". Returns "" if it didn't fail, or if nothing
+ * was read and the table is right. The text is valid until the next reading. */
 const char *getopts_message(const struct getopts *options);
 
-/* Of an option by any of its names: what the accepted words gave. Where they gave nothing, where no option
- * has the name, or nothing was accepted, these answer false, 0, -1 and NULL. */
+/* The next calls take any name of an option. If nothing was read, if no option has that name, or if it was given
+ * less often, they return false, 0, -1 and NULL. */
 
 /* Whether an option has this name. */
 bool getopts_defined(const struct getopts *options, const char *name);
 
-/* How often it was given. */
+/* How often the option was given. */
 size_t getopts_count(const struct getopts *options, const char *name);
 
 /* Where it was given, the first time (nth is 0) or a later one: the index of the word. */
 int getopts_position(const struct getopts *options, const char *name, size_t nth);
 
-/* The value that it was given with then, which may be none. It is there until the next reading. */
+/* The value that it was given with then, or NULL if it was given without. Valid until the next reading. */
 const char *getopts_value(const struct getopts *options, const char *name, size_t nth);
+
+/* Stores that value in *value if it is a decimal number that fits a long. Returns false, and stores nothing, if
+ * it isn't. If there is no value, it stores nothing and returns true, so that a default stays. */
+bool getopts_long_value(const struct getopts *options, const char *name, size_t nth, long *value);
 
 /* How many words are free. */
 int getopts_free_count(const struct getopts *options);
 
-/* The free words, with NULL after the last, as argv. They are there until the next reading. */
+/* The free words, with NULL after the last, as argv. Valid until the next reading. */
 char *const *getopts_free_words(const struct getopts *options);
 
-/* How many free words come before those after `--`; -1 where no `--` ended the options. */
+/* How many free words come before those after `--`; -1 if no `--` ended the options. */
 int getopts_trailing_start(const struct getopts *options);
 
-/* The help: the brief, and each option with its description. It is let go by free(). NULL where memory was
- * refused, the table isn't lawful or the brief isn't UTF-8. */
+/* The help: the brief, and each option with its description. The caller frees it by free(). Returns NULL if out
+ * of memory, if the table is wrong or if the brief isn't UTF-8. */
 char *getopts_usage(const struct getopts *options, const char *brief);
 
 /* All options in one line, as getopts_usage. */
 char *getopts_short_usage(const struct getopts *options, const char *program);
 
-/* Writes words again with main names alone: `--main` or `--main=value` for each option, then `--`, then the
- * free words. It answers as getopts_read does, and what that read last stays. The line is like argv, and is
- * let go by one free(). It is NULL where the answer isn't GETOPTS_OK, and where the words have no such line,
- * because a main name holds `=`. */
+/* Writes words again by main names (the long name, or the short one): `--main` or `--main=value` for each option,
+ * then `--`, then the free words. Returns what getopts_read would, and doesn't change what that read last. The
+ * line is like argv, and the caller frees it by one free(). It is NULL if the status isn't GETOPTS_OK, and if the
+ * words have no such line, because a main name holds `=`. */
 int getopts_canonical(const struct getopts *options, int count, char *const *words, char ***line);
 
-/* Lets options go; of NULL nothing. */
+/* Frees options. NULL is allowed. */
 void getopts_delete(struct getopts *options);
 
 #ifdef __cplusplus
+}
+
+/* Kinds and modes are added or joined by `|` in C++ too. */
+constexpr getopts_kind operator+(getopts_kind one, getopts_kind other) {
+    return static_cast<getopts_kind>(static_cast<int>(one) + static_cast<int>(other));
+}
+constexpr getopts_kind operator|(getopts_kind one, getopts_kind other) {
+    return one + other;
+}
+constexpr getopts_modes operator+(getopts_modes one, getopts_modes other) {
+    return static_cast<getopts_modes>(static_cast<int>(one) | static_cast<int>(other));
+}
+constexpr getopts_modes operator|(getopts_modes one, getopts_modes other) {
+    return one + other;
 }
 #endif
 

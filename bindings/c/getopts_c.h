@@ -1,20 +1,20 @@
-/* The exports of the archive libgetopts_c.a, which is proved. A C program would rather take getopts.h, which
- * stands on these.
+/* The exports of the archive libgetopts_c.a, which is proved. A C program usually includes getopts.h, which is
+ * built on these.
  *
- * Every call takes any bytes and numbers, keeps no pointer, and writes only to the room that it is
- * given. It answers one of the statuses below. The archive asks for its heap by the three functions at the
- * end, and calls nothing else but memcpy, memmove and memset.
+ * Every call takes any bytes and numbers, keeps no pointer, writes only to the buffers that it is given, and
+ * returns one of the statuses below. The archive gets its memory from the three functions at the end, and calls
+ * nothing else but memcpy, memmove and memset.
  *
- * What a caller owes, as of any C function:
+ * What a caller has to see to, as with any C function:
  *
  * - A pointer and its length are those of an array. With length 0 the pointer may be NULL.
- * - The rooms and the sizes overlap neither each other nor anything that is read. Where they do, nothing is
- *   promised of the answer; as tried, nothing else is written. What is only read may overlap.
- * - A bool is 0 or 1, as C makes it. Of other bytes, which come by a wrong declaration, nothing is promised; as
- *   tried, the lowest bit counts.
+ * - The buffers and the sizes overlap neither each other nor anything that is read. If they do, the answer may be
+ *   wrong; in all tests nothing else was written. What is only read may overlap.
+ * - A bool is 0 or 1, as C makes it. With other bytes, which a wrong declaration can pass, the answer may be wrong;
+ *   in all tests the lowest bit counted.
  *
- * A request says one set of options and one line at most, and an answer is read back one way: its numbers
- * tell where each part of it ends. */
+ * A request stands for one set of options and one line at most, and an answer is read back in one way: its
+ * numbers say where each part of it ends. */
 #ifndef GETOPTS_C_H
 #define GETOPTS_C_H
 
@@ -23,7 +23,7 @@
 #include <stdint.h>
 
 /* The version of these declarations: one more with each change that a caller has to follow. */
-#define GETOPTS_C_VERSION 1
+#define GETOPTS_C_VERSION 2
 
 #ifdef __cplusplus
 extern "C" {
@@ -32,39 +32,41 @@ extern "C" {
 /* A status. With the last three no numbers and no bytes are written. */
 enum {
     GETOPTS_OK,                  /* the answer was written */
-    GETOPTS_ARGUMENT_MISSING,    /* a fault: the bytes are the name that it tells, the number its length */
+    GETOPTS_ARGUMENT_MISSING,    /* a fault: the bytes are the name in it, the number is its length */
     GETOPTS_UNRECOGNIZED_OPTION, /* a fault */
     GETOPTS_OPTION_MISSING,      /* a fault */
     GETOPTS_OPTION_DUPLICATED,   /* a fault */
     GETOPTS_UNEXPECTED_ARGUMENT, /* a fault */
-    GETOPTS_NO_MEMORY,           /* memory was refused; the sizes are as they were */
-    GETOPTS_BAD,                 /* nothing lawful fits: see below; the sizes are as they were */
-    GETOPTS_TOO_SMALL            /* some room was too small; the sizes tell what is needed */
+    GETOPTS_NO_MEMORY,           /* out of memory; the sizes are as they were */
+    GETOPTS_BAD,                 /* a wrong request, see below; the sizes are as they were */
+    GETOPTS_TOO_SMALL            /* a buffer was too small; the sizes say what is needed */
 };
 
-/* GETOPTS_TOO_SMALL means asking again: the same request with rooms of the sizes told isn't answered so. So
- * a caller asks with a guessed room, or with none, and once more. */
+/* After GETOPTS_TOO_SMALL the same request with buffers of these sizes isn't answered so again. So a caller asks
+ * with buffers of a guessed size, or with none, and then once more. */
 
-/* GETOPTS_BAD is answered where no lawfully named options of UTF-8 texts are what the texts, lengths and
- * kinds say, or where the words, the brief or the program's name aren't UTF-8 texts of these lengths, and
- * only there; want of memory may be met first. A short name has at most one byte, a long name doesn't have
- * exactly one, and not both are empty. */
+/* GETOPTS_BAD is returned if the texts, lengths and kinds aren't those of options with UTF-8 texts and right
+ * names, or if the words, the brief or the program's name aren't UTF-8 texts of these lengths, and only then;
+ * GETOPTS_NO_MEMORY may come first. A short name has at most one byte, a long name doesn't have exactly one, and
+ * not both are empty. */
 
-/* How much an answer has: written with every status up to GETOPTS_UNEXPECTED_ARGUMENT, and with
+/* The size of an answer: written with every status up to GETOPTS_UNEXPECTED_ARGUMENT, and with
  * GETOPTS_TOO_SMALL. */
 struct getopts_sizes {
     size_t numbers; /* how many numbers */
     size_t bytes;   /* how many bytes */
 };
 
-/* The kind of a group: what its argument is and how often it may come. */
-enum {
-    GETOPTS_YES = 0,      /* it needs an argument */
-    GETOPTS_NO = 3,       /* it takes none */
-    GETOPTS_MAYBE = 6,    /* it may have one */
-    GETOPTS_REQ = 0,      /* add: it comes exactly once */
-    GETOPTS_OPTIONAL = 1, /* add: it comes at most once */
-    GETOPTS_MULTI = 2     /* add: it comes any number of times */
+/* The kind of an option: whether it takes an argument, and how often it may come. Add one of each; what may be left
+ * out is 0, so 0 is a plain flag. In a request a kind is one byte. */
+enum getopts_kind {
+    GETOPTS_NO = 0,       /* it takes no argument */
+    GETOPTS_YES = 1,      /* it needs an argument, in the same word or the next */
+    GETOPTS_MAYBE = 2,    /* it may have an argument. Unlike with getopt_long, a short option takes the next word
+                           * too, unless that is an option: `-O f` gives f to O; `--opt f` gives nothing to opt */
+    GETOPTS_OPTIONAL = 0, /* it comes at most once */
+    GETOPTS_REQ = 4,      /* it comes exactly once */
+    GETOPTS_MULTI = 8     /* it comes any number of times */
 };
 
 /* Reads words by options.
@@ -88,15 +90,37 @@ uint32_t getopts_c_parse(
     size_t words_len,        /* how many bytes they are together */
     const size_t *word_lens, /* the length of each word */
     size_t word_lens_len,    /* how many words */
-    size_t *numbers,         /* the room for numbers */
+    size_t *numbers,         /* where the numbers go */
     size_t numbers_len,      /* how many fit */
-    uint8_t *bytes,          /* the room for bytes */
+    uint8_t *bytes,          /* where the bytes go */
     size_t bytes_len,        /* how many fit */
     struct getopts_sizes *sizes /* how much the answer has */
 );
 
-/* Writes the canonical line of words: how many words it has, the length of each, and the words. Where
- * they are accepted and have none, because a main name holds `=`, there are no numbers. */
+/* Reads words as getopts_c_parse does, but doesn't check how often options came: it never returns
+ * GETOPTS_OPTION_MISSING or GETOPTS_OPTION_DUPLICATED. */
+uint32_t getopts_c_parse_ignoring_counts(
+    const uint8_t *texts,    /* as in getopts_c_parse */
+    size_t texts_len,
+    const size_t *lens,
+    size_t lens_len,
+    const uint8_t *kinds,
+    size_t kinds_len,
+    bool stop,
+    bool long_only,
+    const uint8_t *words,
+    size_t words_len,
+    const size_t *word_lens,
+    size_t word_lens_len,
+    size_t *numbers,
+    size_t numbers_len,
+    uint8_t *bytes,
+    size_t bytes_len,
+    struct getopts_sizes *sizes
+);
+
+/* Writes the canonical line of words: how many words it has, the length of each, and the words. If they are
+ * accepted and have none, because a main name holds `=`, there are no numbers. */
 uint32_t getopts_c_canonical(
     const uint8_t *texts,    /* as in getopts_c_parse */
     size_t texts_len,
@@ -128,7 +152,7 @@ uint32_t getopts_c_usage(
     bool long_only,
     const uint8_t *brief,    /* the brief */
     size_t brief_len,        /* its length */
-    uint8_t *bytes,          /* the room for the text */
+    uint8_t *bytes,          /* where the text goes */
     size_t bytes_len,        /* how many bytes fit */
     struct getopts_sizes *sizes /* how much the text has */
 );
@@ -143,7 +167,7 @@ uint32_t getopts_c_short_usage(
     size_t kinds_len,
     const uint8_t *program,  /* the program's name */
     size_t program_len,      /* its length */
-    uint8_t *bytes,          /* the room for the text */
+    uint8_t *bytes,          /* where the text goes */
     size_t bytes_len,        /* how many bytes fit */
     struct getopts_sizes *sizes /* how much the text has */
 );
@@ -157,18 +181,18 @@ uint32_t getopts_c_usage_rows(
     const uint8_t *kinds,
     size_t kinds_len,
     bool long_only,
-    size_t *numbers,         /* the room for numbers */
+    size_t *numbers,         /* where the numbers go */
     size_t numbers_len,      /* how many fit */
-    uint8_t *bytes,          /* the room for the rows */
+    uint8_t *bytes,          /* where the rows go */
     size_t bytes_len,        /* how many bytes fit */
     struct getopts_sizes *sizes /* how much the answer has */
 );
 
-/* What the archive asks of its host, which heap.c answers by malloc. Every such archive asks by these names,
- * so those of one program share a heap. The names of heap.c are weak: another heap that the program has, such
- * as that of the Rust crate, takes their place. Two that aren't weak are refused by the linker. */
+/* The memory of the archive, which heap.c takes from malloc. Every archive of the toolchain uses these names, so
+ * all that are in one program share a heap. The names of heap.c are weak: another heap in the program, such as
+ * that of the Rust crate, replaces them. The linker refuses two that aren't weak. */
 
-/* A block, or that there is none: the pointer then points somewhere, and isn't null. */
+/* A block, or that there is none: then the pointer points to something too, and isn't null. */
 struct getopts_block {
     bool ok;
     void *block;
@@ -177,10 +201,10 @@ struct getopts_block {
 /* A block of size bytes; of none, one of align bytes. */
 struct getopts_block rattle_alloc(size_t size, size_t align);
 
-/* The block with size bytes, of which the first kept stay. Where there is none, the block stays. */
+/* The block with size bytes, of which the first kept stay. If there is none, the block stays as it was. */
 struct getopts_block rattle_realloc(void *block, size_t kept, size_t size, size_t align);
 
-/* Lets a block go. */
+/* Frees a block. */
 void rattle_dealloc(void *block);
 
 #ifdef __cplusplus

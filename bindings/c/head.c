@@ -1,44 +1,56 @@
 /* Prints the first lines of files: an example of getopts.h. */
+#include <errno.h>
 #include <getopts.h>
 #include <stdio.h>
 #include <stdlib.h>
+#include <string.h>
 
 static const struct getopts_option table[] = {
-    { "n", "lines", "COUNT", "print so many lines of each, and not 10", GETOPTS_YES + GETOPTS_OPTIONAL },
-    { "h", "help", NULL, "print this help", GETOPTS_NO + GETOPTS_OPTIONAL },
-    { NULL, NULL, NULL, NULL, 0 },
+    { "n", "lines", "COUNT", "print COUNT lines of each file, not 10", GETOPTS_YES },
+    { "h", "help", NULL, "print this help", GETOPTS_NO },
+    { NULL, NULL, NULL, NULL, GETOPTS_NO },
 };
 
-static int help(const struct getopts *options, FILE *out, int status) {
+static int print_help(const struct getopts *options) {
     char *text = getopts_usage(options, "Usage: head [options] FILE..");
-    fputs(text != NULL ? text : "", out);
+    printf("%s", text != NULL ? text : "");
     free(text);
-    return status;
+    return text != NULL ? 0 : 3;
 }
 
-static int head(const char *name, long lines) {
+static int print_lines(const char *name, long lines) {
     FILE *file = fopen(name, "r");
-    if (file == NULL)
-        return 1;
-    for (int byte; lines > 0 && (byte = getc(file)) != EOF; lines -= byte == '\n')
+    for (int byte; file != NULL && lines > 0 && (byte = getc(file)) != EOF; lines -= byte == '\n')
         putchar(byte);
-    return fclose(file);
+    bool failed = file == NULL || ferror(file);
+    if (failed)
+        fprintf(stderr, "head: %s: %s\n", name, strerror(errno));
+    if (file != NULL)
+        fclose(file);
+    return failed;
+}
+
+static int run(struct getopts *options, int count, char **words) {
+    int status = getopts_read(options, count, words), failed = 0;
+    long lines = 10;
+    if (getopts_count(options, "help") > 0)
+        return print_help(options);
+    if (status != GETOPTS_OK) {
+        fprintf(stderr, "head: %s\n", getopts_message(options));
+        return 2;
+    }
+    if (!getopts_long_value(options, "lines", 0, &lines) || lines < 0) {
+        fprintf(stderr, "head: '%s' isn't a number of lines\n", getopts_value(options, "lines", 0));
+        return 2;
+    }
+    for (char *const *name = getopts_free_words(options); *name != NULL; name++)
+        failed |= print_lines(*name, lines);
+    return failed;
 }
 
 int main(int argc, char **argv) {
-    struct getopts *options = getopts_new(table, 0);
-    if (options == NULL)
-        return 3;
-    if (getopts_read(options, argc - 1, argv + 1) != GETOPTS_OK) {
-        fprintf(stderr, "head: %s\n", getopts_message(options));
-        return help(options, stderr, 2);
-    }
-    if (getopts_count(options, "help") > 0)
-        return help(options, stdout, 0);
-    int failed = 0;
-    const char *lines = getopts_value(options, "lines", 0);
-    for (char *const *name = getopts_free_words(options); *name != NULL; name++)
-        failed |= head(*name, lines != NULL ? strtol(lines, NULL, 10) : 10);
+    struct getopts *options = getopts_new(table, GETOPTS_ORDINARY);
+    int status = options != NULL ? run(options, argc - 1, argv + 1) : 3;
     getopts_delete(options);
-    return failed;
+    return status;
 }

@@ -1,16 +1,18 @@
 #!/usr/bin/env bash
-# Installs the library for C and C++ programs:
+# Installs the library for C and C++ programs, or removes it:
 #
-#     bindings/c/install.sh PREFIX
+#     bindings/c/install.sh [--uninstall] PREFIX
 #
-# - PREFIX/lib/libgetopts.a: the proved archive, its heap and the layer of getopts.h
-# - PREFIX/include/getopts.h and getopts_c.h
-# - PREFIX/lib/pkgconfig/getopts.pc, for pkg-config
-# - PREFIX/share/doc/getopts: the licences
+# - PREFIX/lib: libgetopts.a, and libgetopts.so, which exports the functions of getopts.h alone
+# - PREFIX/include: getopts.h and getopts_c.h
+# - PREFIX/lib/pkgconfig: getopts.pc, and getopts-static.pc for a program that holds the library itself
+# - PREFIX/share/man/man3: getopts.3
+# - PREFIX/share/doc/getopts: README.md, head.c and the licences
 #
-# CC, AR and CFLAGS are heeded, and DESTDIR, which is put before PREFIX where files are written.
+# It uses CC, AR and CFLAGS, and writes its files below DESTDIR. It needs a C compiler and ar, on x86-64 Linux.
 set -euo pipefail
 here=$(cd "$(dirname "$0")" && pwd)
+top=$here/../..
 archive=$here/../rust/native/libgetopts_c.a
 compiler=${CC:-cc}
 ar=${AR:-ar}
@@ -20,7 +22,63 @@ fail() {
     exit 1
 }
 
-[ $# = 1 ] || fail "usage: bindings/c/install.sh PREFIX"
+# absolute PATH: the path from the root, with no slash at its end.
+absolute() {
+    local path=$1
+    [[ $path = /* ]] || path=$PWD/$path
+    while [[ $path = */ ]]; do path=${path%/}; done
+    echo "$path"
+}
+
+remove=
+case ${1:-} in
+--help | -h)
+    sed -n '2,12s/^# \{0,1\}//p' "$0"
+    exit
+    ;;
+--uninstall)
+    remove=yes
+    shift
+    ;;
+esac
+if [ $# != 1 ] || [[ $1 = -* ]] || [ -z "$1" ]; then
+    fail "usage: bindings/c/install.sh [--uninstall] PREFIX"
+fi
+prefix=$(absolute "$1")
+root=
+[ -z "${DESTDIR:-}" ] || root=$(absolute "$DESTDIR")
+to=$root$prefix
+
+# The version of the layer. Programs that were linked with one work with each later one of the same first number.
+version=$(sed -n 's/^#define GETOPTS_VERSION "\(.*\)"/\1/p' "$here/getopts.h")
+soname=libgetopts.so.${version%%.*}
+shared=libgetopts.so.$version
+
+# Each installed file: from where, and its place below PREFIX, with a tab between them.
+files() {
+    local file
+    printf '%s\t%s\n' "$here/getopts.h" include/getopts.h "$here/getopts_c.h" include/getopts_c.h \
+        "$here/getopts.3" share/man/man3/getopts.3
+    for file in "$here/README.md" "$here/head.c" "$top"/{LICENSE-MIT,LICENSE-APACHE,NOTICE}; do
+        printf '%s\t%s\n' "$file" "share/doc/getopts/$(basename "$file")"
+    done
+    for file in libgetopts.a "$shared" pkgconfig/getopts.pc pkgconfig/getopts-static.pc; do
+        printf '%s\t%s\n' "$room/$(basename "$file")" "lib/$file"
+    done
+}
+room=$(mktemp -d)
+trap 'rm -rf "$room"' EXIT
+
+if [ -n "$remove" ]; then
+    while IFS=$'\t' read -r _ place; do
+        rm -f "$to/$place"
+    done < <(files)
+    rm -f "$to/lib/$soname" "$to/lib/libgetopts.so"
+    rmdir "$to/share/doc/getopts" 2>/dev/null || true
+    echo "removed from $to"
+    exit
+fi
+
 [ -f "$archive" ] || fail "there is no bindings/rust/native/libgetopts_c.a: bindings/archive.sh makes it"
 for tool in "$compiler" "$ar"; do
     command -v "$tool" >/dev/null || fail "there is no $tool"
@@ -30,21 +88,27 @@ case $(uname -sm) in
 *) fail "the archive is for x86-64 Linux, and this is $(uname -sm)" ;;
 esac
 
-mkdir -p "${DESTDIR:-}$1"
-prefix=$(cd "${DESTDIR:-}$1" && pwd)
-room=$(mktemp -d)
-trap 'rm -rf "$room"' EXIT
 for part in heap getopts; do
     # shellcheck disable=SC2086
     "$compiler" -std=c11 -O2 -fPIC ${CFLAGS:-} -c "$here/$part.c" -o "$room/$part.o"
 done
 cp "$archive" "$room/libgetopts.a"
 chmod u+w "$room/libgetopts.a"
-"$ar" rs "$room/libgetopts.a" "$room/heap.o" "$room/getopts.o"
+"$ar" rs "$room/libgetopts.a" "$room/heap.o" "$room/getopts.o" 2>/dev/null
+# The shared library exports what getopts.h declares.
+{
+    echo "{ global:"
+    sed -n 's/^[a-z].*[ *]\(getopts_[a-z_]*\)(.*/\1;/p' "$here/getopts.h"
+    echo "local: *; };"
+} >"$room/exports"
+# shellcheck disable=SC2086
+"$compiler" -shared ${CFLAGS:-} -Wl,-soname,"$soname" -Wl,--version-script="$room/exports" -Wl,-z,defs -Wl,-z,text \
+    "$room/getopts.o" "$room/heap.o" "$archive" -o "$room/$shared"
 
-version=$(sed -n 's/^#define GETOPTS_VERSION "\(.*\)"/\1/p' "$here/getopts.h")
-cat >"$room/getopts.pc" <<END
-prefix=${prefix#"${DESTDIR:-}"}
+# describe LIBS: a file for pkg-config.
+describe() {
+    cat <<END
+prefix=$prefix
 libdir=\${prefix}/lib
 includedir=\${prefix}/include
 
@@ -52,13 +116,19 @@ Name: getopts
 Description: Command-line options, read by a proved library
 Version: $version
 License: MIT OR Apache-2.0
-Libs: "-L\${libdir}" -lgetopts
+Libs: $1
 Cflags: "-I\${includedir}"
 END
+}
+# shellcheck disable=SC2016
+describe '"-L${libdir}" -lgetopts' >"$room/getopts.pc"
+# shellcheck disable=SC2016
+describe '"${libdir}/libgetopts.a"' >"$room/getopts-static.pc"
 
-install -d "$prefix/lib/pkgconfig" "$prefix/include" "$prefix/share/doc/getopts"
-install -m 644 "$room/libgetopts.a" "$prefix/lib"
-install -m 644 "$room/getopts.pc" "$prefix/lib/pkgconfig"
-install -m 644 "$here/getopts.h" "$here/getopts_c.h" "$prefix/include"
-install -m 644 "$here/../../LICENSE-MIT" "$here/../../LICENSE-APACHE" "$here/../../NOTICE" "$prefix/share/doc/getopts"
-echo "installed in $prefix"
+while IFS=$'\t' read -r from place; do
+    install -D -m 644 "$from" "$to/$place"
+done < <(files)
+chmod 755 "$to/lib/$shared"
+ln -sf "$shared" "$to/lib/$soname"
+ln -sf "$soname" "$to/lib/libgetopts.so"
+echo "installed in $to"

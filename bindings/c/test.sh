@@ -41,6 +41,8 @@ all_of() {
             says "${file#"$top/crates/"} ($with)" "$room/rows" "$file"
         done < <(row_files)
     fi
+    check "the layer ($with)" "${build[@]}" "$here/tests/layer.c" "${layer[@]}" -o "$room/of_layer" &&
+        says "the layer on wrong tables, counts and numbers ($with)" "$room/of_layer"
     check "what a caller owes ($with)" "${build[@]}" "$here/tests/owed.c" "$archive" -o "$room/owed" &&
         says "what a caller owes, kept and broken ($with)" "$room/owed"
     file=$here/tests/exports_refused.c
@@ -73,6 +75,7 @@ echo 'int main(void) { return 0; }' >"$room/empty.c"
 for compiler in "${compilers[@]}"; do
     all_of "$compiler" -O2
     if "$compiler" "${sanitizers[@]}" "$room/empty.c" -o "$room/empty" 2>"$room/said" && "$room/empty"; then
+        mv "$room/empty" "$room/empty.$compiler"
         all_of "$compiler" "${sanitizers[@]}"
     else
         skip "the sanitizers of $compiler: it has none here"
@@ -84,7 +87,7 @@ fi
 
 # Another archive that asks for the same heap: here a copy of this one, whose exports have other names.
 two_archives() {
-    local names=(parse canonical usage short_usage usage_rows) name renamed=()
+    local names=(parse parse_ignoring_counts canonical usage short_usage usage_rows) name renamed=()
     for name in "${names[@]}"; do
         renamed+=(--redefine-sym "getopts_c_$name=another_$name")
     done
@@ -95,7 +98,7 @@ uint32_t another_short_usage(const uint8_t *, size_t, const size_t *, size_t, co
     const uint8_t *, size_t, uint8_t *, size_t, struct getopts_sizes *);
 int main(void) {
     static const struct getopts_option none = { NULL, NULL, NULL, NULL, 0 };
-    struct getopts *options = getopts_new(&none, 0);
+    struct getopts *options = getopts_new(&none, GETOPTS_ORDINARY);
     char *words[] = { "x", NULL };
     struct getopts_sizes sizes;
     uint8_t room[16];
@@ -120,7 +123,8 @@ names() {
     given=$(nm --defined-only -g "$archive" | sed -n 's/^[0-9a-f]* [A-Z] //p' | sort | tr '\n' ' ')
     asked=$(nm -u "$archive" | sed -n 's/^ *U //p' | sort | tr '\n' ' ')
     echo "$given and $asked"
-    [ "$given" = "getopts_c_canonical getopts_c_parse getopts_c_short_usage getopts_c_usage getopts_c_usage_rows " ] &&
+    local parse="getopts_c_parse getopts_c_parse_ignoring_counts"
+    [ "$given" = "getopts_c_canonical $parse getopts_c_short_usage getopts_c_usage getopts_c_usage_rows " ] &&
         [ "$asked" = "memcpy memmove memset rattle_alloc rattle_dealloc rattle_realloc " ]
 }
 if has nm; then
@@ -129,16 +133,76 @@ else
     skip "the names of the archive: there is no nm"
 fi
 
-# What bindings/c/install.sh put somewhere, and programs that know it by pkg-config alone.
+# A kind or a wrong sum in place of the modes doesn't compile without a warning.
+wrong_modes() {
+    local compiler
+    cat >"$room/modes.c" <<END
+#include "$here/getopts.h"
+struct getopts *made(const struct getopts_option *table);
+struct getopts *made(const struct getopts_option *table) { return getopts_new(table, MODES); }
+END
+    for compiler in "${compilers[@]}"; do
+        "$compiler" "${warnings[@]}" -DMODES="GETOPTS_STOP | GETOPTS_LONG_ONLY" -c "$room/modes.c" -o "$room/modes.o" ||
+            return 1
+        ! "$compiler" "${warnings[@]}" -DMODES=GETOPTS_NO -c "$room/modes.c" -o "$room/modes.o" || return 1
+    done
+}
+[ ${#compilers[@]} = 0 ] || check "a kind in place of a mode" wrong_modes
+
+# What bindings/c/install.sh installed, and programs that find it by pkg-config alone.
+# head_says STATUS OUTPUT ERRORS WORD..: what the example has to return and print on these words.
+head_says() {
+    local status=0
+    "$room/head" "${@:4}" >"$room/output" 2>"$room/errors" || status=$?
+    if [ "$status" != "$1" ] || [ "$(head -n 2 "$room/output")" != "$2" ] || [ "$(cat "$room/errors")" != "$3" ]; then
+        echo "head ${*:4}: status $status"
+        cat "$room/output" "$room/errors"
+        return 1
+    fi
+}
 head_answers() {
     printf '1\n2\n3\n' >"$room/file"
-    [ "$("$room/head" -n2 "$room/file")" = $'1\n2' ] &&
-        [ "$("$room/head" --help | head -n 1)" = "Usage: head [options] FILE.." ] &&
-        [ "$("$room/head" --nope 2>&1 | head -n 1)" = "head: Unrecognized option: 'nope'" ] &&
-        [ "$("$room/head" --nope -- $'--x\xff' 2>&1 | head -n 1)" = "head: Unrecognized option: '"$'--x\xff'"'" ]
+    head_says 0 $'1\n2' '' -n2 "$room/file" &&
+        head_says 0 'Usage: head [options] FILE..' '' --help &&
+        head_says 0 'Usage: head [options] FILE..' '' -h -h "$room/file" &&
+        head_says 2 '' "head: Unrecognized option: 'nope'" --nope &&
+        head_says 2 '' "head: Unrecognized option: '"$'--x\xff'"'" --nope -- $'--x\xff' &&
+        head_says 2 '' "head: '2x' isn't a number of lines" -n 2x "$room/file" &&
+        head_says 2 '' "head: '-1' isn't a number of lines" --lines=-1 "$room/file" &&
+        head_says 1 $'1\n2' "head: $room/nofile: No such file or directory" -n 2 "$room/nofile" "$room/file" &&
+        head_says 1 '' "head: $room: Is a directory" "$room"
 }
 plus_answers() {
     [ "$("$room/plus" --verbose -ox --verbose a --verbose)" = "2 x a --verbose" ]
+}
+# uninstalled: installs elsewhere, below a DESTDIR with a slash at its end or a relative one, and removes it again.
+uninstalled() {
+    local destdir
+    cd "$room" || return 1
+    for destdir in "$room/stage/" stage; do
+        DESTDIR=$destdir CC=${compilers[0]} "$here/install.sh" "/usr/lo cal/" &&
+            grep -qx 'prefix=/usr/lo cal' "stage/usr/lo cal/lib/pkgconfig/getopts.pc" &&
+            DESTDIR=$destdir "$here/install.sh" --uninstall "/usr/lo cal" && [ -z "$(find stage ! -type d)" ] || return 1
+    done
+    "$here/install.sh" --help | grep -q PREFIX && ! "$here/install.sh" --nope && ! "$here/install.sh"
+}
+# shared_exports: the shared library exports the functions of getopts.h and nothing else, under its soname.
+shared_exports() {
+    local file=$prefix/lib/libgetopts.so declared given
+    declared=$(grep -o 'getopts_[a-z_]*(' "$here/getopts.h" | tr -d '(' | sort -u | tr '\n' ' ')
+    given=$(nm -D --defined-only "$file" | sed 's/.* //' | sort | tr '\n' ' ')
+    echo "$given and not $declared"
+    [ "$given" = "$declared" ] && readelf -d "$file" | grep -q 'SONAME.*\[libgetopts.so.1\]'
+}
+# costs: a program grows by no more than getopts.h says, as this compiler links it.
+costs() {
+    local most with without
+    most=$(sed -n 's/.* grows by \([0-9]*\) KB at most.*/\1/p' "$here/getopts.h")
+    "${compilers[0]}" -O2 -s "$room/empty.c" -o "$room/without" &&
+        "${compilers[0]}" -O2 -s "$here/head.c" "${static[@]}" -o "$room/with" || return 1
+    with=$(stat -c %s "$room/with") without=$(stat -c %s "$room/without")
+    echo "$((with - without)) bytes"
+    [ $((with - without)) -le $((most * 1000)) ] && [ $((with - without)) -gt $((most * 800)) ]
 }
 prefix="$room/a prefix"
 if [ ${#compilers[@]} = 0 ] || ! has ar; then
@@ -147,16 +211,27 @@ elif check "bindings/c/install.sh" env CC="${compilers[0]}" "$here/install.sh" "
     if has pkg-config; then
         export PKG_CONFIG_PATH=$prefix/lib/pkgconfig
         eval "flags=($(pkg-config --cflags --libs getopts))"
-        check "the version" [ "$(pkg-config --modversion getopts)" = 0.2.24 ]
+        eval "static=($(pkg-config --cflags --libs getopts-static))"
+        check "the version" [ "$(pkg-config --modversion getopts)" = 1.0.0 ]
     else
         skip "pkg-config: it isn't there, and the flags are written out"
         flags=("-I$prefix/include" "-L$prefix/lib" -lgetopts)
+        static=("-I$prefix/include" "$prefix/lib/libgetopts.a")
     fi
+    export LD_LIBRARY_PATH=$prefix/lib
     for compiler in "${compilers[@]}"; do
-        build=("$compiler" "${warnings[@]}" "$here/head.c" "${flags[@]}" -o "$room/head")
-        check "the example, installed ($compiler)" "${build[@]}" &&
-            check "the example answers ($compiler)" head_answers
+        for library in static flags; do
+            declare -n with=$library
+            build=("$compiler" "${warnings[@]}" "$here/head.c" "${with[@]}" -o "$room/head")
+            check "the example, $library ($compiler)" "${build[@]}" &&
+                check "the example answers, $library ($compiler)" head_answers
+            if [ -x "$room/empty.$compiler" ]; then
+                check "the example, sanitized, $library ($compiler)" "${build[@]}" "${sanitizers[@]}" -O0 &&
+                    check "the example answers, sanitized, $library ($compiler)" head_answers
+            fi
+        done
     done
+    unset -n with
     plus_compilers=()
     for compiler in g++ clang++; do
         ! has $compiler || plus_compilers+=("$compiler")
@@ -167,15 +242,32 @@ elif check "bindings/c/install.sh" env CC="${compilers[0]}" "$here/install.sh" "
         check "a C++ program ($compiler)" "${build[@]}" &&
             check "the C++ program answers ($compiler)" plus_answers
     done
+    if has musl-gcc; then
+        build=(musl-gcc -std=c11 -static "$here/head.c" "${layer[@]}" -isystem "$prefix/include" -o "$room/head")
+        check "the example (musl)" "${build[@]}" && check "the example answers (musl)" head_answers
+    else
+        skip "musl: there is no musl-gcc"
+    fi
+    if has nm readelf; then
+        check "the names of the shared library" shared_exports
+    else
+        skip "the names of the shared library: there is no nm or no readelf"
+    fi
+    says "what a program grows by" costs
+    check "DESTDIR, --uninstall and --help" uninstalled
+fi
+manual() { [ -z "$(man --warnings -E UTF-8 -l "$here/getopts.3" 2>&1 >/dev/null)" ]; }
+if has man groff; then
+    check "the manual page" manual
+else
+    skip "the manual page: there is no man or no groff"
 fi
 
-# What the documents quote and tell.
+# What the page quotes.
 quoted() {
     sed -n '/^```c$/,/^```$/{/^```/!p}' "$here/README.md" | cmp - "$here/head.c"
 }
 check "README.md quotes the example" quoted
-check "the layer has fewer than 300 lines" [ "$(wc -l <"$here/getopts.c")" -lt 300 ]
-check "the program has fewer than 80 lines" [ "$(wc -l <"$here/show.c")" -lt 80 ]
-check "the example has 45 lines or fewer" [ "$(wc -l <"$here/head.c")" -le 45 ]
+check "the example has fewer than 60 lines" [ "$(wc -l <"$here/head.c")" -lt 60 ]
 
 finish

@@ -14,7 +14,7 @@ enum {
     REQUIRED = GETOPTS_YES + GETOPTS_REQ,
     ONCE = GETOPTS_YES + GETOPTS_OPTIONAL,
     FLAG = GETOPTS_NO + GETOPTS_OPTIONAL,
-    NO_KIND = 9
+    NO_KIND = 3
 };
 
 static const uint8_t once = ONCE;
@@ -115,6 +115,33 @@ static void a_fault_is_told(void) {
     expect(holds(&room, (size_t[]){ 1 }, 1, "x") && tells(&room, 1, 1), "the name of the fault");
 }
 
+/* An option that is missing, or came again, is no fault where counts are ignored. */
+static void counts_are_ignored(void) {
+    static const struct row {
+        uint8_t kind;
+        const char *words;
+        size_t lens[2], count, numbers[11];
+        uint32_t status;
+        const char *bytes;
+    } rows[] = {
+        { REQUIRED, "x", { 1 }, 1, { 1, 1, 1, 0, 1, 1, 0 }, GETOPTS_OK, "x" },
+        { ONCE, "-oa-ob", { 3, 3 }, 2, { 1, 1, 1, 2, 0, 2, 1, 2, 0, 0 }, GETOPTS_OK, "ab" },
+        { REQUIRED, "-x", { 2 }, 1, { 1 }, GETOPTS_UNRECOGNIZED_OPTION, "x" },
+    };
+    static const size_t sizes[] = { 7, 10, 1 };
+    struct room room;
+    for (size_t i = 0; i < sizeof rows / sizeof *rows; i++) {
+        const struct row *row = &rows[i];
+        empty(&room);
+        uint32_t status = getopts_c_parse_ignoring_counts(bytes_of(texts), sizeof texts - 1, lens, 4, &row->kind, 1,
+            false, false, bytes_of(row->words), strlen(row->words), row->lens, row->count, room.numbers, sizes[i],
+            room.bytes, strlen(row->bytes), &room.sizes);
+        expect(status == row->status, "the status where counts are ignored");
+        expect(holds(&room, row->numbers, sizes[i], row->bytes) && tells(&room, sizes[i], strlen(row->bytes)),
+            "what is told where counts are ignored");
+    }
+}
+
 static void the_canonical_line_is_told(void) {
     struct room room;
     empty(&room);
@@ -178,6 +205,7 @@ int main(void) {
     accepted_words_are_told();
     small_room_tells_the_size();
     a_fault_is_told();
+    counts_are_ignored();
     the_canonical_line_is_told();
     the_short_usage_is_told();
     the_usage_is_told();

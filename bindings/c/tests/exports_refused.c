@@ -58,8 +58,10 @@ static const size_t lens[4 * GROUPS] = { 1, 6, 4, 14, 1, 7, 0, 8 };
 
 static const uint8_t lawful[GROUPS] = { GETOPTS_YES + GETOPTS_OPTIONAL, GETOPTS_NO + GETOPTS_MULTI };
 
-/* No kind is 9. */
-static const uint8_t unlawful[GROUPS] = { GETOPTS_YES + GETOPTS_OPTIONAL, 9 };
+/* No kind is 3. */
+static const uint8_t unlawful[GROUPS] = { GETOPTS_YES + GETOPTS_OPTIONAL, 3 };
+
+static const uint8_t missing[GROUPS] = { GETOPTS_YES + GETOPTS_OPTIONAL, GETOPTS_NO + GETOPTS_REQ };
 
 /* Words, one after the other, and their lengths. */
 struct words {
@@ -68,6 +70,9 @@ struct words {
 };
 
 static const struct words accepted = { "-oa-vx", { 3, 2, 1 } };
+
+/* The option `v` comes twice. */
+static const struct words twice = { "-oa-vvx", { 3, 3, 1 } };
 
 static const struct words unknown = { "-v--nopex", { 2, 6, 1 } };
 
@@ -101,6 +106,12 @@ static uint32_t parse(const struct call *call) {
         call->fits, &room.sizes);
 }
 
+static uint32_t ignoring_counts(const struct call *call) {
+    return getopts_c_parse_ignoring_counts(OPTIONS(call), false, false, (const uint8_t *)call->words->bytes,
+        strlen(call->words->bytes), call->words->lens, WORDS, room.numbers, call->fits, room.bytes,
+        call->fits, &room.sizes);
+}
+
 static uint32_t canonical(const struct call *call) {
     return getopts_c_canonical(OPTIONS(call), false, false, (const uint8_t *)call->words->bytes,
         strlen(call->words->bytes), call->words->lens, WORDS, room.numbers, call->fits, room.bytes,
@@ -128,6 +139,9 @@ static const struct call calls[] = {
     { "parse, a bad kind", parse, unlawful, &accepted, ROOM, GETOPTS_BAD },
     { "parse, bad words", parse, lawful, &uncut, ROOM, GETOPTS_BAD },
     { "parse, no room", parse, lawful, &accepted, 0, GETOPTS_TOO_SMALL },
+    { "parse, a count", parse, missing, &twice, ROOM, GETOPTS_OPTION_DUPLICATED },
+    { "ignoring counts", ignoring_counts, missing, &twice, ROOM, GETOPTS_OK },
+    { "ignoring counts, a fault", ignoring_counts, missing, &unknown, ROOM, GETOPTS_UNRECOGNIZED_OPTION },
     { "canonical", canonical, lawful, &accepted, ROOM, GETOPTS_OK },
     { "canonical, a fault", canonical, lawful, &unknown, ROOM, GETOPTS_UNRECOGNIZED_OPTION },
     { "canonical, bad words", canonical, lawful, &uncut, ROOM, GETOPTS_BAD },

@@ -70,6 +70,13 @@ static const struct getopts_option unlawful[] = {
     { NULL, NULL, NULL, NULL, 0 },
 };
 
+/* The option `o` has to come. */
+static const struct getopts_option required[] = {
+    { "o", "output", "FILE", "write to FILE", GETOPTS_YES + GETOPTS_REQ },
+    { "v", "verbose", NULL, "say m\u00f6re", GETOPTS_NO + GETOPTS_MULTI },
+    { NULL, NULL, NULL, NULL, GETOPTS_NO },
+};
+
 enum { MOST = 1000 };
 
 /* A call on a table and words, and the status that it answers with ample memory. */
@@ -125,6 +132,9 @@ static int another(struct getopts *options, const struct call *call) {
 
 static const struct call calls[] = {
     { "new", another, table, GETOPTS_OK, { NULL } },
+    { "new, not ASCII", another, required, GETOPTS_OK, { NULL } },
+    { "read, an option missing", reads, required, GETOPTS_OPTION_MISSING, { "-v", "x", NULL } },
+    { "read, an option again", reads, table, GETOPTS_OPTION_DUPLICATED, { "-oa", "-ob", NULL } },
     { "read", reads, table, GETOPTS_OK, { "-oa", "-v", "x", NULL } },
     { "read, more than guessed", reads, table, GETOPTS_OK, { "-vvvvvvvvvvvvvvvvvvvvvvvvvvvvvvvv", NULL } },
     { "read, nothing", reads, table, GETOPTS_OK, { NULL } },

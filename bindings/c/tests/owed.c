@@ -107,8 +107,8 @@ static bool same(const struct answer *one, const struct answer *other) {
 /* One array is the texts and the words, and one the lengths of both; the kind is a byte of the lengths. */
 static void what_is_read_may_overlap(void) {
     static const uint8_t texts[] = "--vthe", apart[] = "--vthe";
-    static const size_t lens[4] = { 0, 3, 0, 3 }, lens_apart[4] = { 0, 3, 0, 3 };
-    static const uint8_t flag = 3, *kind = (const uint8_t *)(lens + 1);
+    static const size_t lens[4] = { 0, 4, 0, 2 }, lens_apart[4] = { 0, 4, 0, 2 };
+    static const uint8_t flag = GETOPTS_NO + GETOPTS_REQ, *kind = (const uint8_t *)(lens + 1);
     struct answer one = { .status = GETOPTS_BAD }, other = { .status = GETOPTS_BAD };
     one.status = getopts_c_parse(texts, 6, lens, 4, kind, 1, false, false, texts, 6, lens, 4, one.numbers, NUMBERS,
         one.bytes, BYTES, &one.sizes);

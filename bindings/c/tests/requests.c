@@ -82,7 +82,7 @@ struct request {
     bool stop, long_only;
 };
 
-enum { PARSE, CANONICAL, USAGE, SHORT_USAGE, ROWS, EXPORTS };
+enum { PARSE, CANONICAL, USAGE, SHORT_USAGE, ROWS, EXPORTS, IGNORING_COUNTS = EXPORTS };
 
 static void tell(struct told *told, const char *text) {
     size_t len = strlen(text);
@@ -147,7 +147,7 @@ static void make(struct request *request) {
         tell(&request->texts, PICK(others));
         tell(&request->texts, PICK(others));
         /* A required one is rare, since most lines lack it. */
-        request->kinds[request->kinds_len++] = (uint8_t)(3 * below(3) + (below(8) == 0 ? 0 : 1 + below(2)));
+        request->kinds[request->kinds_len++] = (uint8_t)(below(3) + (below(8) == 0 ? 4 : 8 * below(2)));
     }
     for (size_t left = below(WORDS + 1); left > 0; left--)
         tell_word(&request->words, names[below(request->kinds_len > 0 ? request->kinds_len : 1)]);
@@ -260,10 +260,11 @@ static bool is_lawful(const struct request *request) {
         return false;
     for (size_t group = 0; group < request->kinds_len; group++) {
         size_t short_len = told->lens[4 * group], long_len = told->lens[4 * group + 1];
-        if (request->kinds[group] > 8 || short_len > 1 || long_len == 1 || short_len + long_len == 0)
+        uint8_t kind = request->kinds[group];
+        if (kind > 10 || kind % 4 > 2 || short_len > 1 || long_len == 1 || short_len + long_len == 0)
             return false;
     }
-    if (request->export <= CANONICAL)
+    if (request->export <= CANONICAL || request->export == IGNORING_COUNTS)
         return are_texts(&request->words);
     return request->export == ROWS || is_utf8(request->start.bytes, request->start.len);
 }
@@ -294,6 +295,10 @@ static uint32_t ask(const struct request *request, struct room *room) {
     switch (request->export) {
     case PARSE:
         return getopts_c_parse(t, told->len, l, told->count, k, request->kinds_len, request->stop,
+            request->long_only, w, line->len, wl, line->count, room->numbers, room->numbers_len, room->bytes,
+            room->bytes_len, &room->sizes);
+    case IGNORING_COUNTS:
+        return getopts_c_parse_ignoring_counts(t, told->len, l, told->count, k, request->kinds_len, request->stop,
             request->long_only, w, line->len, wl, line->count, room->numbers, room->numbers_len, room->bytes,
             room->bytes_len, &room->sizes);
     case CANONICAL:
@@ -484,10 +489,29 @@ static void fault(uint32_t status) {
     fprintf(out, "%s\n", faults[status - 1][2]);
 }
 
+/* The last answer of getopts_c_parse. */
+static struct {
+    uint32_t status;
+    size_t numbers[ROOM / sizeof(size_t)];
+    uint8_t bytes[ROOM];
+} last;
+
+/* Compares the answer where counts are ignored with that where they aren't: only a count fault is another. */
+static void ignored(const struct request *request, uint32_t status) {
+    bool was_count = last.status == GETOPTS_OPTION_MISSING || last.status == GETOPTS_OPTION_DUPLICATED;
+    demand(status == (was_count ? GETOPTS_OK : last.status), "another status where counts are ignored");
+    demand(was_count || memcmp(next_number, last.numbers, numbers_left * sizeof(size_t)) == 0, "other numbers");
+    demand(was_count || memcmp(next_byte, last.bytes, bytes_left) == 0, "other bytes");
+    if (status == GETOPTS_OK)
+        matches(request);
+    else
+        fault(status);
+}
+
 /* Writes a request and its answer as rows. */
 static void written(const struct request *request, uint32_t status) {
-    static const char *const arguments[] = { "yes", "no", "maybe" };
-    static const char *const occurrences[] = { "req", "optional", "multi" };
+    static const char *const arguments[] = { "no", "yes", "maybe" };
+    static const char *const occurrences[] = { "optional", "req", "multi" };
     const struct told *told = &request->texts, *start = &request->start;
     const uint8_t *from = told->bytes;
     fprintf(out, "case\trequest-%zu\nstyle\t%s\nmode\t%s\n", number_of_case,
@@ -499,11 +523,18 @@ static void written(const struct request *request, uint32_t status) {
         field(from + len[0], len[1]);
         field(from + len[0] + len[1] + len[2], len[3]);
         field(from + len[0] + len[1], len[2]);
-        fprintf(out, "\t%s\t%s\n", arguments[request->kinds[group] / 3],
-            occurrences[request->kinds[group] % 3]);
+        fprintf(out, "\t%s\t%s\n", arguments[request->kinds[group] % 4],
+            occurrences[request->kinds[group] / 4]);
         from += len[0] + len[1] + len[2] + len[3];
     }
-    if (request->export <= CANONICAL) {
+    if (request->export == PARSE) {
+        last.status = status;
+        memcpy(last.numbers, next_number, numbers_left * sizeof(size_t));
+        memcpy(last.bytes, next_byte, bytes_left);
+    }
+    if (request->export == IGNORING_COUNTS) {
+        ignored(request, status);
+    } else if (request->export <= CANONICAL) {
         fputs(request->export == PARSE ? "words" : "canonical", out);
         fields(&request->words);
         if (request->export == CANONICAL && status != GETOPTS_OK) {
@@ -585,8 +616,8 @@ int main(int argc, char **argv) {
     if (argc != 4)
         return 2;
     size_t count = strtoul(argv[1], NULL, 10), lawful = 0, broken_lawful = 0;
-    FILE *rows = fopen(argv[2], "w"), *zeros = fopen(argv[3], "w");
-    demand(rows != NULL && zeros != NULL, "no file to write to");
+    FILE *rows = fopen(argv[2], "w"), *zeros = fopen(argv[3], "w"), *nowhere = fopen("/dev/null", "w");
+    demand(rows != NULL && zeros != NULL && nowhere != NULL, "no file to write to");
     guard();
     for (number_of_case = 0; number_of_case < count; number_of_case++) {
         bool breaks = number_of_case % 2 == 1;
@@ -595,11 +626,16 @@ int main(int argc, char **argv) {
             broken(&request);
         bool is = answered(&request, rows, zeros);
         demand(is || breaks, "a request that wasn't broken is bad");
+        if (is && request.export == PARSE) {
+            request.export = IGNORING_COUNTS;
+            answered(&request, nowhere, nowhere);
+        }
         lawful += is;
         broken_lawful += is && breaks;
     }
     fclose(rows);
     fclose(zeros);
+    fclose(nowhere);
     printf("%zu requests, %zu lawful, of which %zu were broken\n", count, lawful, broken_lawful);
     return 0;
 }

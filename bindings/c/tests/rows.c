@@ -94,7 +94,7 @@ static char *line_with(struct lines *lines, const char *start) {
 /* What a case has declared, and what its words gave. */
 static struct getopts_option table[GROUPS + 1];
 static size_t groups;
-static unsigned modes;
+static enum getopts_modes modes;
 static struct getopts *read;
 static int status;
 
@@ -137,7 +137,7 @@ static void anew(void) {
         free((char *)table[groups - 1].hint);
     }
     memset(table, 0, sizeof table);
-    modes = 0;
+    modes = GETOPTS_ORDINARY;
 }
 
 static char *copy(const char *text) {
@@ -149,7 +149,7 @@ static void declare(int kind, const char *hint) {
     if (groups == GROUPS)
         abort();
     table[groups++] = (struct getopts_option){
-        copy(fields[1]), copy(fields[2]), copy(hint), copy(fields[3]), (uint8_t)kind
+        copy(fields[1]), copy(fields[2]), copy(hint), copy(fields[3]), (enum getopts_kind)kind
     };
 }
 
@@ -208,7 +208,7 @@ static void words(void) {
         field(&answer, "-");
     else if (status == GETOPTS_OK)
         number(&answer, getopts_trailing_start(read));
-    for (char *const *word = getopts_free_words(read); *word != NULL; word++)
+    for (char *const *word = getopts_free_words(read); status == GETOPTS_OK && *word != NULL; word++)
         field(&answer, *word);
     if (status != GETOPTS_OK)
         fault(status, getopts_message(read));

@@ -30,7 +30,8 @@ impl Answer {
         Answer::to(Line::default(), numbers, bytes, |_, room| ask(room))
     }
 
-    /// What it answers to words. The room is made behind them, where they stand.
+    /// What it answers to words. The room is made behind them, where they stand, so that they need not be
+    /// copied, and is as large as is asked for.
     pub fn to(
         line: Line,
         numbers: usize,
@@ -44,8 +45,8 @@ impl Answer {
         let (len, count) = (text.len(), all_numbers.len());
         let mut sizes = Sizes { numbers, bytes };
         loop {
-            text.resize(len + sizes.bytes, 0);
-            all_numbers.resize(count + sizes.numbers, 0);
+            grow(&mut text, len + sizes.bytes);
+            grow(&mut all_numbers, count + sizes.numbers);
             let (words, bytes) = text.split_at_mut(len);
             let (lens, numbers) = all_numbers.split_at_mut(count);
             let room = Room {
@@ -83,6 +84,12 @@ impl Answer {
             _ => Err(Fail::UnexpectedArgument(self.text)),
         }
     }
+}
+
+/// Makes a list so long, with no more room than that.
+fn grow<T: Clone + Default>(list: &mut Vec<T>, len: usize) {
+    list.reserve_exact(len.saturating_sub(list.len()));
+    list.resize(len, T::default());
 }
 
 /// Numbers and texts, read from the front. The archive writes whole answers, so what is read is there.

@@ -7,6 +7,13 @@
 
 use std::ffi::c_void;
 
+// A `cdylib` that has this crate within it doesn't export the heap below.
+std::arch::global_asm!(
+    ".hidden rattle_alloc",
+    ".hidden rattle_realloc",
+    ".hidden rattle_dealloc",
+);
+
 /// How many numbers and bytes an answer has.
 #[repr(C)]
 #[derive(Default)]
@@ -48,6 +55,14 @@ type Line = unsafe extern "C" fn(
 #[rustfmt::skip]
 extern "C" {
     fn getopts_c_parse(
+        texts: *const u8, texts_len: usize, lens: *const usize, lens_len: usize,
+        kinds: *const u8, kinds_len: usize, stop: bool, long_only: bool,
+        words: *const u8, words_len: usize, word_lens: *const usize, word_lens_len: usize,
+        numbers: *mut usize, numbers_len: usize, bytes: *mut u8, bytes_len: usize,
+        sizes: *mut Sizes,
+    ) -> u32;
+    #[cfg(feature = "canonical")]
+    fn getopts_c_parse_ignoring_counts(
         texts: *const u8, texts_len: usize, lens: *const usize, lens_len: usize,
         kinds: *const u8, kinds_len: usize, stop: bool, long_only: bool,
         words: *const u8, words_len: usize, word_lens: *const usize, word_lens_len: usize,
@@ -101,6 +116,12 @@ fn line(export: Line, request: Request<'_>, words: Words<'_>, room: Room<'_>) ->
 /// Writes what words give.
 pub fn parse(request: Request<'_>, words: Words<'_>, room: Room<'_>) -> u32 {
     line(getopts_c_parse, request, words, room)
+}
+
+/// Writes what words give, however often options came.
+#[cfg(feature = "canonical")]
+pub fn parse_ignoring_counts(request: Request<'_>, words: Words<'_>, room: Room<'_>) -> u32 {
+    line(getopts_c_parse_ignoring_counts, request, words, room)
 }
 
 /// Writes the canonical line of words.
@@ -192,5 +213,5 @@ unsafe extern "C" fn rattle_realloc(
 /// SAFETY: the archive calls it, with a block that it has and then lets go.
 #[no_mangle]
 unsafe extern "C" fn rattle_dealloc(block: *mut c_void) {
-    free(block)
+    free(block);
 }

@@ -2,11 +2,13 @@
 #![forbid(unsafe_code)]
 
 use crate::answer::{Answer, Reader};
-use crate::archive::{self, Request};
+use crate::archive::{self, Request, Room, Words};
+use crate::debug::Group;
 use crate::texts::{Line, Texts};
 use crate::{Fail, Matches, Result};
 use std::cmp::Ordering;
 use std::ffi::OsStr;
+use std::fmt;
 use std::sync::{Arc, OnceLock};
 
 /// What the first free word does to the words after it.
@@ -43,24 +45,39 @@ pub enum Occur {
 /// The number of a kind of argument, as in `getopts_c.h`.
 fn argument_number(hasarg: HasArg) -> u8 {
     match hasarg {
-        HasArg::Yes => 0,
-        HasArg::No => 3,
-        HasArg::Maybe => 6,
+        HasArg::No => 0,
+        HasArg::Yes => 1,
+        HasArg::Maybe => 2,
     }
 }
 
 /// The number of a kind of occurrence, which is added to that of the argument.
 fn occurrence_number(occur: Occur) -> u8 {
     match occur {
-        Occur::Req => 0,
-        Occur::Optional => 1,
-        Occur::Multi => 2,
+        Occur::Optional => 0,
+        Occur::Req => 4,
+        Occur::Multi => 8,
     }
+}
+
+/// The kinds that a number stands for.
+pub fn kinds_of(kind: u8) -> (HasArg, Occur) {
+    let hasarg = match kind % 4 {
+        0 => HasArg::No,
+        1 => HasArg::Yes,
+        _ => HasArg::Maybe,
+    };
+    let occur = match kind / 4 {
+        0 => Occur::Optional,
+        1 => Occur::Req,
+        _ => Occur::Multi,
+    };
+    (hasarg, occur)
 }
 
 /// The names and kinds of options, which matches share. The texts of each are its short name, its long
 /// name, and two empty ones: a line is read without hints and descriptions.
-#[derive(Clone, Debug, Default)]
+#[derive(Clone, Default)]
 pub struct Names {
     pub texts: Texts,
     pub kinds: Vec<u8>,
@@ -148,7 +165,7 @@ impl PartialEq for Names {
 impl Eq for Names {}
 
 /// Options that a program declares, a parsing style and a mode.
-#[derive(Debug, Clone, PartialEq, Eq)]
+#[derive(Clone, PartialEq, Eq)]
 pub struct Options {
     names: Arc<Names>,
     texts: Texts,
@@ -162,8 +179,30 @@ impl Default for Options {
     }
 }
 
+impl fmt::Debug for Options {
+    fn fmt(&self, f: &mut fmt::Formatter<'_>) -> fmt::Result {
+        let mut reader = Reader::new(&self.texts.lens, &self.texts.text);
+        let mut group = |&kind| Group {
+            texts: [(); 4].map(|()| reader.text()),
+            kind,
+        };
+        let groups: Vec<Group<'_>> = self.names.kinds.iter().map(&mut group).collect();
+        f.debug_struct("Options")
+            .field("grps", &groups)
+            .field("parsing_style", &self.style)
+            .field("long_only", &self.long_only)
+            .finish()
+    }
+}
+
 impl Options {
     /// No options, in `FloatingFrees` and ordinary mode.
+    ///
+    /// ```
+    /// let options = getopts::Options::new();
+    /// assert_eq!(options.parse(["in.txt"]).unwrap().free, ["in.txt"]);
+    /// ```
+    #[must_use]
     pub fn new() -> Options {
         Options {
             names: Arc::new(Names::default()),
@@ -174,12 +213,25 @@ impl Options {
     }
 
     /// Sets what the first free word does to the words after it.
+    ///
+    /// ```
+    /// use getopts::{Options, ParsingStyle};
+    /// let mut options = Options::new();
+    /// options.optflag("q", "", "").parsing_style(ParsingStyle::StopAtFirstFree);
+    /// assert_eq!(options.parse(["-q", "run", "-x"]).unwrap().free, ["run", "-x"]);
+    /// ```
     pub fn parsing_style(&mut self, style: ParsingStyle) -> &mut Options {
         self.style = style;
         self
     }
 
     /// Sets whether a long name follows one dash or two, and no short names are joined in a word.
+    ///
+    /// ```
+    /// let mut options = getopts::Options::new();
+    /// options.optflag("q", "quiet", "say less").long_only(true);
+    /// assert!(options.parse(["-quiet"]).unwrap().opt_present("q"));
+    /// ```
     pub fn long_only(&mut self, long_only: bool) -> &mut Options {
         self.long_only = long_only;
         self
@@ -337,9 +389,9 @@ impl Options {
         }
     }
 
-    /// The room for numbers and for bytes that most lines take, by how many words and bytes they have.
-    fn room(&self, words: usize, bytes: usize) -> (usize, usize) {
-        (3 * self.names.kinds.len() + 4 * words + 8, bytes + 16)
+    /// The room for numbers that most lines take, by how many their words are answered with.
+    fn room(&self, numbers: usize) -> usize {
+        3 * self.names.kinds.len() + numbers + 8
     }
 
     /// The words of a line, with room behind them for what they give. The first that isn't UTF-8 is
@@ -351,8 +403,9 @@ impl Options {
         let args = args.into_iter();
         // A hint is trusted so far only.
         let count = args.size_hint().0.min(1024);
-        let (numbers, bytes) = self.room(count, 16 * count);
-        let mut line = Line::with_room(count + numbers, 16 * count + bytes);
+        // What matches add to the numbers fits there too.
+        let numbers = count + self.room(4 * count) + 2 * self.names.kinds.len();
+        let mut line = Line::with_room(numbers, 32 * count + 16);
         for arg in args {
             let arg = arg.as_ref();
             let word = arg.as_encoded_bytes();
@@ -384,17 +437,58 @@ impl Options {
     /// assert_eq!(fail.to_string(), "Argument to option 'output' missing");
     /// ```
     ///
+    /// # Errors
+    /// A [`Fail`] says why the words were refused.
+    ///
     /// # Panics
     /// Where an option has two empty names.
     pub fn parse<C: IntoIterator>(&self, args: C) -> Result
     where
         C::Item: AsRef<OsStr>,
     {
+        self.read(args, archive::parse)
+    }
+
+    /// Reads words as `parse` does, but doesn't check how often options came: a required option may be missing,
+    /// and an option that may come once may have come again. The crate getopts has no such call.
+    ///
+    /// It is for a program that prints its help beside a required option that is missing:
+    ///
+    /// ```
+    /// let mut options = getopts::Options::new();
+    /// options.optflag("h", "help", "print this help").reqopt("o", "output", "", "NAME");
+    /// assert!(options.parse(["-h"]).is_err());
+    /// assert!(options.parse_ignoring_counts(["-h"]).unwrap().opt_present("help"));
+    /// assert!(options.parse_ignoring_counts(["-o"]).is_err());
+    /// ```
+    ///
+    /// # Errors
+    /// Where the words themselves can't be read: `ArgumentMissing`, `UnrecognizedOption` and
+    /// `UnexpectedArgument`.
+    ///
+    /// # Panics
+    /// Where an option has two empty names.
+    #[cfg(feature = "canonical")]
+    pub fn parse_ignoring_counts<C: IntoIterator>(&self, args: C) -> Result
+    where
+        C::Item: AsRef<OsStr>,
+    {
+        self.read(args, archive::parse_ignoring_counts)
+    }
+
+    fn read<C: IntoIterator>(
+        &self,
+        args: C,
+        ask: impl Fn(Request<'_>, Words<'_>, Room<'_>) -> u32,
+    ) -> Result
+    where
+        C::Item: AsRef<OsStr>,
+    {
         self.check_names();
         let line = self.line_of(args)?;
-        let (numbers, bytes) = self.room(line.lens.len(), line.bytes.len());
+        let (numbers, bytes) = (self.room(line.numbers()), line.bytes.len() + 16);
         let answer = Answer::to(line, numbers, bytes, |words, room| {
-            archive::parse(self.request(&self.names.texts), words, room)
+            ask(self.request(&self.names.texts), words, room)
         });
         Ok(Matches::of(Arc::clone(&self.names), answer.accepted()?))
     }
@@ -411,6 +505,12 @@ impl Options {
     /// let line = options.canonical(["-vofile", "x"]).unwrap().unwrap();
     /// assert_eq!(line, ["--verbose", "--output=file", "--", "x"]);
     /// ```
+    ///
+    /// # Errors
+    /// Where `parse` would refuse the words.
+    ///
+    /// # Panics
+    /// Where an option has two empty names.
     #[cfg(feature = "canonical")]
     pub fn canonical<C: IntoIterator>(
         &self,
@@ -421,8 +521,8 @@ impl Options {
     {
         self.check_names();
         let line = self.line_of(args)?;
-        let (numbers, bytes) = self.room(line.lens.len(), line.bytes.len());
-        let answer = Answer::to(line, numbers, 2 * bytes, |words, room| {
+        let (numbers, bytes) = (self.room(line.numbers()), 2 * line.bytes.len() + 16);
+        let answer = Answer::to(line, numbers, bytes, |words, room| {
             archive::canonical(self.request(&self.names.texts), words, room)
         })
         .accepted()?;
@@ -444,6 +544,7 @@ impl Options {
     /// options.reqopt("i", "input", "", "NAME").optflag("q", "quiet", "");
     /// assert_eq!(options.short_usage("copy"), "Usage: copy -i NAME [-q]");
     /// ```
+    #[must_use]
     pub fn short_usage(&self, program_name: &str) -> String {
         Answer::of(0, self.usage_room(program_name), |room| {
             archive::short_usage(self.request(&self.texts), program_name, room)
@@ -459,6 +560,7 @@ impl Options {
     /// let text = options.usage("Usage: copy FILE");
     /// assert_eq!(text, "Usage: copy FILE\n\nOptions:\n    -h, --help          print this\n");
     /// ```
+    #[must_use]
     pub fn usage(&self, brief: &str) -> String {
         Answer::of(0, self.usage_room(brief), |room| {
             archive::usage(self.request(&self.texts), brief, room)

@@ -7,7 +7,7 @@ use Rattle.std.proofs.lemmas.Option.{none-some, slice_get_within, get_or_from_sl
 use Rattle.std.proofs.lemmas.Option.{slice_get-get_or}
 use Rattle.std.specs.String.{string_bytes}
 use Rattle.std.specs.List.{flat_map}
-use Rattle.std.specs.Prelude.{◌≢◌, ◌<◌, ◌≤◌, ◌⊎◌, ⊤, Result, Ok, Err, IfOk, IfErr, OnOk, IsOk}
+use Rattle.std.specs.Prelude.{◌≢◌, ◌<◌, ◌≤◌, ◌⊎◌, ⊤, Bool, Result, Ok, Err, IfOk, IfErr, OnOk, IsOk}
 use Rattle.std.specs.Prelude.{IsOkAnd, IsErrOf, Option, Some, None, MatchOption, IsSomeAnd}
 use Rattle.std.specs.Borrow.{Bor}
 use Rattle.getopts.specs.Fail.{Fault, argument_missing, unrecognized_option, option_missing}
@@ -18,7 +18,7 @@ use Rattle.getopts.specs.Matches.{Found, Matched, MatchedGroup}
 use Rattle.getopts.specs.Names.{Text}
 use Rattle.getopts.specs.Options.{Group, Declared}
 use Rattle.getopts.specs.Holds.{AreGroupsOf}
-use Rattle.getopts.specs.Parse.{IsAccepted, IsRefused}
+use Rattle.getopts.specs.Parse.{IsRefused}
 use Rattle.getopts.specs.CanonAnswers.{IsWritten as IsCanonicalLine, IsUnwritable}
 use Rattle.getopts_c.specs.Request.{concatenated}
 use Rattle.getopts_c.specs.Answer.{bad_status, fine_status, memory_status, room_status, FillsFront}
@@ -29,24 +29,24 @@ use Rattle.getopts_c.specs.declared.answer.Sizes.{Sizes}
 use Rattle.getopts_c.specs.declared.request.Refusal.{Refusal}
 use Rattle.getopts_c.specs.declared.request.Refusal.TheVariants.{Bad}
 use Rattle.getopts_c.specs.Answer.{fault_name}
-use Rattle.getopts_c.specs.Answer.{IsAnswer, accepted, refused, all_names, four_names, fault_status}
+use Rattle.getopts_c.specs.Answer.{IsAnswer, Give, HaveFault, given, refused, all_names, four_names}
+use Rattle.getopts_c.specs.Answer.{fault_status}
 use Rattle.getopts_c.specs.Answer.{matches_bytes, matches_numbers, optional_number, place_number}
 
--- the answer to accepted words
-pub accepted_answer : {options : Declared} {words names : List Text} {matches : Matched}
-    {status : ℕ}
-    {numbers : List ℕ} {bytes : Text} → all_names options.groups ≡ names
-    → IsAccepted options words matches
+-- the answer to words that give matches
+pub given_answer : {counts : Bool} {options : Declared} {words names : List Text} {status : ℕ}
+    {numbers : List ℕ} {bytes : Text} (matches : Matched)
+    → all_names options.groups ≡ names → Give counts options words matches
     → (status ≡ fine_status) × (numbers ≡ matches_numbers names matches)
-    × (bytes ≡ matches_bytes matches) → IsAnswer options words status numbers bytes
-accepted_answer {matches = matches} names_are is are =
-    rw (are.0, are.1, are.2, ← names_are) (accepted matches is)
+    × (bytes ≡ matches_bytes matches) → IsAnswer counts options words status numbers bytes
+given_answer matches names_are is are =
+    rw (are.0, are.1, are.2, ← names_are) (given matches is)
 
 -- the answer to refused words
-pub refused_answer : {options : Declared} {words : List Text} {status : ℕ} {numbers : List ℕ}
-    {bytes : Text} (fault : Fault) → IsRefused options words fault
+pub refused_answer : {counts : Bool} {options : Declared} {words : List Text} {status : ℕ}
+    {numbers : List ℕ} {bytes : Text} (fault : Fault) → HaveFault counts options words fault
     → (status ≡ fault_status fault) × (numbers ≡ length (fault_name fault) ∷ [])
-    × (bytes ≡ fault_name fault) → IsAnswer options words status numbers bytes
+    × (bytes ≡ fault_name fault) → IsAnswer counts options words status numbers bytes
 refused_answer fault is are = rw (are.0, are.1, are.2) (refused fault is)
 
 -- what follows from what a refusal tells of a fault, where it tells one

@@ -52,11 +52,11 @@ cut_once cut other = sym (cut_is cut) ∙ cut_is other
 
 -- the kind of argument that a number says
 abbrev arg_from : ℕ → HasArg
-arg_from n = if nat_lt n 3 then Yes else (if nat_lt n 6 then No else Maybe)
+arg_from n = if n % 4 == 0 then No else (if n % 4 == 1 then Yes else Maybe)
 
 -- the kind of occurrence that a number says
 abbrev occur_from : ℕ → Occur
-occur_from n = if n % 3 == 0 then Req else (if n % 3 == 1 then Optional else Multi)
+occur_from n = if nat_lt n 4 then Optional else (if nat_lt n 8 then Req else Multi)
 
 -- a number says its kinds
 kinds_are : (kind : HasArg) (occurrence : Occur)
@@ -125,7 +125,7 @@ shorts_are (group ∷ groups) utf8 = (utf8.0, shorts_are groups utf8.1.1.1.1)
 pub request_declared : {bytes : Text} {lens kinds : List ℕ} {stop long_only : Bool}
     → SayOptions bytes lens kinds stop long_only
     → (options : Declared) → IsRequest bytes lens kinds stop long_only options
-    → MayBeDeclared options
+    → MayBeDeclared options.groups
 request_declared said options is =
-    subst MayBeDeclared (request_once said.options_are is)
+    subst (λ (declared : Declared). MayBeDeclared declared.groups) (request_once said.options_are is)
     (record { named = said.named; shorts = shorts_are said.options.groups said.utf8 })

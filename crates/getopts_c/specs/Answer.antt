@@ -1,6 +1,6 @@
 -- The numbers and the bytes that tell what words give.
 use Rattle.std.specs.Prelude.{◌≡◌, ℕ, ◌+◌, Bool, List, [], ◌∷◌, ◌++◌, length, map, take, Option}
-use Rattle.std.specs.Prelude.{Some, None, false, unwrap_or}
+use Rattle.std.specs.Prelude.{Some, None, true, false, unwrap_or}
 use Rattle.std.specs.List.{flat_map}
 use Rattle.std.specs.Option.{option_map}
 use Rattle.getopts.specs.Accessors.{place_of}
@@ -9,7 +9,7 @@ use Rattle.getopts.specs.Fail.{option_duplicated, unexpected_argument}
 use Rattle.getopts.specs.Matches.{Found, Matched, MatchedGroup}
 use Rattle.getopts.specs.Names.{Text}
 use Rattle.getopts.specs.Options.{Group, Declared}
-use Rattle.getopts.specs.Parse.{IsAccepted, IsRefused}
+use Rattle.getopts.specs.Parse.{IsAccepted, IsRefused, HasReading, HasNoReading}
 use Rattle.getopts.specs.CanonAnswers.{IsWritten as IsCanonicalLine, IsUnwritable}
 use Rattle.getopts.specs.Only.{IsTheOnly}
 use Rattle.getopts.specs.Usage.{AreUsageRows, IsUsageText, short_usage_text}
@@ -101,25 +101,44 @@ bad_status = 7
 abbrev pub room_status : ℕ
 room_status = 8
 
+-- whether the counts of options are checked
+abbrev pub with_counts : Bool
+with_counts = true
+
+abbrev pub without_counts : Bool
+without_counts = false
+
+-- What the words of a line give: what they are accepted with or, where no counts are checked, what their
+-- only reading gives.
+abbrev pub Give : Bool → Declared → List Text → Matched → Type 0
+Give true options line matches = IsAccepted options line matches
+Give false options line matches = HasReading options line matches
+
+-- the fault of the words of a line, where counts are checked or not
+abbrev pub HaveFault : Bool → Declared → List Text → Fault → Type 0
+HaveFault true options line fault = IsRefused options line fault
+HaveFault false options line fault = HasNoReading options line fault
+
 -- What the words of a line are, by options: the status, the numbers and the bytes of the matches
--- that they are accepted with, or of the fault that they are refused with.
-pub data IsAnswer (options : Declared) (line : List Text) : ℕ → List ℕ → Text → Type 0 where
-  accepted : (matches : Matched) → IsAccepted options line matches
-      → IsAnswer options line fine_status (matches_numbers (all_names options.groups) matches)
-      (matches_bytes matches)
-  refused : (fault : Fault) → IsRefused options line fault
-      → IsAnswer options line (fault_status fault)
+-- that they give, or of their fault.
+pub data IsAnswer (counts : Bool) (options : Declared) (line : List Text)
+    : ℕ → List ℕ → Text → Type 0 where
+  given : (matches : Matched) → Give counts options line matches
+      → IsAnswer counts options line fine_status
+      (matches_numbers (all_names options.groups) matches) (matches_bytes matches)
+  refused : (fault : Fault) → HaveFault counts options line fault
+      → IsAnswer counts options line (fault_status fault)
       (length (fault_name fault) ∷ []) (fault_name fault)
 
 -- What a request says: options and a line, and their answer.
-pub record IsAnswered (bytes : Text) (lens kinds : List ℕ) (stop long_only : Bool)
+pub record IsAnswered (counts : Bool) (bytes : Text) (lens kinds : List ℕ) (stop long_only : Bool)
     (words : Text) (word_lens : List ℕ) (status : ℕ) (numbers : List ℕ) (answer : Text)
     : Type 0 where
   pub options : Declared
   pub line : List Text
   pub options_are : IsRequest bytes lens kinds stop long_only options
   pub line_is : IsCut words word_lens line
-  pub answer_is : IsAnswer options line status numbers answer
+  pub answer_is : IsAnswer counts options line status numbers answer
 
 -- a buffer's front holds all of these, and the size says how many they are
 pub record FillsFront (all buffer : List ℕ) (size : ℕ) : Type 0 where

@@ -1,4 +1,5 @@
 -- What private functions say of a request, and of words, as they hold them.
+use Rattle.std.specs.Prelude.{Bool}
 use Rattle.std.specs.String.{string_bytes}
 use Rattle.getopts.specs.Options.{Declared}
 use Rattle.getopts_c.specs.Answer.{IsAnswered, IsCanonicalOf}
@@ -22,8 +23,9 @@ abbrev pub SaysWords : Words → Type 0
 SaysWords words = SayTexts words.bytes.now words.lens.now
 
 -- the answer is what the library answers to the words, by the request's options
-abbrev pub IsAnswerTo : Request → Words → Answer → Type 0
-IsAnswerTo request words answer = IsAnswered request.bytes.now request.lens.now request.kinds.now
+abbrev pub IsAnswerTo : Bool → Request → Words → Answer → Type 0
+IsAnswerTo counts request words answer = IsAnswered counts
+    request.bytes.now request.lens.now request.kinds.now
     request.stop request.long_only words.bytes.now words.lens.now
     answer.status answer.body.numbers.items (string_bytes answer.body.bytes)
 

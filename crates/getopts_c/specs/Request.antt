@@ -26,15 +26,15 @@ group_texts group = group.known.names.short ∷ group.known.names.long
 
 -- the number of a kind of argument
 abbrev pub argument_number : HasArg → ℕ
-argument_number Yes = 0
-argument_number No = 3
-argument_number Maybe = 6
+argument_number No = 0
+argument_number Yes = 1
+argument_number Maybe = 2
 
 -- the number of a kind of occurrence
 abbrev pub occurrence_number : Occur → ℕ
-occurrence_number Req = 0
-occurrence_number Optional = 1
-occurrence_number Multi = 2
+occurrence_number Optional = 0
+occurrence_number Req = 4
+occurrence_number Multi = 8
 
 -- the number of two kinds: their numbers added
 abbrev pub kind_number : HasArg → Occur → ℕ

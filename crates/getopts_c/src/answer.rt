@@ -6,7 +6,8 @@ ghost use Rattle.std.specs.List.{flat_map};
 ghost use Rattle.std.specs.Str.{IsUtf8};
 ghost use Rattle.std.specs.String.{string_bytes};
 ghost use Rattle.getopts.specs.Names.{AreTexts, Text, texts};
-ghost use Rattle.getopts.specs.Fail.{fault_of};
+ghost use Rattle.getopts.specs.Fail.{fault_of, Tells};
+ghost use Rattle.getopts.specs.Holds.{HoldGiven};
 ghost use Rattle.getopts.specs.Accessors.{held_found};
 ghost use Rattle.getopts_c.specs.Held.{SaysOptions, SaysWords, IsAnswerTo, IsLineTo};
 ghost use Rattle.getopts_c.specs.Request.{IsCut, concatenated};
@@ -15,7 +16,7 @@ ghost use Rattle.getopts_c.specs.Answer.{IsUsageOf, fault_name, all_names, four_
 ghost use Rattle.getopts_c.specs.Answer.{fault_status, fine_status, memory_status, room_status};
 ghost use Rattle.getopts_c.specs.Answer.{found_bytes, found_numbers, group_bytes, group_numbers};
 ghost use Rattle.getopts_c.specs.Answer.{matches_bytes, matches_numbers, optional_number};
-ghost use Rattle.getopts_c.specs.Answer.{place_number, text_numbers};
+ghost use Rattle.getopts_c.specs.Answer.{place_number, text_numbers, Give, HaveFault};
 
 use crate::request::{Refusal, Request, Words, cut, in_fours, text_of};
 use getopts::{Fail, Matches, Occurrences, Options};
@@ -237,6 +238,8 @@ impl Answer {
     }
 
     /// Hands an answer to a caller: its size always, and what it holds where there is room.
+    // Each export calls it, and a copy in each would make the archive larger.
+    #[inline(never)]
     pub(crate) fn written(
         answer: Result<Answer, Refusal>,
         numbers: &mut [usize],
@@ -272,6 +275,7 @@ impl Answer {
 }
 
 /// The answer of this status, with the name that a fault tells.
+#[inline(never)]
 fn of_name(alloc: Global, status: u32, name: &str) -> Result<Answer, AllocError>
     ensures { IfOk result (λ answer. (answer.status ≡ status)
         × (answer.body.numbers.items ≡ length name.now ∷ [])
@@ -335,20 +339,36 @@ fn accepted(
     Ok(Answer { status: FINE, body })
 }
 
+/// What words give, with their counts checked or not. Their list is freed with that, before an answer is
+/// made, which takes as much memory.
+fn given(alloc: Global, options: &Options, words: Vec<&str>, counts: bool) -> getopts::Result
+    ensures given { IfOk result (Give counts options.now (texts words.entry.items)) }
+    ensures refused { IfErr result (λ fail.
+        Tells fail (HaveFault counts options.now (texts words.entry.items))) }
+    ensures holds { IfOk result (λ matches. HoldGiven options.now matches.groups) }
+{
+    if counts {
+        options.parse_words(alloc, &words)
+    } else {
+        options.parse_ignoring_counts(alloc, &words)
+    }
+}
+
 /// The answer to a line by options, which are those of these groups, where the words have so many bytes.
 fn answer_by(
     alloc: Global,
     options: &Options,
     groups: &[[&str; 4]],
-    words: &[&str],
+    words: Vec<&str>,
     bytes: usize,
+    counts: bool,
 ) -> Result<Answer, AllocError>
     requires names { all_names options.now.groups ≡ flat_map four_names (map texts groups.now) }
     requires count { length groups.now ≡ length options.now.groups }
-    ensures { IfOk result (λ answer. IsAnswer options.now (texts words.now)
+    ensures { IfOk result (λ answer. IsAnswer counts options.now (texts words.entry.items)
         answer.status answer.body.numbers.items (string_bytes answer.body.bytes)) }
 {
-    match options.parse_words(alloc, words) {
+    match given(alloc, options, words, counts) {
         Ok(matches) => accepted(alloc, &matches, groups, bytes),
         Err(fail) => refused(alloc, &fail),
     }
@@ -360,11 +380,12 @@ fn words_by(
     options: &Options,
     groups: &[[&str; 4]],
     words: Words<'_>,
+    counts: bool,
 ) -> Result<Answer, Refusal>
     requires names { all_names options.now.groups ≡ flat_map four_names (map texts groups.now) }
     requires count { length groups.now ≡ length options.now.groups }
     ensures answered { IfOk result (λ answer. (line : List Text)
-        × IsCut words.entry.bytes.now words.entry.lens.now line × IsAnswer options.now line
+        × IsCut words.entry.bytes.now words.entry.lens.now line × IsAnswer counts options.now line
         answer.status answer.body.numbers.items (string_bytes answer.body.bytes)) }
     ensures status { IfOk result (λ answer. answer.status < memory_status) }
     ensures lawful { OnOk result (SaysWords words.entry) }
@@ -372,7 +393,7 @@ fn words_by(
 {
     let bytes = words.bytes.len();
     let words = cut(alloc, words.bytes, words.lens)?;
-    Ok(answer_by(alloc, options, groups, &words, bytes)?)
+    Ok(answer_by(alloc, options, groups, words, bytes, counts)?)
 }
 
 /// The answer that tells what words give, by the texts of the request.
@@ -381,10 +402,11 @@ fn answer_from(
     request: Request<'_>,
     pieces: &[&str],
     words: Words<'_>,
+    counts: bool,
 ) -> Result<Answer, Refusal>
     requires cut { IsCut request.bytes.now request.lens.now (texts pieces.now) }
     requires utf8 { AreTexts (texts pieces.now) }
-    ensures answered { IfOk result (IsAnswerTo request.entry words.entry) }
+    ensures answered { IfOk result (IsAnswerTo counts request.entry words.entry) }
     ensures status { IfOk result (λ answer. answer.status < memory_status) }
     ensures lawful { OnOk result (SaysOptions request.entry × SaysWords words.entry) }
     ensures bad { IfErr result (λ refusal. refusal ≡ Refusal.Bad
@@ -392,23 +414,24 @@ fn answer_from(
 {
     let groups = in_fours(pieces)?;
     let options = request.options_by(alloc, groups)?;
-    words_by(alloc, &options, groups, words)
+    words_by(alloc, &options, groups, words, counts)
 }
 
-/// The answer that tells what words give.
+/// The answer that tells what words give, with their counts checked or not.
 pub(crate) fn answer_to(
     alloc: Global,
     request: Request<'_>,
     words: Words<'_>,
+    counts: bool,
 ) -> Result<Answer, Refusal>
-    ensures answered { IfOk result (IsAnswerTo request.entry words.entry) }
+    ensures answered { IfOk result (IsAnswerTo counts request.entry words.entry) }
     ensures status { IfOk result (λ answer. answer.status < memory_status) }
     ensures lawful { OnOk result (SaysOptions request.entry × SaysWords words.entry) }
     ensures bad { IfErr result (λ refusal. refusal ≡ Refusal.Bad
         → (¬ (SaysOptions request.entry)) ⊎ (¬ (SaysWords words.entry))) }
 {
     let pieces = request.texts(alloc)?;
-    answer_from(alloc, request, &pieces, words)
+    answer_from(alloc, request, &pieces, words, counts)
 }
 
 /// The answer that is a text.
@@ -417,13 +440,11 @@ fn of_text(alloc: Global, text: String) -> Answer
     ensures numbers { result.body.numbers.items ≡ [] }
     ensures bytes { string_bytes result.body.bytes ≡ string_bytes text }
 {
-    Answer {
-        status: FINE,
-        body: Body {
-            numbers: Vec::new(alloc),
-            bytes: text,
-        },
-    }
+    let body = Body {
+        numbers: Vec::new(alloc),
+        bytes: text,
+    };
+    Answer { status: FINE, body }
 }
 
 /// The answer that is the usage text.

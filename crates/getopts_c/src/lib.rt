@@ -16,10 +16,9 @@ ghost use Rattle.getopts_c.specs.Answer.{IsAnswered, IsCanonicalOf, IsRowsOf};
 ghost use Rattle.getopts_c.specs.Answer.{IsShortUsageOf, IsUsageOf, AreAlike};
 ghost use Rattle.getopts_c.specs.Reply.{IsReply, IsFine, IsFineText, rooms, byte_rooms};
 ghost use Rattle.getopts_c.specs.Answer.{fault_name, fault_status, matches_bytes, matches_numbers};
-ghost use Rattle.getopts_c.specs.Answer.{text_numbers};
+ghost use Rattle.getopts_c.specs.Answer.{text_numbers, with_counts, without_counts};
 
 mod answer;
-mod refuted;
 mod request;
 
 use crate::answer::{Answer, Sizes, answer_to, line_of, rows_of, short_usage_of, usage_of};
@@ -29,9 +28,9 @@ use std::alloc::Global;
 /// Reads words by options, and writes what they give.
 ///
 /// Options are `texts`, cut by `lens`: of each group the short name, the long name, the hint and
-/// the description. `kinds` has a byte for each group: the number of its kind of argument (needed
-/// 0, none 3, may have one 6) and that of its kind of occurrence (once 0, at most once 1, any
-/// number 2), added.
+/// the description. `kinds` has a byte for each group: the number of its kind of argument (none 0,
+/// needed 1, may have one 2) and that of its kind of occurrence (at most once 0, exactly once 4, any
+/// number 8), added.
 #[unsafe(no_mangle)]
 pub extern "C" fn getopts_c_parse(
     alloc: Global,
@@ -49,7 +48,8 @@ pub extern "C" fn getopts_c_parse(
     ensures { IsReply
         (SayOptions texts.now lens.now kinds.now stop long_only)
         (SayTexts words.now word_lens.now)
-        (IsAnswered texts.now lens.now kinds.now stop long_only words.now word_lens.now)
+        (IsAnswered with_counts texts.now lens.now kinds.now stop long_only
+        words.now word_lens.now)
         result (rooms numbers.old bytes.old sizes.old)
         (rooms numbers.new bytes.new sizes.new) }
 {
@@ -64,7 +64,55 @@ pub extern "C" fn getopts_c_parse(
         bytes: words,
         lens: word_lens,
     };
-    Answer::written(answer_to(alloc, request, words), numbers, bytes, sizes)
+    Answer::written(
+        answer_to(alloc, request, words, true),
+        numbers,
+        bytes,
+        sizes,
+    )
+}
+
+/// Reads words by options as `getopts_c_parse` does, whatever their counts, and writes what they give:
+/// no option is missing, and none came too often.
+#[unsafe(no_mangle)]
+pub extern "C" fn getopts_c_parse_ignoring_counts(
+    alloc: Global,
+    texts: &[u8],
+    lens: &[usize],
+    kinds: &[u8],
+    stop: bool,
+    long_only: bool,
+    words: &[u8],
+    word_lens: &[usize],
+    numbers: &mut [usize],
+    bytes: &mut [u8],
+    sizes: &mut Sizes,
+) -> u32
+    ensures { IsReply
+        (SayOptions texts.now lens.now kinds.now stop long_only)
+        (SayTexts words.now word_lens.now)
+        (IsAnswered without_counts texts.now lens.now kinds.now stop long_only
+        words.now word_lens.now)
+        result (rooms numbers.old bytes.old sizes.old)
+        (rooms numbers.new bytes.new sizes.new) }
+{
+    let request = Request {
+        bytes: texts,
+        lens,
+        kinds,
+        stop,
+        long_only,
+    };
+    let words = Words {
+        bytes: words,
+        lens: word_lens,
+    };
+    Answer::written(
+        answer_to(alloc, request, words, false),
+        numbers,
+        bytes,
+        sizes,
+    )
 }
 
 /// Writes the usage text of options.
@@ -207,7 +255,7 @@ pub fn requests_say_one_thing()
     ensures declared { (bytes : Text) (lens kinds : List ℕ) (stop long_only : Bool)
         → SayOptions bytes lens kinds stop long_only
         → (options : Declared) → IsRequest bytes lens kinds stop long_only options
-        → MayBeDeclared options }
+        → MayBeDeclared options.groups }
 {}
 
 /// Numbers and bytes tell one thing at most: a law to cite, which does nothing.

@@ -96,18 +96,18 @@ pub(crate) fn cut<'t>(
     }
 }
 
-/// The number of an option that needs an argument. That of how often it comes is added.
-const YES: u8 = 0;
-/// The number of an option that takes no argument.
-const NO: u8 = 3;
+/// The number of an option that takes no argument. That of how often it comes is added.
+const NO: u8 = 0;
+/// The number of an option that needs an argument.
+const YES: u8 = 1;
 /// The number of an option that may have an argument.
-const MAYBE: u8 = 6;
-/// The number of an option that comes exactly once.
-const REQ: u8 = 0;
+const MAYBE: u8 = 2;
 /// The number of an option that comes at most once.
-const OPTIONAL: u8 = 1;
+const OPTIONAL: u8 = 0;
+/// The number of an option that comes exactly once.
+const REQ: u8 = 4;
 /// The number of an option that comes any number of times.
-const MULTI: u8 = 2;
+const MULTI: u8 = 8;
 
 /// The kinds of argument and of occurrence that a byte says.
 fn kinds_of(kind: u8) -> Option<(HasArg, Occur)>
@@ -115,15 +115,15 @@ fn kinds_of(kind: u8) -> Option<(HasArg, Occur)>
     ensures other { IfNone result ((hasarg : HasArg) (occur : Occur)
         → kind_number hasarg occur ≢ kind) }
 {
-    let (hasarg, occur) = match kind {
-        YES..NO => (HasArg::Yes, kind - YES),
-        NO..MAYBE => (HasArg::No, kind - NO),
-        _ => (HasArg::Maybe, kind - MAYBE),
+    let (argument, occur) = match kind {
+        OPTIONAL..REQ => (kind - OPTIONAL, Occur::Optional),
+        REQ..MULTI => (kind - REQ, Occur::Req),
+        _ => (kind - MULTI, Occur::Multi),
     };
-    match occur {
-        REQ => Some((hasarg, Occur::Req)),
-        OPTIONAL => Some((hasarg, Occur::Optional)),
-        MULTI => Some((hasarg, Occur::Multi)),
+    match argument {
+        NO => Some((HasArg::No, occur)),
+        YES => Some((HasArg::Yes, occur)),
+        MAYBE => Some((HasArg::Maybe, occur)),
         _ => None,
     }
 }

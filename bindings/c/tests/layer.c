@@ -1,0 +1,177 @@
+/* What the layer says of wrong tables, of counts that aren't kept, and of numbers; and that it calls those tables
+ * wrong that the archive calls bad. */
+#include "../getopts.h"
+
+#include <errno.h>
+#include <limits.h>
+#include <stdio.h>
+#include <stdlib.h>
+#include <string.h>
+
+static int failed;
+
+static void expect(bool holds, const char *what) {
+    if (holds)
+        return;
+    printf("FAILED: %s\n", what);
+    failed = 1;
+}
+
+/* A table of three rows, of which the second is wrong or not. */
+static void wrong_rows_are_named(void) {
+    static const struct {
+        struct getopts_option row;
+        const char *message;
+    } rows[] = {
+        { { "ab", NULL, NULL, NULL, GETOPTS_NO }, "table[1]: short name 'ab' has 2 bytes" },
+        { { "a", "b", NULL, NULL, GETOPTS_NO }, "table[1]: long name 'b' has 1 byte" },
+        { { "", "", NULL, NULL, GETOPTS_NO }, "table[1]: both names are empty" },
+        { { "", NULL, NULL, NULL, GETOPTS_NO }, "table[1]: both names are empty" },
+        { { "a", NULL, NULL, NULL, (enum getopts_kind)7 }, "table[1]: 7 is no kind" },
+        { { "a", NULL, NULL, NULL, (enum getopts_kind)12 }, "table[1]: 12 is no kind" },
+        { { "\xc3\xa9", NULL, NULL, NULL, GETOPTS_NO }, "table[1]: short name '\u00e9' has 2 bytes" },
+        { { "\xff", NULL, NULL, NULL, GETOPTS_NO }, "table[1]: the short name isn't UTF-8" },
+        { { "a", "\xff\xff", NULL, NULL, GETOPTS_NO }, "table[1]: the long name isn't UTF-8" },
+        { { "a", "ab", "\xff", NULL, GETOPTS_YES }, "table[1]: the hint isn't UTF-8" },
+        { { "a", "ab", NULL, "\xc3", GETOPTS_NO }, "table[1]: the description isn't UTF-8" },
+        { { "a", "\u00e9", "\u00e9", "\u00e9", GETOPTS_MAYBE + GETOPTS_MULTI }, "" },
+        { { "a", NULL, NULL, NULL, (enum getopts_kind)0 }, "" },
+    };
+    for (size_t nth = 0; nth < sizeof rows / sizeof *rows; nth++) {
+        const struct getopts_option table[] = {
+            { "x", NULL, NULL, NULL, GETOPTS_NO }, rows[nth].row, { "y", NULL, NULL, NULL, GETOPTS_NO },
+            { NULL, NULL, NULL, NULL, GETOPTS_NO },
+        };
+        char *words[] = { "-xy", NULL }, **line, *usage;
+        struct getopts *options = getopts_new(table, GETOPTS_ORDINARY);
+        int wanted = rows[nth].message[0] != '\0' ? GETOPTS_BAD : GETOPTS_OK;
+        expect(strcmp(getopts_message(options), rows[nth].message) == 0, rows[nth].message);
+        expect(getopts_read(options, 1, words) == wanted, "the status of a table");
+        expect(strcmp(getopts_message(options), rows[nth].message) == 0, "the message after a reading");
+        expect(getopts_canonical(options, 1, words, &line) == wanted, "the canonical line of a wrong table");
+        expect((usage = getopts_usage(options, "brief")) == NULL || wanted == GETOPTS_OK, "a wrong table's usage");
+        free(usage);
+        free(line);
+        getopts_delete(options);
+    }
+}
+
+static void modes_are_checked(void) {
+    static const struct getopts_option table[] = { { NULL, NULL, NULL, NULL, GETOPTS_NO } };
+    struct getopts *options = getopts_new(table, (enum getopts_modes)4);
+    expect(strcmp(getopts_message(options), "4 is no sum of modes") == 0, "no mode");
+    expect(getopts_read(options, 0, NULL) == GETOPTS_BAD, "a reading with no mode");
+    getopts_delete(options);
+}
+
+/* A kind that was left out is that of a plain flag. */
+static void no_kind_is_a_flag(void) {
+    static const struct getopts_option table[] = {
+        { .short_name = "q", .long_name = "quiet" }, { .short_name = NULL },
+    };
+    char *words[] = { "-q", "x", NULL }, *twice[] = { "-qq", NULL }, *value[] = { "--quiet=x", NULL };
+    struct getopts *options = getopts_new(table, GETOPTS_ORDINARY);
+    expect(getopts_read(options, 2, words) == GETOPTS_OK && getopts_count(options, "quiet") == 1, "a flag");
+    expect(getopts_read(options, 0, NULL) == GETOPTS_OK, "a flag that isn't given");
+    expect(getopts_read(options, 1, twice) == GETOPTS_OPTION_DUPLICATED, "a flag twice");
+    expect(getopts_read(options, 1, value) == GETOPTS_UNEXPECTED_ARGUMENT, "a flag with a value");
+    getopts_delete(options);
+}
+
+static const struct getopts_option required[] = {
+    { "o", "output", "FILE", NULL, GETOPTS_YES + GETOPTS_REQ },
+    { "h", "help", NULL, NULL, GETOPTS_NO },
+    { NULL, NULL, NULL, NULL, GETOPTS_NO },
+};
+
+/* Help beside a required option, and what was read where an option came again. */
+static void counts_are_no_reason_to_forget(void) {
+    char *help[] = { "-h", "x", "--", "y", NULL }, *again[] = { "-oa", "--output", "b", NULL };
+    char *unknown[] = { "-h", "-x", NULL };
+    struct getopts *options = getopts_new(required, GETOPTS_ORDINARY);
+    expect(getopts_read(options, 4, help) == GETOPTS_OPTION_MISSING, "a required option that is missing");
+    expect(strcmp(getopts_message(options), "Required option 'output' missing") == 0, "its message");
+    expect(getopts_count(options, "help") == 1 && getopts_position(options, "h", 0) == 0, "help beside it");
+    expect(getopts_defined(options, "o") && getopts_count(options, "o") == 0, "the missing option");
+    expect(getopts_free_count(options) == 2 && getopts_trailing_start(options) == 1, "the free words beside it");
+    expect(getopts_read(options, 3, again) == GETOPTS_OPTION_DUPLICATED, "an option that came again");
+    expect(strcmp(getopts_message(options), "Option 'output' given more than once") == 0, "its message");
+    expect(getopts_count(options, "o") == 2 && strcmp(getopts_value(options, "o", 1), "b") == 0, "both values");
+    expect(getopts_read(options, 2, unknown) == GETOPTS_UNRECOGNIZED_OPTION, "an unknown option");
+    expect(getopts_count(options, "help") == 0 && !getopts_defined(options, "help"), "nothing was read");
+    expect(getopts_free_words(options)[0] == NULL && getopts_trailing_start(options) == -1, "no free words");
+    getopts_delete(options);
+}
+
+static void numbers_are_checked(void) {
+    static const struct {
+        const char *text;
+        bool fits;
+        long value;
+    } rows[] = {
+        { "0", true, 0 }, { "7", true, 7 }, { "-7", true, -7 }, { "+7", true, 7 }, { "007", true, 7 },
+        { "9223372036854775807", true, LONG_MAX }, { "-9223372036854775808", true, LONG_MIN },
+        { "9223372036854775808", false, 0 }, { "-9223372036854775809", false, 0 }, { "", false, 0 },
+        { "2x", false, 0 }, { " 2", false, 0 }, { "2 ", false, 0 }, { "x", false, 0 }, { "-", false, 0 },
+        { "- 2", false, 0 }, { "0x10", false, 0 }, { "1.5", false, 0 }, { "\t2", false, 0 },
+    };
+    struct getopts *options = getopts_new(required, GETOPTS_ORDINARY);
+    for (size_t nth = 0; nth < sizeof rows / sizeof *rows; nth++) {
+        char *words[] = { "-o", (char *)rows[nth].text, NULL };
+        long value = 42;
+        expect(getopts_read(options, 2, words) == GETOPTS_OK, "a number");
+        errno = 5;
+        expect(getopts_long_value(options, "output", 0, &value) == rows[nth].fits, rows[nth].text);
+        expect(value == (rows[nth].fits ? rows[nth].value : 42) && errno == 5, rows[nth].text);
+    }
+    long value = 42;
+    expect(getopts_long_value(options, "output", 1, &value) && value == 42, "a number that isn't there");
+    expect(getopts_long_value(options, "nope", 0, &value) && value == 42, "a number of no option");
+    getopts_delete(options);
+}
+
+/* Random tables, as the layer and the archive call them. */
+static size_t random_tables(size_t count) {
+    /* The first six are right in most places. */
+    static const char *const texts[] = {
+        "", "", "a", "a", "ab", "verbose", "\u00e9", "\xff", "\xc3", "\xa9", "a\xff", "\xed\xa0\x80", "\u65e5",
+    };
+    size_t bad = 0;
+    for (unsigned long nth = 1, state = 88172645463325252; nth <= count; nth++) {
+        const char *of[4];
+        uint8_t kind, joined[64];
+        size_t lens[4], len = 0;
+        struct getopts_sizes sizes;
+        for (int text = 0; text < 4; text++) {
+            state ^= state << 13, state ^= state >> 7, state ^= state << 17;
+            of[text] = texts[state % (state >> 40 & 7 ? 6 : sizeof texts / sizeof *texts)];
+            lens[text] = strlen(of[text]);
+            memcpy(joined + len, of[text], lens[text]);
+            len += lens[text];
+        }
+        kind = (uint8_t)(state >> 32) % 12;
+        uint32_t status = getopts_c_short_usage(joined, len, lens, 4, &kind, 1, NULL, 0, NULL, 0, &sizes);
+        const struct getopts_option table[] = {
+            { of[0], of[1], of[2], of[3], (enum getopts_kind)kind }, { NULL, NULL, NULL, NULL, GETOPTS_NO },
+        };
+        struct getopts *options = getopts_new(table, GETOPTS_ORDINARY);
+        expect((getopts_message(options)[0] != '\0') == (status == GETOPTS_BAD), getopts_message(options));
+        getopts_delete(options);
+        bad += status == GETOPTS_BAD;
+    }
+    return bad;
+}
+
+int main(void) {
+    enum { TABLES = 20000 };
+    wrong_rows_are_named();
+    modes_are_checked();
+    no_kind_is_a_flag();
+    counts_are_no_reason_to_forget();
+    numbers_are_checked();
+    size_t bad = random_tables(TABLES);
+    expect(bad > 0 && bad < TABLES, "random tables of both sorts");
+    if (!failed)
+        printf("%d random tables, %zu wrong, alike in the layer and the archive\n", TABLES, bad);
+    return failed;
+}
