@@ -3,7 +3,7 @@ use Rattle.std.proofs.Common.{◌≡◌, ◌==◌, ◌++◌, ℕ, List, [], ◌�
 use Rattle.std.proofs.Common.{false, if◌then◌else◌, IfSome, arith, refl, subst}
 use Rattle.std.specs.List.{AllByRecursion}
 use Rattle.std.specs.Option.{option_map_or}
-use Rattle.getopts_cases.specs.Form.{letter_of, escaped, EndsNothing}
+use Rattle.getopts_vectors.specs.Form.{letter_of, escaped, EndsNothing}
 
 -- one letter or another ends nothing
 choice_ends_nothing : (first : Bool) (letter : ℕ) (other : Option ℕ) → EndsNothing letter

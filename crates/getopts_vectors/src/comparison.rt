@@ -1,31 +1,26 @@
-//! Cases beside the answers that are expected.
+//! Rows compared with the answers that are expected.
 
 use crate::form::Answer;
 use crate::line::Line;
 use crate::session::Session;
+use crate::short::{at_length, written_out};
 use crate::stop::{Flaw, Stop, Trouble, told_at};
 use std::alloc::{AllocError, Global};
-use std::io::{BufRead, Write};
+use std::io::Write;
 
-/// Reads cases with the answers that are expected, writes where others are given, and at the end
-/// how many there were. The answer is whether none differs.
-pub fn compare<R: BufRead, W: Write>(
-    alloc: Global,
-    input: &mut R,
-    out: &mut W,
-) -> Result<bool, Stop> {
-    let ended = Comparison::new(alloc).compare_lines(alloc, input, out);
-    match out.flush() {
-        Ok(()) => ended,
-        Err(_) => Err(Stop::NotWritten),
-    }
-}
+/// What begins a case that is written short.
+const SHORT_CASE: &str = "\n* ";
 
-/// What is kept from line to line: the case, room for a line, the line that was answered last with
-/// what it was answered and what was expected, and how many there were.
+/// The highest power of two that a length is about.
+const HIGHEST: u32 = 20;
+
+/// What is kept from line to line: the case with its name, the parts of a line, the number of the
+/// line that was answered last with what it was answered and what was expected, and how many there
+/// were.
 #[derive(Drop)]
-struct Comparison {
+pub struct Comparison {
     session: Session,
+    case: String,
     line: Line,
     answered: u64,
     answer: Answer,
@@ -43,9 +38,10 @@ struct Counts {
 }
 
 impl Comparison {
-    fn new(alloc: Global) -> Comparison {
+    pub fn new(alloc: Global) -> Comparison {
         Comparison {
             session: Session::new(alloc),
+            case: String::new(alloc),
             line: Line::new(alloc),
             answered: 0,
             answer: Answer::new(alloc),
@@ -59,39 +55,105 @@ impl Comparison {
         }
     }
 
-    /// Reads the lines one after another, and compares what they are answered.
-    fn compare_lines<R: BufRead, W: Write>(
+    /// Compares the rows of a text, writes where other answers are given, and at the end how many
+    /// there were. The answer is whether none differs.
+    pub fn compare_rows<W: Write>(
         &mut self,
         alloc: Global,
-        input: &mut R,
+        text: &str,
         out: &mut W,
     ) -> Result<bool, Stop> {
-        for number in 1..u64::MAX {
-            if !self.line.read(input, number)? {
-                break;
+        match text.split_once(SHORT_CASE) {
+            Some((rows, cases)) => {
+                self.compare_lines(alloc, rows, out)?;
+                self.compare_short_cases(alloc, cases, out)?;
             }
-            self.follow(alloc, number, out)?;
+            None => self.compare_lines(alloc, text, out)?,
         }
-        self.settle(alloc, out)?;
         self.sum_up(alloc, out)
     }
 
+    /// Compares cases that are written short.
+    fn compare_short_cases<W: Write>(
+        &mut self,
+        alloc: Global,
+        cases: &str,
+        out: &mut W,
+    ) -> Result<(), Stop> {
+        for case in cases.split(SHORT_CASE) {
+            if case.contains('$') {
+                self.compare_at_lengths(alloc, case, out)?;
+            } else {
+                self.compare_short_case(alloc, case, out)?;
+            }
+        }
+        Ok(())
+    }
+
+    /// Compares a case that is written short, at each length.
+    fn compare_at_lengths<W: Write>(
+        &mut self,
+        alloc: Global,
+        case: &str,
+        out: &mut W,
+    ) -> Result<(), Stop> {
+        for power in 1..=HIGHEST {
+            let length = 2usize.pow(power);
+            for length in [length - 1, length, length + 1] {
+                let case = at_length(alloc, case, length)?;
+                self.compare_short_case(alloc, case.as_str(), out)?;
+            }
+        }
+        Ok(())
+    }
+
+    /// Compares a case that is written short.
+    fn compare_short_case<W: Write>(
+        &mut self,
+        alloc: Global,
+        case: &str,
+        out: &mut W,
+    ) -> Result<(), Stop> {
+        let lines = written_out(alloc, case)?;
+        self.compare_lines(alloc, lines.as_str(), out)
+    }
+
+    /// Takes lines one after another, and compares what they are answered.
+    fn compare_lines<W: Write>(
+        &mut self,
+        alloc: Global,
+        lines: &str,
+        out: &mut W,
+    ) -> Result<(), Stop> {
+        let mut number = 0u64;
+        for line in lines.split('\n') {
+            number = number.saturating_add(1);
+            self.follow(alloc, line, number, out)?;
+        }
+        self.settle(alloc, out)
+    }
+
     /// Takes what a line expects, or answers it, after what came before is compared.
-    fn follow<W: Write>(&mut self, alloc: Global, number: u64, out: &mut W) -> Result<(), Stop> {
-        if self.line.is_expected() {
-            return told_at(self.expect(), number);
+    fn follow<W: Write>(
+        &mut self,
+        alloc: Global,
+        line: &str,
+        number: u64,
+        out: &mut W,
+    ) -> Result<(), Stop> {
+        if matches!(line.as_bytes().first(), Some(b'>' | b'|')) {
+            return told_at(self.expect(line), number);
         }
         self.settle(alloc, out)?;
-        self.answer_line(alloc, number)
+        told_at(self.answer_line(alloc, line, number), number)
     }
 
     /// Takes a line that is expected, or goes on with one.
-    fn expect(&mut self) -> Result<(), Trouble> {
-        let text = self.line.text()?;
-        if let Some(text) = text.strip_prefix("> ") {
+    fn expect(&mut self, line: &str) -> Result<(), Trouble> {
+        if let Some(text) = line.strip_prefix("> ") {
             self.counts.answers = self.counts.answers.saturating_add(1);
             self.expected.line(text)
-        } else if let Some(text) = text.strip_prefix('|') {
+        } else if let Some(text) = line.strip_prefix('|') {
             self.expected.go_on(text.strip_prefix(' ').unwrap_or(text))
         } else {
             Err(Trouble::Flawed(Flaw::UnknownWord))
@@ -99,12 +161,14 @@ impl Comparison {
     }
 
     /// Does what a line says, and keeps what it is answered. The answer of `case` isn't expected.
-    fn answer_line(&mut self, alloc: Global, number: u64) -> Result<(), Stop> {
+    fn answer_line(&mut self, alloc: Global, line: &str, number: u64) -> Result<(), Trouble> {
         self.answered = number;
-        let answered = self.line.answer(alloc, &mut self.session, &mut self.answer);
-        told_at(answered, number)?;
-        if self.line.begins_case() {
+        self.line
+            .answer(alloc, line, &mut self.session, &mut self.answer)?;
+        if let Some(name) = self.line.case_name() {
             self.counts.cases = self.counts.cases.saturating_add(1);
+            self.case.clear();
+            self.case.push_str(name)?;
             self.answer.clear();
         } else if !self.answer.bytes().is_empty() {
             self.counts.questions = self.counts.questions.saturating_add(1);
@@ -116,18 +180,25 @@ impl Comparison {
     fn settle<W: Write>(&mut self, alloc: Global, out: &mut W) -> Result<(), Stop> {
         if self.answer.bytes() != self.expected.bytes() {
             self.counts.differences = self.counts.differences.saturating_add(1);
-            tell(alloc, self.answered, &self.expected, &self.answer, out)?;
+            self.tell(alloc, out)?;
         }
         self.answer.clear();
         self.expected.clear();
         Ok(())
     }
 
+    /// Writes what was expected of the last line, and what it was answered.
+    fn tell<W: Write>(&self, alloc: Global, out: &mut W) -> Result<(), Stop> {
+        let head = format!(in alloc; "line {} of {}, expected:\n", self.answered, self.case)?;
+        written(out, head.as_str().as_bytes())?;
+        written(out, self.expected.bytes())?;
+        written(out, b"answered:\n")?;
+        written(out, self.answer.bytes())
+    }
+
     /// Writes how many there were.
     fn sum_up<W: Write>(&self, alloc: Global, out: &mut W) -> Result<bool, Stop> {
-        let Ok(text) = self.counts.told(alloc) else {
-            return Err(Stop::NoMemory);
-        };
+        let text = self.counts.told(alloc)?;
         written(out, text.as_str().as_bytes())?;
         Ok(self.counts.differences == 0)
     }
@@ -145,23 +216,6 @@ impl Counts {
             "{cases} cases, {questions} questions, {answers} expected lines, {differences} differ\n"
         )
     }
-}
-
-/// Writes what was expected of a line, and what it was answered.
-fn tell<W: Write>(
-    alloc: Global,
-    number: u64,
-    expected: &Answer,
-    answer: &Answer,
-    out: &mut W,
-) -> Result<(), Stop> {
-    let Ok(head) = format!(in alloc; "line {number}, expected:\n") else {
-        return Err(Stop::NoMemory);
-    };
-    written(out, head.as_str().as_bytes())?;
-    written(out, expected.bytes())?;
-    written(out, b"answered:\n")?;
-    written(out, answer.bytes())
 }
 
 /// Writes bytes.

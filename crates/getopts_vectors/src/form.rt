@@ -4,8 +4,8 @@ ghost use Rattle.std.specs.Prelude.{◌≡◌, ◌++◌, ◌∷◌, [], IfErr, I
 ghost use Rattle.std.specs.List.{AllByRecursion};
 ghost use Rattle.std.specs.Option.{option_copied};
 ghost use Rattle.std.specs.String.{string_bytes};
-ghost use Rattle.getopts_cases.specs.declared.stop.Trouble.TheVariants.{NoMemory};
-ghost use Rattle.getopts_cases.specs.Form.{escaped, letter_of, optional_field, EndsNothing};
+ghost use Rattle.getopts_vectors.specs.declared.stop.Trouble.TheVariants.{NoMemory};
+ghost use Rattle.getopts_vectors.specs.Form.{escaped, letter_of, optional_field, EndsNothing};
 
 use crate::stop::{Flaw, Trouble};
 use std::alloc::{AllocError, Global};

@@ -1,8 +1,8 @@
 //! What ends a run early.
 
 ghost use Rattle.std.specs.Prelude.{◌≡◌};
-ghost use Rattle.getopts_cases.specs.Stop.{status_of};
-ghost use Rattle.getopts_cases.specs.declared.stop.Trouble.TheVariants.{NoMemory};
+ghost use Rattle.getopts_vectors.specs.Stop.{status_of};
+ghost use Rattle.getopts_vectors.specs.declared.stop.Trouble.TheVariants.{NoMemory};
 
 use std::alloc::{AllocError, AllocFailed};
 use std::fmt;
@@ -66,10 +66,16 @@ impl<T: Drop> From<AllocFailed<T>> for Trouble {
 pub enum Stop {
     /// A line, by its number, that can't be answered.
     Line(u64, Flaw),
-    /// A line, by its number, that can't be read.
-    NotRead(u64),
+    /// A file that can't be read.
+    NotRead,
     NoMemory,
     NotWritten,
+}
+
+impl From<AllocError> for Stop {
+    fn from(_error: AllocError) -> Stop {
+        Stop::NoMemory
+    }
 }
 
 impl Stop {
@@ -78,7 +84,7 @@ impl Stop {
         ensures { result ≡ status_of self.now }
     {
         match self {
-            Stop::Line(_, _) | Stop::NotRead(_) => 2,
+            Stop::Line(_, _) | Stop::NotRead => 2,
             Stop::NoMemory => 3,
             Stop::NotWritten => 4,
         }
@@ -107,7 +113,7 @@ impl fmt::Display for Stop {
     fn fmt<W: fmt::Write>(&self, f: &mut fmt::Formatter<W>) -> fmt::Result {
         match self {
             Stop::Line(line, flaw) => write!(f, "line {line}: {flaw}"),
-            Stop::NotRead(line) => write!(f, "line {line}: can't be read"),
+            Stop::NotRead => write!(f, "a file can't be read"),
             Stop::NoMemory => write!(f, "out of memory"),
             Stop::NotWritten => write!(f, "can't write"),
         }

@@ -1,10 +1,10 @@
 //! Real lines, and what they give.
 
-use getopts::{Fail as LineFail, Matches, Options};
-use getopts_uses::{
+use crate::{
     Command, Job, Settings, add_flag, help_rows, help_text, key_of, place_named, read_command,
     read_job, read_settings,
 };
+use getopts::{Fail as LineFail, Matches, Options};
 use std::alloc::{AllocError, Global};
 use std::process::Abort;
 use std::test::Fail;

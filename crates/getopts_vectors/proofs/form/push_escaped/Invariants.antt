@@ -1,6 +1,6 @@
 use Rattle.std.proofs.Common.{◌≡◌, ◌++◌, take}
-use Rattle.getopts_cases.specs.Form.{escaped}
-use Rattle.getopts_cases.proofs.form.push_escaped.Given as goal
+use Rattle.getopts_vectors.specs.Form.{escaped}
+use Rattle.getopts_vectors.proofs.form.push_escaped.Given as goal
 
 -- the bytes so far were added, escaped
 abbrev pub invariant-loop-byte : goal.invariant-loop-byte
