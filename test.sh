@@ -5,8 +5,8 @@
 # It proves every crate and its tests and runs them. Beside that it tries each edit, makes the archive again over the
 # library as it was proved, tests the C layer and the Rust crate, and runs each program, as soon as it is there, with
 # memory refused, as the system may, and against the rules. CRATE is a folder with the Rust crate getopts 0.2.24, to
-# compare with. With --quick nothing is proved: tests and programs run unproved, and what needs built programs runs
-# where they are.
+# compare with. With --quick nothing is proved: tests and programs run unproved, what needs built programs runs where
+# they are, and there are fewer random cases.
 set -uo pipefail
 cd "$(dirname "$0")" || exit
 quick=
@@ -118,7 +118,7 @@ room=$(mktemp -d)
 trap 'kill $(jobs -p) 2>/dev/null || true; rm -rf "$room"' EXIT
 
 if [ -n "$quick" ]; then
-    begin "C and Rust" bash bindings/test.sh --short "$@"
+    begin "C and Rust" bash bindings/test.sh --quick "$@"
     if [ -x crates/getopts_refused/out/getopts_refused ] && [ -x crates/getopts_show/out/getopts_show ]; then
         begin "refused memory" bash tests/memory/run.sh
         begin "the program and the system" python3 tests/system/run.py
@@ -130,11 +130,11 @@ else
     # Each of these begins beside the proofs, and waits for what it stands on.
     begin "edits of the library" edits
     begin "the archive over the proved library, and the edit of its crate" once getopts -- over_proved
-    begin "C and Rust" bash bindings/test.sh --quick --after "$room/show" "$@"
+    begin "C and Rust" bash bindings/test.sh --no-proofs --after "$room/show" "$@"
     (once getopts_show -- true >/dev/null; touch "$room/show") &
     begin "refused memory" once getopts_refused getopts_show -- bash tests/memory/run.sh
     begin "the program and the system" once getopts_show -- python3 tests/system/run.py
-    begin "recorded cases by the rules" once getopts_replay -- python3 tests/differential/rules.py
+    begin "recorded cases by the rules" once getopts_vectors -- python3 tests/differential/rules.py
     part "proofs, tests and programs of all crates" proofs
 fi
 part "code on the pages for callers" bash docs/quotes.sh

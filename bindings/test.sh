@@ -1,25 +1,26 @@
 #!/usr/bin/env bash
 # Tests the archive, the C layer and the Rust crate.
 #
-#     bindings/test.sh [--quick | --short] [--after FILE] [CRATE]
+#     bindings/test.sh [--quick | --no-proofs] [--after FILE] [CRATE]
 #
 # CRATE is a folder that holds the crate getopts 0.2.24; without it cargo fetches that crate. CARGO_FLAGS
-# are handed to each cargo. With --quick nothing is proved, and with --short there are fewer random requests besides.
-# With --after it waits at its end, until FILE is there, before it asks the program getopts_show what it answers. What
-# this machine lacks is skipped with a line that says so. The last line is 'N passed, M failed, K skipped'.
+# are handed to each cargo. With --no-proofs nothing is proved, and with --quick there are fewer random requests
+# besides. With --after it waits at its end, until FILE is there, before it asks the program getopts_show what it
+# answers. What this machine doesn't have is skipped with a line that says so. The last line is 'N passed, M failed, K
+# skipped'.
 set -uo pipefail
 top=$(cd "$(dirname "$0")/.." && pwd)
-quick='' short='' after=''
+unproved='' quick='' after=''
 while [ $# -gt 0 ]; do
     case $1 in
-        --quick) quick=yes; shift ;;
-        --short) quick=yes short=--short; shift ;;
+        --no-proofs) unproved=yes; shift ;;
+        --quick) unproved=yes quick=--quick; shift ;;
         --after) after=${2:?--after takes a file}; shift 2 ;;
         *) break ;;
     esac
 done
 if [ $# -gt 1 ] || { [ $# = 1 ] && [ ! -f "$1/Cargo.toml" ]; }; then
-    echo "usage: bindings/test.sh [--quick | --short] [--after FILE] [CRATE], where CRATE is a folder with the crate getopts" >&2
+    echo "usage: bindings/test.sh [--quick | --no-proofs] [--after FILE] [CRATE], where CRATE is a folder with the crate getopts" >&2
     exit 2
 fi
 crate=${1:+$(cd "$1" && pwd)}
@@ -76,7 +77,7 @@ if [ ! -f "$archive" ]; then
 fi
 check "the archive's SHA-256" bash -c "cd '$here/native' && sha256sum -c libgetopts_c.a.sha256"
 no_proof=
-[ -n "$quick" ] && no_proof="nothing is proved"
+[ -n "$unproved" ] && no_proof="nothing is proved"
 has rt || no_proof="there is no rt"
 if [ -z "$no_proof" ]; then
     check "the archive is what the proved source gives" "$top/bindings/archive.sh" check
@@ -118,7 +119,7 @@ ask_show() {
 }
 
 # The exports, the layer and the installation are tested by a script of their own.
-"$top/bindings/c/test.sh" $short "$room/requests" >"$room/of_c"
+"$top/bindings/c/test.sh" $quick "$room/requests" >"$room/of_c"
 sed '$d' "$room/of_c"
 read -r more_passed _ more_failed _ more_skipped _ <<<"$(tail -n 1 "$room/of_c")"
 passed=$((passed + more_passed)) failed=$((failed + more_failed)) skipped=$((skipped + ${more_skipped:-0}))
@@ -188,23 +189,18 @@ fi
 check "cargo doc" documented "$here"
 check "cargo package" packaged
 
-# twin NAME CRATE FLAG..: builds the twin of beside over the crate in a folder.
+# twin NAME CRATE FLAG..: builds the twin of tests/differential over the crate in a folder.
 twin() {
     (unset CARGO_TARGET_DIR && CARGO_FLAGS="${*:3}" "$top/tests/differential/build.sh" "$room/$1" "$2" '')
 }
 ours=$room/ours/twin/target/release/twin
 theirs=$room/theirs/twin/target/release/twin
 
-# Rows: recorded ones, files with answers beside them, and what the C side read.
-recorded() {
-    local of=$top/crates/getopts_replay
-    "$ours" answer <"$of/stdin" | cmp - "$of/stdout" && echo "$(wc -l <"$of/stdout") lines, none differs"
-}
+# Rows: files with answers beside them, and what the C side read.
 twin_linted() { (cd "$room/ours/twin" && cargo clippy --offline "${with[@]}" -- -D warnings); }
 with=(--features canonical,getopts/canonical)
 if check "the twin over the crate here" twin ours "$here" --offline "${with[@]}"; then
     [ -z "$clippy" ] || check "cargo clippy of the twin" twin_linted
-    says "recorded rows (the drop-in)" recorded
     while read -r file; do
         says "${file#"$top/crates/"} (the drop-in)" "$ours" check "$file"
     done < <(row_files)
@@ -317,12 +313,14 @@ check "the build script elsewhere" [ "$(elsewhere windows)" = 1 ]
 # alike COUNT: whether the two answer so many cases of a seed alike.
 alike() {
     "$theirs" generate 1 "$1" >"$room/cases" && "$theirs" answer <"$room/cases" >"$room/of_theirs" &&
-        "$ours" answer <"$room/cases" >"$room/of_ours" && "$theirs" compare "$room"/{cases,of_ours,of_theirs}
+        "$ours" answer <"$room/cases" >"$room/of_ours" && "$theirs" compare "$room"/of_{ours,theirs}
 }
 same_panics() { diff <("$theirs" panics) <("$ours" panics); }
 differ() { ! alike 2000; }
+cases=20000
+[ -z "$quick" ] || cases=2000
 if twin theirs "$crate" "${flags[@]}" >"$room/said" 2>&1; then
-    says "20,000 cases of the twin" alike 20000
+    says "$cases cases of the twin" alike $cases
     check "the texts of panics" same_panics
     # A planted difference is told.
     cp -r "$here" "$room/planted"
@@ -330,7 +328,7 @@ if twin theirs "$crate" "${flags[@]}" >"$room/said" 2>&1; then
     check "the twin over a planted difference" twin ours "$room/planted" --offline
     check "a planted difference is told" differ
 else
-    skip "20,000 cases of the twin: the crate getopts 0.2.24 is not to be had"
+    skip "$cases cases of the twin: the crate getopts 0.2.24 is not to be had"
 fi
 
 # That crate's tests of its public calls, where they are at hand.

@@ -2,13 +2,14 @@
 # Tests the exports, the layer over them, the example and the installation, as each C compiler of this machine
 # builds them, and under its sanitizers of addresses and of undefined behaviour.
 #
-#     bindings/c/test.sh [--short] [FOLDER]
+#     bindings/c/test.sh [--quick] [FOLDER]
 #
 # The random requests that were lawful are left in FOLDER with their answers, as rows. They are 20,000, and 2,000 with
-# --short. What this machine lacks is skipped with a line that says so. The last line is 'N passed, M failed, K skipped'.
+# --quick. What this machine doesn't have is skipped with a line that says so. The last line is 'N passed, M failed, K
+# skipped'.
 set -uo pipefail
 count=20000
-if [ "${1:-}" = --short ]; then
+if [ "${1:-}" = --quick ]; then
     count=2000
     shift
 fi
@@ -18,7 +19,6 @@ folder=${1:+$(mkdir -p "$1" && cd "$1" && pwd)}
 # shellcheck source=bindings/c/checks.sh
 . "$here/checks.sh"
 archive=$top/bindings/rust/native/libgetopts_c.a
-replay=$top/crates/getopts_replay
 warnings=(-std=c11 -Wall -Wextra -Wpedantic -Wshadow -Wconversion -Wno-sign-conversion -Werror)
 plus_warnings=(-Wall -Wextra -Wpedantic -Werror)
 layer=("$here/getopts.c" "$here/heap.c" "$archive")
@@ -36,7 +36,6 @@ fi
 all_of() {
     local with="${*:1:2}" build=("$@" "${warnings[@]}") file
     if check "rows ($with)" "${build[@]}" "$here/tests/rows.c" "${layer[@]}" -o "$room/rows"; then
-        says "recorded rows ($with)" "$room/rows" "$replay/stdin" "$replay/stdout"
         while read -r file; do
             says "${file#"$top/crates/"} ($with)" "$room/rows" "$file"
         done < <(row_files)

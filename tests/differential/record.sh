@@ -1,6 +1,6 @@
 #!/usr/bin/env bash
-# Records the stored run of getopts_replay from the Rust crate: chooses cases, and writes what the crate
-# answers to them. getopts_replay has no part in it.
+# Records rows of getopts_vectors from the Rust crate: chooses cases, and writes them with what the crate
+# answers to them. Nothing of this repository's library has a part in it.
 # usage: record.sh [--crate FOLDER] [--registry FOLDER]
 set -euo pipefail
 here=$(cd "$(dirname "$0")" && pwd)
@@ -22,11 +22,10 @@ trap 'rm -rf "$work"' EXIT
 echo 'builds the twin over the Rust crate ..' >&2
 twin=$("$here/build.sh" "$work" "$crate" "$registry")
 echo "builds the twin over the Rust crate: $SECONDS s; chooses and answers cases .." >&2
-stored=$here/../../crates/getopts_replay
+recorded=$here/../../crates/getopts_vectors/data/recorded.rows
 {
-    echo '# Recorded by tests/differential/record.sh. The Rust crate getopts 0.2.24 wrote the answers.'
-    "$twin" choose 1 60000 2000
-} > "$stored/stdin"
-"$twin" answer < "$stored/stdin" > "$stored/stdout"
+    echo '# Recorded by tests/differential/record.sh: the Rust crate getopts 0.2.24 wrote the answers.'
+    "$twin" choose 1 60000 2000 | "$twin" answer
+} > "$recorded"
 echo "recorded after $SECONDS s" >&2
-ls -l "$stored/stdin" "$stored/stdout"
+ls -l "$recorded"

@@ -1,23 +1,23 @@
 #!/usr/bin/env python3
 """Reads lines by the rules of docs/GRAMMAR.md alone: a search for readings and for faults, as they are defined.
 
-It answers cases as `getopts_replay` does: what is accepted, the first fault, positions, values and canonical
-lines. It is held to the answers that the Rust crate gave to the recorded cases, in all that both answer. Then each
-line of words in these cases is asked for its canonical line, and of each name for its positions and values, which
-the Rust crate has no answer to, and `getopts_replay` is held to the answers of the rules.
+It takes rows with the answers that are expected beside them: those of `getopts_vectors` that are written by hand and
+those that the Rust crate answered. What the rules say to a row has to be what stands there. Then each line of words in
+these rows is asked for its canonical line, and each name of accepted words for its positions and values, which the
+Rust crate has no answer to, and `getopts_vectors` has to give the answers of the rules.
 
-usage: rules.py [--try] [--cases FILE] [--ask]
+usage: rules.py [--try] [ROWS..]
     --try     runs `rt try` in place of the program that was built last
-    --cases   other cases than the recorded ones; then nothing is held to the Rust crate's answers
-    --ask     prints the cases with what is asked beyond them, and runs nothing
+    ROWS      other files of rows than those of `getopts_vectors`
 """
 
 import pathlib
-import shutil
 import subprocess
 import sys
+import tempfile
 
-REPLAY = pathlib.Path(__file__).resolve().parent.parent.parent / "crates/getopts_replay"
+VECTORS = pathlib.Path(__file__).resolve().parent.parent.parent / "crates/getopts_vectors"
+ROWS = [VECTORS / "data/rules.rows", VECTORS / "data/recorded.rows"]
 KINDS = {  # of argument and of occurrence, by the call that declares the group
     "optflag": ("no", "optional"), "optflagmulti": ("no", "multi"), "optflagopt": ("maybe", "optional"),
     "optmulti": ("yes", "multi"), "optopt": ("yes", "optional"), "reqopt": ("yes", "req"),
@@ -208,14 +208,14 @@ class Session:
     """A case as it is answered: its options, and what its last words gave."""
 
     def __init__(self):
-        self.options, self.read, self.words, self.free = Options(), None, None, None
+        self.options, self.read = Options(), None
 
     def declare(self, word, fields):
         if word == "style":
             self.options.stops = fields[0] == b"stop"
         elif word == "mode":
             self.options.long_only = fields[0] == b"long-only"
-        elif word == "opt":
+        elif word in ("opt", "add_group"):
             self.options.groups.append(Group(fields[0], fields[1], fields[4].decode(), fields[5].decode()))
         elif word in KINDS:
             self.options.groups.append(Group(fields[0], fields[1], *KINDS[word]))
@@ -288,75 +288,65 @@ def parts(written):
     return word.decode(), [text_of(one) for one in fields]
 
 
-def asked_lines(cases):
-    return [one for one in cases.split(b"\n") if one and not one.startswith(b"#")]
+def rows_of(text):
+    """Each line of a text that is a row, with the answers that stand below it."""
+    rows = []
+    for one in text.split(b"\n"):
+        if one.startswith(b"> "):
+            rows[-1][1].append(one[2:])
+        elif one.startswith(b"|"):
+            rows[-1][1][-1] += one[1:].removeprefix(b" ") + b"\\n"
+        elif one and not one.startswith(b"#"):
+            rows.append((one, []))
+    return rows
 
 
-def held(lines, answers, recorded=()):
-    """How many answers there are, how many of them the rules give, those that differ, and those to these lines."""
-    session, given, at, told, differ, kept = Session(), answers.split(b"\n")[:-1], 0, 0, [], []
-    case = b""
-    for number, one in enumerate(lines):
+def held(rows):
+    """The rows, with a canonical line asked beyond them below each line of words and the positions of each name; how
+    many lines of answers the rules give of how many there are; and the rows whose answers the rules don't give."""
+    session, beyond, given, lines, differ, case = Session(), [], 0, 0, [], b""
+    for one, answers in rows:
         word, fields = parts(one)
         case = one if word == "case" else case
-        for expected in session.answer(word, fields):
-            if expected is not None:
-                told += 1
-                if at >= len(given) or given[at] != expected:
-                    differ.append((case, one, expected, given[at] if at < len(given) else b"(no answer)"))
-            kept += given[at:at + 1] if number in recorded else []
-            at += 1
-    if at != len(given):
-        differ.append((b"at the end", b"", b"%d lines" % at, b"%d lines" % len(given)))
-    return at, told, differ, kept
-
-
-def asked_beyond(lines):
-    """The cases, and below each line of words its canonical line and the positions of each name; and which of these
-    lines are those of the cases."""
-    session, names, out, recorded = Session(), [], [], set()
-    for one in lines:
-        word, fields = parts(one)
-        recorded.add(len(out))
-        out.append(one)
-        session.answer(word, fields)
+        expected = session.answer(word, fields)
+        beyond.append((one, answers))
+        lines += len(answers)
+        if word != "case" and expected != [None]:
+            given += len(answers)
+            if expected != answers:
+                differ.append((case, one, b"by the rules: " + b" / ".join(expected), b"in the row: " + b" / ".join(answers)))
         if word == "words":
-            names = {name: 0 for group in session.options.groups for name in (group.short, group.long) if name}
-            out.append(line("canonical", *fields))
-            out += [line("positions", name) for name in names if len(session.read) == 3]
-    return out, recorded
+            asked = [line("canonical", *fields)]
+            if len(session.read) == 3:
+                names = {name: 0 for group in session.options.groups for name in (group.short, group.long) if name}
+                asked += [line("positions", name) for name in names]
+            beyond += [(more, session.answer(*parts(more))) for more in asked]
+    return beyond, given, lines, differ
 
 
 def main():
     arguments = sys.argv[1:]
-    cases = pathlib.Path(arguments[arguments.index("--cases") + 1]) if "--cases" in arguments else REPLAY / "stdin"
-    lines = asked_lines(cases.read_bytes())
-    beyond, recorded = asked_beyond(lines)
-    if "--ask" in arguments:
-        sys.stdout.buffer.write(b"\n".join(beyond) + b"\n")
-        return
-    program = ["rt", "try"] if "--try" in arguments else [REPLAY / "out/getopts_replay"]
-    if shutil.which(program[0]) is None:
-        sys.exit(f"rules.py: there is no {program[0]}" + ("" if "--try" in arguments else ": 'rt run' in its crate makes it"))
-    differ = []
-    if "--cases" not in arguments:
-        stored = (REPLAY / "stdout").read_bytes()
-        asked, told, differ, _ = held(lines, stored)
-        print(f"the Rust crate's recorded answers: {told} of {asked} lines are answered here, {len(differ)} differ")
-    ran = subprocess.run(program, cwd=REPLAY, input=b"\n".join(beyond) + b"\n", capture_output=True)
-    if ran.returncode != 0:
-        sys.exit(f"rules.py: {program[0]} ended with status {ran.returncode}: {ran.stderr.decode()[-1000:]}")
-    asked, told, others, kept = held(beyond, ran.stdout, recorded)
-    if "--cases" not in arguments and kept != stored.split(b"\n")[:-1]:
-        sys.exit("rules.py: the answers to the recorded cases aren't those that are stored")
-    written = sum(one.startswith(b"canonical") for one in beyond) - sum(one.startswith(b"canonical") for one in lines)
-    print(f"the library's answers, with {written} canonical lines and the positions of "
-          f"{len(beyond) - len(lines) - written} names beyond: {told} of {asked} lines are answered here, "
-          f"{len(others)} differ")
-    for case, one, expected, given in (differ + others)[:20]:
-        print(b"\n  ".join((case, one, b"by the rules: " + expected, b"given:        " + given)).decode())
-    print("all agree" if not differ + others else f"{len(differ + others)} differ")
-    sys.exit(bool(differ + others))
+    tries = "--try" in arguments
+    files = [pathlib.Path(one).resolve() for one in arguments if one != "--try"] or ROWS
+    rows = [row for file in files for row in rows_of(file.read_bytes())]
+    beyond, given, lines, differ = held(rows)
+    print(f"{given} of {lines} lines of answers are given by the rules; {len(differ)} rows differ")
+    for one in differ[:20]:
+        print(b"\n  ".join(one).decode())
+    program = VECTORS / "out/getopts_vectors"
+    if not tries and not program.exists():
+        sys.exit("rules.py: getopts_vectors isn't built: 'rt run' in its crate builds it")
+    with tempfile.NamedTemporaryFile(suffix=".rows") as file:
+        for one, answers in beyond:
+            file.write(b"".join(each + b"\n" for each in [one, *(b"> " + answer for answer in answers)]))
+        file.flush()
+        print(f"{len(beyond) - len(rows)} lines are asked beyond the {len(rows)} rows")
+        command = ["rt", "try", "--", file.name] if tries else [program, file.name]
+        ran = subprocess.run(command, cwd=VECTORS, capture_output=True, text=True, errors="replace")
+    said = ran.stdout.replace(file.name, "getopts_vectors")
+    print(said[-4000:], ran.stderr[-1000:] if ran.returncode else "", sep="", end="")
+    print("all agree" if not differ and ran.returncode == 0 else "not all agree")
+    sys.exit(bool(differ) or ran.returncode != 0)
 
 
 if __name__ == "__main__":

@@ -2,11 +2,13 @@
 # Tries the edits of this folder: each turns a body of its crate, and the prover has to refuse it.
 # usage: tests/must-fail/try.sh [--jobs N] [--over RLIB] [--all | --plant] [CRATE..]
 #
-# An edit names the function that it turns, which is checked alone, with those that it calls: a quarter of a minute of
-# a processor each, and somewhat more where no earlier check left its work. With --all those in private/ too, which
-# turn bodies that no public sentence speaks of. With --over the edits of the static library are checked over this
-# proved library. With --plant it plants wrong bodies in each crate instead, and prints what the contracts let through.
-# Everything is done on copies of the repository, N at once (2 if left out). The last line is 'N passed, M failed'.
+# An edit names the function that it turns, a file, and texts that stand there once with those in their place, each of
+# one or more lines. The function is checked with those that it calls, against its contract as it stands. The edits that
+# a line of CRATE/together names are tried in one check: none of their functions calls another of them. With --all
+# those in private/ too, which turn bodies that no public sentence speaks of. With --over the edits of the static library
+# are checked over this proved library. With --plant it plants wrong bodies in each crate instead, and prints what the
+# contracts let through. Everything is done on copies of the repository, N at once (2 if left out). The last line is 'N
+# passed, M failed'.
 set -euo pipefail
 top=$(cd "$(dirname "$0")/../.." && pwd)
 jobs=2 over= all= plant=
@@ -25,44 +27,71 @@ command -v rt >/dev/null || { echo "no rt on the path: the toolchain's bin folde
 room=$(mktemp -d)
 trap 'kill $(jobs -p) 2>/dev/null || true; rm -rf "$room"' EXIT
 
-# apply EDIT FOLDER: makes an edit in a crate's folder, where each of its texts stands once, and says its function.
+# apply FOLDER EDIT..: makes edits in a crate's folder, where each of their texts stands once, and prints the function
+# of each.
 apply() {
-    python3 - "$1" "$2" <<'PY'
+    python3 - "$@" <<'PY'
 import sys
-lines = [line for line in open(sys.argv[1], encoding="utf-8").read().split("\n") if line]
-function, file = lines[0].removeprefix("fn: "), lines[1].removeprefix("file: ")
-name = f"{sys.argv[2]}/{file}"
-text = open(name, encoding="utf-8").read()
-for old, new in zip(lines[2::2], lines[3::2]):
-    old, new = old.removeprefix("old: "), new.removeprefix("new: ")
+def replace(edit, name, old, new):
+    text = open(name, encoding="utf-8").read()
     if text.count(old) != 1:
-        sys.exit(f"{sys.argv[1]}: this doesn't stand once in {name}: {old}")
-    text = text.replace(old, new)
-open(name, "w", encoding="utf-8").write(text)
-print(function)
+        sys.exit(f"{edit}: this doesn't stand once in {name}: {old}")
+    open(name, "w", encoding="utf-8").write(text.replace(old, new))
+for edit in sys.argv[2:]:
+    function, name, old, new = "", "", [], []
+    for line in open(edit, encoding="utf-8").read().splitlines() + ["end: "]:
+        kind, _, rest = line.partition(": ")
+        if new and kind != "new":
+            replace(edit, name, "\n".join(old), "\n".join(new))
+            old, new = [], []
+        if kind == "fn":
+            function = rest
+        elif kind == "file":
+            name = f"{sys.argv[1]}/{rest}"
+        elif kind == "old":
+            old.append(rest)
+        elif kind == "new":
+            new.append(rest)
+    print(function)
 PY
 }
 
-# try_edit COPY EDIT: says whether the check refuses the function that the edit turns.
-try_edit() {
-    local copy=$1 edit=$2 crate name function status=0
-    crate=${edit#"$top"/tests/must-fail/} name=$(basename "$edit" .edit)
+# refusal SAID FUNCTION: says why a check refused a function. A proof file may name a step that an edit took away: where
+# this is all that is wrong, the check says nothing of the contract.
+refusal() {
+    local proof said=$1 function=$2
+    proof=./proofs/${function#*::} proof=${proof//:://}
+    grep -m1 "^fn $function: no proof: .*\`search\` did not prove" "$said" ||
+        { grep -F "$proof/" "$said" | grep ": error: " | grep -vE "$names" | head -n 1 | grep . &&
+            grep -q "^fn $function: not proved" "$said"; }
+}
+names='has no field|has no `|is not in scope|was not admitted|was rejected, was not checked'
+
+# try_edits COPY EDIT..: makes these edits of one crate together, and says of each whether the check refuses its function.
+try_edits() {
+    local copy=$1 crate functions said status=0 at only=()
+    shift
+    crate=${1#"$top"/tests/must-fail/}
     crate=${crate%%/*}
     local folder=$copy/crates/$crate
     cp -a "$folder/src" "$copy/kept"
-    if ! function=$(apply "$edit" "$folder" 2>"$copy/said"); then
-        echo "FAILED: $crate: $name: $(cat "$copy/said")"
+    if ! functions=$(apply "$folder" "$@" 2>"$copy/said"); then
+        for edit in "$@"; do echo "FAILED: $crate: $(basename "$edit" .edit): $(cat "$copy/said")"; done
     else
+        mapfile -t functions <<<"$functions"
         if [ -n "$over" ] && [ "$crate" = getopts_c ]; then
-            bash "$copy/bindings/over.sh" "$over" only "$function" >"$copy/said" 2>&1 || status=$?
+            bash "$copy/bindings/over.sh" "$over" only "${functions[@]}" >"$copy/said" 2>&1 || status=$?
         else
-            (cd "$folder" && rt check --jobs 1 --only "$function") >"$copy/said" 2>&1 || status=$?
+            for at in "${functions[@]}"; do only+=(--only "$at"); done
+            (cd "$folder" && rt check --jobs 1 "${only[@]}") >"$copy/said" 2>&1 || status=$?
         fi
-        if [ $status = 1 ] && grep -qE "^fn $function: (not proved|no proof)" "$copy/said"; then
-            echo "refused: $crate: $name: $(grep -m1 "^fn $function: " "$copy/said" | cut -c1-80)"
-        else
-            echo "FAILED: $crate: $name: the check of $function ended with status $status"
-        fi
+        for at in "${!functions[@]}"; do
+            if [ $status = 1 ] && said=$(refusal "$copy/said" "${functions[at]}"); then
+                echo "refused: $crate: $(basename "${@:at+1:1}" .edit): ${said:0:120}"
+            else
+                echo "FAILED: $crate: $(basename "${@:at+1:1}" .edit): the check of ${functions[at]} ended with status $status"
+            fi
+        done
     fi
     rm -rf "$folder/src"
     mv "$copy/kept" "$folder/src"
@@ -79,6 +108,17 @@ plant_in() {
     fi
 }
 
+# edits_of CRATE: one line for the edits of each check.
+edits_of() {
+    local folder=$top/tests/must-fail/$1 together=$top/tests/must-fail/$1/together
+    if [ -f "$together" ]; then
+        grep -v '^#' "$together" | sed -e "s|[a-z_][a-z_]*|$folder/&.edit|g" -e 's/^/try_edits /'
+    fi
+    find "$folder" $([ -n "$all" ] || echo -maxdepth 1) -name '*.edit' | sort | while read -r edit; do
+        grep -qsw "$(basename "$edit" .edit)" "$together" || echo "try_edits $edit"
+    done
+}
+
 # The crates that are tried, and one line for each thing to do.
 if [ $# = 0 ] && [ -n "$plant" ]; then
     mapfile -t crates < <(sed -n 's/^\([a-z_]*\).*:.*/\1/p' "$top/crates.txt")
@@ -91,7 +131,7 @@ for crate in "${crates[@]}"; do
     if [ -n "$plant" ]; then
         echo "plant_in $crate"
     else
-        find "$top/tests/must-fail/$crate" $([ -n "$all" ] || echo -maxdepth 1) -name '*.edit' | sort | sed 's/^/try_edit /'
+        edits_of "$crate"
     fi
 done >"$room/tasks"
 
@@ -105,13 +145,13 @@ for ((copy = 1; copy < jobs; copy++)); do cp -a "$room/0" "$room/$copy"; done
 
 # Each copy takes every Nth line.
 for ((copy = 0; copy < jobs; copy++)); do
-    while read -r what which; do
-        "$what" "$room/$copy" "$which"
+    while read -r -a words; do
+        "${words[0]}" "$room/$copy" "${words[@]:1}"
     done < <(awk -v n="$jobs" -v at="$copy" 'NR % n == at' "$room/tasks") >"$room/results.$copy" &
 done
 wait
 cat "$room"/results.*
 failed=$(cat "$room"/results.* | grep -c '^FAILED' || true)
-passed=$(($(wc -l <"$room/tasks") - failed))
+passed=$(cat "$room"/results.* | grep -cE '^(refused|planted)' || true)
 echo "$passed passed, $failed failed"
 [ "$failed" = 0 ]

@@ -1,8 +1,8 @@
-/* Asks getopts.h what rows ask, and compares its answers with theirs: rows ROWS [ANSWERS].
+/* Asks getopts.h what rows ask, and compares its answers with those beside them: rows ROWS.
  *
- * The form of ROWS is that of crates/getopts_replay. The lines of an answer are those of ANSWERS in order, or
- * they come after its question, each after "> "; a line "| TEXT" goes on with the one above it, by TEXT and a
- * line end. What the layer doesn't have is passed over and counted. */
+ * The form of ROWS is that of crates/getopts_vectors: the lines of an answer come below its question, each after
+ * "> ", and a line "| TEXT" goes on with the one above it, by TEXT and a line end. What the layer doesn't have is
+ * passed over and counted. */
 #include "../getopts.h"
 
 #include <stdio.h>
@@ -335,7 +335,6 @@ static bool answers(void) {
 
 int main(int argc, char **argv) {
     struct lines rows = lines_of(argc > 1 ? argv[1] : "/dev/stdin");
-    struct lines other = argc > 2 ? lines_of(argv[2]) : (struct lines){ 0 };
     struct text wanted = { 0 };
     size_t cases = 0, same = 0, passed = 0, differ = 0;
     for (char *line; (line = line_with(&rows, "")) != NULL;) {
@@ -346,24 +345,13 @@ int main(int argc, char **argv) {
             continue;
         bool is_case = strcmp(fields[0], "case") == 0, can = answers();
         wanted.len = 0;
-        if (argc > 2) {
-            /* An answer has one line, and then those that begin with these words. */
-            for (char *next = line_with(&other, ""); next != NULL;) {
-                add_all(&wanted, next);
-                add(&wanted, '\n');
-                next = line_with(&other, "strs");
-                if (next == NULL)
-                    next = line_with(&other, "pairs");
+        for (char *next; (next = line_with(&rows, "> ")) != NULL;) {
+            add_all(&wanted, next + 2);
+            while ((next = line_with(&rows, "|")) != NULL) {
+                add_all(&wanted, next + (next[1] == ' ' ? 2 : 1));
+                add_all(&wanted, "\\n");
             }
-        } else {
-            for (char *next; (next = line_with(&rows, "> ")) != NULL;) {
-                add_all(&wanted, next + 2);
-                while ((next = line_with(&rows, "|")) != NULL) {
-                    add_all(&wanted, next + (next[1] == ' ' ? 2 : 1));
-                    add_all(&wanted, "\\n");
-                }
-                add(&wanted, '\n');
-            }
+            add(&wanted, '\n');
         }
         cases += is_case;
         if (is_case && wanted.len == 0)
@@ -382,6 +370,5 @@ int main(int argc, char **argv) {
     free(answer.bytes);
     free(wanted.bytes);
     free(rows.text);
-    free(other.text);
     return differ > 0 || same == 0;
 }

@@ -1,4 +1,7 @@
 //! Programs that read their command lines with `getopts`, as their users write them.
+//!
+//! Its tests are of these callers, and of what no row of `getopts_vectors` can say of the library:
+//! closures, iterators, values of types, and faults as a program takes them apart.
 #![tactic(auto)]
 
 mod cache;
@@ -11,6 +14,8 @@ mod required;
 mod row;
 mod search;
 mod subcommand;
+#[cfg(test)]
+mod tests;
 
 pub use cache::key_of;
 pub use compile::{Job, read_job};

@@ -1,14 +1,16 @@
 //! Names that come at run time, and lists of them.
 
-ghost use Rattle.std.specs.Prelude.{◌≡◌, ◌↔◌, [], ◌∷◌, None, length, codes, IfOk, IfSome, IsSome};
-ghost use Rattle.std.specs.Prelude.{IsTrue};
+ghost use Rattle.std.specs.Prelude.{◌≡◌, ◌↔◌, [], ◌∷◌, None, length, codes, IfErr, IfOk, IfSome};
+ghost use Rattle.std.specs.Prelude.{IsSome, IsTrue};
 ghost use Rattle.std.specs.List.{list_any};
 ghost use Rattle.getopts.specs.Accessors.{IsDefined, AreDefined, place_of, found_of, is_present};
+ghost use Rattle.getopts.specs.Fail.{Tells};
 ghost use Rattle.getopts.specs.Names.{texts};
 ghost use Rattle.getopts.specs.Options.{Declares};
+ghost use Rattle.getopts.specs.Parse.{IsRefused};
 ghost use Rattle.getopts_uses.specs.Lists.{IsLevelOf};
 
-use getopts::{Matches, Options, held_names_resolve};
+use getopts::{Fail, Matches, Options, held_names_resolve};
 use std::alloc::Global;
 
 /// How often an option was given, if the name is one of the options.
@@ -42,9 +44,11 @@ fn level(matches: &Matches) -> usize
 }
 
 /// The level of a line.
-pub fn level_of(alloc: Global, options: &Options, words: &[&str]) -> anyhow::Result<usize>
+pub fn level_of(alloc: Global, options: &Options, words: &[&str]) -> Result<usize, Fail>
     requires { Declares options.now (codes "verbose") }
-    ensures { IfOk result (IsLevelOf options.now (texts words.now)) }
+    ensures level { IfOk result (IsLevelOf options.now (texts words.now)) }
+    ensures refused { IfErr result (λ fail.
+        Tells fail (IsRefused options.now (texts words.now))) }
 {
     let matches = options.parse_words(alloc, words)?;
     Ok(level(&matches))

@@ -1,5 +1,5 @@
 //! The form of cases and answers: lines of a word and fields, parted by tabs.
-//! `crates/getopts_cases/src/lib.rt` tells which lines there are.
+//! `crates/getopts_vectors/src/main.rt` says which lines there are.
 
 /// A text as a field has it.
 pub fn escaped(text: &str) -> String {
@@ -87,18 +87,15 @@ impl Case {
     }
 }
 
-/// The cases of a text.
-pub fn cases_of(text: &str) -> Vec<Case> {
-    let mut cases: Vec<Case> = Vec::new();
-    for line in text.lines().filter_map(Line::read) {
-        if line.word() == "case" {
-            cases.push(Case { lines: Vec::new() });
+/// A line with its answer below it, each line of that after `> `. The answer of `case` isn't written.
+pub fn row(line: &Line, answer: &str) -> String {
+    let mut row = line.written();
+    if line.word() != "case" {
+        for answered in answer.lines() {
+            row += "> ";
+            row += answered;
+            row.push('\n');
         }
-        cases
-            .last_mut()
-            .expect("a case before this line")
-            .lines
-            .push(line);
     }
-    cases
+    row
 }

@@ -1,5 +1,5 @@
-//! The Rust crate `getopts`, in the form of `crates/getopts_replay`: makes cases from a seed, answers
-//! cases, chooses those that are recorded, and compares answers.
+//! The Rust crate `getopts`, in the form of the rows of `crates/getopts_vectors`: makes cases from a seed,
+//! answers them, chooses those that are recorded, and compares answers.
 
 mod answer;
 mod check;
@@ -18,15 +18,21 @@ use std::io::{BufRead, BufWriter, Write};
 use std::process::ExitCode;
 
 const USE: &str = "twin generate SEED COUNT     prints the cases of a seed
-twin answer                  answers the cases on its standard input
+twin answer                  prints the cases on its standard input as rows, with their answers beside them
 twin choose SEED COUNT LEAST of so many cases of a seed prints at least LEAST that show all pairs of kinds
-twin compare CASES OURS THEIRS  compares two files of answers to a file of cases; status 1 where they differ
+twin count ROWS              prints how many cases and answers of each kind there are
+twin compare OURS THEIRS     the same of two files of the same cases; status 1 where an answer differs
 twin check ROWS              answers rows that have their answers beside them; status 1 where one differs
 twin panics                  prints what each call says that panics";
 
 fn number(word: Option<&String>) -> u64 {
     word.and_then(|word| word.parse().ok())
         .unwrap_or_else(|| panic!("{USE}"))
+}
+
+fn text_of(file: Option<&String>) -> String {
+    let file = file.unwrap_or_else(|| panic!("{USE}"));
+    std::fs::read_to_string(file).expect("a file")
 }
 
 fn main() -> ExitCode {
@@ -46,8 +52,8 @@ fn main() -> ExitCode {
             let mut session = answer::Session::new();
             for line in std::io::stdin().lock().lines() {
                 if let Some(line) = form::Line::read(&line.expect("a line")) {
-                    out.write_all(session.answer(&line).as_bytes())
-                        .expect("a write");
+                    let row = form::row(&line, &session.answer(&line));
+                    out.write_all(row.as_bytes()).expect("a write");
                 }
             }
         }
@@ -58,14 +64,14 @@ fn main() -> ExitCode {
                 out.write_all(case.written().as_bytes()).expect("a write");
             }
         }
+        Some("count") => compare::count(&text_of(words.get(1))),
         Some("compare") => {
-            let text = |at: usize| std::fs::read_to_string(&words[at]).expect("a file");
-            if compare::compare(&text(1), &text(2), &text(3)) > 0 {
+            if compare::compare(&text_of(words.get(1)), &text_of(words.get(2))) > 0 {
                 return ExitCode::FAILURE;
             }
         }
         Some("check") => {
-            if !check::check(&std::fs::read_to_string(&words[1]).expect("a file")) {
+            if !check::check(&text_of(words.get(1))) {
                 return ExitCode::FAILURE;
             }
         }
