@@ -1,0 +1,172 @@
+"""The figures on the pages: what stands around each, and what it has to be. docs/check.py compares them."""
+import functools
+import glob
+import os
+import re
+import shutil
+import subprocess
+
+
+def read(name):
+    with open(name, encoding="utf-8") as file:
+        return file.read()
+
+
+def output_of(*command):
+    return subprocess.run(command, capture_output=True, text=True, check=True).stdout
+
+
+tracked = [it for it in output_of("git", "ls-files", "-co", "--exclude-standard").split("\n") if os.path.isfile(it)]
+pages = {name: read(name) for name in tracked if name.endswith(".md")}
+
+
+def place(page, at, text=None):
+    """A page, and the line of a place in it."""
+    return f"{page}:{(text or pages[page]).count(chr(10), 0, at) + 1}"
+
+
+# ---- what is counted ----
+
+
+def files(*patterns):
+    """How many files there are."""
+    return f"{sum(len(glob.glob(it)) for it in patterns):,}"
+
+
+def size(name):
+    """The size of a file in thousands of bytes."""
+    return f"{os.path.getsize(name) / 1000:.0f} KB"
+
+
+def lines(name):
+    return f"{len(read(name).splitlines()):,}"
+
+
+# ---- what is recorded ----
+
+
+@functools.cache
+def tables():
+    """The tables of bench/last_run.txt: by their titles and jobs, the figures by the names of their columns."""
+    kept, title, columns = {}, None, []
+    for line in read("bench/last_run.txt").split("\n"):
+        cells = re.split(r"\s{2,}", line.strip())
+        if cells[0] == "job":
+            columns = cells[1:]
+        elif len(cells) == len(columns) + 1 and not line.startswith("#"):
+            kept[title, cells[0]] = dict(zip(columns, cells[1:]))
+        else:
+            title, columns = line.strip(), []
+    return kept
+
+
+def cell(title, job, column):
+    return tables()[title, job][column].rstrip("*")
+
+
+def instructions(job, column="this library"):
+    return f"{int(cell(INSTRUCTIONS, job, column)):,}"
+
+
+def share(job, part, whole):
+    """What part one library's instructions are of another's."""
+    return f"{100 * int(cell(INSTRUCTIONS, job, part)) / int(cell(INSTRUCTIONS, job, whole)):.0f} %"
+
+
+def megabytes(column):
+    return f"{int(cell(PEAK, 'memory', column)) / 1e6:.2f}"
+
+
+@functools.cache
+def minutes(command, kind):
+    """The least and the most minutes that a command took, of those in tests/times.txt: kind 0 of processors, 1 by the clock."""
+    rows = [line.rsplit(maxsplit=2) for line in read("tests/times.txt").split("\n") if line and line[0] != "#"]
+    of = [round(int(row[1 + kind]) / 60) for row in rows if row[0] == command]
+    return f"{min(of)} to {max(of)} minutes" if min(of) < max(of) else f"{min(of)} minutes"
+
+
+INSTRUCTIONS = "Instructions of one turn"
+PEAK = "The most bytes held at once for reading 100,000 words, above the words and the options"
+COLUMNS = {"this library": "this library", "Rust crate": "Rust crate", "drop-in": "bindings/rust", "lexopt": "lexopt",
+           "pico-args": "pico-args", "clap": "clap", "here": "bindings/rust", "the crate": "Rust crate"}
+
+# The figures: a page, a pattern whose groups are figures, and what each has to be.
+FIGURES = []
+
+# What is no figure: names, versions, rules of the language, the jobs of the bench.
+OTHERS = re.compile(r"""
+    \bU\+\w+ | \b0\.2\.24\b | Apache-2\.0 | x86-64(?:-v2)?
+""", re.X)
+
+
+# ---- what is compared ----
+
+
+def table_figures(page, text):
+    """The figures in tables of jobs, by the job and the column of each."""
+    columns = []
+    for row in re.finditer(r"^\|.*\|$", text, re.M):
+        cells = [(row.start() + it.start(1), it[1]) for it in re.finditer(r"(?<=\|) *([^|]*?) *(?=\|)", row[0])]
+        if cells[0][1] == "job":
+            columns = [it for _, it in cells]
+        elif columns and (job := re.match(r"`([\w-]+)`", cells[0][1])) and (INSTRUCTIONS, job[1]) in tables():
+            for (at, cell_text), column in list(zip(cells, columns))[1:]:
+                if column in COLUMNS:
+                    wanted = cell(INSTRUCTIONS, job[1], COLUMNS[column])
+                    yield at, cell_text, f"{int(wanted):,}" if wanted.isdigit() else wanted
+
+
+def figures_of(page, text):
+    """The figures of a page that are known: where each is, what it is, and what it has to be."""
+    yield from table_figures(page, text)
+    for name, pattern, *wanted in FIGURES:
+        if name == page:
+            found = list(re.finditer(pattern, text))
+            if not found:
+                yield 0, f"no figure in '{pattern}'", wanted[0]
+            for it in found:
+                for group, value in enumerate(wanted, 1):
+                    yield it.start(group), it[group], value
+
+
+def unknown_in(page, text):
+    """The numbers of ten or more in the prose of a page that no check knows."""
+    blank = lambda it: " " * len(it[0])
+    prose = re.sub(r"^```.*?^```|^    [^\n]*$|`[^`\n]*`|\]\([^)]*\)", blank, text, flags=re.M | re.S)
+    prose = list(OTHERS.sub(blank, prose))
+    for at, is_now, _ in figures_of(page, text):
+        prose[at:at + len(is_now)] = " " * len(is_now)
+    for it in re.finditer(r"(?<![\w.,-])\d[\d,]*(?:\.\d+)?(?!\w)", "".join(prose)):
+        if len(re.sub(r"\D", "", it[0])) > 1:
+            yield it.start(), it[0]
+
+
+def failures_of(page, text):
+    """What differs on a page, and what is not known."""
+    for at, is_now, wanted in figures_of(page, text):
+        if is_now != wanted:
+            yield f"{place(page, at, text)}: {is_now} has to be {wanted}"
+    for at, it in unknown_in(page, text):
+        yield f"{place(page, at, text)}: no check knows the figure {it}"
+
+
+def changes_of(page):
+    """A page with each of its figures changed, one after the other."""
+    text = pages[page]
+    for at, is_now, wanted in figures_of(page, text):
+        if is_now == wanted and (digit := re.search(r"\d", is_now)):
+            at += digit.start()
+            yield at, text[:at] + str((int(text[at]) + 1) % 10 or 1) + text[at + 1:]
+
+
+def fix():
+    """Puts what each figure has to be in the place of what it is."""
+    for page in pages:
+        text = pages[page]
+        for at, is_now, wanted in sorted(figures_of(page, text), reverse=True):
+            if at:
+                text = text[:at] + wanted + text[at + len(is_now):]
+        if text != pages[page]:
+            with open(page, "w", encoding="utf-8") as file:
+                file.write(text)
+            pages[page] = text
