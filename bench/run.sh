@@ -47,12 +47,15 @@ out=$(cd "$1" && pwd)
 jobs='small 100 300
 read-small 100 300
 canonical-small 100 300
+copied-small 100 300
 long 5 15
 read-long 5 15
 canonical-long 5 15
+copied-long 5 15
 many 5 15
 read-many 5 15
 canonical-many 5 15
+copied-many 5 15
 equal 0 1
 usage 100 300
 defined-4000 0 1'

@@ -5,7 +5,7 @@ usage: docs/check.py [--fix]
 
 - Code: each block of Rattle on a page for callers stands in one file of crates/, which the gate proves, and has the
   imports that it needs from there, and no others.
-- Contracts: CALLING.md names each public function of the library, and clauses that are there.
+- Contracts: docs/CONTRACTS.md names each public function of the library, and clauses that are there.
 - Names: docs/GRAMMAR.md has each public definition; what a page names in backquotes exists, as a word of the sources
   or a file; so does what a page links to.
 - Figures: each figure of ten or more on a page is counted, measured or recorded by docs/figures.py. One that differs
@@ -105,15 +105,15 @@ for page in CALLER_PAGES:
 # ---- contracts ----
 
 library = "\n".join(read(name) for name in tracked if re.match(r"crates/getopts/src/.*\.rt$", name))
-contracts = pages["CALLING.md"].partition("\n## Contracts\n")[2]
+contracts = pages["docs/CONTRACTS.md"]
 public = set(re.findall(r"^\s*pub fn (\w+)", library, re.M))
 for name in sorted(public):
-    expect(re.search(rf"\b{name}\b", contracts), f"CALLING.md: the contract of {name} isn't there")
+    expect(re.search(rf"\b{name}\b", contracts), f"docs/CONTRACTS.md: the contract of {name} isn't there")
 for name in re.findall(r"(?:fn |, )(?:\w+::)?(\w+)(?:<[^>]*>)?\(", contracts):
-    expect(name in public, f"CALLING.md: there is no public function {name}")
+    expect(name in public, f"docs/CONTRACTS.md: there is no public function {name}")
 for names in re.findall(r"ensures (\w+(?:, \w+)*):", contracts):
     for name in names.split(", "):
-        expect(f"ensures {name} {{" in library, f"CALLING.md: there is no clause {name}")
+        expect(f"ensures {name} {{" in library, f"docs/CONTRACTS.md: there is no clause {name}")
 
 
 # ---- names ----
