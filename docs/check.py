@@ -12,7 +12,8 @@ usage: docs/check.py [--fix]
   fails, one that is not listed there fails, and each is changed once to see that the change fails. With --fix those
   that differ are replaced.
 
-The last line is 'N passed, M failed'.
+Where valgrind and the built getopts_bench are there, some jobs of bench/last_run.txt are counted again. The last line is
+'N passed, M failed'.
 """
 import os
 import re
@@ -120,11 +121,14 @@ for names in re.findall(r"ensures (\w+(?:, \w+)*):", contracts):
 
 named = set(re.findall(r"`([A-Za-z_][\w-]*)`", pages["docs/GRAMMAR.md"]))
 for name in tracked:
-    if re.match(r"crates/getopts(_show|_c|_shell)?/specs/", name) and "Held" not in name:
+    if re.match(r"crates/getopts(_show|_c|_shell)?/specs/(?!Held)", name):
         for it in re.findall(r"^(?:abbrev |unfoldable )?pub (?:record |data )?([A-Za-z_][\w-]*)", read(name), re.M):
             expect(it in ("mod", "use") or it in named, f"docs/GRAMMAR.md doesn't name {it} of {name}")
 
-words = {part for name in tracked for part in re.split(r"[/.]", name)}
+# Names of the toolchain, of Rust and of Debian's packages.
+OTHERS = """Lends LendsIfOk RestsIfErr Send Sync unicode-width x86-64-v2 opt_count-requires unwrap-requires
+    librust-clap-dev librust-lexopt-dev librust-pico-args-dev librust-unicode-width-dev"""
+words = set(OTHERS.split()) | {figures.logic()} | {part for name in tracked for part in re.split(r"[/.]", name)}
 for name in tracked:
     if re.search(r"\.(rt|antt|rs|c|h|cpp|sh|py|edit|toml|txt)$|/stdin$|^crates.txt$|^HANDLES$", name):
         text = read(name)
@@ -133,8 +137,9 @@ for page, text in pages.items():
     prose = re.sub(r"^```.*?^```", "", text, flags=re.M | re.S)
     for span in sorted(set(re.findall(r"`([A-Za-z_][\w-]*)`", prose))):
         expect(span in words, f"{page}: nothing is called {span}")
-    for path in sorted(set(re.findall(r"`([\w./-]+\.(?:md|rt|antt|rs|c|h|sh|py|edit))`", prose))):
-        expect(any(f"/{it}".endswith(f"/{path}") for it in tracked), f"{page}: there is no file {path}")
+    for path in sorted(set(re.findall(r"`([\w./-]+\.(?:md|rt|antt|rs|c|h|sh|py|edit|txt))`", prose))):
+        there = [path, os.path.normpath(os.path.join(os.path.dirname(page), path))]
+        expect(any(f"/{it}".endswith(f"/{end}") for it in tracked for end in there), f"{page}: there is no file {path}")
     for target in re.findall(r"\]\(([^)#]+)(?:#[^)]*)?\)", prose):
         there = os.path.normpath(os.path.join(os.path.dirname(page), target))
         expect("://" in target or os.path.exists(there), f"{page}: there is no {target}")
@@ -155,6 +160,9 @@ for crate in sorted({name.split("/")[1] for name in tracked if re.match(r"crates
 
 # ---- figures ----
 
+for job, recorded, counted in figures.counted_again():
+    near = abs(counted - recorded) <= figures.WITHIN * recorded
+    expect(near, f"bench/last_run.txt: {job} took {recorded:,} instructions, and takes {counted:,}: run bench/run.sh again")
 if sys.argv[1:] == ["--fix"]:
     figures.fix()
 for page in pages:

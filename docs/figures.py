@@ -61,7 +61,7 @@ def tables():
 
 
 def cell(title, job, column):
-    return tables()[title, job][column].rstrip("*")
+    return tables().get((title, job), {}).get(column, "0").rstrip("*")
 
 
 def instructions(job, column="this library"):
@@ -70,7 +70,7 @@ def instructions(job, column="this library"):
 
 def share(job, part, whole):
     """What part one library's instructions are of another's."""
-    return f"{100 * int(cell(INSTRUCTIONS, job, part)) / int(cell(INSTRUCTIONS, job, whole)):.0f} %"
+    return f"{100 * int(cell(INSTRUCTIONS, job, part)) / max(1, int(cell(INSTRUCTIONS, job, whole))):.0f}"
 
 
 def megabytes(column):
@@ -78,11 +78,20 @@ def megabytes(column):
 
 
 @functools.cache
-def minutes(command, kind):
-    """The least and the most minutes that a command took, of those in tests/times.txt: kind 0 of processors, 1 by the clock."""
+def minutes(command):
+    """The least and the most minutes of a command in tests/times.txt, of processors and by the clock."""
     rows = [line.rsplit(maxsplit=2) for line in read("tests/times.txt").split("\n") if line and line[0] != "#"]
-    of = [round(int(row[1 + kind]) / 60) for row in rows if row[0] == command]
-    return f"{min(of)} to {max(of)} minutes" if min(of) < max(of) else f"{min(of)} minutes"
+    spans = []
+    for kind in (1, 2):
+        of = [round(int(row[kind]) / 60) for row in rows if row[0] == command] or [0]
+        spans.append(f"{min(of)} to {max(of)} minutes" if min(of) < max(of) else f"{min(of)} minutes")
+    return spans
+
+
+@functools.cache
+def logic():
+    """The sum of the logic that the toolchain proves with."""
+    return output_of("rt", "version").split()[-1] if shutil.which("rt") else "unknown"
 
 
 INSTRUCTIONS = "Instructions of one turn"
@@ -90,12 +99,42 @@ PEAK = "The most bytes held at once for reading 100,000 words, above the words a
 COLUMNS = {"this library": "this library", "Rust crate": "Rust crate", "drop-in": "bindings/rust", "lexopt": "lexopt",
            "pico-args": "pico-args", "clap": "clap", "here": "bindings/rust", "the crate": "Rust crate"}
 
-# The figures: a page, a pattern whose groups are figures, and what each has to be.
-FIGURES = []
+# How far a job may be from its record: C libraries differ.
+WITHIN = 0.02
 
-# What is no figure: names, versions, rules of the language, the jobs of the bench.
+
+def counted_again():
+    """Of some jobs the instructions in bench/last_run.txt, and those that the program takes as it is built now."""
+    program = "crates/getopts_bench/out/getopts_bench"
+    if not shutil.which("valgrind") or not os.access(program, os.X_OK):
+        print("passed over: instructions, since there is no valgrind or no built getopts_bench")
+        return
+    for job, few, more in [("small", 100, 300), ("long", 5, 15), ("many", 5, 15), ("usage", 100, 300)]:
+        counted = output_of("bench/instructions.sh", str(few), str(more), program, job)
+        yield job, int(cell(INSTRUCTIONS, job, "this library")), int(counted)
+
+
+# The figures that stand in no table of jobs: a page, a pattern whose groups are figures, and what each has to be.
+EDITS = ["tests/must-fail/*/*.edit", "crates/*/must-fail/*.edit"]
+FIGURES = [
+    ("README.md", r"\| ([\d,]+) named wrong bodies", lambda: [files(*EDITS)]),
+    ("README.md", r"logic `(\w+)`", lambda: [logic()]),
+    ("README.md", r"`\(cd crates/getopts && rt lib\)` .* \| ([^|]*) \| ([^|]*) \|", lambda: minutes("rt lib")),
+    ("README.md", r"`bash test.sh --quick` .* \| ([^|]*) \| ([^|]*) \|", lambda: minutes("bash test.sh --quick")),
+    ("README.md", r"`bash test.sh` .* \| ([^|]*) \| ([^|]*) \|", lambda: minutes("bash test.sh")),
+    ("README.md", r"(\d+) % of the Rust crate's", lambda: [share("long", "this library", "Rust crate")]),
+    ("README.md", r"drop-in takes (\d+) % .* and (\d+) %",
+     lambda: [share("read-small", "bindings/rust", "Rust crate"), share("read-long", "bindings/rust", "Rust crate")]),
+    ("CALLING.md", r"is proved once, in ([^|]*?) of processor time", lambda: minutes("rt lib")[:1]),
+    ("bench/README.md", r"holds ([\d.]+) MB here, ([\d.]+) MB in the Rust crate and ([\d.]+) MB",
+     lambda: [megabytes("this library"), megabytes("Rust crate"), megabytes("bindings/rust")]),
+]
+
+# What is no figure: versions, rules of the language, the jobs of the bench and the sizes of tests.
 OTHERS = re.compile(r"""
-    \bU\+\w+ | \b0\.2\.24\b | Apache-2\.0 | x86-64(?:-v2)?
+    \bU\+\w+ | \b0\.2\.24\b | Apache-2\.0 | x86-64(-v2)?
+    | 1,000\ words | 100,000\ words | 200\ options | 400\ words | 4,000\ names | 1,000\ options\ each
+    | 54\ columns | 24\ (spaces|columns) | stop\ at\ 255 | 1\ MiB | 10,000\ options | 24\ bytes
 """, re.X)
 
 
@@ -119,14 +158,11 @@ def table_figures(page, text):
 def figures_of(page, text):
     """The figures of a page that are known: where each is, what it is, and what it has to be."""
     yield from table_figures(page, text)
-    for name, pattern, *wanted in FIGURES:
+    for name, pattern, values in FIGURES:
         if name == page:
-            found = list(re.finditer(pattern, text))
-            if not found:
-                yield 0, f"no figure in '{pattern}'", wanted[0]
-            for it in found:
-                for group, value in enumerate(wanted, 1):
-                    yield it.start(group), it[group], value
+            it = re.search(pattern, text)
+            for group, wanted in enumerate(values(), 1):
+                yield (it.start(group), it[group], wanted) if it else (0, f"nothing for '{pattern}'", wanted)
 
 
 def unknown_in(page, text):

@@ -1,5 +1,5 @@
 -- The greeter's options, and what a line asks for.
-use Rattle.std.specs.Prelude.{◌≡◌, ℕ, ⊤, List, [], ◌∷◌, true, false, codes, Some, Ok, Err}
+use Rattle.std.specs.Prelude.{◌≡◌, ⊤, ℕ, Bool, true, false, List, [], ◌∷◌, codes, Some, Ok, Err}
 use Rattle.std.specs.Str.Parse.{ParsesUnsigned}
 use Rattle.std.specs.String.{string_bytes}
 use Rattle.std.specs.declared.num.ParseIntError.{ParseIntError}
@@ -30,11 +30,11 @@ greeter_options = record {
   long_only = false;
 }
 
--- The line gives `help`. A required option may be missing.
-pub record AsksForHelp (words : List Text) : Type 0 where
+-- Whether the line asks for help. A required option may be missing.
+pub record AsksForHelp (words : List Text) (asks : Bool) : Type 0 where
   pub matches : Matched
   pub read : HasReading greeter_options words matches
-  pub help : is_present matches.groups (codes "help") ≡ true
+  pub help : asks ≡ is_present matches.groups (codes "help")
 
 -- The line is accepted, and gives this name, and this number or none.
 pub record IsGreetingOf (words : List Text) (greeting : Greeting) : Type 0 where
@@ -46,8 +46,8 @@ pub record IsGreetingOf (words : List Text) (greeting : Greeting) : Type 0 where
 
 -- what the line asks for
 abbrev pub IsAskedBy : List Text → Asked → Type 0
-IsAskedBy words Help = AsksForHelp words
-IsAskedBy words (Greet greeting) = IsGreetingOf words greeting
+IsAskedBy words Help = AsksForHelp words true
+IsAskedBy words (Greet greeting) = AsksForHelp words false × IsGreetingOf words greeting
 
 -- Why the line asks for nothing: it is refused with this fault, or it is accepted and its number can't be
 -- read. Out of memory says nothing of the line.

@@ -2,7 +2,8 @@
 
 ghost use Rattle.std.specs.Prelude.{◌≡◌, IfErr, IfOk};
 ghost use Rattle.getopts.specs.Names.{texts};
-ghost use Rattle.getopts_greet.specs.Greeting.{IsAskedBy, IsRefusalOf, greeter_options};
+ghost use Rattle.getopts_greet.specs.Greeting.{AsksForHelp, IsAskedBy, IsGreetingOf, IsRefusalOf};
+ghost use Rattle.getopts_greet.specs.Greeting.{greeter_options};
 ghost use Rattle.getopts_greet.specs.declared.greeting.Refusal.TheVariants.{Line, Number, OutOfMemory};
 
 use getopts::{Fail, Options};
@@ -76,13 +77,31 @@ pub fn read(alloc: Global, words: &[&str]) -> Result<Asked, Refusal>
     ensures refused { IfErr result (IsRefusalOf (texts words.now)) }
 {
     let options = options(alloc)?;
-    let read = options.parse_ignoring_counts(alloc, words)?;
-    if read.opt_present("help") {
+    if asks_for_help(alloc, &options, words)? {
         return Ok(Asked::Help);
     }
+    Ok(Asked::Greet(read_greeting(alloc, &options, words)?))
+}
+
+/// Whether a line asks for help. A required option may be missing.
+fn asks_for_help(alloc: Global, options: &Options, words: &[&str]) -> Result<bool, Refusal>
+    requires { options.now ≡ greeter_options }
+    ensures asks { IfOk result (λ asks. AsksForHelp (texts words.now) asks) }
+    ensures refused { IfErr result (IsRefusalOf (texts words.now)) }
+{
+    let matches = options.parse_ignoring_counts(alloc, words)?;
+    Ok(matches.opt_present("help"))
+}
+
+/// The greeting of a line.
+fn read_greeting(alloc: Global, options: &Options, words: &[&str]) -> Result<Greeting, Refusal>
+    requires { options.now ≡ greeter_options }
+    ensures greeting { IfOk result (IsGreetingOf (texts words.now)) }
+    ensures refused { IfErr result (IsRefusalOf (texts words.now)) }
+{
     let matches = options.parse_words(alloc, words)?;
-    Ok(Asked::Greet(Greeting {
+    Ok(Greeting {
         name: matches.opt_str(alloc, "name")?.unwrap(),
         times: matches.opt_get("times")?,
-    }))
+    })
 }

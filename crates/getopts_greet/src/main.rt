@@ -5,7 +5,6 @@ mod greeting;
 
 use getopts::Fail;
 use greeting::{Asked, Greeting, Refusal, options, read};
-use std::alloc::AllocError;
 use std::process::ExitCode;
 use std::{env, io};
 
