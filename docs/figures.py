@@ -68,9 +68,9 @@ def instructions(job, column="this library"):
     return f"{int(cell(INSTRUCTIONS, job, column)):,}"
 
 
-def share(job, part, whole):
-    """What part one library's instructions are of another's."""
-    return f"{100 * int(cell(INSTRUCTIONS, job, part)) / max(1, int(cell(INSTRUCTIONS, job, whole))):.0f}"
+def share(job, library="this library"):
+    """What part of the Rust crate's instructions a library takes, in hundredths."""
+    return f"{100 * int(cell(INSTRUCTIONS, job, library)) / max(1, int(cell(INSTRUCTIONS, job, 'Rust crate'))):.0f}"
 
 
 def megabytes(column):
@@ -120,13 +120,14 @@ FIGURES = [
     ("README.md", r"\| ([\d,]+) named wrong bodies", lambda: [files(*EDITS)]),
     ("README.md", r"logic `(\w+)`", lambda: [logic()]),
     ("README.md", r"`\(cd crates/getopts && rt lib\)` .* \| ([^|]*) \| ([^|]*) \|", lambda: minutes("rt lib")),
-    ("README.md", r"`bash test.sh --quick` .* \| ([^|]*) \| ([^|]*) \|", lambda: minutes("bash test.sh --quick")),
     ("README.md", r"`bash test.sh` .* \| ([^|]*) \| ([^|]*) \|", lambda: minutes("bash test.sh")),
-    ("README.md", r"(\d+) % of the Rust crate's", lambda: [share("long", "this library", "Rust crate")]),
+    ("README.md", r"program takes (\d+) % of the Rust crate's .* and (\d+) %",
+     lambda: [share("small"), share("long")]),
+    ("README.md", r"it takes (\d+) % and (\d+) %", lambda: [share("copied-small"), share("copied-long")]),
     ("README.md", r"drop-in takes (\d+) % .* and (\d+) %",
-     lambda: [share("read-small", "bindings/rust", "Rust crate"), share("read-long", "bindings/rust", "Rust crate")]),
-    ("CALLING.md", r"is proved once, in ([^|]*?) of processor time", lambda: minutes("rt lib")[:1]),
-    ("bench/README.md", r"holds ([\d.]+) MB here, ([\d.]+) MB in the Rust crate and ([\d.]+) MB",
+     lambda: [share("small", "bindings/rust"), share("long", "bindings/rust")]),
+    ("CALLING.md", r"the library once, in ([^|]*?) of processor time", lambda: minutes("rt lib")[:1]),
+    ("bench/README.md", r"holds is ([\d.]+) MB here, ([\d.]+) MB in the Rust\s+crate and ([\d.]+) MB",
      lambda: [megabytes("this library"), megabytes("Rust crate"), megabytes("bindings/rust")]),
 ]
 
@@ -134,7 +135,7 @@ FIGURES = [
 OTHERS = re.compile(r"""
     \bU\+\w+ | \b0\.2\.24\b | Apache-2\.0 | x86-64(-v2)?
     | 1,000\ words | 100,000\ words | 200\ options | 400\ words | 4,000\ names | 1,000\ options\ each
-    | 54\ columns | 24\ (spaces|columns) | stop\ at\ 255 | 1\ MiB | 10,000\ options | 24\ bytes
+    | 54\ columns | 24\ (spaces|columns) | stop\ at\ 255 | 24\ bytes | 80\ words
 """, re.X)
 
 

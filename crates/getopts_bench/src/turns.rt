@@ -222,8 +222,9 @@ fn taken(matches: &Matches, named: &[Named]) -> usize {
 fn taken_as_copies(alloc: Global, matches: &Matches, named: &[Named]) -> Result<usize, AllocError> {
     let mut sum = total_length(&matches.free);
     for option in named {
-        if matches.opt_defined(option.main()) {
-            sum = sum.wrapping_add(count_and_copies(alloc, matches, option.main())?);
+        let name = option.main();
+        if matches.opt_defined(name) {
+            sum = sum.wrapping_add(count_and_copies(alloc, matches, name)?);
         }
     }
     Ok(sum)
