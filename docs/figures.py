@@ -42,6 +42,11 @@ def lines(name):
     return f"{len(read(name).splitlines()):,}"
 
 
+def stated(name, pattern):
+    """A number that a source file states."""
+    return f"{int(re.search(pattern, read(name))[1]):,}"
+
+
 # ---- what is recorded ----
 
 
@@ -127,6 +132,8 @@ FIGURES = [
     ("README.md", r"drop-in takes (\d+) % .* and (\d+) %",
      lambda: [share("small", "bindings/rust"), share("long", "bindings/rust")]),
     ("CALLING.md", r"the library once, in ([^|]*?) of processor time", lambda: minutes("rt lib")[:1]),
+    ("tests/differential/README.md", r"first ([\d,]+) of seed 1",
+     lambda: [stated("tests/differential/record.sh", r"choose 1 (\d+)")]),
     ("bench/README.md", r"holds is ([\d.]+) MB here, ([\d.]+) MB in the Rust\s+crate and ([\d.]+) MB",
      lambda: [megabytes("this library"), megabytes("Rust crate"), megabytes("bindings/rust")]),
 ]
@@ -135,7 +142,9 @@ FIGURES = [
 OTHERS = re.compile(r"""
     \bU\+\w+ | \b0\.2\.24\b | Apache-2\.0 | x86-64(-v2)?
     | 1,000\ words | 100,000\ words | 200\ options | 400\ words | 4,000\ names | 1,000\ options\ each
-    | 54\ columns | 24\ (spaces|columns) | stop\ at\ 255 | 24\ bytes | 80\ words
+    | 54\ columns | 24\ (spaces|columns) | stop\ at\ 255 | 24\ bytes | 80\ words | 200,000\ cases
+    # experiments that were done once
+    | 393\ small\ changes | told\ 375 | 585\ small\ changes | told\ 492 | 54\ of\ the\ other\ 93 | 39\ are
 """, re.X)
 
 
