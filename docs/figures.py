@@ -69,10 +69,6 @@ def cell(title, job, column):
     return tables().get((title, job), {}).get(column, "0").rstrip("*")
 
 
-def instructions(job, column="this library"):
-    return f"{int(cell(INSTRUCTIONS, job, column)):,}"
-
-
 def share(job, library="this library"):
     """What part of the Rust crate's instructions a library takes, in hundredths."""
     return f"{100 * int(cell(INSTRUCTIONS, job, library)) / max(1, int(cell(INSTRUCTIONS, job, 'Rust crate'))):.0f}"
