@@ -122,6 +122,13 @@ head() {
     printf '%-16s %14s %14s %14s %14s %14s %14s\n' job 'this library' 'Rust crate' bindings/rust lexopt pico-args clap
 }
 
+# The versions of what is measured.
+lock=$out/peers/Cargo.lock
+echo "#$(for peer in getopts lexopt pico-args clap unicode-width; do
+    grep -A 1 "^name = \"$peer\"" "$lock" | sed -n "s/^version = \"\(.*\)\"/ $peer \1,/p"
+done | tr -d '\n') $(valgrind --version), $(rustc --version)"
+echo
+
 part 'counting instructions'
 echo 'Instructions of one turn'
 head

@@ -23,7 +23,7 @@ abbrev pub greeter_options : Declared
 greeter_options = record {
   groups =
       group_of (codes "n") (codes "name") (codes "greet NAME") (codes "NAME") Yes Req
-      ∷ group_of (codes "t") (codes "times") (codes "so many times") (codes "NUMBER") Yes Optional
+      ∷ group_of (codes "t") (codes "times") (codes "greet NUMBER times") (codes "NUMBER") Yes Optional
       ∷ group_of (codes "h") (codes "help") (codes "print this help") [] No Optional
       ∷ [];
   style = FloatingFrees;

@@ -66,7 +66,7 @@ pub fn options(alloc: Global) -> Result<Options, AllocError>
     let mut options = Options::new(alloc);
     options
         .reqopt("n", "name", "greet NAME", "NAME")?
-        .optopt("t", "times", "so many times", "NUMBER")?
+        .optopt("t", "times", "greet NUMBER times", "NUMBER")?
         .optflag("h", "help", "print this help")?;
     Ok(options)
 }
