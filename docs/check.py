@@ -6,7 +6,7 @@ usage: docs/check.py [--fix]
 - Code: each block of Rattle on a page for callers stands in one file of crates/, which the gate proves, and has the
   imports that it needs from there, and no others.
 - Contracts: docs/CONTRACTS.md names each public function of the library, and clauses that are there.
-- Names: docs/GRAMMAR.md has each public definition; what a page names in backquotes exists, as a word of the sources
+- Names: docs/GRAMMAR.md has each public definition and docs/PROOFS.md each edit; what a page names in backquotes exists, as a word of the sources
   or a file; so does what a page links to.
 - Figures: each figure of ten or more on a page is counted, measured or recorded by docs/figures.py. One that differs
   fails, one that is not listed there fails, and each is changed once to see that the change fails. With --fix those
@@ -130,8 +130,13 @@ for crate in ["getopts", "getopts_show", "getopts_c", "getopts_shell"]:
             for it in re.findall(r"^(?:abbrev |unfoldable )?pub (?:record |data )?([A-Za-z_][\w-]*)", read(name), re.M):
                 expect(it in ("mod", "use") or it in named, f"docs/GRAMMAR.md doesn't name {it} of {name}")
 
+for name in tracked:
+    if name.endswith(".edit") and "/private/" not in name:
+        edit = os.path.basename(name).removesuffix(".edit")
+        expect(f"`{edit}`" in pages["docs/PROOFS.md"], f"docs/PROOFS.md doesn't name the edit {edit}")
+
 # Names of the toolchain, of Rust and of Debian's packages.
-OTHERS = """Lends LendsIfOk RestsIfErr Send Sync unicode-width x86-64-v2 opt_count-requires unwrap-requires
+OTHERS = """Lends LendsIfOk RestsIfErr Send Sync unicode-width x86-64-v2 POSIXLY_CORRECT optind
     librust-clap-dev librust-lexopt-dev librust-pico-args-dev librust-unicode-width-dev"""
 words = set(OTHERS.split()) | {figures.logic()} | {part for name in tracked for part in re.split(r"[/.]", name)}
 for name in tracked:

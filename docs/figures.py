@@ -138,7 +138,7 @@ FIGURES = [
 OTHERS = re.compile(r"""
     \bU\+\w+ | \b0\.2\.24\b | Apache-2\.0 | x86-64(-v2)?
     | 1,000\ words | 100,000\ words | 200\ options | 400\ words | 4,000\ names | 1,000\ options\ each
-    | 54\ columns | 24\ (spaces|columns) | stop\ at\ 255 | 24\ bytes | 80\ words | 200,000\ cases
+    | 54\ columns | 24\ (spaces|columns) | stop\ at\ 255 | 24\ bytes | 80\ words | 200,000\ cases | about\ 2009
     # experiments that were done once
     | 393\ small\ changes | told\ 375 | 585\ small\ changes | told\ 492 | 54\ of\ the\ other\ 93 | 39\ are
 """, re.X)
@@ -154,9 +154,11 @@ def table_figures(page, text):
         cells = [(row.start() + it.start(1), it[1]) for it in re.finditer(r"(?<=\|) *([^|]*?) *(?=\|)", row[0])]
         if cells[0][1] == "job":
             columns = [it for _, it in cells]
-        elif columns and (job := re.match(r"`([\w-]+)`", cells[0][1])) and (INSTRUCTIONS, job[1]) in tables():
+        elif columns and (job := re.match(r"`([\w-]+)`", cells[0][1])):
             for (at, cell_text), column in list(zip(cells, columns))[1:]:
-                if column in COLUMNS:
+                if column in COLUMNS and job[1] == "memory":
+                    yield at, cell_text, megabytes(COLUMNS[column])
+                elif column in COLUMNS and (INSTRUCTIONS, job[1]) in tables():
                     wanted = cell(INSTRUCTIONS, job[1], COLUMNS[column])
                     yield at, cell_text, f"{int(wanted):,}" if wanted.isdigit() else wanted
 
