@@ -137,13 +137,13 @@ else
     begin "recorded cases by the rules" once getopts_vectors -- python3 tests/differential/rules.py
     part "proofs, tests and programs of all crates" proofs
 fi
-part "code on the pages for callers" bash docs/quotes.sh
-part "modules that use each other" bash docs/modules.sh
-part "definitions that GRAMMAR names" bash docs/names.sh
+part "pages and modules" python3 docs/check.py
 ended
 if [ -n "$failed" ]; then
     echo "failed: ${failed#; }"
     exit 1
 fi
 [ -z "$quick" ] || echo "Nothing was proved: 'bash test.sh' proves everything."
-echo "all passed after $SECONDS s"
+times >"$room/times"
+processor=$(tail -n 1 "$room/times" | tr ms '  ' | awk '{ printf "%d", 60 * ($1 + $3) + $2 + $4 }')
+echo "all passed after $SECONDS s, with $processor s of processor"

@@ -47,12 +47,15 @@ out=$(cd "$1" && pwd)
 jobs='small 100 300
 read-small 100 300
 canonical-small 100 300
+copied-small 100 300
 long 5 15
 read-long 5 15
 canonical-long 5 15
+copied-long 5 15
 many 5 15
 read-many 5 15
 canonical-many 5 15
+copied-many 5 15
 equal 0 1
 usage 100 300
 defined-4000 0 1'
@@ -118,6 +121,13 @@ row() {
 head() {
     printf '%-16s %14s %14s %14s %14s %14s %14s\n' job 'this library' 'Rust crate' bindings/rust lexopt pico-args clap
 }
+
+# The versions of what is measured.
+lock=$out/peers/Cargo.lock
+echo "#$(for peer in getopts lexopt pico-args clap unicode-width; do
+    grep -A 1 "^name = \"$peer\"" "$lock" | sed -n "s/^version = \"\(.*\)\"/ $peer \1,/p"
+done | tr -d '\n') $(valgrind --version), $(rustc --version)"
+echo
 
 part 'counting instructions'
 echo 'Instructions of one turn'

@@ -19,7 +19,7 @@ pub fn run(job: &str, times: usize) -> Option<usize> {
         "equal" => Some(equal(times)),
         "usage" => Some(usage(times)),
         "memory" => Some(read(&Input::of_memory(), times)),
-        _ => Some(whole(&Input::of(job)?, times)),
+        _ => Some(whole(&Input::of(job.strip_prefix("copied-").unwrap_or(job))?, times)),
     }
 }
 

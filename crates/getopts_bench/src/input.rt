@@ -86,7 +86,9 @@ impl Input {
     /// Adds what a job declares and reads.
     fn add(&mut self, alloc: Global, job: Job) -> Result<(), AllocError> {
         match job {
-            Job::Whole(line) | Job::Read(line) | Job::Canonical(line) => self.add_line(alloc, line),
+            Job::Whole(line) | Job::Copied(line) | Job::Read(line) | Job::Canonical(line) => {
+                self.add_line(alloc, line)
+            }
             Job::Equal => self.add_thousand(alloc),
             Job::Usage => Ok(()),
             Job::Defined(count) => self.add_numbered(alloc, count),

@@ -18,6 +18,8 @@ pub enum Line {
 pub enum Job {
     /// Declares, reads, and takes each count and value.
     Whole(Line),
+    /// The same, by the calls that the Rust crate has.
+    Copied(Line),
     /// Reads the words.
     Read(Line),
     /// Writes the canonical line.
@@ -60,6 +62,7 @@ fn whole_job(name: &str) -> Result<Job, UnknownJob> {
 /// The job of a part and what it is of.
 fn part_of(part: &str, of: &str) -> Result<Job, UnknownJob> {
     match part {
+        "copied" => Ok(Job::Copied(of.parse()?)),
         "read" => Ok(Job::Read(of.parse()?)),
         "canonical" => Ok(Job::Canonical(of.parse()?)),
         "defined" => match of.parse() {

@@ -8,6 +8,8 @@
 //!   400 words. A turn declares the options, reads the words, and takes the count and the values
 //!   of each option, which are lent, and the free words. It adds up the counts and the lengths of
 //!   the texts.
+//! - `copied-LINE` does the same by the calls that the Rust crate has: `parse` of an iterator, and
+//!   `opt_strs`, which copies, of each name that is defined.
 //! - `read-LINE` is a part of that turn, with the options declared once, before the turns. A turn adds the
 //!   number of free words.
 //! - `canonical-LINE` writes the canonical line. A turn adds the lengths of its words.

@@ -1,6 +1,8 @@
 //! The turns of a job, and what they add up to. The turns of each job stay a function of their own, so that
 //! no job is built otherwise for the sake of another.
 
+ghost use Rattle.getopts.specs.Accessors.{IsDefined};
+
 use crate::input::{Named, THOUSAND, input_of};
 use crate::job::Job;
 use getopts::{Fail, Matches, Occurrences, Options};
@@ -20,7 +22,7 @@ pub fn run(alloc: Global, job: Job, times: usize) -> Result<usize, Fail> {
 /// The options that are declared before a job's turns: none where each turn declares them itself.
 fn declared_before(alloc: Global, job: Job, named: &[Named]) -> Result<Options, AllocError> {
     match job {
-        Job::Whole(_) => Ok(Options::new(alloc)),
+        Job::Whole(_) | Job::Copied(_) => Ok(Options::new(alloc)),
         _ => declared(alloc, named),
     }
 }
@@ -36,6 +38,7 @@ fn turns(
 ) -> Result<usize, Fail> {
     match job {
         Job::Whole(_) => whole(alloc, named, words, times),
+        Job::Copied(_) => copied(alloc, named, words, times),
         Job::Read(_) | Job::Memory => read(alloc, options, words, times),
         Job::Canonical(_) => canonical(alloc, options, words, times),
         Job::Equal => equal(alloc, options, times),
@@ -52,6 +55,18 @@ fn whole(alloc: Global, named: &[Named], words: &[&str], times: usize) -> Result
         let options = declared(alloc, named)?;
         let matches = options.parse_words(alloc, words)?;
         sum = sum.wrapping_add(taken(&matches, named));
+    }
+    Ok(sum)
+}
+
+/// Turns that do so by the calls that the Rust crate has: an iterator is read, and values are copied.
+#[inline(never)]
+fn copied(alloc: Global, named: &[Named], words: &[&str], times: usize) -> Result<usize, Fail> {
+    let mut sum = 0usize;
+    for _ in 0..times {
+        let options = declared(alloc, named)?;
+        let matches = options.parse(alloc, words.iter().copied())?;
+        sum = sum.wrapping_add(taken_as_copies(alloc, &matches, named)?);
     }
     Ok(sum)
 }
@@ -201,6 +216,26 @@ fn taken(matches: &Matches, named: &[Named]) -> usize {
         }
     }
     sum
+}
+
+/// What matches give, added up, with the values copied.
+fn taken_as_copies(alloc: Global, matches: &Matches, named: &[Named]) -> Result<usize, AllocError> {
+    let mut sum = total_length(&matches.free);
+    for option in named {
+        let name = option.main();
+        if matches.opt_defined(name) {
+            sum = sum.wrapping_add(count_and_copies(alloc, matches, name)?);
+        }
+    }
+    Ok(sum)
+}
+
+/// How often an option was given, and the lengths of its values, which are copied, added up.
+fn count_and_copies(alloc: Global, matches: &Matches, name: &str) -> Result<usize, AllocError>
+    requires { IsDefined matches.now.groups name.now }
+{
+    let values = matches.opt_strs(alloc, name)?;
+    Ok(matches.opt_count(name).wrapping_add(total_length(&values)))
 }
 
 /// The lengths of the values of occurrences, added up.

@@ -1,24 +1,19 @@
-//! Greets by name: a whole program over the library, proved with no proof file.
+//! Greets by name: a program to copy.
 #![tactic(auto)]
 
-ghost use Rattle.std.specs.Prelude.{IfOk, codes};
-ghost use Rattle.getopts.specs.Accessors.{IsDefined};
-ghost use Rattle.getopts.specs.Options.{Declares};
+mod greeting;
 
-use getopts::{Fail, Matches, Options};
-use std::alloc::{AllocError, Global};
+use getopts::Fail;
+use greeting::{Asked, Greeting, Refusal, options, read};
 use std::process::ExitCode;
 use std::{env, io};
 
-/// What the help begins with.
-const BRIEF: &str = "Usage: getopts_greet [options] NAME..";
-
-/// The statuses where the words were refused, and where they or memory for them couldn't be had.
+/// The status where the words were refused.
 const REFUSED: u8 = 2;
 
+/// The status where memory was out, a word was not UTF-8, or a write failed.
 const FAILED: u8 = 3;
 
-/// Ends with the status of the run.
 fn main(rt: HostRuntime) -> ExitCode {
     ExitCode::from(run(&rt).unwrap_or(FAILED))
 }
@@ -26,10 +21,14 @@ fn main(rt: HostRuntime) -> ExitCode {
 /// Reads the program's words, and does what they ask for.
 fn run(rt: &HostRuntime) -> io::Result<u8> {
     let words = words(rt)?;
-    let options = options(rt.alloc())?;
-    match options.parse(rt.alloc(), words.iter().map(|word| word.as_str())) {
-        Ok(matches) => answer(rt, &options, &matches),
-        Err(fail) => refuse(rt, &options, &fail),
+    let mut lent = Vec::new(rt.alloc());
+    for word in &words {
+        lent.push(word.as_str())?;
+    }
+    match read(rt.alloc(), &lent) {
+        Ok(Asked::Help) => help(rt),
+        Ok(Asked::Greet(greeting)) => greet(rt, &greeting),
+        Err(refusal) => refuse(rt, &refusal),
     }
 }
 
@@ -42,41 +41,27 @@ fn words(rt: &HostRuntime) -> io::Result<Vec<String>> {
     Ok(words)
 }
 
-/// The program's options.
-fn options(alloc: Global) -> Result<Options, AllocError>
-    ensures greeting { IfOk result (λ options. Declares options (codes "greeting")) }
-    ensures help { IfOk result (λ options. Declares options (codes "help")) }
-{
-    let mut options = Options::new(alloc);
-    options
-        .optopt("g", "greeting", "say WORD in place of hello", "WORD")?
-        .optflag("h", "help", "print this help")?;
-    Ok(options)
+/// Prints the help, which ends with a line end of its own.
+fn help(rt: &HostRuntime) -> io::Result<u8> {
+    let text = options(rt.alloc())?.usage(rt.alloc(), "Usage: getopts_greet [options]")?;
+    print!(rt; "{text}")?;
+    Ok(0)
 }
 
-/// Prints the help, or greets each free word.
-fn answer(rt: &HostRuntime, options: &Options, matches: &Matches) -> io::Result<u8>
-    requires greeting { IsDefined matches.now.groups (codes "greeting") }
-    requires help { IsDefined matches.now.groups (codes "help") }
-{
-    if matches.opt_present("help") {
-        println!(rt; "{}", options.usage(rt.alloc(), BRIEF)?)?;
-        return Ok(0);
-    }
-    let greeting = matches.opt_str(rt.alloc(), "greeting")?;
-    let greeting = greeting.as_deref().unwrap_or("hello");
-    for name in &matches.free {
-        println!(rt; "{greeting} {name}")?;
+/// Greets as often as asked for.
+fn greet(rt: &HostRuntime, greeting: &Greeting) -> io::Result<u8> {
+    for _ in 0..greeting.times.unwrap_or(1) {
+        println!(rt; "hello {}", greeting.name)?;
     }
     Ok(0)
 }
 
-/// Tells the fault and the usage on the standard error.
-fn refuse(rt: &HostRuntime, options: &Options, fail: &Fail) -> io::Result<u8> {
-    if *fail == Fail::OutOfMemory {
-        return Ok(FAILED);
+/// Prints why the words were refused.
+fn refuse(rt: &HostRuntime, refusal: &Refusal) -> io::Result<u8> {
+    match refusal {
+        Refusal::Line(Fail::OutOfMemory) | Refusal::OutOfMemory => return Ok(FAILED),
+        Refusal::Line(fail) => eprintln!(rt; "getopts_greet: {fail}")?,
+        Refusal::Number(error) => eprintln!(rt; "getopts_greet: --times: {error}")?,
     }
-    let usage = options.short_usage(rt.alloc(), "getopts_greet")?;
-    eprintln!(rt; "getopts_greet: {fail}\n{usage}")?;
     Ok(REFUSED)
 }
