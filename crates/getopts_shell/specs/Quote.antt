@@ -1,0 +1,63 @@
+-- Words in quotes, and what a shell makes of a text of words.
+use Rattle.std.specs.Prelude.{◌==◌, ◌||◌, ℕ, List, [], ◌∷◌, ◌++◌, Option, Some, None}
+use Rattle.std.specs.Prelude.{codes, if◌then◌else◌, fold}
+use Rattle.std.specs.List.{flat_map}
+use Rattle.std.specs.Option.{option_to_list, unwrap_or}
+use Rattle.getopts.specs.Names.{Text}
+
+-- ---- what a shell makes of a text
+
+-- What a shell has read of a text: the words that are done, and where it stands. Outside quotes it
+-- is in a word that isn't done, or between words; in quotes, and after a backslash, it is in a word.
+-- Of what a shell makes of other texts nothing is said.
+pub data Progress : Type 0 where
+  outside : List Text → Option Text → Progress
+  quoting : List Text → Text → Progress
+  escaping : List Text → Text → Progress
+  unsaid : Progress
+
+-- the words that are done, where the word that is read ends
+abbrev pub done : List Text → Option Text → List Text
+done words word = words ++ option_to_list word
+
+-- One byte more. Blanks part words, `'..'` is literal, and `\` takes the next byte literally, but for
+-- a line end, which it takes away; of any other byte outside quotes nothing is said.
+abbrev pub read_byte : Progress → ℕ → Progress
+read_byte (outside words word) byte =
+    if byte == 39 then quoting words (unwrap_or word [])
+    else (if byte == 92 then escaping words (unwrap_or word [])
+    else (if byte == 32 || byte == 9 then outside (done words word) None else unsaid))
+read_byte (quoting words word) byte =
+    if byte == 39 then outside words (Some word) else quoting words (word ++ byte ∷ [])
+read_byte (escaping words word) byte =
+    if byte == 10 then unsaid else outside words (Some (word ++ byte ∷ []))
+read_byte unsaid byte = unsaid
+
+-- the words that a shell has read where the text ends
+abbrev pub words_read : Progress → Option (List Text)
+words_read (outside words word) = Some (done words word)
+words_read progress = None
+
+-- the words that a shell makes of a text, where that is said
+abbrev pub shell_words : Text → Option (List Text)
+shell_words text = words_read (fold read_byte (outside [] None) text)
+
+-- ---- words in quotes
+
+-- a byte of a word in quotes: for `'` those quotes end, it stands behind a backslash, and new quotes
+-- begin
+abbrev pub quoted_byte : ℕ → Text
+quoted_byte byte = if byte == 39 then codes "'\\''" else byte ∷ []
+
+-- a word in quotes
+abbrev pub quoted : Text → Text
+quoted word = codes "'" ++ (flat_map quoted_byte word ++ codes "'")
+
+-- a word in quotes, after a space
+abbrev pub spaced : Text → Text
+spaced word = codes " " ++ quoted word
+
+-- words in quotes, with a space between each two
+abbrev pub quoted_words : List Text → Text
+quoted_words [] = []
+quoted_words (word ∷ words) = quoted word ++ flat_map spaced words

@@ -1,0 +1,238 @@
+-- The table of options: what each line of it declares, and which options it declares.
+use Rattle.std.specs.Prelude.{◌≡◌, ◌≢◌, ◌==◌, ◌||◌, ◌&&◌, ◌⊎◌, not, ℕ, ◌+◌, nat_lt, Bool, true, false}
+use Rattle.std.specs.Prelude.{List, [], ◌∷◌, ◌++◌, Option, Some, None, codes, if◌then◌else◌, slice_index, length}
+use Rattle.std.specs.Prelude.{⊤}
+use Rattle.std.specs.List.{AllByRecursion, AllZip, filter_map, list_all, list_any, flat_map}
+use Rattle.std.specs.Option.{option_map_or}
+use Rattle.std.specs.Str.{bytes_eq}
+use Rattle.getopts.specs.Names.{Text, Names, IsLawfullyNamed, is_empty}
+use Rattle.getopts.specs.Options.{Group, Known}
+use Rattle.getopts.specs.Scan.{begins_with_dash}
+use Rattle.getopts.specs.Usage.{argument_part, bracketed, option_argument}
+use Rattle.getopts.specs.Wrap.{lines_of}
+use Rattle.getopts.specs.declared.groups.HasArg.{HasArg}
+use Rattle.getopts.specs.declared.groups.HasArg.TheVariants.{Yes, No, Maybe}
+use Rattle.getopts.specs.declared.groups.Occur.{Occur}
+use Rattle.getopts.specs.declared.groups.Occur.TheVariants.{Req, Optional, Multi}
+
+-- ---- names, hints and items
+
+-- a byte that a name may hold: no space, no control character, and none of `|`, `[`, `]` and `=`
+abbrev pub is_name_byte : ℕ → Bool
+is_name_byte byte = nat_lt 32 byte && not (byte == 127) && not (byte == 124) && not (byte == 91)
+    && not (byte == 93) && not (byte == 61)
+
+-- whether a text may be a name: it doesn't begin with `-`, and its bytes may stand in a name
+abbrev pub is_name : Text → Bool
+is_name text = not (begins_with_dash text) && list_all is_name_byte text
+
+-- a byte that a hint may hold: no space, no tab, no `[` and no `]`
+abbrev pub is_hint_byte : ℕ → Bool
+is_hint_byte byte = not (byte == 32) && not (byte == 9) && not (byte == 91) && not (byte == 93)
+
+-- whether a text may be a hint
+abbrev pub is_hint : Text → Bool
+is_hint text = not (is_empty text) && list_all is_hint_byte text
+
+-- names as they are written: `-s`, `--long` or `-s|--long`
+abbrev pub names_text : Names → Text
+names_text names =
+    if is_empty names.short then codes "--" ++ names.long
+    else (codes "-" ++ (names.short
+    ++ (if is_empty names.long then [] else codes "|--" ++ names.long)))
+
+-- these names, written so
+pub record AreNames (names : Names) (text : Text) : Type 0 where
+  pub lawful : IsLawfullyNamed names
+  pub short : is_name names.short ≡ true
+  pub long : is_name names.long ≡ true
+  pub written : text ≡ names_text names
+
+-- the argument of a kind, with this hint: none for No, the hint for Yes, and for Maybe the hint in
+-- brackets
+abbrev pub IsArgument : HasArg → Text → Option Text → Type 0
+IsArgument No hint None = hint ≡ []
+IsArgument Yes hint (Some text) = (is_hint hint ≡ true) × (text ≡ hint)
+IsArgument Maybe hint (Some text) = (is_hint hint ≡ true) × (text ≡ codes "[" ++ (hint ++ codes "]"))
+IsArgument kind hint argument = ⊥
+
+-- names, which hold no space, and after one space the argument, if there is one
+abbrev pub HasParts : Text → Text → Option Text → Type 0
+HasParts text names argument = (list_any (λ byte. byte == 32) names ≡ false)
+    × (text ≡ names ++ option_map_or (λ argument. codes " " ++ argument) argument [])
+
+-- a text in the brackets of an occurrence: none for Req, `[` and `]` for Optional, and for Multi `[`
+-- and `]..` or `]...`
+abbrev pub IsBracketed : Occur → Text → Text → Type 0
+IsBracketed Req inside text = (text ≡ inside) × (slice_index text 0 ≢ 91)
+IsBracketed Optional inside text = text ≡ codes "[" ++ (inside ++ codes "]")
+IsBracketed Multi inside text = (text ≡ codes "[" ++ (inside ++ codes "].."))
+    ⊎ (text ≡ codes "[" ++ (inside ++ codes "]..."))
+
+-- An item: names, and perhaps an argument, in the brackets of an occurrence.
+pub record IsItem (text : Text) (known : Known) (hint : Text) : Type 0 where
+  pub inside : Text
+  pub brackets : IsBracketed known.occurrence inside text
+  pub names : Text
+  pub argument : Option Text
+  pub parts : HasParts inside names argument
+  pub names_are : AreNames known.names names
+  pub argument_is : IsArgument known.kind hint argument
+
+-- ---- lines
+
+-- whether a byte is a space, a tab or a carriage return
+abbrev pub is_blank : ℕ → Bool
+is_blank byte = byte == 32 || byte == 9 || byte == 13
+
+-- a text without the blanks that it begins with
+abbrev pub after_blanks : Text → Text
+after_blanks [] = []
+after_blanks (byte ∷ more) = if is_blank byte then after_blanks more else byte ∷ more
+
+-- a text without the blanks that it ends in
+abbrev pub before_blanks : Text → Text
+before_blanks [] = []
+before_blanks (byte ∷ more) =
+    if list_all is_blank (byte ∷ more) then [] else byte ∷ before_blanks more
+
+-- a text without the blanks at both ends
+abbrev pub trimmed : Text → Text
+trimmed text = before_blanks (after_blanks text)
+
+-- whether a text begins with a tab or two spaces
+abbrev pub begins_gap : Text → Bool
+begins_gap text =
+    slice_index text 0 == 9 || (slice_index text 0 == 32 && slice_index text 1 == 32)
+
+-- what stands before the first tab or two spaces, or all where there are none
+abbrev pub before_gap : Text → Text
+before_gap [] = []
+before_gap (byte ∷ more) =
+    if begins_gap (byte ∷ more) then [] else byte ∷ before_gap more
+
+-- a text from the first tab or two spaces on
+abbrev pub from_gap : Text → Text
+from_gap [] = []
+from_gap (byte ∷ more) = if begins_gap (byte ∷ more) then byte ∷ more else from_gap more
+
+-- the item of a line
+abbrev pub item_of : Text → Text
+item_of line = before_gap (trimmed line)
+
+-- whether a line declares nothing: it is empty or begins with `#`
+abbrev pub is_passed : Text → Bool
+is_passed line = is_empty (trimmed line) || slice_index (trimmed line) 0 == 35
+
+-- A line declares a group: an item, and after a tab or two spaces its description.
+pub record DeclaresGroup (line : Text) (group : Group) : Type 0 where
+  pub there : is_passed line ≡ false
+  pub item : IsItem (item_of line) group.known group.hint
+  pub description : group.description ≡ trimmed (from_gap (trimmed line))
+
+-- what a line declares: nothing, or a group
+abbrev pub Declares : Text → Option Group → Type 0
+Declares line None = is_passed line ≡ true
+Declares line (Some group) = DeclaresGroup line group
+
+-- ---- tables
+
+-- the groups that lines declare, in order
+abbrev pub DeclareGroups : List Text → List Group → Type 0
+DeclareGroups lines groups = (each : List (Option Group)) × AllZip Declares lines each
+    × (groups ≡ filter_map (λ declared. declared) each)
+
+-- whether a group has this name
+abbrev pub has_name : Text → Group → Bool
+has_name name group = not (is_empty name)
+    && (bytes_eq group.known.names.short name || bytes_eq group.known.names.long name)
+
+-- whether any of these groups has this name
+abbrev pub any_has_name : List Group → Text → Bool
+any_has_name groups name = list_any (has_name name) groups
+
+-- the first of a group's names that one of these groups has already
+abbrev pub name_again : List Group → Group → Option Text
+name_again groups group =
+    if any_has_name groups group.known.names.short then Some group.known.names.short
+    else (if any_has_name groups group.known.names.long then Some group.known.names.long else None)
+
+-- no name stands twice: no group has a name of one before it, where these stand before the first
+abbrev pub HaveNewNames : List Group → List Group → Type 0
+HaveNewNames before [] = ⊤
+HaveNewNames before (group ∷ groups) =
+    (name_again before group ≡ None) × HaveNewNames (before ++ group ∷ []) groups
+
+-- Lines declare these options.
+pub record DeclareOptions (lines : List Text) (groups : List Group) : Type 0 where
+  pub declared : DeclareGroups lines groups
+  pub once : HaveNewNames [] groups
+
+-- the table declares these options
+abbrev pub DeclaresOptions : Text → List Group → Type 0
+DeclaresOptions table groups = DeclareOptions (lines_of table) groups
+
+-- ---- faults
+
+-- a fault of a table: the number of a line, and its item or a name
+pub data TableFault : Type 0 where
+  no_option : ℕ → Text → TableFault
+  name_twice : ℕ → Text → TableFault
+
+-- the fault of the line with this number, where the lines before it declare these groups: it declares
+-- neither nothing nor a group, or a group with a name that stands there already
+pub data IsLineFault (number : ℕ) (groups : List Group) (line : Text) : TableFault → Type 0 where
+  none : ((declared : Option Group) → ¬ (Declares line declared))
+      → IsLineFault number groups line (no_option number (item_of line))
+  twice : (group : Group) (name : Text) → DeclaresGroup line group
+      → name_again groups group ≡ Some name
+      → IsLineFault number groups line (name_twice number name)
+
+-- the fault of a table: that of the first line that has one
+pub record IsTableFault (table : Text) (fault : TableFault) : Type 0 where
+  pub before : List Text
+  pub line : Text
+  pub after : List Text
+  pub lines_are : lines_of table ≡ before ++ line ∷ after
+  pub groups : List Group
+  pub declared : DeclareOptions before groups
+  pub fault_at : IsLineFault (length before + 1) groups line fault
+
+-- ---- options, written line by line
+
+-- an item that is written for a group
+abbrev pub item_text : Group → Text
+item_text group = bracketed group.known.occurrence
+    (names_text group.known.names ++ option_argument group.known.kind group.hint)
+
+-- the line that is written for a group
+abbrev pub line_text : Group → Text
+line_text group = item_text group
+    ++ (if is_empty group.description then [] else codes "  " ++ group.description)
+
+-- the table that is written for groups
+abbrev pub table_text : List Group → Text
+table_text groups = flat_map (λ group. line_text group ++ codes "\n") groups
+
+-- a hint of this kind
+abbrev pub FitsHint : HasArg → Text → Type 0
+FitsHint No hint = hint ≡ []
+FitsHint kind hint = is_hint hint ≡ true
+
+-- whether a text stands in one line, with no blanks at its ends
+abbrev pub is_one_line : Text → Bool
+is_one_line text = bytes_eq (trimmed text) text && not (list_any (λ byte. byte == 10) text)
+
+-- A group that can be written in a line.
+pub record CanBeWritten (group : Group) : Type 0 where
+  pub lawful : IsLawfullyNamed group.known.names
+  pub short : is_name group.known.names.short ≡ true
+  pub long : is_name group.known.names.long ≡ true
+  pub hint : FitsHint group.known.kind group.hint
+  pub hint_line : is_one_line group.hint ≡ true
+  pub description_line : is_one_line group.description ≡ true
+
+-- options whose texts can be written in a table are declared by what is written
+abbrev pub WrittenIsDeclared : Type 0
+WrittenIsDeclared = (groups : List Group) → AllByRecursion CanBeWritten groups
+    → HaveNewNames [] groups → DeclaresOptions (table_text groups) groups
