@@ -2,7 +2,7 @@
 pub mod Pieces
 pub mod Texts
 pub mod Options
-pub mod Known
+pub mod Signatures
 pub mod Groups
 pub mod Index
 pub mod Line

@@ -13,7 +13,7 @@ use Rattle.getopts.specs.Matches.{Found, MatchedGroup}
 
 -- the names of each group
 abbrev pub held_names : List MatchedGroup → List Names
-held_names groups = map (λ group. group.known.names) groups
+held_names groups = map (λ group. group.signature.names) groups
 
 -- the place of the group that a name resolves to
 abbrev pub place_of : List MatchedGroup → Text → Option ℕ
@@ -29,7 +29,7 @@ AreDefined groups names = AllByRecursion (IsDefined groups) names
 
 -- each group that matches hold is lawfully named
 abbrev pub AreHeldLawfully : List MatchedGroup → Type 0
-AreHeldLawfully groups = AllByRecursion (λ group. IsLawfullyNamed group.known.names) groups
+AreHeldLawfully groups = AllByRecursion (λ group. IsLawfullyNamed group.signature.names) groups
 
 -- the occurrences of the group at a place; past the last group there are none
 abbrev pub found_in : List MatchedGroup → ℕ → List Found

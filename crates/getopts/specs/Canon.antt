@@ -7,10 +7,10 @@ use Rattle.std.specs.Option.{option_map_or}
 use Rattle.getopts.specs.Only.{IsTheOnly}
 use Rattle.getopts.specs.Names.{Text, main_name, resolution}
 use Rattle.getopts.specs.Options.{Group, Declared, names_of, grammar_of}
-use Rattle.getopts.specs.Scan.{holds_equals, stop_word, Argument, none, attached, two, Item, long}
-use Rattle.getopts.specs.Scan.{long_word, item_words, IsLawfulItem, stop, Reading, IsReading}
-use Rattle.getopts.specs.Scan.{Mention, mentions, free_words}
-use Rattle.getopts.specs.ScanLaws.{mentions_of}
+use Rattle.getopts.specs.Reading.{holds_equals, stop_word, Argument, none, attached, two, Item, long}
+use Rattle.getopts.specs.Reading.{long_word, item_words, IsLawfulItem, stop, Reading, IsReading}
+use Rattle.getopts.specs.Reading.{Mention, mentions, free_words}
+use Rattle.getopts.specs.ReadingLaws.{mentions_of}
 use Rattle.getopts.specs.Matches.{matches_of, KeepsCounts}
 use Rattle.getopts.specs.Parse.{Reads}
 use Rattle.getopts.specs.declared.groups.ParsingStyle.{ParsingStyle}
@@ -30,7 +30,7 @@ content_of options reading = record {
 -- the main name of the group at this place; past the last group, the empty text
 abbrev pub main_at : List Group → ℕ → Text
 main_at groups place =
-    option_map_or (λ group. main_name group.known.names) (slice_get groups place) []
+    option_map_or (λ group. main_name group.signature.names) (slice_get groups place) []
 
 -- plain content: no mentioned group has a main name that holds `=`
 abbrev pub IsPlain : List Group → Content → Type 0

@@ -3,24 +3,24 @@ use Rattle.std.specs.Prelude.{◌≡◌, ◌<◌, List, length, map, Some, IsSom
 use Rattle.std.specs.List.{AllByRecursion}
 use Rattle.std.specs.Borrow.{Bor}
 use Rattle.getopts.specs.Names.{Text, texts}
-use Rattle.getopts.specs.Options.{Declared, Declares, knowns_of, kind_of, occurrence_of}
+use Rattle.getopts.specs.Options.{Declared, Declares, signatures_of, kind_of, occur_of}
 use Rattle.getopts.specs.Matches.{Matched, MatchedGroup, KeepsCounts}
 use Rattle.getopts.specs.Parse.{IsAccepted}
 use Rattle.getopts.specs.Accessors.{IsDefined, found_of, first_value}
-use Rattle.getopts.specs.Scan.{FitsKind}
-use Rattle.getopts.specs.ScanLaws.{HavePositionsInOrder, HavePositionsBelow, EndIn}
+use Rattle.getopts.specs.Reading.{FitsKind}
+use Rattle.getopts.specs.ReadingLaws.{HavePositionsInOrder, HavePositionsBelow, EndIn}
 use Rattle.getopts.specs.declared.groups.HasArg.TheVariants.{Yes}
 use Rattle.getopts.specs.declared.groups.Occur.TheVariants.{Req}
 use Rattle.getopts.specs.declared.groups.ParsingStyle.TheVariants.{StopAtFirstFree}
 
 -- the groups that matches hold are those of the options, in names and kinds
 abbrev pub AreGroupsOf : Declared → List MatchedGroup → Type 0
-AreGroupsOf options groups = map (λ group. group.known) groups ≡ knowns_of options.groups
+AreGroupsOf options groups = map (λ group. group.signature) groups ≡ signatures_of options.groups
 
 -- the occurrences of each group have values as its kind wants
 abbrev pub HaveValuesByKind : List MatchedGroup → Type 0
 HaveValuesByKind groups =
-    AllByRecursion (λ group. AllByRecursion (λ found. FitsKind group.known.kind found.value)
+    AllByRecursion (λ group. AllByRecursion (λ found. FitsKind group.signature.kind found.value)
     group.found) groups
 
 -- What matches hold of the declared options: their groups are those of the options, with occurrences that
@@ -38,7 +38,7 @@ pub record HoldGiven (options : Declared) (groups : List MatchedGroup) : Type 0 
 pub record HoldDeclared (options : Declared) (groups : List MatchedGroup) : Type 0 where
   pub given : HoldGiven options groups
   pub counts_kept : KeepsCounts groups
-  pub required : (name : Text) → occurrence_of options.groups name ≡ Some Req
+  pub required : (name : Text) → occur_of options.groups name ≡ Some Req
       → length (found_of groups name) ≡ 1
 
 -- under `StopAtFirstFree` the free words are the last words of the line

@@ -9,13 +9,13 @@ pub mod Options
 -- faults and their printed texts
 pub mod Fail
 -- items, readings, occurrences and scan faults
-pub mod Scan
+pub mod Reading
 -- the matches of a reading, and counts
 pub mod Matches
 -- the answers of `parse`
 pub mod Parse
 -- what holds of all readings
-pub mod ScanLaws
+pub mod ReadingLaws
 -- what accessors answer
 pub mod Accessors
 -- what accepted matches hold of declared names

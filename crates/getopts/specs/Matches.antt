@@ -3,9 +3,9 @@ use Rattle.std.specs.Prelude.{◌≡◌, ◌==◌, if◌then◌else◌, ℕ, ◌
 use Rattle.std.specs.Prelude.{map, Option}
 use Rattle.std.specs.List.{AllByRecursion, filter}
 use Rattle.getopts.specs.Names.{Text, main_name}
-use Rattle.getopts.specs.Options.{Known, Declared, knowns_of, grammar_of}
+use Rattle.getopts.specs.Options.{Signature, Declared, signatures_of, grammar_of}
 use Rattle.getopts.specs.Fail.{Fault, option_missing, option_duplicated}
-use Rattle.getopts.specs.Scan.{Reading, Occurrence, occurrences_of, free_words, trailing_start}
+use Rattle.getopts.specs.Reading.{Reading, Occurrence, occurrences_of, free_words, trailing_start}
 use Rattle.getopts.specs.declared.groups.Occur.{Occur}
 use Rattle.getopts.specs.declared.groups.Occur.TheVariants.{Req, Optional, Multi}
 
@@ -16,7 +16,7 @@ pub record Found : Type 0 where
 
 -- a group as matches hold it, with its occurrences in the order of the line
 pub record MatchedGroup : Type 0 where
-  pub known : Known
+  pub signature : Signature
   pub found : List Found
 
 -- what matches hold: the groups, the free words, and where the words after a stop begin among them
@@ -34,16 +34,16 @@ abbrev pub found_at : ℕ → List Occurrence → List Found
 found_at place occurrences = map found_part (filter (λ o. o.mention.group == place) occurrences)
 
 -- each group with its occurrences, where the first group has this place
-abbrev pub matched : ℕ → List Known → List Occurrence → List MatchedGroup
+abbrev pub matched : ℕ → List Signature → List Occurrence → List MatchedGroup
 matched place [] occurrences = []
-matched place (known ∷ knowns) occurrences =
-    record { known = known; found = found_at place occurrences }
-    ∷ matched (place + 1) knowns occurrences
+matched place (signature ∷ signatures) occurrences =
+    record { signature = signature; found = found_at place occurrences }
+    ∷ matched (place + 1) signatures occurrences
 
 -- the matches of a reading
 abbrev pub matches_of : Declared → Reading → Matched
 matches_of options reading = record {
-  groups = matched 0 (knowns_of options.groups) (occurrences_of (grammar_of options) reading);
+  groups = matched 0 (signatures_of options.groups) (occurrences_of (grammar_of options) reading);
   free = free_words reading;
   trailing_start = trailing_start reading;
 }
@@ -56,7 +56,7 @@ FitsCount Multi count = ⊤
 
 -- a group keeps its count
 abbrev pub KeepsCount : MatchedGroup → Type 0
-KeepsCount group = FitsCount group.known.occurrence (length group.found)
+KeepsCount group = FitsCount group.signature.occurrence (length group.found)
 
 -- each group keeps its count
 abbrev pub KeepsCounts : List MatchedGroup → Type 0
@@ -74,4 +74,4 @@ pub record IsCountFault (groups : List MatchedGroup) (fault : Fault) : Type 0 wh
   pub groups_are : groups ≡ before ++ group ∷ after
   pub kept : KeepsCounts before
   pub broken : ¬ (KeepsCount group)
-  pub fault_is : fault ≡ count_fault (main_name group.known.names) (length group.found)
+  pub fault_is : fault ≡ count_fault (main_name group.signature.names) (length group.found)

@@ -10,21 +10,21 @@ use Rattle.getopts.specs.declared.groups.Occur.{Occur}
 use Rattle.getopts.specs.declared.groups.ParsingStyle.{ParsingStyle}
 
 -- what reading asks of a group: its names, its kind of argument and its kind of occurrence
-pub record Known : Type 0 where
+pub record Signature : Type 0 where
   pub names : Names
   pub kind : HasArg
   pub occurrence : Occur
 
 -- a group: what reading asks of it, and what usage texts show besides
 pub record Group : Type 0 where
-  pub known : Known
+  pub signature : Signature
   pub hint : Text
   pub description : Text
 
 -- the group that an adding call makes of its arguments
 abbrev pub group_of : Text → Text → Text → Text → HasArg → Occur → Group
 group_of short long description hint kind occurrence = record {
-  known = record {
+  signature = record {
     names = record { short = short; long = long };
     kind = kind;
     occurrence = occurrence;
@@ -45,20 +45,20 @@ with_group options group = record options { groups = options.groups ++ group ∷
 
 -- each group is lawfully named
 abbrev pub AreLawfullyNamed : List Group → Type 0
-AreLawfullyNamed groups = AllByRecursion (λ group. IsLawfullyNamed group.known.names) groups
+AreLawfullyNamed groups = AllByRecursion (λ group. IsLawfullyNamed group.signature.names) groups
 
 -- groups that may be declared: each is lawfully named, and its short name is a text
 pub record MayBeDeclared (groups : List Group) : Type 0 where
   pub named : AreLawfullyNamed groups
-  pub shorts : AllByRecursion (λ group. IsUtf8 group.known.names.short) groups
+  pub shorts : AllByRecursion (λ group. IsUtf8 group.signature.names.short) groups
 
 -- the names of each group
 abbrev pub names_of : List Group → List Names
-names_of groups = map (λ group. group.known.names) groups
+names_of groups = map (λ group. group.signature.names) groups
 
 -- what reading asks of each group
-abbrev pub knowns_of : List Group → List Known
-knowns_of groups = map (λ group. group.known) groups
+abbrev pub signatures_of : List Group → List Signature
+signatures_of groups = map (λ group. group.signature) groups
 
 -- What the reading of words asks of options: the place of the group that a name resolves to, that
 -- group's kind of argument, the style and the mode.
@@ -71,13 +71,13 @@ pub record Grammar : Type 0 where
 -- the kind of argument of the group that a name resolves to
 abbrev pub kind_of : List Group → Text → Option HasArg
 kind_of groups name =
-    option_and_then (λ place. option_map (λ group. group.known.kind) (slice_get groups place))
+    option_and_then (λ place. option_map (λ group. group.signature.kind) (slice_get groups place))
     (resolution (names_of groups) name)
 
 -- the kind of occurrence of the group that a name resolves to
-abbrev pub occurrence_of : List Group → Text → Option Occur
-occurrence_of groups name =
-    option_and_then (λ place. option_map (λ group. group.known.occurrence) (slice_get groups place))
+abbrev pub occur_of : List Group → Text → Option Occur
+occur_of groups name =
+    option_and_then (λ place. option_map (λ group. group.signature.occurrence) (slice_get groups place))
     (resolution (names_of groups) name)
 
 -- these options declare this name
@@ -88,7 +88,7 @@ Declares options name = IsSome (resolution (names_of options.groups) name)
 abbrev pub DeclaresAs : Declared → Text → HasArg → Occur → Type 0
 DeclaresAs options name kind occurrence =
     (kind_of options.groups name ≡ Some kind)
-    × (occurrence_of options.groups name ≡ Some occurrence)
+    × (occur_of options.groups name ≡ Some occurrence)
 
 -- the grammar of options
 abbrev pub grammar_of : Declared → Grammar

@@ -4,10 +4,10 @@ use Rattle.getopts.specs.Only.{IsTheOnly}
 use Rattle.getopts.specs.Names.{Text}
 use Rattle.getopts.specs.Options.{Declared, Grammar, grammar_of}
 use Rattle.getopts.specs.Fail.{Fault}
-use Rattle.getopts.specs.Scan.{Reading, IsReading, IsScanFault}
-use Rattle.getopts.specs.ScanLaws.{LongAttachedOrSeparate, ShortAttachedOrSeparate, ClusterSplits}
-use Rattle.getopts.specs.ScanLaws.{OneDashOrTwo, LinesCompose, TrailingStartIsAfterStop}
-use Rattle.getopts.specs.ScanLaws.{FreeWordsAreSubsequence, PositionsAreWords}
+use Rattle.getopts.specs.Reading.{Reading, IsReading, IsScanFault}
+use Rattle.getopts.specs.ReadingLaws.{LongAttachedOrSeparate, ShortAttachedOrSeparate, ClusterSplits}
+use Rattle.getopts.specs.ReadingLaws.{OneDashOrTwo, LinesCompose, TrailingStartIsAfterStop}
+use Rattle.getopts.specs.ReadingLaws.{FreeWordsAreSubsequence, PositionsAreWords}
 use Rattle.getopts.specs.Matches.{Matched, matches_of, KeepsCounts, IsCountFault}
 
 -- a reading of the words by these options

@@ -5,7 +5,7 @@ use Rattle.std.specs.Cmp.Lexicographic.{pointwise}
 use Rattle.std.specs.Option.{option_eq}
 use Rattle.std.specs.Ordering.{on, eq_of_both}
 use Rattle.getopts.specs.Names.{Names}
-use Rattle.getopts.specs.Options.{Known, Group, Declared}
+use Rattle.getopts.specs.Options.{Signature, Group, Declared}
 use Rattle.getopts.specs.Fail.{fail_text}
 use Rattle.getopts.specs.Matches.{Found, MatchedGroup, Matched}
 use Rattle.getopts.specs.declared.fail.Fail.{Fail}
@@ -39,14 +39,14 @@ style_index FloatingFrees = 0
 style_index StopAtFirstFree = 1
 
 -- whether the names and the two kinds of two groups are the same
-abbrev pub same_known : Known → Known → Bool
-same_known = eq_of_both (on (λ known. known.names) same_names)
-    (eq_of_both (on (λ known. kind_index known.kind) ◌==◌)
-    (on (λ known. occurrence_index known.occurrence) ◌==◌))
+abbrev pub same_signature : Signature → Signature → Bool
+same_signature = eq_of_both (on (λ signature. signature.names) same_names)
+    (eq_of_both (on (λ signature. kind_index signature.kind) ◌==◌)
+    (on (λ signature. occurrence_index signature.occurrence) ◌==◌))
 
 -- whether all six parts of two groups are the same
 abbrev pub same_group : Group → Group → Bool
-same_group = eq_of_both (on (λ group. group.known) same_known)
+same_group = eq_of_both (on (λ group. group.signature) same_signature)
     (eq_of_both (on (λ group. group.hint) (pointwise ◌==◌))
     (on (λ group. group.description) (pointwise ◌==◌)))
 
@@ -67,7 +67,7 @@ same_found = eq_of_both (on (λ found. found.position) ◌==◌)
 
 -- whether two groups are the same, with their occurrences in order
 abbrev pub same_matched_group : MatchedGroup → MatchedGroup → Bool
-same_matched_group = eq_of_both (on (λ group. group.known) same_known)
+same_matched_group = eq_of_both (on (λ group. group.signature) same_signature)
     (on (λ group. group.found) (pointwise same_found))
 
 -- whether the groups in order, the free words and the trailing start are the same

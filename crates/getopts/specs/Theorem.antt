@@ -5,7 +5,7 @@ use Rattle.getopts.specs.Only.{IsTheOnly, AtMostOne}
 use Rattle.getopts.specs.Names.{Text, AreTexts}
 use Rattle.getopts.specs.Options.{Declared, grammar_of}
 use Rattle.getopts.specs.Fail.{Fault}
-use Rattle.getopts.specs.Scan.{Reading, IsScanFault}
+use Rattle.getopts.specs.Reading.{Reading, IsScanFault}
 use Rattle.getopts.specs.Matches.{Matched, matches_of, IsCountFault}
 use Rattle.getopts.specs.Parse.{Reads, IsAccepted, IsRefused}
 use Rattle.getopts.specs.Canon.{Content, content_of, IsPlain, canonical_line, IsCountKeeping, Says}

@@ -7,10 +7,10 @@ use Rattle.std.specs.Str.{chars}
 use Rattle.getopts.specs.Names.{Text}
 use Rattle.getopts.specs.Options.{Grammar}
 use Rattle.getopts.specs.Fail.{Fault, argument_missing, unrecognized_option, unexpected_argument}
-use Rattle.getopts.specs.Scan.{equals_sign, is_dashed, Argument, none, attached}
-use Rattle.getopts.specs.Scan.{separate, Dashes, dash_text, flags, ends_in, Item, long, cluster}
-use Rattle.getopts.specs.Scan.{value_of, argument_words, MayStandBefore, free_items, Tail}
-use Rattle.getopts.specs.Scan.{Occurrence, at_position, mentions}
+use Rattle.getopts.specs.Reading.{equals_sign, is_dashed, Argument, none, attached}
+use Rattle.getopts.specs.Reading.{separate, Dashes, dash_text, flags, ends_in, Item, long, cluster}
+use Rattle.getopts.specs.Reading.{value_of, argument_words, MayStandBefore, free_items, Tail}
+use Rattle.getopts.specs.Reading.{Occurrence, at_position, mentions}
 use Rattle.getopts.specs.declared.groups.HasArg.{HasArg}
 use Rattle.getopts.specs.declared.groups.HasArg.TheVariants.{Yes, No, Maybe}
 

@@ -54,8 +54,8 @@ bracketed occurrence.Multi text = codes "[" ++ (text ++ codes "]..")
 -- an option in the short usage
 abbrev pub option_text : Group → Text
 option_text group =
-    bracketed group.known.occurrence
-    (option_name group.known.names ++ option_argument group.known.kind group.hint)
+    bracketed group.signature.occurrence
+    (option_name group.signature.names ++ option_argument group.signature.kind group.hint)
 
 -- the short usage of a program with these options
 abbrev pub short_usage_text : Declared → Text → Text
@@ -67,7 +67,7 @@ short_usage_text options program =
 
 -- whether any group has a short name
 abbrev pub any_short : List Group → Bool
-any_short groups = list_any (λ group. not (is_empty group.known.names.short)) groups
+any_short groups = list_any (λ group. not (is_empty group.signature.names.short)) groups
 
 -- the short name with a dash, and what parts it from what follows; where there is none, four spaces
 -- if another group has one
@@ -88,8 +88,8 @@ long_part long_only long =
 abbrev pub head : Bool → Bool → Group → Text
 head long_only among_shorts group =
     spaces 4
-    ++ (short_part among_shorts group.known.names
-    ++ (long_part long_only group.known.names.long ++ argument_part group.known.kind group.hint))
+    ++ (short_part among_shorts group.signature.names
+    ++ (long_part long_only group.signature.names.long ++ argument_part group.signature.kind group.hint))
 
 -- a line end, and the spaces under a head
 abbrev pub next_row : Text

@@ -8,9 +8,9 @@ ghost use Rattle.std.specs.Cmp.Lexicographic.{pointwise};
 ghost use Rattle.std.specs.Cmp.Rules.{comparing};
 ghost use Rattle.std.proofs.Common.{rules};
 ghost use Rattle.getopts.specs.Names.{AreLawful};
-ghost use Rattle.getopts.specs.Options.{MayBeDeclared, group_of, knowns_of, names_of};
+ghost use Rattle.getopts.specs.Options.{MayBeDeclared, group_of, signatures_of, names_of};
 ghost use Rattle.getopts.specs.Canon.{main_at};
-ghost use Rattle.getopts.specs.Held.Groups.{known_view};
+ghost use Rattle.getopts.specs.Held.Groups.{signature_view};
 ghost use Rattle.getopts.specs.Held.Table.{name_at, HaveNamesOfBytes};
 
 use crate::names::{Names, is_of_bytes};
@@ -75,19 +75,19 @@ impl PartialEq for Kinds {
 
 /// What reading asks of a group, borrowed.
 #[derive(Clone, Copy)]
-pub(crate) struct Known<'g> {
+pub(crate) struct Signature<'g> {
     pub names: Names<'g>,
     pub kinds: Kinds,
 }
 
-impl<'g> PartialEq for Known<'g> {
-    ghost use Rattle.getopts.specs.Held.Groups.{same_known_view};
+impl<'g> PartialEq for Signature<'g> {
+    ghost use Rattle.getopts.specs.Held.Groups.{same_signature_view};
 
-    ghost eq = { same_known_view };
+    ghost eq = { same_signature_view };
 
     ghost laws = { Prim.search (comparing, rules) depth 12 };
 
-    fn eq(&self, other: &Known<'g>) -> bool {
+    fn eq(&self, other: &Signature<'g>) -> bool {
         self.names.short == other.names.short
             && self.names.long == other.names.long
             && self.kinds == other.kinds
@@ -97,7 +97,7 @@ impl<'g> PartialEq for Known<'g> {
 /// A group with its texts for usage, borrowed.
 #[derive(Clone, Copy)]
 pub(crate) struct Group<'g> {
-    pub known: Known<'g>,
+    pub signature: Signature<'g>,
     pub hint: &'g str,
     pub desc: &'g str,
 }
@@ -188,7 +188,7 @@ impl Model for Groups {
 
 impl Groups {
     ghost use Rattle.getopts.specs.Held.Groups.{group_view, kinds_of};
-    ghost use Rattle.getopts.specs.Same.{same_known};
+    ghost use Rattle.getopts.specs.Same.{same_signature};
 
     /// No groups. Takes no memory.
     pub(crate) fn new(alloc: Global) -> Groups
@@ -219,7 +219,7 @@ impl Groups {
     pub(crate) fn kinds_at(&self, place: usize) -> Kinds
         requires { place < length self.now }
         ensures { Some result
-            ≡ option_map (λ group. kinds_of group.known) (slice_get self.now place) }
+            ≡ option_map (λ group. kinds_of group.signature) (slice_get self.now place) }
     {
         self.records[place].kinds
     }
@@ -229,7 +229,7 @@ impl Groups {
         requires { place < length self.now }
         ensures { result.now ≡ main_at self.now place }
     {
-        self.known(place).names.main()
+        self.signature(place).names.main()
     }
 
     /// The name of this number, where each group in turn has two, the short one first. Past the last
@@ -241,7 +241,7 @@ impl Groups {
         if place >= self.len() {
             return "";
         }
-        let names = self.known(place).names;
+        let names = self.signature(place).names;
         if number % 2 == 0 {
             names.short
         } else {
@@ -256,12 +256,12 @@ impl Groups {
         is_of_bytes(&self.text);
     }
 
-    /// What is known of the group at a place: its texts start where those of the one before it end.
+    /// What reading asks of the group at a place: its texts start where those of the one before it end.
     #[inline]
-    pub(crate) fn known(&self, place: usize) -> Known<'_>
+    pub(crate) fn signature(&self, place: usize) -> Signature<'_>
         requires { place < length self.now }
-        ensures { Some (known_view result)
-            ≡ option_map (λ group. group.known) (slice_get self.now place) }
+        ensures { Some (signature_view result)
+            ≡ option_map (λ group. group.signature) (slice_get self.now place) }
     {
         let group = self.records[place];
         let start = start_of(&self.records, place);
@@ -269,7 +269,7 @@ impl Groups {
         let long = &self.text[group.short_end..group.long_end];
         let names = Names { short, long };
         let kinds = group.kinds;
-        Known { names, kinds }
+        Signature { names, kinds }
     }
 
     /// The group at a place.
@@ -278,15 +278,20 @@ impl Groups {
         ensures { Some (group_view result) ≡ slice_get self.now place }
     {
         let group = self.records[place];
-        let known = self.known(place);
+        let signature = self.signature(place);
         let hint = &self.text[group.long_end..group.hint_end];
         let desc = &self.text[group.hint_end..group.desc_end];
-        Group { known, hint, desc }
+        Group {
+            signature,
+            hint,
+            desc,
+        }
     }
 
     /// Whether the names and the kinds of each group in order are the same, whatever their help.
-    pub(crate) fn same_knowns(&self, other: &Groups) -> bool
-        ensures { result ≡ pointwise same_known (knowns_of self.now) (knowns_of other.now) }
+    pub(crate) fn same_signatures(&self, other: &Groups) -> bool
+        ensures { result ≡ pointwise same_signature
+            (signatures_of self.now) (signatures_of other.now) }
     {
         self == other || self.same_each(other)
     }
@@ -294,13 +299,14 @@ impl Groups {
     /// The same, group by group.
     #[cold]
     fn same_each(&self, other: &Groups) -> bool
-        ensures { result ≡ pointwise same_known (knowns_of self.now) (knowns_of other.now) }
+        ensures { result ≡ pointwise same_signature
+            (signatures_of self.now) (signatures_of other.now) }
     {
         if self.len() != other.len() {
             return false;
         }
         for place in 0..self.len() {
-            if self.known(place) != other.known(place) {
+            if self.signature(place) != other.signature(place) {
                 return false;
             }
         }

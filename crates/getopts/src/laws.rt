@@ -64,7 +64,8 @@ pub fn one_reading_one_canonical_line(options: &Options)
 pub fn declared_options_keep_laws()
     ensures reading_laws { (options : Declared) → MayBeDeclared options.groups
         → KeepsReadingLaws (grammar_of options) }
-    ensures line_laws { (options : Declared) → MayBeDeclared options.groups → KeepsLineLaws options }
+    ensures line_laws { (options : Declared) → MayBeDeclared options.groups
+        → KeepsLineLaws options }
     ensures holds_same { (options : Declared) → MayBeDeclared options.groups
         → OneContentHoldsSame options }
 {}

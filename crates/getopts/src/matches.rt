@@ -7,7 +7,7 @@ ghost use Rattle.std.specs.String.{string_bytes};
 ghost use Rattle.std.proofs.Common.{rules};
 ghost use Rattle.getopts.specs.Accessors as Spec;
 ghost use Rattle.getopts.specs.Matches.{matched};
-ghost use Rattle.getopts.specs.Options.{knowns_of};
+ghost use Rattle.getopts.specs.Options.{signatures_of};
 ghost use Rattle.getopts.specs.Held.Matches.{IsOfGroups};
 
 use crate::groups::Groups;
@@ -55,7 +55,7 @@ impl Matches {
     pub(crate) fn of_line(groups: Groups, read: ReadLine) -> Matches
         requires { IsOfGroups groups read }
         ensures { result ≡ record {
-          groups = matched 0 (knowns_of groups) read.line.found;
+          groups = matched 0 (signatures_of groups) read.line.found;
           free = map string_bytes read.line.free.items;
           trailing_start = read.line.trailing_start;
         } }
@@ -200,7 +200,7 @@ impl MatchedGroups {
     pub(crate) fn same(&self, other: &MatchedGroups) -> bool
         ensures { result ≡ pointwise same_matched_group self.now other.now }
     {
-        if !self.groups.same_knowns(&other.groups) {
+        if !self.groups.same_signatures(&other.groups) {
             return false;
         }
         for place in 0..self.groups.len() {

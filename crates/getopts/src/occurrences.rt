@@ -112,7 +112,7 @@ impl Drop for LineOccurrences {
 
 impl Model for LineOccurrences {
     ghost use Rattle.std.specs.Prelude.{List};
-    ghost use Rattle.getopts.specs.Scan.{Occurrence};
+    ghost use Rattle.getopts.specs.Reading.{Occurrence};
     ghost use Rattle.getopts.specs.Held.Occurrences.{found_view, HaveTheirValues};
 
     ghost Value = { List Occurrence };

@@ -7,7 +7,7 @@ ghost use Rattle.std.specs.Cmp.Lexicographic.{pointwise};
 ghost use Rattle.std.specs.Cmp.Rules.{comparing};
 ghost use Rattle.std.proofs.Common.{rules};
 ghost use Rattle.getopts.specs.Names.{AreLawful};
-ghost use Rattle.getopts.specs.Options.{group_of, with_group, knowns_of, MayBeDeclared};
+ghost use Rattle.getopts.specs.Options.{group_of, with_group, signatures_of, MayBeDeclared};
 
 use crate::groups::{Group, Groups, HasArg, Kinds, Occur, ParsingStyle};
 use std::alloc::{AllocError, Global};

@@ -6,7 +6,7 @@ ghost use Rattle.std.specs.Iterator.Runs.{WholeRun};
 ghost use Rattle.getopts.specs.Matches as Spec;
 ghost use Rattle.getopts.specs.Fail.{Tells};
 ghost use Rattle.getopts.specs.Names.{texts};
-ghost use Rattle.getopts.specs.Options.{knowns_of};
+ghost use Rattle.getopts.specs.Options.{signatures_of};
 ghost use Rattle.getopts.specs.Held.Matches.{IsOfGroups};
 
 use crate::fail::Fail;
@@ -20,7 +20,7 @@ use std::alloc::{AllocError, Global};
 
 impl Options {
     ghost use Rattle.getopts.specs.Options.{grammar_of};
-    ghost use Rattle.getopts.specs.ScanLaws.{HavePositionsBelow};
+    ghost use Rattle.getopts.specs.ReadingLaws.{HavePositionsBelow};
     ghost use Rattle.getopts.specs.Parse.{IsAccepted, IsRefused, HasReading, HasNoReading};
     ghost use Rattle.getopts.specs.Parse.{KeepsReadingLaws};
     ghost use Rattle.getopts.specs.Holds.{HoldDeclared, HoldGiven, HaveLastWordsFree, Accepts};
@@ -150,9 +150,9 @@ pub(crate) fn words_from<'a, I: Iterator<Item = &'a str> + Drop>(
 fn check_counts(alloc: Global, groups: &Groups, read: &ReadLine) -> Result<(), Fail>
     requires { IsOfGroups groups.now read.now }
     ensures ok { OnOk result
-        (Spec.KeepsCounts (Spec.matched 0 (knowns_of groups.now) read.now.line.found)) }
+        (Spec.KeepsCounts (Spec.matched 0 (signatures_of groups.now) read.now.line.found)) }
     ensures err { IfErr result (λ fail. Tells fail
-        (Spec.IsCountFault (Spec.matched 0 (knowns_of groups.now) read.now.line.found))) }
+        (Spec.IsCountFault (Spec.matched 0 (signatures_of groups.now) read.now.line.found))) }
 {
     for place in 0..groups.len() {
         let count = read.index.count(place);

@@ -4,7 +4,7 @@ ghost use Rattle.getopts.specs.Wrap as Wrap;
 ghost use Rattle.getopts.specs.Usage as Spec;
 ghost use Rattle.getopts.specs.Held.Groups.{names_view, group_view};
 
-use crate::groups::{Group, HasArg, Known};
+use crate::groups::{Group, HasArg, Signature};
 use crate::names::Names;
 use crate::wrap::push_description;
 use std::alloc::AllocError;
@@ -49,7 +49,7 @@ fn push_head(text: &mut String, layout: Layout, group: Group<'_>) -> Result<(), 
         ++ Spec.head layout.long_only layout.any_short (group_view group.entry)) }
 {
     text.push_str("    ")?;
-    let Known { names, kinds } = group.known;
+    let Signature { names, kinds } = group.signature;
     let wide = has_columns(names.long);
     push_short(text, layout, names, wide)?;
     push_long(text, layout, names.long, wide)?;

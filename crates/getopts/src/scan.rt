@@ -4,7 +4,7 @@ ghost use Rattle.std.specs.Prelude.{◌≡◌, ◌≢◌, ◌<◌, ◌∷◌, �
 ghost use Rattle.std.specs.Prelude.{Some, None, Err, false, IfOk, IfErr, slice_index, OnOk, map};
 ghost use Rattle.std.specs.String.{string_bytes};
 ghost use Rattle.std.specs.Option.{option_copied};
-ghost use Rattle.getopts.specs.Scan as Spec;
+ghost use Rattle.getopts.specs.Reading as Spec;
 ghost use Rattle.getopts.specs.Fail.{Tells};
 ghost use Rattle.std.specs.Str.{IsCharBoundary, IsUtf8};
 ghost use Rattle.getopts.specs.Names.{AreTexts, Text, texts};

@@ -8,7 +8,7 @@ ghost use Rattle.getopts.specs.Usage.{AddsRows, AreUsageRows, IsUsageText, any_s
 ghost use Rattle.getopts.specs.Usage.{option_name, option_text, short_usage_text};
 ghost use Rattle.getopts.specs.Wrap.{joined};
 
-use crate::groups::{Group, HasArg, Known, Occur};
+use crate::groups::{Group, HasArg, Occur, Signature};
 use crate::names::Names;
 use crate::options::Options;
 use crate::row::{Layout, push_argument, push_row};
@@ -203,7 +203,7 @@ impl Options {
         let groups = self.groups();
         let mut any_short = false;
         for place in 0..groups.len() {
-            any_short |= !groups.known(place).names.short.is_empty();
+            any_short |= !groups.signature(place).names.short.is_empty();
         }
         Layout {
             long_only: self.is_long_only(),
@@ -223,7 +223,7 @@ fn push_option(text: &mut String, group: Group<'_>) -> Result<(), AllocError>
     ensures { OnOk result (string_bytes text.new ≡ string_bytes text.old
         ++ option_text (group_view group.entry)) }
 {
-    let Known { names, kinds } = group.known;
+    let Signature { names, kinds } = group.signature;
     let (before, after) = match kinds.occurrence {
         Occur::Req => ("", ""),
         Occur::Optional => ("[", "]"),

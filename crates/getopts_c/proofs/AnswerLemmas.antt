@@ -122,8 +122,8 @@ more_added f groups i initial old new founds within is before added =
 pub as_many_groups : (options : Declared) (groups : List MatchedGroup) → AreGroupsOf options groups
     → length groups ≡ length options.groups
 as_many_groups options groups are =
-    sym (length-map groups (λ (group : MatchedGroup). group.known)) ∙ ap length are
-    ∙ length-map options.groups (λ (group : Group). group.known)
+    sym (length-map groups (λ (group : MatchedGroup). group.signature)) ∙ ap length are
+    ∙ length-map options.groups (λ (group : Group). group.signature)
 
 -- the canonical line of words that have one
 pub written_line : {options : Declared} {words line : List Text} {status : ℕ} {numbers : List ℕ}

@@ -75,7 +75,7 @@ kinds_are Maybe Multi = (refl, refl)
 -- the groups that texts and kinds say
 abbrev groups_from : List Text → List ℕ → List Group
 groups_from (short ∷ long ∷ hint ∷ description ∷ texts) (kind ∷ kinds) = record {
-  known = record { names = record { short = short; long = long }; kind = arg_from kind; occurrence = occur_from kind };
+  signature = record { names = record { short = short; long = long }; kind = arg_from kind; occurrence = occur_from kind };
   hint = hint;
   description = description;
 } ∷ groups_from texts kinds
@@ -86,7 +86,7 @@ groups_are : (groups : List Group)
     → groups_from (flat_map group_texts groups) (map group_number groups) ≡ groups
 groups_are [] = refl
 groups_are (group ∷ groups) =
-    let kinds = kinds_are group.known.kind group.known.occurrence in
+    let kinds = kinds_are group.signature.kind group.signature.occurrence in
     rw (kinds.0, kinds.1, groups_are groups) refl
 
 -- the options of a request
@@ -117,7 +117,7 @@ request_once is other = sym (request_is_from is) ∙ request_is_from other
 
 -- the short names among UTF-8 texts are UTF-8
 shorts_are : (groups : List Group) → AreTexts (flat_map group_texts groups)
-    → AllByRecursion (λ group. IsUtf8 group.known.names.short) groups
+    → AllByRecursion (λ group. IsUtf8 group.signature.names.short) groups
 shorts_are [] utf8 = tt
 shorts_are (group ∷ groups) utf8 = (utf8.0, shorts_are groups utf8.1.1.1.1)
 

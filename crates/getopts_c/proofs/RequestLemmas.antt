@@ -32,7 +32,7 @@ names_of_fours : (groups : List Group)
     → all_names groups ≡ flat_map four_names (map group_texts groups)
 names_of_fours [] = refl
 names_of_fours (group ∷ groups) =
-    ap (λ rest. group.known.names.short ∷ group.known.names.long ∷ rest) (names_of_fours groups)
+    ap (λ rest. group.signature.names.short ∷ group.signature.names.long ∷ rest) (names_of_fours groups)
 
 -- the names of groups are those of fours that are the groups' texts
 pub names_are : (fours : List (List (Bor Text))) (groups : List Group)

@@ -50,7 +50,7 @@ place_number groups name = optional_number (place_of groups name)
 
 -- the two names of each group
 abbrev pub group_names : Group → List Text
-group_names group = group.known.names.short ∷ group.known.names.long ∷ []
+group_names group = group.signature.names.short ∷ group.signature.names.long ∷ []
 
 -- the names of the groups in order
 abbrev pub all_names : List Group → List Text

@@ -21,7 +21,7 @@ pub record IsCut (bytes : Text) (lens : List ℕ) (words : List Text) : Type 0 w
 
 -- the texts of a group, in the order of a request
 abbrev pub group_texts : Group → List Text
-group_texts group = group.known.names.short ∷ group.known.names.long
+group_texts group = group.signature.names.short ∷ group.signature.names.long
     ∷ group.hint ∷ group.description ∷ []
 
 -- the number of a kind of argument
@@ -42,7 +42,7 @@ kind_number kind occurrence = argument_number kind + occurrence_number occurrenc
 
 -- the number of a group's kinds
 abbrev pub group_number : Group → ℕ
-group_number group = kind_number group.known.kind group.known.occurrence
+group_number group = kind_number group.signature.kind group.signature.occurrence
 
 -- the style that a request says
 abbrev pub style_of : Bool → ParsingStyle
@@ -74,7 +74,7 @@ pub record SayTexts (bytes : Text) (lens : List ℕ) : Type 0 where
 -- no lawfully named group has these texts and this number of its kinds
 abbrev pub SayNoGroup : List Text → ℕ → Type 0
 SayNoGroup four kind = (group : Group)
-    → group_texts group ≡ four → group_number group ≡ kind → ¬ (IsLawfullyNamed group.known.names)
+    → group_texts group ≡ four → group_number group ≡ kind → ¬ (IsLawfullyNamed group.signature.names)
 
 -- no lawfully named options are what these texts in fours and kinds say
 abbrev pub DeclareNoOptions : List (List Text) → List ℕ → Bool → Bool → Type 0

@@ -132,7 +132,7 @@ fn kinds_of(kind: u8) -> Option<(HasArg, Occur)>
 fn add_group(options: &mut Options, group: &[&str; 4], kind: u8) -> Result<(), Refusal>
     ensures added { OnOk result ((added : Group) × (options.new ≡ with_group options.old added)
         × (group_texts added ≡ texts group.now) × (group_number added ≡ kind)
-        × IsLawfullyNamed added.known.names) }
+        × IsLawfullyNamed added.signature.names) }
     ensures bad { IfErr result (λ refusal.
         refusal ≡ Refusal.Bad → SayNoGroup (texts group.now) kind) }
 {

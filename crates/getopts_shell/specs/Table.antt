@@ -6,8 +6,8 @@ use Rattle.std.specs.List.{AllByRecursion, AllZip, filter_map, list_all, list_an
 use Rattle.std.specs.Option.{option_map_or}
 use Rattle.std.specs.Str.{bytes_eq}
 use Rattle.getopts.specs.Names.{Text, Names, IsLawfullyNamed, is_empty}
-use Rattle.getopts.specs.Options.{Group, Known}
-use Rattle.getopts.specs.Scan.{begins_with_dash}
+use Rattle.getopts.specs.Options.{Group, Signature}
+use Rattle.getopts.specs.Reading.{begins_with_dash}
 use Rattle.getopts.specs.Usage.{argument_part, bracketed, option_argument}
 use Rattle.getopts.specs.Wrap.{lines_of}
 use Rattle.getopts.specs.declared.groups.HasArg.{HasArg}
@@ -70,7 +70,7 @@ IsBracketed Multi inside text = (text ≡ codes "[" ++ (inside ++ codes "].."))
     ⊎ (text ≡ codes "[" ++ (inside ++ codes "]..."))
 
 -- An item: names, and perhaps an argument, in the brackets of an occurrence.
-pub record IsItem (text : Text) (known : Known) (hint : Text) : Type 0 where
+pub record IsItem (text : Text) (known : Signature) (hint : Text) : Type 0 where
   pub inside : Text
   pub brackets : IsBracketed known.occurrence inside text
   pub names : Text
@@ -127,7 +127,7 @@ is_passed line = is_empty (trimmed line) || slice_index (trimmed line) 0 == 35
 -- A line declares a group: an item, and after a tab or two spaces its description.
 pub record DeclaresGroup (line : Text) (group : Group) : Type 0 where
   pub there : is_passed line ≡ false
-  pub item : IsItem (item_of line) group.known group.hint
+  pub item : IsItem (item_of line) group.signature group.hint
   pub description : group.description ≡ trimmed (from_gap (trimmed line))
 
 -- what a line declares: nothing, or a group
@@ -145,7 +145,7 @@ DeclareGroups lines groups = (each : List (Option Group)) × AllZip Declares lin
 -- whether a group has this name
 abbrev pub has_name : Text → Group → Bool
 has_name name group = not (is_empty name)
-    && (bytes_eq group.known.names.short name || bytes_eq group.known.names.long name)
+    && (bytes_eq group.signature.names.short name || bytes_eq group.signature.names.long name)
 
 -- whether any of these groups has this name
 abbrev pub any_has_name : List Group → Text → Bool
@@ -154,8 +154,8 @@ any_has_name groups name = list_any (has_name name) groups
 -- the first of a group's names that one of these groups has already
 abbrev pub name_again : List Group → Group → Option Text
 name_again groups group =
-    if any_has_name groups group.known.names.short then Some group.known.names.short
-    else (if any_has_name groups group.known.names.long then Some group.known.names.long else None)
+    if any_has_name groups group.signature.names.short then Some group.signature.names.short
+    else (if any_has_name groups group.signature.names.long then Some group.signature.names.long else None)
 
 -- no name stands twice: no group has a name of one before it, where these stand before the first
 abbrev pub HaveNewNames : List Group → List Group → Type 0
@@ -202,8 +202,8 @@ pub record IsTableFault (table : Text) (fault : TableFault) : Type 0 where
 
 -- an item that is written for a group
 abbrev pub item_text : Group → Text
-item_text group = bracketed group.known.occurrence
-    (names_text group.known.names ++ option_argument group.known.kind group.hint)
+item_text group = bracketed group.signature.occurrence
+    (names_text group.signature.names ++ option_argument group.signature.kind group.hint)
 
 -- the line that is written for a group
 abbrev pub line_text : Group → Text
@@ -225,10 +225,10 @@ is_one_line text = bytes_eq (trimmed text) text && not (list_any (λ byte. byte 
 
 -- A group that can be written in a line.
 pub record CanBeWritten (group : Group) : Type 0 where
-  pub lawful : IsLawfullyNamed group.known.names
-  pub short : is_name group.known.names.short ≡ true
-  pub long : is_name group.known.names.long ≡ true
-  pub hint : FitsHint group.known.kind group.hint
+  pub lawful : IsLawfullyNamed group.signature.names
+  pub short : is_name group.signature.names.short ≡ true
+  pub long : is_name group.signature.names.long ≡ true
+  pub hint : FitsHint group.signature.kind group.hint
   pub hint_line : is_one_line group.hint ≡ true
   pub description_line : is_one_line group.description ≡ true
 

@@ -4,7 +4,7 @@ use Rattle.std.proofs.Common.{codes, get_or, map, refl, ap, ◌∙◌, sym, subs
 use Rattle.std.specs.Borrow.{Bor}
 use Rattle.std.specs.List.{AllByRecursion, flat_map}
 use Rattle.getopts.specs.Canon.{main_at}
-use Rattle.getopts.specs.Scan.{holds_equals}
+use Rattle.getopts.specs.Reading.{holds_equals}
 use Rattle.getopts.specs.Only.{AtMostOne}
 use Rattle.getopts.specs.CanonAnswers.{IsParseAnswer, IsUnwritable, IsWritten}
 use Rattle.getopts.specs.Fail.{Fault, Tells}
@@ -14,7 +14,7 @@ use Rattle.getopts.specs.Matches.{Matched, MatchedGroup}
 use Rattle.getopts.specs.Names.{Text, main_name, texts}
 use Rattle.getopts.specs.Options.{Declared, Group}
 use Rattle.getopts.specs.Parse.{IsAccepted, IsRefused}
-use Rattle.getopts.specs.Scan.{Mention}
+use Rattle.getopts.specs.Reading.{Mention}
 use Rattle.getopts_show.proofs.OneText.{accepted_not_refused}
 use Rattle.getopts_show.specs.Program.{AreAccepted, HasProgramGroups, IsProgramText, asks_help}
 use Rattle.getopts_show.specs.Program.{group_lines, matches_text, named_lines, program_groups}
@@ -29,7 +29,7 @@ text_at P (word ∷ words) each (suc k) default below = text_at P words each.1 k
 
 -- the main names of the program's groups
 abbrev pub main_names : List Text
-main_names = map (λ (group : Group). main_name group.known.names) program_groups
+main_names = map (λ (group : Group). main_name group.signature.names) program_groups
 
 -- the lines of the program's main names are the lines of its groups
 pub lines_of_names : (groups : List MatchedGroup) → HasProgramGroups groups

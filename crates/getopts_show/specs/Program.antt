@@ -9,8 +9,8 @@ use Rattle.getopts.specs.CanonAnswers.{IsAcceptedWith}
 use Rattle.getopts.specs.Fail.{Fault, fault_text}
 use Rattle.getopts.specs.Matches.{Found, Matched, MatchedGroup, matched}
 use Rattle.getopts.specs.Names.{Text, main_name}
-use Rattle.getopts.specs.Options.{Group, Declared, group_of, knowns_of, with_group}
-use Rattle.getopts.specs.Scan.{Occurrence}
+use Rattle.getopts.specs.Options.{Group, Declared, group_of, signatures_of, with_group}
+use Rattle.getopts.specs.Reading.{Occurrence}
 use Rattle.getopts.specs.Parse.{IsAccepted, IsRefused}
 use Rattle.getopts.specs.Only.{IsTheOnly}
 use Rattle.getopts.specs.Usage.{IsUsageText}
@@ -72,11 +72,11 @@ named_lines groups name = option_lines name (found_of groups name)
 -- the groups are the program's, each with its share of some occurrences
 abbrev pub HasProgramGroups : List MatchedGroup → Type 0
 HasProgramGroups groups =
-    (occurrences : List Occurrence) × (groups ≡ matched 0 (knowns_of program_groups) occurrences)
+    (occurrences : List Occurrence) × (groups ≡ matched 0 (signatures_of program_groups) occurrences)
 
 -- the lines of a group, under its main name
 abbrev pub group_lines : MatchedGroup → Text
-group_lines group = option_lines (main_name group.known.names) group.found
+group_lines group = option_lines (main_name group.signature.names) group.found
 
 -- the text of matches: the lines of each option in order, and the line of each free word
 abbrev pub matches_text : Matched → Text

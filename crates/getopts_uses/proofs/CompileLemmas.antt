@@ -1,9 +1,9 @@
 -- An output's file attached or separate gives one job.
 use Rattle.std.proofs.Common.{ℕ, List, ◌∷◌, [], codes, refl, sym, ◌∙◌}
 use Rattle.getopts.specs.Options.{grammar_of}
-use Rattle.getopts.specs.Scan.{Item, two}
-use Rattle.getopts.specs.ScanLaws.{AreHigherAfter, Respells, LongAttachedOrSeparate}
-use Rattle.getopts.specs.ScanLaws.{ShortAttachedOrSeparate}
+use Rattle.getopts.specs.Reading.{Item, two}
+use Rattle.getopts.specs.ReadingLaws.{AreHigherAfter, Respells, LongAttachedOrSeparate}
+use Rattle.getopts.specs.ReadingLaws.{ShortAttachedOrSeparate}
 use Rattle.getopts.specs.Theorem.{OneContentHoldsSame}
 use Rattle.getopts.proofs.MainTheorem.Callers.{each_value-first, each_value-values}
 use Rattle.getopts_uses.specs.Compile.{compile_options, GivesTheSameJob, OutputsMayBeAttached}

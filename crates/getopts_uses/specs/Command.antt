@@ -6,7 +6,7 @@ use Rattle.getopts.specs.Matches.{Matched}
 use Rattle.getopts.specs.Names.{Text}
 use Rattle.getopts.specs.Options.{Declared, group_of}
 use Rattle.getopts.specs.Parse.{IsAccepted}
-use Rattle.getopts.specs.ScanLaws.{EndIn}
+use Rattle.getopts.specs.ReadingLaws.{EndIn}
 use Rattle.getopts.specs.declared.groups.HasArg.TheVariants.{No}
 use Rattle.getopts.specs.declared.groups.Occur.TheVariants.{Optional}
 use Rattle.getopts.specs.declared.groups.ParsingStyle.TheVariants.{StopAtFirstFree}

@@ -6,9 +6,9 @@ use Rattle.getopts.specs.Matches.{Matched}
 use Rattle.getopts.specs.Names.{Text}
 use Rattle.getopts.specs.Options.{Declared, group_of}
 use Rattle.getopts.specs.Parse.{Reads, IsAccepted}
-use Rattle.getopts.specs.Scan.{Argument, attached, separate, two, ends_in, Item, long, cluster}
-use Rattle.getopts.specs.Scan.{Tail}
-use Rattle.getopts.specs.ScanLaws.{spelled_words, reading_of}
+use Rattle.getopts.specs.Reading.{Argument, attached, separate, two, ends_in, Item, long, cluster}
+use Rattle.getopts.specs.Reading.{Tail}
+use Rattle.getopts.specs.ReadingLaws.{spelled_words, reading_of}
 use Rattle.getopts.specs.declared.groups.HasArg.TheVariants.{Yes}
 use Rattle.getopts.specs.declared.groups.Occur.TheVariants.{Req, Multi}
 use Rattle.getopts.specs.declared.groups.ParsingStyle.TheVariants.{FloatingFrees}

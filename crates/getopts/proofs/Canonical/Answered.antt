@@ -7,11 +7,11 @@ use Rattle.std.proofs.lemmas.List.Folds.{list_any_at, list_all-map}
 use Rattle.std.specs.List.{AllByRecursion, list_all}
 use Rattle.std.specs.String.{string_bytes}
 use Rattle.getopts.specs.Names.{Text}
-use Rattle.getopts.specs.Options.{Group, Declared, MayBeDeclared, grammar_of, knowns_of}
+use Rattle.getopts.specs.Options.{Group, Declared, MayBeDeclared, grammar_of, signatures_of}
 use Rattle.getopts.specs.Fail.{Fault}
-use Rattle.getopts.specs.Scan.{equals_sign, holds_equals, Reading, IsScanFault, Occurrence}
-use Rattle.getopts.specs.Scan.{occurrences_of}
-use Rattle.getopts.specs.ScanLaws.{mentions_of}
+use Rattle.getopts.specs.Reading.{equals_sign, holds_equals, Reading, IsScanFault, Occurrence}
+use Rattle.getopts.specs.Reading.{occurrences_of}
+use Rattle.getopts.specs.ReadingLaws.{mentions_of}
 use Rattle.getopts.specs.Held.Line.{line_content}
 use Rattle.getopts.specs.Matches.{Matched, MatchedGroup, matches_of, matched, KeepsCount}
 use Rattle.getopts.specs.Matches.{KeepsCounts, IsCountFault}
@@ -68,7 +68,7 @@ count_keeping options words content is = record { reads = meets (Reads options w
 -- the matches of a line that was read are those of its reading
 pub HasReading-line : (options : Declared) (words : List Text) (read : ReadLine)
     → IsReadLine options words read → HasReading options words (record {
-      groups = matched 0 (knowns_of options.groups) read.line.found;
+      groups = matched 0 (signatures_of options.groups) read.line.found;
       free = map string_bytes read.line.free.items;
       trailing_start = read.line.trailing_start;
     })
@@ -80,7 +80,7 @@ module _ (options : Declared) (words : List Text) (accepted : ReadLine)
     (is : IsAcceptedLine options words accepted) where
   -- the matches of the line are accepted
   pub IsAccepted-line : IsAccepted options words (record {
-    groups = matched 0 (knowns_of options.groups) accepted.line.found;
+    groups = matched 0 (signatures_of options.groups) accepted.line.found;
     free = map string_bytes accepted.line.free.items;
     trailing_start = accepted.line.trailing_start;
   })

@@ -10,16 +10,16 @@ use Rattle.std.specs.Prelude.{slice_get}
 use Rattle.std.specs.List.{AllByRecursion, Contains, filter, flat_map, list_all}
 use Rattle.std.specs.Option.{option_and_then, option_map, unwrap_or}
 use Rattle.getopts.specs.Names.{Text, IsLawfullyNamed, resolution}
-use Rattle.getopts.specs.Options.{Known, Group, Declared, AreLawfullyNamed, names_of, knowns_of}
+use Rattle.getopts.specs.Options.{Signature, Group, Declared, AreLawfullyNamed, names_of, signatures_of}
 use Rattle.getopts.specs.Options.{Grammar, kind_of, grammar_of}
-use Rattle.getopts.specs.Scan.{dash, equals_sign, begins_with_dash, holds_equals, stop_word}
-use Rattle.getopts.specs.Scan.{Argument, none, attached, separate, one, two, flags, ends_in}
-use Rattle.getopts.specs.Scan.{end_text, attached_argument, argument_words, value_of, FitsKind}
+use Rattle.getopts.specs.Reading.{dash, equals_sign, begins_with_dash, holds_equals, stop_word}
+use Rattle.getopts.specs.Reading.{Argument, none, attached, separate, one, two, flags, ends_in}
+use Rattle.getopts.specs.Reading.{end_text, attached_argument, argument_words, value_of, FitsKind}
 use Rattle.getopts.specs.Turn.{with_equals}
-use Rattle.getopts.specs.Scan.{Item, free, long, cluster, spelled_all, FitsLong, FitsEnd, IsFlag}
-use Rattle.getopts.specs.Scan.{IsLawfulItem, AreWellFollowed, Reading, IsReading, Mention}
-use Rattle.getopts.specs.Scan.{mention_of, mentions, Occurrence, occurrences_of, free_items}
-use Rattle.getopts.specs.ScanLaws.{mentions_of}
+use Rattle.getopts.specs.Reading.{Item, free, long, cluster, spelled_all, FitsLong, FitsEnd, IsFlag}
+use Rattle.getopts.specs.Reading.{IsLawfulItem, AreWellFollowed, Reading, IsReading, Mention}
+use Rattle.getopts.specs.Reading.{mention_of, mentions, Occurrence, occurrences_of, free_items}
+use Rattle.getopts.specs.ReadingLaws.{mentions_of}
 use Rattle.getopts.specs.Matches.{found_at, matched, FitsCount, KeepsCounts}
 use Rattle.getopts.specs.Canon.{Content, content_of, main_at}
 use Rattle.getopts.specs.Canon.{IsPlain, IsSound, canonical_word, canonical_line, attached_value}
@@ -59,12 +59,12 @@ AnswersMain-resolution groups name place resolves =
 main_at-filled : (groups : List Group) (place : ℕ) → AreLawfullyNamed groups
     → AnswersMain groups place → main_at groups place ≢ []
 main_at-filled groups place lawful own empty =
-    let no_name = resolution-nil (names_of groups) (AllByRecursion-map IsLawfullyNamed (λ group. group.known.names) groups lawful) in
+    let no_name = resolution-nil (names_of groups) (AllByRecursion-map IsLawfullyNamed (λ group. group.signature.names) groups lawful) in
     none-some place (sym no_name ∙ (rw empty at own))
 
 -- the kind of argument of the group at this place
 abbrev pub kind_at : List Group → ℕ → Option HasArg
-kind_at groups place = option_map (λ (group : Group). group.known.kind) (slice_get groups place)
+kind_at groups place = option_map (λ (group : Group). group.signature.kind) (slice_get groups place)
 
 -- a mentioned group is there, and its kind may have the value
 abbrev pub FitsGroup : List Group → Mention → Type 0
@@ -92,7 +92,7 @@ record IsGood (groups : List Group) (m : Mention) : Type 0 where
 IsGood-mention : (options : Declared) (name : Text) (kind : HasArg) (value : Option Text)
     → kind_of options.groups name ≡ Some kind → FitsKind kind value
     → IsGood options.groups (mention_of (grammar_of options) name value)
-IsGood-mention options name kind value known fits = option_and_then_some _ (resolution (names_of options.groups) name) kind known by_place where
+IsGood-mention options name kind value signature fits = option_and_then_some _ (resolution (names_of options.groups) name) kind signature by_place where
   by_place : (place : ℕ) → resolution (names_of options.groups) name ≡ Some place
       → kind_at options.groups place ≡ Some kind
       → IsGood options.groups (mention_of (grammar_of options) name value)
@@ -136,13 +136,13 @@ IsGood-item : (options : Declared) (item : Item) → IsLawfulItem (grammar_of op
     → AllByRecursion (IsGood options.groups) (mentions (grammar_of options) item)
 IsGood-item options (free word) lawful = tt
 IsGood-item options (long dashes name argument) lawful =
-    let known = lawful.resolves in
-    (IsGood-mention options name known.0 (value_of argument) known.1 (FitsKind-long known.0 argument known.2), tt)
+    let signature = lawful.resolves in
+    (IsGood-mention options name signature.0 (value_of argument) signature.1 (FitsKind-long signature.0 argument signature.2), tt)
 IsGood-item options (cluster names flags) lawful = AllByRecursion-append (IsGood options.groups) _ [] (IsGood-flags options names lawful.each) tt
 IsGood-item options (cluster names (ends_in option argument)) lawful =
-    let known = lawful.last in
+    let signature = lawful.last in
     AllByRecursion-append (IsGood options.groups) _ _ (IsGood-flags options names lawful.each)
-    (IsGood-mention options (option ∷ []) known.0 (value_of argument) known.1 (FitsKind-end known.0 argument known.2), tt)
+    (IsGood-mention options (option ∷ []) signature.0 (value_of argument) signature.1 (FitsKind-end signature.0 argument signature.2), tt)
 
 IsGood-items : (options : Declared) (items : List Item)
     → AllByRecursion (IsLawfulItem (grammar_of options)) items
@@ -209,9 +209,9 @@ IsLawfulItem-canonical : (options : Declared) (m : Mention) → IsGood options.g
     → HasPlainMain options.groups m.group
     → IsLawfulItem (grammar_of options) (canonical_item options.groups m)
 IsLawfulItem-canonical options m good plain =
-    let known : kind_of options.groups (main_at options.groups m.group) ≡ Some good.fits.0 =
+    let signature : kind_of options.groups (main_at options.groups m.group) ≡ Some good.fits.0 =
     ap (option_and_then (kind_at options.groups)) good.own ∙ good.fits.1 in
-    record { before = tt; cut_once = plain; resolves = (good.fits.0, known, FitsLong-attached_value good.fits.0 m.value good.fits.2) }
+    record { before = tt; cut_once = plain; resolves = (good.fits.0, signature, FitsLong-attached_value good.fits.0 m.value good.fits.2) }
 
 IsLawfulItem-canonical_all : (options : Declared) (ms : List Mention)
     → AllByRecursion (IsGood options.groups) ms
@@ -284,20 +284,20 @@ length-found_at place grammar reading =
     length-map _ _ ∙ sym (length-filter-map (λ m. m.group == place) (λ (o : Occurrence). o.mention) (occurrences_of grammar reading))
 
 -- the counts depend on the number of occurrences for each place
-KeepsCounts-numbers : (knowns : List Known) (place : ℕ) (old new : List Occurrence)
+KeepsCounts-numbers : (signatures : List Signature) (place : ℕ) (old new : List Occurrence)
     → ((k : ℕ) → length (found_at k old) ≡ length (found_at k new))
-    → KeepsCounts (matched place knowns old) → KeepsCounts (matched place knowns new)
+    → KeepsCounts (matched place signatures old) → KeepsCounts (matched place signatures new)
 KeepsCounts-numbers [] place old new same keeps = tt
-KeepsCounts-numbers (known ∷ knowns) place old new same keeps =
-    (subst (λ (count : ℕ). FitsCount known.occurrence count) (same place) keeps.0, KeepsCounts-numbers knowns (place + 1) old new same keeps.1)
+KeepsCounts-numbers (signature ∷ signatures) place old new same keeps =
+    (subst (λ (count : ℕ). FitsCount signature.occurrence count) (same place) keeps.0, KeepsCounts-numbers signatures (place + 1) old new same keeps.1)
 
 -- readings with equal mentions keep the counts alike
-pub KeepsCounts-mentions : (knowns : List Known) (grammar other_grammar : Grammar)
+pub KeepsCounts-mentions : (signatures : List Signature) (grammar other_grammar : Grammar)
     (reading other : Reading) → mentions_of grammar reading ≡ mentions_of other_grammar other
-    → KeepsCounts (matched 0 knowns (occurrences_of grammar reading))
-    → KeepsCounts (matched 0 knowns (occurrences_of other_grammar other))
-KeepsCounts-mentions knowns grammar other_grammar reading other same keeps =
-    KeepsCounts-numbers knowns 0 _ _
+    → KeepsCounts (matched 0 signatures (occurrences_of grammar reading))
+    → KeepsCounts (matched 0 signatures (occurrences_of other_grammar other))
+KeepsCounts-mentions signatures grammar other_grammar reading other same keeps =
+    KeepsCounts-numbers signatures 0 _ _
     (λ k. length-found_at k grammar reading ∙ ap (count_at k) same ∙ sym (length-found_at k other_grammar other)) keeps
 
 -- words that are accepted with a content, in some style and mode, say it
@@ -341,7 +341,7 @@ ReadsBackEverywhere-says options words content says plain style long_only =
     record {
       reads = record {
         reads = IsReading-canonical set content good plain;
-        keeps = KeepsCounts-mentions (knowns_of options.groups) (grammar_of said)
+        keeps = KeepsCounts-mentions (signatures_of options.groups) (grammar_of said)
             (grammar_of set) says.reading (canonical_reading options.groups content) told says.reads.keeps;
       };
       same = back;

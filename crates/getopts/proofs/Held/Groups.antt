@@ -14,16 +14,16 @@ use Rattle.std.proofs.lemmas.List.Elements.{All-nil, All-take, All-drop}
 use Rattle.std.proofs.lemmas.Option.{same_Some}
 use Rattle.std.proofs.lemmas.Slice.Eq.{bytes_eq-Decides}
 use Rattle.getopts.specs.Names.{Text}
-use Rattle.getopts.specs.Options.{Known, Group, names_of}
+use Rattle.getopts.specs.Options.{Signature, Group, names_of}
 use Rattle.getopts.specs.Held.Pieces.{pieces, AreEnds, IsWellCut}
 use Rattle.getopts.specs.Same.{same_group}
 use Rattle.getopts.specs.Held.Table.{name_at, HaveNamesOfBytes}
 use Rattle.getopts.specs.Held.Pieces.{IsOfBytes}
-use Rattle.getopts.specs.Held.Groups.{known_with, kinds_of, same_kinds, same_record}
+use Rattle.getopts.specs.Held.Groups.{signature_with, kinds_of, same_kinds, same_record}
 use Rattle.getopts.specs.Held.Groups.{text_ends, groups_with}
 use Rattle.getopts.specs.declared.groups.GroupRecord.{GroupRecord}
 use Rattle.getopts.specs.declared.groups.Kinds.{Kinds}
-use Rattle.getopts.proofs.Held.Options.{same_known-decides, same_group-decides}
+use Rattle.getopts.proofs.Held.Options.{same_signature-decides, same_group-decides}
 use Rattle.getopts.proofs.Held.Pieces.{pieces_tell, length-pieces}
 use Rattle.getopts.proofs.Held.Texts.{texts_push}
 
@@ -34,7 +34,7 @@ between text start end = take (end - start) (drop start text)
 -- a group by its record, where its texts start here in the text of all
 abbrev pub group_by : Text → ℕ → GroupRecord → Group
 group_by text start r = record {
-  known = known_with r.kinds (between text start r.short_end) (between text r.short_end r.long_end);
+  signature = signature_with r.kinds (between text start r.short_end) (between text r.short_end r.long_end);
   hint = between text r.long_end r.hint_end;
   description = between text r.hint_end r.desc_end;
 }
@@ -109,29 +109,29 @@ HaveNamesOfBytes-from text bytes start (r ∷ records) (suc zero) =
 HaveNamesOfBytes-from text bytes start (r ∷ records) (suc (suc number)) = HaveNamesOfBytes-from text bytes r.desc_end records number
 
 -- what is known of the group at a place
-abbrev known_at : List Group → ℕ → Option Known
-known_at groups i = option_map (λ group. group.known) (slice_get groups i)
+abbrev signature_at : List Group → ℕ → Option Signature
+signature_at groups i = option_map (λ group. group.signature) (slice_get groups i)
 
 -- the name of a number is one of the two names of the group at half the number
-pub name_at-short : (groups : List Group) (number : ℕ) (known : Known)
-    → known_at groups (number / 2) ≡ Some known → number % 2 ≡ 0
-    → name_at (names_of groups) number ≡ known.names.short
-name_at-short [] number known at even = cc at
-name_at-short (first ∷ groups) zero known at even = ap (λ k. k.names.short) (same_Some first.known known at)
-name_at-short (first ∷ groups) (suc zero) known at even = absurd (omega (arith, even))
-name_at-short (first ∷ groups) (suc (suc number)) known at even =
+pub name_at-short : (groups : List Group) (number : ℕ) (signature : Signature)
+    → signature_at groups (number / 2) ≡ Some signature → number % 2 ≡ 0
+    → name_at (names_of groups) number ≡ signature.names.short
+name_at-short [] number signature at even = cc at
+name_at-short (first ∷ groups) zero signature at even = ap (λ k. k.names.short) (same_Some first.signature signature at)
+name_at-short (first ∷ groups) (suc zero) signature at even = absurd (omega (arith, even))
+name_at-short (first ∷ groups) (suc (suc number)) signature at even =
     let half : suc (suc number) / 2 ≡ suc (number / 2) = omega arith in
-    name_at-short groups number known (rw half at at) (omega (arith, even))
+    name_at-short groups number signature (rw half at at) (omega (arith, even))
 
-pub name_at-long : (groups : List Group) (number : ℕ) (known : Known)
-    → known_at groups (number / 2) ≡ Some known → 0 < number % 2
-    → name_at (names_of groups) number ≡ known.names.long
-name_at-long [] number known at odd = cc at
-name_at-long (first ∷ groups) zero known at odd = absurd (omega (arith, odd))
-name_at-long (first ∷ groups) (suc zero) known at odd = ap (λ k. k.names.long) (same_Some first.known known at)
-name_at-long (first ∷ groups) (suc (suc number)) known at odd =
+pub name_at-long : (groups : List Group) (number : ℕ) (signature : Signature)
+    → signature_at groups (number / 2) ≡ Some signature → 0 < number % 2
+    → name_at (names_of groups) number ≡ signature.names.long
+name_at-long [] number signature at odd = cc at
+name_at-long (first ∷ groups) zero signature at odd = absurd (omega (arith, odd))
+name_at-long (first ∷ groups) (suc zero) signature at odd = ap (λ k. k.names.long) (same_Some first.signature signature at)
+name_at-long (first ∷ groups) (suc (suc number)) signature at odd =
     let half : suc (suc number) / 2 ≡ suc (number / 2) = omega arith in
-    name_at-long groups number known (rw half at at) (omega (arith, odd))
+    name_at-long groups number signature (rw half at at) (omega (arith, odd))
 
 -- past the last group there is none
 pub name_at-past : (groups : List Group) (number : ℕ) → length groups ≤ number / 2
@@ -163,7 +163,7 @@ module _ (added : GroupRecord) where
       → groups_with (records ++ added ∷ [])
       ((((texts ++ short ∷ []) ++ long ∷ []) ++ hint ∷ []) ++ description ∷ [])
       ≡ groups_with records texts
-      ++ record { known = known_with added.kinds short long; hint = hint; description = description } ∷ []
+      ++ record { signature = signature_with added.kinds short long; hint = hint; description = description } ∷ []
   groups_with-push short long hint description [] [] fits = refl
   groups_with-push short long hint description [] (a ∷ texts) fits = absurd (omega (arith, fits))
   groups_with-push short long hint description (r ∷ records) [] fits = absurd (omega (arith, fits))
@@ -171,7 +171,7 @@ module _ (added : GroupRecord) where
   groups_with-push short long hint description (r ∷ records) (a ∷ b ∷ []) fits = absurd (omega (arith, fits))
   groups_with-push short long hint description (r ∷ records) (a ∷ b ∷ c ∷ []) fits = absurd (omega (arith, fits))
   groups_with-push short long hint description (r ∷ records) (a ∷ b ∷ c ∷ d ∷ texts) fits =
-      ap (λ (groups : List Group). record { known = known_with r.kinds a b; hint = c; description = d } ∷ groups)
+      ap (λ (groups : List Group). record { signature = signature_with r.kinds a b; hint = c; description = d } ∷ groups)
       (groups_with-push short long hint description records texts (omega (arith, fits)))
 
 -- The record of a group whose four texts were added one after the other.
@@ -186,7 +186,7 @@ module _ (text short long hint description one two three all : Text) (one_is : o
       → IsWellCut all (text_ends (records ++ added ∷ []))
       × (groups_from all 0 (records ++ added ∷ [])
       ≡ groups_from text 0 records
-      ++ record { known = known_with added.kinds short long; hint = hint; description = description } ∷ [])
+      ++ record { signature = signature_with added.kinds short long; hint = hint; description = description } ∷ [])
   groups_pushed records cut =
       let ends = text_ends records in
       let at = λ (end : ℕ) (size : ℕ) (is : end ≡ size) (before : List ℕ). ap (λ (n : ℕ). before ++ n ∷ []) is in
@@ -223,7 +223,7 @@ module _ (text short long hint description one two three all : Text) (one_is : o
 -- the texts of groups, in order
 abbrev all_texts : List Group → List Text
 all_texts [] = []
-all_texts (g ∷ groups) = g.known.names.short ∷ g.known.names.long ∷ g.hint ∷ g.description ∷ all_texts groups
+all_texts (g ∷ groups) = g.signature.names.short ∷ g.signature.names.long ∷ g.hint ∷ g.description ∷ all_texts groups
 
 -- they are the pieces of the text of all
 all_texts-from : (text : Text) (start : ℕ) (records : List GroupRecord)
@@ -248,7 +248,7 @@ records_told text other start other_start (r ∷ records) (o ∷ others) ends sa
     let description : r.desc_end ≡ o.desc_end = cc ends in
     let more_ends : text_ends records ≡ text_ends others = cc ends in
     let first : group_by text start r ≡ group_by other other_start o = cc same in
-    let kinds : r.kinds ≡ o.kinds = ap (λ (g : Group). kinds_of g.known) first in
+    let kinds : r.kinds ≡ o.kinds = ap (λ (g : Group). kinds_of g.signature) first in
     let more : groups_from text r.desc_end records ≡ groups_from other o.desc_end others = cc same in
     let rest = records_told text other r.desc_end o.desc_end records others more_ends more in
     λ i. record {
@@ -261,7 +261,7 @@ records_told text other start other_start (r ∷ records) (o ∷ others) ends sa
 
 same_kinds-decides : (a b : Kinds) → Decides (same_kinds a b) (a ≡ b)
 same_kinds-decides a b = Decides-like (same_kinds a b) (λ e. ap kinds_of e)
-    (λ e. ap (λ (k : Kinds). known_with k [] []) e) (same_known-decides (known_with a [] []) (known_with b [] []))
+    (λ e. ap (λ (k : Kinds). signature_with k [] []) e) (same_signature-decides (signature_with a [] []) (signature_with b [] []))
 
 -- the test of two records says exactly that they are equal
 same_record-decides : (a b : GroupRecord) → Decides (same_record a b) (a ≡ b)

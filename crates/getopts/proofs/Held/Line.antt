@@ -7,7 +7,7 @@ use Rattle.std.proofs.lemmas.List.{map-append, length-map, get_or-map}
 use Rattle.std.proofs.lemmas.Option.{slice_get_within, get_or_from_slice_get}
 use Rattle.std.specs.Option.{option_map}
 use Rattle.getopts.specs.Names.{Text}
-use Rattle.getopts.specs.Scan.{Occurrence}
+use Rattle.getopts.specs.Reading.{Occurrence}
 use Rattle.getopts.specs.Held.Pieces.{pieces}
 use Rattle.getopts.specs.Held.Pieces.{IsWellCut}
 use Rattle.getopts.specs.Held.Occurrences.{values_end, record_view, value_ends, with_values}

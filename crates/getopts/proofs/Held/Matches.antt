@@ -14,54 +14,54 @@ use Rattle.std.proofs.lemmas.List.{length-map}
 use Rattle.std.proofs.lemmas.List.Elements.{recursion_from_All}
 use Rattle.std.proofs.lemmas.Option.{slice_get_past}
 use Rattle.getopts.specs.Names.{Text, Names, resolution}
-use Rattle.getopts.specs.Options.{Known, Group, AreLawfullyNamed, knowns_of, names_of}
+use Rattle.getopts.specs.Options.{Signature, Group, AreLawfullyNamed, signatures_of, names_of}
 use Rattle.getopts.specs.Held.Index.{places_of}
-use Rattle.getopts.specs.Scan.{Occurrence}
+use Rattle.getopts.specs.Reading.{Occurrence}
 use Rattle.getopts.specs.Matches.{Found, MatchedGroup, found_at, matched}
 use Rattle.getopts.specs.Accessors.{AreHeldLawfully, found_in, place_of, values_of, pairs_of}
-use Rattle.getopts.specs.Same.{same_known, same_found, same_matched_group}
+use Rattle.getopts.specs.Same.{same_signature, same_found, same_matched_group}
 use Rattle.getopts.specs.Accessors.{pair_view}
 use Rattle.getopts.specs.Matches.{found_part}
 use Rattle.getopts.specs.Held.Index.{index_of}
 use Rattle.getopts.proofs.Parsing.Counts.{length-matched}
-use Rattle.getopts.proofs.Held.Known.{length-knowns_of, names-knowns_of}
+use Rattle.getopts.proofs.Held.Signatures.{length-signatures_of, names-signatures_of}
 use Rattle.getopts.proofs.Held.Index.{filter_map-places_of, places_of-within}
 use Rattle.getopts.proofs.Held.Index.{slice_get-places_by_group, length-places_by_group}
 
 -- the names of the groups that matches hold
-names-matched : (first : ℕ) (knowns : List Known) (occurrences : List Occurrence)
-    → map (λ (group : MatchedGroup). group.known.names) (matched first knowns occurrences)
-    ≡ map (λ (known : Known). known.names) knowns
+names-matched : (first : ℕ) (signatures : List Signature) (occurrences : List Occurrence)
+    → map (λ (group : MatchedGroup). group.signature.names) (matched first signatures occurrences)
+    ≡ map (λ (signature : Signature). signature.names) signatures
 names-matched first [] occurrences = refl
-names-matched first (known ∷ knowns) occurrences = ap (λ (more : List Names). known.names ∷ more) (names-matched (first + 1) knowns occurrences)
+names-matched first (signature ∷ signatures) occurrences = ap (λ (more : List Names). signature.names ∷ more) (names-matched (first + 1) signatures occurrences)
 
 -- what is known of the groups that matches hold
-pub knowns-matched : (first : ℕ) (knowns : List Known) (occurrences : List Occurrence)
-    → map (λ (group : MatchedGroup). group.known) (matched first knowns occurrences) ≡ knowns
-knowns-matched first [] occurrences = refl
-knowns-matched first (known ∷ knowns) occurrences = ap (λ (more : List Known). known ∷ more) (knowns-matched (first + 1) knowns occurrences)
+pub signatures-matched : (first : ℕ) (signatures : List Signature) (occurrences : List Occurrence)
+    → map (λ (group : MatchedGroup). group.signature) (matched first signatures occurrences) ≡ signatures
+signatures-matched first [] occurrences = refl
+signatures-matched first (signature ∷ signatures) occurrences = ap (λ (more : List Signature). signature ∷ more) (signatures-matched (first + 1) signatures occurrences)
 
 -- the occurrences of the group at a place
-found-matched : (first : ℕ) (knowns : List Known) (occurrences : List Occurrence) (i : ℕ)
-    → i < length knowns
-    → found_in (matched first knowns occurrences) i ≡ found_at (first + i) occurrences
+found-matched : (first : ℕ) (signatures : List Signature) (occurrences : List Occurrence) (i : ℕ)
+    → i < length signatures
+    → found_in (matched first signatures occurrences) i ≡ found_at (first + i) occurrences
 found-matched first [] occurrences i within = absurd (omega arith)
-found-matched first (known ∷ knowns) occurrences zero within = ap (λ (n : ℕ). found_at n occurrences) (omega arith)
-found-matched first (known ∷ knowns) occurrences (suc i) within =
-    found-matched (first + 1) knowns occurrences i (omega arith)
+found-matched first (signature ∷ signatures) occurrences zero within = ap (λ (n : ℕ). found_at n occurrences) (omega arith)
+found-matched first (signature ∷ signatures) occurrences (suc i) within =
+    found-matched (first + 1) signatures occurrences i (omega arith)
     ∙ ap (λ (n : ℕ). found_at n occurrences) (omega arith)
 
 -- lawfully named groups are held so
 pub AreHeldLawfully-matched : (first : ℕ) (groups : List Group) (occurrences : List Occurrence)
-    → AreLawfullyNamed groups → AreHeldLawfully (matched first (knowns_of groups) occurrences)
+    → AreLawfullyNamed groups → AreHeldLawfully (matched first (signatures_of groups) occurrences)
 AreHeldLawfully-matched first [] occurrences lawful = tt
 AreHeldLawfully-matched first (group ∷ groups) occurrences lawful = (lawful.0, AreHeldLawfully-matched (first + 1) groups occurrences lawful.1)
 
 -- a name resolves among the groups that matches hold as among their names
 pub place_of-matched : (groups : List Group) (occurrences : List Occurrence) (name : Text)
-    → resolution (names_of groups) name ≡ place_of (matched 0 (knowns_of groups) occurrences) name
+    → resolution (names_of groups) name ≡ place_of (matched 0 (signatures_of groups) occurrences) name
 place_of-matched groups occurrences name = ap (λ (names : List Names). resolution names name)
-    (sym (names-matched 0 (knowns_of groups) occurrences ∙ names-knowns_of groups))
+    (sym (names-matched 0 (signatures_of groups) occurrences ∙ names-signatures_of groups))
 
 module _ (groups : List Group) (occurrences : List Occurrence) (place : ℕ) where
   -- where the occurrences of the group at this place stand
@@ -97,20 +97,20 @@ module _ (groups : List Group) (occurrences : List Occurrence) (place : ℕ) whe
 
   -- they are the occurrences of that group
   pub held_places-found : map found_part (filter_map (λ p. slice_get occurrences p) held_places)
-      ≡ found_in (matched 0 (knowns_of groups) occurrences) place
+      ≡ found_in (matched 0 (signatures_of groups) occurrences) place
   held_places-found = elim (cases_lt place (length groups)) [
     | inl there ↦
         ap (λ (ps : List ℕ). map found_part (filter_map (λ p. slice_get occurrences p) ps))
         (places-there there)
         ∙ ap (map found_part) (filter_map-places_of (λ (o : Occurrence). o.mention.group) place occurrences)
         ∙ ap (λ n. found_at n occurrences) (sym (zero-add place))
-        ∙ sym (found-matched 0 (knowns_of groups) occurrences place (omega (arith, length-knowns_of groups)))
+        ∙ sym (found-matched 0 (signatures_of groups) occurrences place (omega (arith, length-signatures_of groups)))
     | inr past ↦
         ap (λ (ps : List ℕ). map found_part (filter_map (λ p. slice_get occurrences p) ps))
         (places-past past)
         ∙ sym (ap (λ (o : Option MatchedGroup). option_map_or (λ (group : MatchedGroup). group.found) o [])
-        (slice_get_past (matched 0 (knowns_of groups) occurrences) place
-        (omega (arith, length-matched 0 (knowns_of groups) occurrences, length-knowns_of groups))))
+        (slice_get_past (matched 0 (signatures_of groups) occurrences) place
+        (omega (arith, length-matched 0 (signatures_of groups) occurrences, length-signatures_of groups))))
   ]
 
 -- values are the texts of the pairs
@@ -138,16 +138,16 @@ texts_of_held_pairs pairs founds same = views pairs ∙ ap (map (λ (pair : ℕ 
   views (pair ∷ ps) = ap (λ (more : List Text). string_bytes pair.1 ∷ more) (views ps)
 
 -- groups with their occurrences are not the same where what is known of them isn't
-pub differ_known : (groups others : List MatchedGroup)
-    → pointwise same_known (map (λ (group : MatchedGroup). group.known) groups)
-    (map (λ (group : MatchedGroup). group.known) others) ≡ false
+pub differ_signature : (groups others : List MatchedGroup)
+    → pointwise same_signature (map (λ (group : MatchedGroup). group.signature) groups)
+    (map (λ (group : MatchedGroup). group.signature) others) ≡ false
     → pointwise same_matched_group groups others ≡ false
-differ_known [] [] differ = absurd (true≢false differ)
-differ_known [] (b ∷ others) differ = refl
-differ_known (a ∷ groups) [] differ = refl
-differ_known (a ∷ groups) (b ∷ others) differ = elim (and_cases (same_known a.known b.known) _ differ) [
+differ_signature [] [] differ = absurd (true≢false differ)
+differ_signature [] (b ∷ others) differ = refl
+differ_signature (a ∷ groups) [] differ = refl
+differ_signature (a ∷ groups) (b ∷ others) differ = elim (and_cases (same_signature a.signature b.signature) _ differ) [
   | inl first ↦ and_left _ _ (and_left _ (pointwise same_found a.found b.found) first)
-  | inr rest ↦ and_right (same_matched_group a b) _ (differ_known groups others rest)
+  | inr rest ↦ and_right (same_matched_group a b) _ (differ_signature groups others rest)
 ]
 
 -- nor where the occurrences at some place aren't
@@ -157,20 +157,20 @@ pub differ_found : (groups others : List MatchedGroup) (i : ℕ)
 differ_found [] [] i differ = absurd (true≢false differ)
 differ_found [] (b ∷ others) i differ = refl
 differ_found (a ∷ groups) [] i differ = refl
-differ_found (a ∷ groups) (b ∷ others) zero differ = and_left _ _ (and_right (same_known a.known b.known) _ differ)
+differ_found (a ∷ groups) (b ∷ others) zero differ = and_left _ _ (and_right (same_signature a.signature b.signature) _ differ)
 differ_found (a ∷ groups) (b ∷ others) (suc i) differ = and_right (same_matched_group a b) _ (differ_found groups others i differ)
 
 -- else they are the same
 pub same_found_everywhere : (groups others : List MatchedGroup)
-    → pointwise same_known (map (λ (group : MatchedGroup). group.known) groups)
-    (map (λ (group : MatchedGroup). group.known) others) ≡ true
+    → pointwise same_signature (map (λ (group : MatchedGroup). group.signature) groups)
+    (map (λ (group : MatchedGroup). group.signature) others) ≡ true
     → ((i : ℕ) → i < length groups
     → pointwise same_found (found_in groups i) (found_in others i)
     ≡ true) → pointwise same_matched_group groups others ≡ true
-same_found_everywhere [] [] known found = refl
-same_found_everywhere [] (b ∷ others) known found = known
-same_found_everywhere (a ∷ groups) [] known found = known
-same_found_everywhere (a ∷ groups) (b ∷ others) known found =
-    let parts = and_parts (same_known a.known b.known) _ known in
-    and_from (same_matched_group a b) _ (and_from (same_known a.known b.known) _ parts.0 (found 0 (omega arith)))
+same_found_everywhere [] [] signature found = refl
+same_found_everywhere [] (b ∷ others) signature found = signature
+same_found_everywhere (a ∷ groups) [] signature found = signature
+same_found_everywhere (a ∷ groups) (b ∷ others) signature found =
+    let parts = and_parts (same_signature a.signature b.signature) _ signature in
+    and_from (same_matched_group a b) _ (and_from (same_signature a.signature b.signature) _ parts.0 (found 0 (omega arith)))
     (same_found_everywhere groups others parts.1 (λ i h. found (suc i) (omega arith)))

@@ -7,7 +7,7 @@ use Rattle.std.proofs.lemmas.Bool.{false≢true}
 use Rattle.std.proofs.lemmas.Bool.Decides.{Decides-and, Decides-like, Decides-eqb}
 use Rattle.getopts.specs.Matches.{Found, MatchedGroup, Matched}
 use Rattle.getopts.specs.Same.{same_found, same_matched_group, same_matches}
-use Rattle.getopts.proofs.Held.Options.{same_known-decides}
+use Rattle.getopts.proofs.Held.Options.{same_signature-decides}
 
 -- a test of options says exactly that they are equal, where that of their values does
 pub options_decide : {X : Type 0} (E : X → X → Bool) → ((a b : X) → Decides (E a b) (a ≡ b))
@@ -27,9 +27,9 @@ same_found-decides a b = Decides-like (same_found a b)
 -- the test of two groups says exactly that they are equal
 same_matched_group-decides : (a b : MatchedGroup) → Decides (same_matched_group a b) (a ≡ b)
 same_matched_group-decides a b = Decides-like (same_matched_group a b)
-    (λ h. λ i. record { known = h.0 i; found = h.1 i })
-    (λ e. (ap (λ g. g.known) e, ap (λ g. g.found) e))
-    (Decides-and _ _ (same_known-decides _ _) (pointwise_decides same_found-decides a.found b.found))
+    (λ h. λ i. record { signature = h.0 i; found = h.1 i })
+    (λ e. (ap (λ g. g.signature) e, ap (λ g. g.found) e))
+    (Decides-and _ _ (same_signature-decides _ _) (pointwise_decides same_found-decides a.found b.found))
 
 -- the test of two matches says exactly that they are equal
 pub same_matches-decides : (a b : Matched) → Decides (same_matches a b) (a ≡ b)

@@ -4,16 +4,16 @@ use Rattle.std.proofs.Common.{map, Option, Some, None, Result, Ok, Err, refl, ap
 use Rattle.std.specs.List.{filter, filter_map, cons_option}
 use Rattle.getopts.specs.Names.{Text, resolution}
 use Rattle.std.specs.Option.{option_map_or}
-use Rattle.getopts.specs.Options.{Known, Declared, MayBeDeclared, names_of, knowns_of, grammar_of}
-use Rattle.getopts.specs.Scan.{Reading, Mention, Occurrence, occurrences_of, free_words}
-use Rattle.getopts.specs.ScanLaws.{mentions_of}
+use Rattle.getopts.specs.Options.{Signature, Declared, MayBeDeclared, names_of, signatures_of, grammar_of}
+use Rattle.getopts.specs.Reading.{Reading, Mention, Occurrence, occurrences_of, free_words}
+use Rattle.getopts.specs.ReadingLaws.{mentions_of}
 use Rattle.getopts.specs.Canon.{Content}
 use Rattle.getopts.specs.Matches.{Found, Matched, found_at, matched, matches_of, KeepsCounts}
 use Rattle.getopts.specs.Accessors.{IsReadAs, place_of, found_in, found_of, each_value, first_value}
 use Rattle.getopts.specs.Accessors.{values_of}
 use Rattle.getopts.specs.Theorem.{AcceptedExactlyWhen, HoldSame, OneContentHoldsSame}
 use Rattle.getopts.proofs.Canonical.Lines.{KeepsCounts-mentions}
-use Rattle.getopts.proofs.Held.Matches.{knowns-matched}
+use Rattle.getopts.proofs.Held.Matches.{signatures-matched}
 use Rattle.getopts.proofs.MainTheorem.Plain.{are_plain, lawful_groups}
 use Rattle.getopts.proofs.Parsing.Holds.{place_of-groups}
 
@@ -55,13 +55,13 @@ values-found_at place (o ∷ os) = here (o.mention.group == place) (values-found
   here true others = ap (λ (more : List (Option Text)). o.mention.value ∷ more) others
   here false others = others
 
-values-found_in : (knowns : List Known) (first i : ℕ) (old new : List Occurrence)
+values-found_in : (signatures : List Signature) (first i : ℕ) (old new : List Occurrence)
     → map (λ (o : Occurrence). o.mention) new ≡ map (λ (o : Occurrence). o.mention) old
-    → each_value (found_in (matched first knowns new) i)
-    ≡ each_value (found_in (matched first knowns old) i)
+    → each_value (found_in (matched first signatures new) i)
+    ≡ each_value (found_in (matched first signatures old) i)
 values-found_in [] first i old new same = refl
-values-found_in (known ∷ knowns) first zero old new same = values-found_at first new ∙ ap (values_at first) same ∙ sym (values-found_at first old)
-values-found_in (known ∷ knowns) first (suc i) old new same = values-found_in knowns (first + 1) i old new same
+values-found_in (signature ∷ signatures) first zero old new same = values-found_at first new ∙ ap (values_at first) same ∙ sym (values-found_at first old)
+values-found_in (signature ∷ signatures) first (suc i) old new same = values-found_in signatures (first + 1) i old new same
 
 -- readings that mention the same have the same values of each name
 values-found_of : (options : Declared) (old new : Reading)
@@ -78,13 +78,13 @@ values-found_of options old new same name =
           → place_of (matches_of options reading).groups name
           ≡ resolution (names_of options.groups) name
       resolves reading = sym (place_of-groups options (matches_of options reading).groups
-          (knowns-matched 0 (knowns_of options.groups) (occurrences_of (grammar_of options) reading)) name)
+          (signatures-matched 0 (signatures_of options.groups) (occurrences_of (grammar_of options) reading)) name)
 
       here : (place : Option ℕ)
           → each_value (option_map_or (found_in (matches_of options new).groups) place [])
           ≡ each_value (option_map_or (found_in (matches_of options old).groups) place [])
       here None = refl
-      here (Some i) = values-found_in (knowns_of options.groups) 0 i (occurrences_of (grammar_of options) old)
+      here (Some i) = values-found_in (signatures_of options.groups) 0 i (occurrences_of (grammar_of options) old)
           (occurrences_of (grammar_of options) new) same
 
 first_of_values : List (Option Text) → Option Text
@@ -129,7 +129,7 @@ OneContentHoldsSame_lem options accepted_when words others old new matches accep
     subst (λ (reading : Reading). KeepsCounts (matches_of options reading).groups) (sym is) accepted.counts in
     let matches_are : matches_of options old ≡ matches = ap (matches_of options) is ∙ sym accepted.matches_are in
     let keeps : KeepsCounts (matches_of options new).groups = KeepsCounts-mentions
-    (knowns_of options.groups) grammar grammar old new (sym told) kept in (
+    (signatures_of options.groups) grammar grammar old new (sym told) kept in (
       (accepted_when others (matches_of options new)).1 (new, record { reads = reads_new; keeps = keeps }, refl),
       subst (λ (those : Matched). HoldSame those (matches_of options new)) matches_are
           (HoldSame-content options old new told free),

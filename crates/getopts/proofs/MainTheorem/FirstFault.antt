@@ -30,7 +30,7 @@ fits_count-false Multi count breaks = cc
 -- the fault of the first group that breaks its count
 abbrev pub first_count_fault : List MatchedGroup → Option Fault
 first_count_fault [] = None
-first_count_fault (group ∷ groups) = if fits_count group.known.occurrence (length group.found) then first_count_fault
+first_count_fault (group ∷ groups) = if fits_count group.signature.occurrence (length group.found) then first_count_fault
     groups else Some (broken_count group)
 
 -- the groups keep their counts, or this is their fault
@@ -54,18 +54,18 @@ HaveFault-more group groups (Some fault) kept is = record {
 -- one more group, which keeps its count or doesn't
 HaveFault-first : (group : MatchedGroup) (groups : List MatchedGroup)
     → HaveFault groups (first_count_fault groups) → (fits : Bool)
-    → fits_count group.known.occurrence (length group.found) ≡ fits
+    → fits_count group.signature.occurrence (length group.found) ≡ fits
     → HaveFault (group ∷ groups)
     (if fits then first_count_fault groups else Some (broken_count group))
 HaveFault-first group groups others true fits = HaveFault-more group groups (first_count_fault groups)
-    (fits_count-true group.known.occurrence (length group.found) fits) others
+    (fits_count-true group.signature.occurrence (length group.found) fits) others
 HaveFault-first group groups others false breaks = record {
   before = [];
   group = group;
   after = groups;
   groups_are = refl;
   kept = tt;
-  broken = fits_count-false group.known.occurrence (length group.found) breaks;
+  broken = fits_count-false group.signature.occurrence (length group.found) breaks;
   fault_is = refl;
 }
 
@@ -74,4 +74,4 @@ pub first_count_fault-is : (groups : List MatchedGroup)
     → HaveFault groups (first_count_fault groups)
 first_count_fault-is [] = tt
 first_count_fault-is (group ∷ groups) = HaveFault-first group groups (first_count_fault-is groups)
-    (fits_count group.known.occurrence (length group.found)) refl
+    (fits_count group.signature.occurrence (length group.found)) refl

@@ -42,14 +42,14 @@ plain_lawful names plain =
 
 -- whether all options have such names
 abbrev pub are_plain : List Group → Bool
-are_plain groups = list_all (λ group. are_plain_names group.known.names) groups
+are_plain groups = list_all (λ group. are_plain_names group.signature.names) groups
 
 pub lawful_groups : (groups : List Group) → are_plain groups ≡ true
     → MayBeDeclared groups
 lawful_groups [] plain = record { named = tt; shorts = tt }
 lawful_groups (group ∷ groups) plain =
-    let names = group.known.names in
-    let parts = and_parts (are_plain_names group.known.names) (are_plain groups) plain in
+    let names = group.signature.names in
+    let parts = and_parts (are_plain_names group.signature.names) (are_plain groups) plain in
     let short = and_parts (is_plain_short names.short) (not (length names.long == 1) && nat_lt 0 (length names.short + length names.long)) parts.0 in
     let others = lawful_groups groups parts.1 in
     record {

@@ -3,7 +3,7 @@ use Rattle.std.proofs.Common.{◌⊎◌, List, refl, sym, subst, inl, inr, Optio
 use Rattle.getopts.specs.Names.{Text, AreTexts}
 use Rattle.getopts.specs.Options.{Declared, MayBeDeclared, grammar_of}
 use Rattle.getopts.specs.Fail.{Fault}
-use Rattle.getopts.specs.Scan.{Reading, IsReading, IsScanFault}
+use Rattle.getopts.specs.Reading.{Reading, IsReading, IsScanFault}
 use Rattle.getopts.specs.Matches.{Matched, MatchedGroup, matches_of, KeepsCounts, IsCountFault}
 use Rattle.getopts.specs.Parse.{IsAccepted, BreaksCounts, HasNoReading, IsRefused}
 use Rattle.getopts.specs.Canon.{content_of, IsPlain, IsCountKeeping}

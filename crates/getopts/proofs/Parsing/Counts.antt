@@ -7,9 +7,9 @@ use Rattle.std.specs.List.{filter, list_all}
 use Rattle.std.proofs.lemmas.Bool.{and_from, cases_eq, eq-eqb, ne_eqb}
 use Rattle.std.proofs.lemmas.List.{length-map, take-append-drop}
 use Rattle.getopts.specs.Names.{main_name}
-use Rattle.getopts.specs.Options.{Known}
+use Rattle.getopts.specs.Options.{Signature}
 use Rattle.getopts.specs.Fail.{Fault}
-use Rattle.getopts.specs.Scan.{Occurrence}
+use Rattle.getopts.specs.Reading.{Occurrence}
 use Rattle.getopts.specs.Matches.{Found, MatchedGroup, found_at, matched, KeepsCount, KeepsCounts}
 use Rattle.getopts.specs.Matches.{FitsCount, count_fault, IsCountFault}
 use Rattle.getopts.specs.Held.Index.{index_of}
@@ -20,28 +20,28 @@ use Rattle.getopts.proofs.Held.Index.{length-places_of, slice_get-places_by_grou
 
 -- the fault of a group that breaks its count
 abbrev pub broken_count : MatchedGroup → Fault
-broken_count group = count_fault (main_name group.known.names) (length group.found)
+broken_count group = count_fault (main_name group.signature.names) (length group.found)
 
 -- a known group with its occurrences, at this place
-abbrev pub matched_at : ℕ → Known → List Occurrence → MatchedGroup
-matched_at place known occurrences = record { known = known; found = found_at place occurrences }
+abbrev pub matched_at : ℕ → Signature → List Occurrence → MatchedGroup
+matched_at place signature occurrences = record { signature = signature; found = found_at place occurrences }
 
 -- the matched groups from a place on
-pub matched-from : (first : ℕ) (knowns : List Known) (occurrences : List Occurrence) (i : ℕ)
-    (known : Known) → slice_get knowns i ≡ Some known →
-    drop i (matched first knowns occurrences) ≡ matched_at (first + i) known occurrences ∷ drop (i + 1) (matched first knowns occurrences)
-matched-from first [] occurrences i known there = cc there
-matched-from first (k ∷ knowns) occurrences zero known there =
-    let same : k ≡ known = cc in
-    ap (λ n. matched_at n k occurrences ∷ matched (first + 1) knowns occurrences) (sym (add-zero first))
-    ∙ ap (λ x. matched_at (first + 0) x occurrences ∷ matched (first + 1) knowns occurrences) same
-matched-from first (k ∷ knowns) occurrences (suc i) known there =
+pub matched-from : (first : ℕ) (signatures : List Signature) (occurrences : List Occurrence) (i : ℕ)
+    (signature : Signature) → slice_get signatures i ≡ Some signature →
+    drop i (matched first signatures occurrences) ≡ matched_at (first + i) signature occurrences ∷ drop (i + 1) (matched first signatures occurrences)
+matched-from first [] occurrences i signature there = cc there
+matched-from first (k ∷ signatures) occurrences zero signature there =
+    let same : k ≡ signature = cc in
+    ap (λ n. matched_at n k occurrences ∷ matched (first + 1) signatures occurrences) (sym (add-zero first))
+    ∙ ap (λ x. matched_at (first + 0) x occurrences ∷ matched (first + 1) signatures occurrences) same
+matched-from first (k ∷ signatures) occurrences (suc i) signature there =
     let place : first + 1 + i ≡ first + suc i = omega arith in
     let later : suc i + 1 ≡ suc (i + 1) = omega arith in
-    let whole = matched first (k ∷ knowns) occurrences in
-    matched-from (first + 1) knowns occurrences i known there
-    ∙ ap (λ n. matched_at n known occurrences ∷ drop (i + 1) (matched (first + 1) knowns occurrences)) place
-    ∙ ap (λ n. matched_at (first + suc i) known occurrences ∷ drop n whole) (sym later)
+    let whole = matched first (k ∷ signatures) occurrences in
+    matched-from (first + 1) signatures occurrences i signature there
+    ∙ ap (λ n. matched_at n signature occurrences ∷ drop (i + 1) (matched (first + 1) signatures occurrences)) place
+    ∙ ap (λ n. matched_at (first + suc i) signature occurrences ∷ drop n whole) (sym later)
 
 -- how many occurrences of a group there are, by the index
 pub length-found_at : (count : ℕ) (occurrences : List Occurrence) (i : ℕ) → i < count
@@ -55,54 +55,54 @@ length-found_at count occurrences i within =
     ∙ length-places_of (λ (o : Occurrence). o.mention.group) i occurrences ∙ sym founds
 
 -- as many matched groups as known ones
-pub length-matched : (first : ℕ) (knowns : List Known) (occurrences : List Occurrence)
-    → length (matched first knowns occurrences) ≡ length knowns
+pub length-matched : (first : ℕ) (signatures : List Signature) (occurrences : List Occurrence)
+    → length (matched first signatures occurrences) ≡ length signatures
 length-matched first [] occurrences = refl
-length-matched first (known ∷ knowns) occurrences = ap suc (length-matched (first + 1) knowns occurrences)
+length-matched first (signature ∷ signatures) occurrences = ap suc (length-matched (first + 1) signatures occurrences)
 
-module _ (knowns : List Known) (occurrences : List Occurrence) (i : ℕ) (known : Known)
-    (there : slice_get knowns i ≡ Some known)
-    (kept : KeepsCounts (take i (matched 0 knowns occurrences))) (count : ℕ)
+module _ (signatures : List Signature) (occurrences : List Occurrence) (i : ℕ) (signature : Signature)
+    (there : slice_get signatures i ≡ Some signature)
+    (kept : KeepsCounts (take i (matched 0 signatures occurrences))) (count : ℕ)
     (counted : count ≡ length (found_at i occurrences)) where
-  here : drop i (matched 0 knowns occurrences)
-      ≡ matched_at i known occurrences ∷ drop (i + 1) (matched 0 knowns occurrences)
-  here = simp zero-add at (matched-from 0 knowns occurrences i known there)
+  here : drop i (matched 0 signatures occurrences)
+      ≡ matched_at i signature occurrences ∷ drop (i + 1) (matched 0 signatures occurrences)
+  here = simp zero-add at (matched-from 0 signatures occurrences i signature there)
 
   -- the groups up to a place and the one there keep their counts
-  pub KeepsCounts-more : FitsCount known.occurrence count
-      → KeepsCounts (take (i + 1) (matched 0 knowns occurrences))
+  pub KeepsCounts-more : FitsCount signature.occurrence count
+      → KeepsCounts (take (i + 1) (matched 0 signatures occurrences))
   KeepsCounts-more fits =
-      let whole = matched 0 knowns occurrences in
+      let whole = matched 0 signatures occurrences in
       let there = slice_get-drop whole i ∙ ap (λ (gs : List MatchedGroup). slice_get gs 0) here in
-      subst KeepsCounts (sym (take-get whole i (matched_at i known occurrences) there))
-      (AllByRecursion-append KeepsCount (take i whole) (matched_at i known occurrences ∷ []) kept
-      ((subst (FitsCount known.occurrence) counted fits), tt))
+      subst KeepsCounts (sym (take-get whole i (matched_at i signature occurrences) there))
+      (AllByRecursion-append KeepsCount (take i whole) (matched_at i signature occurrences ∷ []) kept
+      ((subst (FitsCount signature.occurrence) counted fits), tt))
 
   -- the group there breaks its count
-  pub IsCountFault-at : (fault : Fault) → ¬ (FitsCount known.occurrence count)
-      → fault ≡ broken_count (matched_at i known occurrences)
-      → IsCountFault (matched 0 knowns occurrences) fault
+  pub IsCountFault-at : (fault : Fault) → ¬ (FitsCount signature.occurrence count)
+      → fault ≡ broken_count (matched_at i signature occurrences)
+      → IsCountFault (matched 0 signatures occurrences) fault
   IsCountFault-at fault broken fault_is =
-      let whole = matched 0 knowns occurrences in
+      let whole = matched 0 signatures occurrences in
       record {
         before = take i whole;
-        group = matched_at i known occurrences;
+        group = matched_at i signature occurrences;
         after = drop (i + 1) whole;
         groups_are = sym (take-append-drop i whole) ∙ ap (λ (gs : List MatchedGroup). take i whole ++ gs) here;
         kept = kept;
-        broken = λ keeps. broken (subst (FitsCount known.occurrence) (sym counted) keeps);
+        broken = λ keeps. broken (subst (FitsCount signature.occurrence) (sym counted) keeps);
         fault_is = fault_is;
       }
 
 -- the group at a place, by its kinds
-pub known-there : (knowns : List Known) (i : ℕ) (kinds : Kinds)
-    → Some kinds ≡ option_map kinds_of (slice_get knowns i)
-    → (known : Known) × (slice_get knowns i ≡ Some known) × (known.occurrence ≡ kinds.occurrence)
-known-there [] i kinds there = cc there
-known-there (known ∷ knowns) zero kinds there =
-    let same : kinds ≡ kinds_of known = cc there in
-    (known, refl, sym (ap (λ (k : Kinds). k.occurrence) same))
-known-there (known ∷ knowns) (suc i) kinds there = known-there knowns i kinds there
+pub signature-there : (signatures : List Signature) (i : ℕ) (kinds : Kinds)
+    → Some kinds ≡ option_map kinds_of (slice_get signatures i)
+    → (signature : Signature) × (slice_get signatures i ≡ Some signature) × (signature.occurrence ≡ kinds.occurrence)
+signature-there [] i kinds there = cc there
+signature-there (signature ∷ signatures) zero kinds there =
+    let same : kinds ≡ kinds_of signature = cc there in
+    (signature, refl, sym (ap (λ (k : Kinds). k.occurrence) same))
+signature-there (signature ∷ signatures) (suc i) kinds there = signature-there signatures i kinds there
 
 -- a test of groups that passes for each group with occurrences passes for each occurrence
 pub list_all-by_group : (p : ℕ → Bool) (occurrences : List Occurrence)

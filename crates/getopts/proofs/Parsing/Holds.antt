@@ -8,19 +8,19 @@ use Rattle.std.proofs.lemmas.Bool.{eqb-true}
 use Rattle.std.proofs.lemmas.Option.{option_and_then_some, same_Some}
 use Rattle.std.specs.Borrow.{Bor}
 use Rattle.getopts.specs.Names.{Text, Names, resolution, texts}
-use Rattle.getopts.specs.Options.{Known, Group, Grammar, Declared, names_of, knowns_of}
-use Rattle.getopts.specs.Options.{grammar_of, Declares, kind_of, occurrence_of}
-use Rattle.getopts.specs.Scan.{Occurrence, Item, free, long, cluster, Tail, line_end, stop, rest}
-use Rattle.getopts.specs.Scan.{stop_word, spelled_all, tail_words, tail_frees, free_items}
-use Rattle.getopts.specs.Scan.{free_words, IsLawfulItem, Reading, IsReading, occurrences_of}
+use Rattle.getopts.specs.Options.{Signature, Group, Grammar, Declared, names_of, signatures_of}
+use Rattle.getopts.specs.Options.{grammar_of, Declares, kind_of, occur_of}
+use Rattle.getopts.specs.Reading.{Occurrence, Item, free, long, cluster, Tail, line_end, stop, rest}
+use Rattle.getopts.specs.Reading.{stop_word, spelled_all, tail_words, tail_frees, free_items}
+use Rattle.getopts.specs.Reading.{free_words, IsLawfulItem, Reading, IsReading, occurrences_of}
 use Rattle.getopts.specs.Matches.{Found, Matched, MatchedGroup, found_at, matched, FitsCount}
 use Rattle.getopts.specs.Matches.{KeepsCounts}
 use Rattle.getopts.specs.Accessors.{IsDefined, place_of, found_of, found_in, first_value}
-use Rattle.getopts.specs.Scan.{FitsKind}
+use Rattle.getopts.specs.Reading.{FitsKind}
 use Rattle.getopts.specs.Parse.{IsAccepted, HasReading}
 use Rattle.getopts.specs.Holds.{HaveLastWordsFree, AreGroupsOf, HaveValuesByKind}
 use Rattle.getopts.specs.Holds.{HoldGiven, HoldDeclared, Accepts}
-use Rattle.getopts.specs.ScanLaws.{EndIn, HavePositionsBelow}
+use Rattle.getopts.specs.ReadingLaws.{EndIn, HavePositionsBelow}
 use Rattle.getopts.specs.declared.groups.ParsingStyle.TheVariants.{FloatingFrees, StopAtFirstFree}
 use Rattle.getopts.specs.declared.groups.HasArg.{HasArg}
 use Rattle.getopts.specs.declared.groups.HasArg.TheVariants.{Yes}
@@ -28,9 +28,9 @@ use Rattle.getopts.specs.declared.groups.Occur.{Occur}
 use Rattle.getopts.specs.declared.groups.Occur.TheVariants.{Req}
 use Rattle.getopts.proofs.Lists.{AllByRecursion-unmap}
 use Rattle.getopts.proofs.Canonical.Lines.{kind_at, FitsGroup, IsFitting-reading}
-use Rattle.getopts.proofs.Held.Matches.{knowns-matched}
+use Rattle.getopts.proofs.Held.Matches.{signatures-matched}
 use Rattle.getopts.proofs.Reading.Readings.{spelled_all-append}
-use Rattle.getopts.proofs.Held.Known.{names-knowns_of}
+use Rattle.getopts.proofs.Held.Signatures.{names-signatures_of}
 use Rattle.getopts.proofs.Parsing.Parsed.{HasReading-accepted, counts-accepted, positions_below-accepted}
 use Rattle.getopts.proofs.Parsing.Parsed.{HavePositionsInOrder-read}
 use Rattle.getopts.proofs.Scanner.Loop.{length-texts}
@@ -40,23 +40,23 @@ abbrev HaveValuesFor : HasArg → List Found → Type 0
 HaveValuesFor kind founds = AllByRecursion (λ found. FitsKind kind found.value) founds
 
 -- the names of known groups
-names-known : (groups : List MatchedGroup) (knowns : List Known)
-    → map (λ (group : MatchedGroup). group.known) groups ≡ knowns
-    → map (λ (group : MatchedGroup). group.known.names) groups
-    ≡ map (λ (known : Known). known.names) knowns
-names-known groups knowns same = names-map groups ∙ ap (map (λ (known : Known). known.names)) same where
+names-signature : (groups : List MatchedGroup) (signatures : List Signature)
+    → map (λ (group : MatchedGroup). group.signature) groups ≡ signatures
+    → map (λ (group : MatchedGroup). group.signature.names) groups
+    ≡ map (λ (signature : Signature). signature.names) signatures
+names-signature groups signatures same = names-map groups ∙ ap (map (λ (signature : Signature). signature.names)) same where
   names-map : (groups : List MatchedGroup)
-      → map (λ (group : MatchedGroup). group.known.names) groups
-      ≡ map (λ (known : Known). known.names) (map (λ (group : MatchedGroup). group.known) groups)
+      → map (λ (group : MatchedGroup). group.signature.names) groups
+      ≡ map (λ (signature : Signature). signature.names) (map (λ (group : MatchedGroup). group.signature) groups)
   names-map [] = refl
-  names-map (group ∷ groups) = ap (λ (more : List Names). group.known.names ∷ more) (names-map groups)
+  names-map (group ∷ groups) = ap (λ (more : List Names). group.signature.names ∷ more) (names-map groups)
 
 -- a name resolves alike among groups and among those that matches hold of them
 pub place_of-groups : (options : Declared) (groups : List MatchedGroup) → AreGroupsOf options groups
     → (name : Text) → resolution (names_of options.groups) name ≡ place_of groups name
 place_of-groups options groups are name =
     ap (λ (names : List Names). resolution names name)
-    (sym (names-known groups (knowns_of options.groups) are ∙ names-knowns_of options.groups))
+    (sym (names-signature groups (signatures_of options.groups) are ∙ names-signatures_of options.groups))
 
 -- each name that the options declare is defined
 defined-groups : (options : Declared) (groups : List MatchedGroup) → AreGroupsOf options groups
@@ -64,54 +64,54 @@ defined-groups : (options : Declared) (groups : List MatchedGroup) → AreGroups
 defined-groups options groups are name declares = subst (λ (place : Option ℕ). IsSome place) (place_of-groups options groups are name) declares
 
 -- what is found of a group at a place among those that match these
-module _ (P : Known → List Found → Type 0) where
-  at_place : (knowns : List Known) (groups : List MatchedGroup)
-      → map (λ (group : MatchedGroup). group.known) groups ≡ knowns
-      → AllByRecursion (λ (group : MatchedGroup). P group.known group.found) groups
-      → (place : ℕ) (known : Known) → slice_get knowns place ≡ Some known
-      → P known (found_in groups place)
-  at_place [] groups are each place known there = cc there
-  at_place (first ∷ knowns) [] are each place known there = cc are
-  at_place (first ∷ knowns) (group ∷ groups) are each zero known there =
-      let same : group.known ≡ known = cc in
-      subst (λ (k : Known). P k group.found) same each.0
-  at_place (first ∷ knowns) (group ∷ groups) are each (suc place) known there =
-      let others : map (λ (group : MatchedGroup). group.known) groups ≡ knowns = cc in
-      at_place knowns groups others each.1 place known there
+module _ (P : Signature → List Found → Type 0) where
+  at_place : (signatures : List Signature) (groups : List MatchedGroup)
+      → map (λ (group : MatchedGroup). group.signature) groups ≡ signatures
+      → AllByRecursion (λ (group : MatchedGroup). P group.signature group.found) groups
+      → (place : ℕ) (signature : Signature) → slice_get signatures place ≡ Some signature
+      → P signature (found_in groups place)
+  at_place [] groups are each place signature there = cc there
+  at_place (first ∷ signatures) [] are each place signature there = cc are
+  at_place (first ∷ signatures) (group ∷ groups) are each zero signature there =
+      let same : group.signature ≡ signature = cc in
+      subst (λ (k : Signature). P k group.found) same each.0
+  at_place (first ∷ signatures) (group ∷ groups) are each (suc place) signature there =
+      let others : map (λ (group : MatchedGroup). group.signature) groups ≡ signatures = cc in
+      at_place signatures groups others each.1 place signature there
 
 -- the kinds of known groups
-kind-known : (groups : List Group) (place : ℕ) (kind : HasArg)
-    → option_map (λ (group : Group). group.known.kind) (slice_get groups place) ≡ Some kind
-    → (known : Known) × (slice_get (knowns_of groups) place ≡ Some known) × (known.kind ≡ kind)
-kind-known [] place kind there = cc there
-kind-known (group ∷ groups) zero kind there = (group.known, refl, same_Some _ _ there)
-kind-known (group ∷ groups) (suc place) kind there = kind-known groups place kind there
+kind-signature : (groups : List Group) (place : ℕ) (kind : HasArg)
+    → option_map (λ (group : Group). group.signature.kind) (slice_get groups place) ≡ Some kind
+    → (signature : Signature) × (slice_get (signatures_of groups) place ≡ Some signature) × (signature.kind ≡ kind)
+kind-signature [] place kind there = cc there
+kind-signature (group ∷ groups) zero kind there = (group.signature, refl, same_Some _ _ there)
+kind-signature (group ∷ groups) (suc place) kind there = kind-signature groups place kind there
 
-occurrence-known : (groups : List Group) (place : ℕ) (occurrence : Occur)
-    → option_map (λ (group : Group). group.known.occurrence) (slice_get groups place)
+occurrence-signature : (groups : List Group) (place : ℕ) (occurrence : Occur)
+    → option_map (λ (group : Group). group.signature.occurrence) (slice_get groups place)
     ≡ Some occurrence
-    → (known : Known) × (slice_get (knowns_of groups) place ≡ Some known)
-    × (known.occurrence ≡ occurrence)
-occurrence-known [] place occurrence there = cc there
-occurrence-known (group ∷ groups) zero occurrence there = (group.known, refl, same_Some _ _ there)
-occurrence-known (group ∷ groups) (suc place) occurrence there = occurrence-known groups place occurrence there
+    → (signature : Signature) × (slice_get (signatures_of groups) place ≡ Some signature)
+    × (signature.occurrence ≡ occurrence)
+occurrence-signature [] place occurrence there = cc there
+occurrence-signature (group ∷ groups) zero occurrence there = (group.signature, refl, same_Some _ _ there)
+occurrence-signature (group ∷ groups) (suc place) occurrence there = occurrence-signature groups place occurrence there
 
 module _ (options : Declared) (groups : List MatchedGroup) (are : AreGroupsOf options groups) where
   -- each required option was given once
   required-groups : KeepsCounts groups → (name : Text)
-      → occurrence_of options.groups name ≡ Some Req
+      → occur_of options.groups name ≡ Some Req
       → length (found_of groups name) ≡ 1
   required-groups keeps name required = option_and_then_some _ (resolution (names_of options.groups) name) Req required by_place where
     by_place : (place : ℕ) → resolution (names_of options.groups) name ≡ Some place
-        → option_map (λ (group : Group). group.known.occurrence) (slice_get options.groups place)
+        → option_map (λ (group : Group). group.signature.occurrence) (slice_get options.groups place)
         ≡ Some Req → length (found_of groups name) ≡ 1
     by_place place resolves there =
-        let known = occurrence-known options.groups place Req there in
-        let fits = at_place (λ known found. FitsCount known.occurrence (length found))
-        (knowns_of options.groups) groups are keeps place known.0 known.1 in
+        let signature = occurrence-signature options.groups place Req there in
+        let fits = at_place (λ signature found. FitsCount signature.occurrence (length found))
+        (signatures_of options.groups) groups are keeps place signature.0 signature.1 in
         let once : FitsCount Req (length (found_in groups place)) =
         subst (λ (occurrence : Occur). FitsCount occurrence (length (found_in groups place)))
-        known.2 fits in
+        signature.2 fits in
         ap (λ (at : Option ℕ). length (option_map_or (found_in groups) at []))
         (sym (place_of-groups options groups are name) ∙ resolves) ∙ once
 
@@ -129,13 +129,13 @@ module _ (options : Declared) (groups : List MatchedGroup) (are : AreGroupsOf op
       → 0 < length (found_of groups name) → IsSome (first_value (found_of groups name))
   needed-groups have name needs = option_and_then_some _ (resolution (names_of options.groups) name) Yes needs by_place where
     by_place : (place : ℕ) → resolution (names_of options.groups) name ≡ Some place
-        → option_map (λ (group : Group). group.known.kind) (slice_get options.groups place)
+        → option_map (λ (group : Group). group.signature.kind) (slice_get options.groups place)
         ≡ Some Yes → 0 < length (found_of groups name) → IsSome (first_value (found_of groups name))
     by_place place resolves there =
-        let known = kind-known options.groups place Yes there in
-        let fits = at_place (λ known found. HaveValuesFor known.kind found) (knowns_of options.groups) groups are have place known.0 known.1 in
+        let signature = kind-signature options.groups place Yes there in
+        let fits = at_place (λ signature found. HaveValuesFor signature.kind found) (signatures_of options.groups) groups are have place signature.0 signature.1 in
         let values : HaveValuesFor Yes (found_in groups place) =
-        subst (λ (kind : HasArg). HaveValuesFor kind (found_in groups place)) known.2 fits in
+        subst (λ (kind : HasArg). HaveValuesFor kind (found_in groups place)) signature.2 fits in
         let here : Some place ≡ place_of groups name = sym resolves ∙ place_of-groups options groups are name in
         first_there (found_of groups name)
         (subst (λ (at : Option ℕ). HaveValuesFor Yes (option_map_or (found_in groups) at [])) here values)
@@ -166,38 +166,38 @@ HaveValuesFor-found_at groups place kind there (o ∷ occurrences) each = here (
       here false is others = others
 
 -- the groups of matches have values as their kinds want
-HaveValuesByKind-matched : (groups : List Group) (first : ℕ) (knowns : List Known)
+HaveValuesByKind-matched : (groups : List Group) (first : ℕ) (signatures : List Signature)
     (occurrences : List Occurrence)
-    → ((i : ℕ) (known : Known) → slice_get knowns i ≡ Some known
+    → ((i : ℕ) (signature : Signature) → slice_get signatures i ≡ Some signature
     → kind_at groups (first + i)
-    ≡ Some known.kind) → AllByRecursion (λ o. FitsGroup groups
-    o.mention) occurrences → HaveValuesByKind (matched first knowns occurrences)
+    ≡ Some signature.kind) → AllByRecursion (λ o. FitsGroup groups
+    o.mention) occurrences → HaveValuesByKind (matched first signatures occurrences)
 HaveValuesByKind-matched groups first [] occurrences are each = tt
-HaveValuesByKind-matched groups first (known ∷ knowns) occurrences are each = (
-  HaveValuesFor-found_at groups first known.kind (subst (λ n. kind_at groups n ≡ Some known.kind) (add-zero first)
-      (are 0 known refl)) occurrences each,
-  HaveValuesByKind-matched groups (first + 1) knowns occurrences
+HaveValuesByKind-matched groups first (signature ∷ signatures) occurrences are each = (
+  HaveValuesFor-found_at groups first signature.kind (subst (λ n. kind_at groups n ≡ Some signature.kind) (add-zero first)
+      (are 0 signature refl)) occurrences each,
+  HaveValuesByKind-matched groups (first + 1) signatures occurrences
       (λ i other there. subst (λ n. kind_at groups n ≡ Some other.kind) (moved i) (are (suc i) other there)) each,
 ) where
   moved : (i : ℕ) → first + suc i ≡ first + 1 + i
   moved i = omega arith
 
-kind_at-known : (groups : List Group) (i : ℕ) (known : Known)
-    → slice_get (knowns_of groups) i ≡ Some known → kind_at groups i ≡ Some known.kind
-kind_at-known [] i known there = cc there
-kind_at-known (group ∷ groups) zero known there = ap (λ (k : Known). Some k.kind) (same_Some _ _ there)
-kind_at-known (group ∷ groups) (suc i) known there = kind_at-known groups i known there
+kind_at-signature : (groups : List Group) (i : ℕ) (signature : Signature)
+    → slice_get (signatures_of groups) i ≡ Some signature → kind_at groups i ≡ Some signature.kind
+kind_at-signature [] i signature there = cc there
+kind_at-signature (group ∷ groups) zero signature there = ap (λ (k : Signature). Some k.kind) (same_Some _ _ there)
+kind_at-signature (group ∷ groups) (suc i) signature there = kind_at-signature groups i signature there
 
 module _ (options : Declared) (words : List Text) (matches : Matched)
     (has : HasReading options words matches) where
   groups_are : matches.groups
-      ≡ matched 0 (knowns_of options.groups) (occurrences_of (grammar_of options) has.reading)
+      ≡ matched 0 (signatures_of options.groups) (occurrences_of (grammar_of options) has.reading)
   groups_are = ap (λ (m : Matched). m.groups) has.matches_are
 
   -- matches hold the groups of the options
   AreGroupsOf-read : AreGroupsOf options matches.groups
-  AreGroupsOf-read = ap (map (λ (group : MatchedGroup). group.known)) groups_are
-      ∙ knowns-matched 0 (knowns_of options.groups) (occurrences_of (grammar_of options) has.reading)
+  AreGroupsOf-read = ap (map (λ (group : MatchedGroup). group.signature)) groups_are
+      ∙ signatures-matched 0 (signatures_of options.groups) (occurrences_of (grammar_of options) has.reading)
 
   -- and values as their kinds want
   HaveValuesByKind-read : HaveValuesByKind matches.groups
@@ -208,9 +208,9 @@ module _ (options : Declared) (words : List Text) (matches : Matched)
       AllByRecursion-unmap (FitsGroup options.groups)
       (λ (o : Occurrence). o.mention) occurrences fits in
       subst HaveValuesByKind (sym groups_are)
-      (HaveValuesByKind-matched options.groups 0 (knowns_of options.groups) occurrences
-      (λ i known there. subst (λ n. kind_at options.groups n ≡ Some known.kind) (sym (zero-add i))
-      (kind_at-known options.groups i known there)) each)
+      (HaveValuesByKind-matched options.groups 0 (signatures_of options.groups) occurrences
+      (λ i signature there. subst (λ n. kind_at options.groups n ≡ Some signature.kind) (sym (zero-add i))
+      (kind_at-signature options.groups i signature there)) each)
 
   -- and what the options declare of their groups
   pub HoldGiven-read : HoldGiven options matches.groups

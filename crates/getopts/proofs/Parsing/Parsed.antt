@@ -2,12 +2,12 @@
 use Rattle.std.proofs.Common.{◌≡◌, ℕ, List, length, Option, ap, sym, subst}
 use Rattle.getopts.specs.Only.{IsTheOnly}
 use Rattle.getopts.specs.Names.{Text, AreTexts}
-use Rattle.getopts.specs.Options.{Declared, MayBeDeclared, knowns_of, grammar_of}
+use Rattle.getopts.specs.Options.{Declared, MayBeDeclared, signatures_of, grammar_of}
 use Rattle.getopts.specs.Fail.{Fault}
-use Rattle.getopts.specs.Scan.{Reading, IsReading, IsScanFault, Occurrence, occurrences_of}
-use Rattle.getopts.specs.Scan.{free_words, trailing_start}
+use Rattle.getopts.specs.Reading.{Reading, IsReading, IsScanFault, Occurrence, occurrences_of}
+use Rattle.getopts.specs.Reading.{free_words, trailing_start}
 use Rattle.getopts.specs.Matches.{Matched, matched, matches_of, KeepsCounts, IsCountFault}
-use Rattle.getopts.specs.ScanLaws.{HavePositionsInOrder, HavePositionsBelow}
+use Rattle.getopts.specs.ReadingLaws.{HavePositionsInOrder, HavePositionsBelow}
 use Rattle.getopts.specs.Parse.{Reads, IsAccepted, HasReading, BreaksCounts}
 use Rattle.getopts.specs.Parse.{HasNoReading, KeepsReadingLaws}
 use Rattle.getopts.proofs.Lookup.Names.{named_grammar}
@@ -45,16 +45,16 @@ module _ (options : Declared) (declared : MayBeDeclared options.groups) where
         (occurrences : List Occurrence)
         (occurrences_are : occurrences ≡ occurrences_of (grammar_of options) reading) where
       -- the matched groups of the reading
-      pub groups_are : matched 0 (knowns_of options.groups) occurrences
+      pub groups_are : matched 0 (signatures_of options.groups) occurrences
           ≡ (matches_of options reading).groups
-      groups_are = ap (matched 0 (knowns_of options.groups)) occurrences_are
+      groups_are = ap (matched 0 (signatures_of options.groups)) occurrences_are
 
       -- words with a reading have its matches
       pub HasReading-reading : (frees : List Text) (trailing : Option ℕ)
           → frees ≡ free_words reading → trailing ≡ trailing_start reading
           → HasReading options words
           (record {
-            groups = matched 0 (knowns_of options.groups) occurrences;
+            groups = matched 0 (signatures_of options.groups) occurrences;
             free = frees;
             trailing_start = trailing;
           })
@@ -66,11 +66,11 @@ module _ (options : Declared) (declared : MayBeDeclared options.groups) where
 
       -- a reading that keeps the counts is accepted
       pub IsAccepted-reading : (frees : List Text) (trailing : Option ℕ)
-          → KeepsCounts (matched 0 (knowns_of options.groups) occurrences)
+          → KeepsCounts (matched 0 (signatures_of options.groups) occurrences)
           → frees ≡ free_words reading → trailing ≡ trailing_start reading
           → IsAccepted options words
           (record {
-            groups = matched 0 (knowns_of options.groups) occurrences;
+            groups = matched 0 (signatures_of options.groups) occurrences;
             free = frees;
             trailing_start = trailing;
           })
@@ -83,7 +83,7 @@ module _ (options : Declared) (declared : MayBeDeclared options.groups) where
 
       -- a reading that doesn't has a count fault
       pub BreaksCounts-reading : (fault : Fault)
-          → IsCountFault (matched 0 (knowns_of options.groups) occurrences) fault
+          → IsCountFault (matched 0 (signatures_of options.groups) occurrences) fault
           → BreaksCounts options words fault
       BreaksCounts-reading fault breaks = record {
         reading = reading;
@@ -126,7 +126,7 @@ pub HavePositionsInOrder-read : (options : Declared) (words : List Text) (matche
     → HasReading options words matches → HavePositionsInOrder matches.groups
 HavePositionsInOrder-read options words matches has =
     subst HavePositionsInOrder (ap (λ (m : Matched). m.groups) (sym has.matches_are))
-    (HavePositionsInOrder-matched (grammar_of options) has.reading 0 (knowns_of options.groups))
+    (HavePositionsInOrder-matched (grammar_of options) has.reading 0 (signatures_of options.groups))
 
 -- the positions of accepted matches are below the number of words
 pub positions_below-accepted : (options : Declared) (words : List Text) (matches : Matched)
@@ -135,4 +135,4 @@ positions_below-accepted options words matches accepted =
     let groups : (matches_of options accepted.reading).groups ≡ matches.groups = ap (λ (m : Matched). m.groups) (sym accepted.matches_are) in
     subst (HavePositionsBelow (length words)) groups (HavePositionsBelow-matched
     (grammar_of options) accepted.reading words (meets (Reads options words) accepted.reading accepted.only) 0
-    (knowns_of options.groups))
+    (signatures_of options.groups))

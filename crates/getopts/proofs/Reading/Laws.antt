@@ -10,22 +10,22 @@ use Rattle.std.specs.List.Sorted.{IsNonDecreasingBy}
 use Rattle.std.proofs.lemmas.List.{append-nil, append_assoc, length-append}
 use Rattle.std.proofs.lemmas.Grind.{flat_map-append}
 use Rattle.getopts.specs.Names.{Text}
-use Rattle.getopts.specs.Options.{Known, Grammar}
-use Rattle.getopts.specs.Scan.{dash, is_dashed, begins_with_dash, Argument, none, attached}
-use Rattle.getopts.specs.Scan.{separate, Dashes, one, two, End, flags, ends_in, Item, free, long}
-use Rattle.getopts.specs.Scan.{item_words, cluster, dash_text, end_text, spelled_all}
-use Rattle.getopts.specs.Scan.{MayStandBefore, FitsLong, FitsEnd, IsLawfulEnd, IsLawfulLong}
-use Rattle.getopts.specs.Scan.{IsLawfulCluster, IsLawfulItem, is_bare, EndsOrIsDashed}
-use Rattle.getopts.specs.Scan.{AreWellFollowed, Tail, line_end, stop, rest, tail_words, Reading}
-use Rattle.getopts.specs.Scan.{IsReading, Mention, mentions, Occurrence, at_position, word_count}
-use Rattle.getopts.specs.Scan.{occurrences_after, occurrences_of, free_items, tail_frees}
-use Rattle.getopts.specs.Scan.{free_words, trailing_after}
+use Rattle.getopts.specs.Options.{Signature, Grammar}
+use Rattle.getopts.specs.Reading.{dash, is_dashed, begins_with_dash, Argument, none, attached}
+use Rattle.getopts.specs.Reading.{separate, Dashes, one, two, End, flags, ends_in, Item, free, long}
+use Rattle.getopts.specs.Reading.{item_words, cluster, dash_text, end_text, spelled_all}
+use Rattle.getopts.specs.Reading.{MayStandBefore, FitsLong, FitsEnd, IsLawfulEnd, IsLawfulLong}
+use Rattle.getopts.specs.Reading.{IsLawfulCluster, IsLawfulItem, is_bare, EndsOrIsDashed}
+use Rattle.getopts.specs.Reading.{AreWellFollowed, Tail, line_end, stop, rest, tail_words, Reading}
+use Rattle.getopts.specs.Reading.{IsReading, Mention, mentions, Occurrence, at_position, word_count}
+use Rattle.getopts.specs.Reading.{occurrences_after, occurrences_of, free_items, tail_frees}
+use Rattle.getopts.specs.Reading.{free_words, trailing_after}
 use Rattle.getopts.specs.Matches.{Found, found_at, matched}
-use Rattle.getopts.specs.ScanLaws.{AreHigherAfter, ReadsAlike, Respells, mentions_of, positions_in}
-use Rattle.getopts.specs.ScanLaws.{LongAttachedOrSeparate, ShortAttachedOrSeparate, ClusterSplits}
-use Rattle.getopts.specs.ScanLaws.{OneDashOrTwo, is_last_bare, joined_reading, HasContentOfBoth}
-use Rattle.getopts.specs.ScanLaws.{LinesCompose, IsAfterStop, TrailingStartIsAfterStop}
-use Rattle.getopts.specs.ScanLaws.{IsSubsequence, FreeWordsAreSubsequence, HavePositionsInOrder}
+use Rattle.getopts.specs.ReadingLaws.{AreHigherAfter, ReadsAlike, Respells, mentions_of, positions_in}
+use Rattle.getopts.specs.ReadingLaws.{LongAttachedOrSeparate, ShortAttachedOrSeparate, ClusterSplits}
+use Rattle.getopts.specs.ReadingLaws.{OneDashOrTwo, is_last_bare, joined_reading, HasContentOfBoth}
+use Rattle.getopts.specs.ReadingLaws.{LinesCompose, IsAfterStop, TrailingStartIsAfterStop}
+use Rattle.getopts.specs.ReadingLaws.{IsSubsequence, FreeWordsAreSubsequence, HavePositionsInOrder}
 use Rattle.getopts.specs.declared.groups.HasArg.TheVariants.{Yes}
 use Rattle.getopts.proofs.Lists.{AllByRecursion-append, AllByRecursion-left, AllByRecursion-right}
 use Rattle.getopts.proofs.Reading.Positions.{mentions_of-items, positions_in-one_higher}
@@ -518,8 +518,8 @@ NeverDecrease-reading grammar reading place = NeverDecrease-from_rise 0 _ (RiseF
 
 -- positions in order, of the groups that matches of a reading hold
 pub HavePositionsInOrder-matched : (grammar : Grammar) (reading : Reading) (place : ℕ)
-    (knowns : List Known)
-    → HavePositionsInOrder (matched place knowns (occurrences_of grammar reading))
+    (signatures : List Signature)
+    → HavePositionsInOrder (matched place signatures (occurrences_of grammar reading))
 HavePositionsInOrder-matched grammar reading place [] = tt
-HavePositionsInOrder-matched grammar reading place (known ∷ knowns) =
-    (NeverDecrease-reading grammar reading place, HavePositionsInOrder-matched grammar reading (place + 1) knowns)
+HavePositionsInOrder-matched grammar reading place (signature ∷ signatures) =
+    (NeverDecrease-reading grammar reading place, HavePositionsInOrder-matched grammar reading (place + 1) signatures)

@@ -10,13 +10,13 @@ use Rattle.std.proofs.lemmas.List.Elements.{Contains-append_cases}
 use Rattle.std.proofs.lemmas.Bool.{cases_Bool}
 use Rattle.std.proofs.lemmas.Bool.Decides.{nat_tests}
 use Rattle.getopts.specs.Names.{Text}
-use Rattle.getopts.specs.Options.{Known, Grammar}
-use Rattle.getopts.specs.Scan.{Item, free, long, cluster, item_words, spelled_all, Tail, tail_words}
-use Rattle.getopts.specs.Scan.{Reading, IsReading, Mention, mentions, Occurrence, at_position}
-use Rattle.getopts.specs.Scan.{word_count, occurrences_after, occurrences_of}
+use Rattle.getopts.specs.Options.{Signature, Grammar}
+use Rattle.getopts.specs.Reading.{Item, free, long, cluster, item_words, spelled_all, Tail, tail_words}
+use Rattle.getopts.specs.Reading.{Reading, IsReading, Mention, mentions, Occurrence, at_position}
+use Rattle.getopts.specs.Reading.{word_count, occurrences_after, occurrences_of}
 use Rattle.getopts.specs.Matches.{Found, found_at, matched}
-use Rattle.getopts.specs.ScanLaws.{mentions_of, positions_in, one_higher_after, StandsInItem}
-use Rattle.getopts.specs.ScanLaws.{PositionsAreWords, HavePositionsBelow}
+use Rattle.getopts.specs.ReadingLaws.{mentions_of, positions_in, one_higher_after, StandsInItem}
+use Rattle.getopts.specs.ReadingLaws.{PositionsAreWords, HavePositionsBelow}
 use Rattle.getopts.proofs.Lists.{AllByRecursion-append, slice_get-append}
 use Rattle.getopts.proofs.Reading.Readings.{spelled_all-append, spelled_all-joined}
 use Rattle.getopts.proofs.Reading.Turns.{spelled}
@@ -268,12 +268,12 @@ below-occurrences_of grammar reading words reads =
 
 -- positions are below the number of words, of the groups that matches of a reading hold
 pub HavePositionsBelow-matched : (grammar : Grammar) (reading : Reading) (words : List Text)
-    → IsReading grammar reading words → (place : ℕ) (knowns : List Known)
-    → HavePositionsBelow (length words) (matched place knowns (occurrences_of grammar reading))
+    → IsReading grammar reading words → (place : ℕ) (signatures : List Signature)
+    → HavePositionsBelow (length words) (matched place signatures (occurrences_of grammar reading))
 HavePositionsBelow-matched grammar reading words reads place [] = tt
-HavePositionsBelow-matched grammar reading words reads place (known ∷ knowns) = (
+HavePositionsBelow-matched grammar reading words reads place (signature ∷ signatures) = (
   below-found_at (length words) place (occurrences_of grammar reading)
       (below-occurrences_of grammar reading words reads),
   HavePositionsBelow-matched grammar reading words reads
-      (place + 1) knowns,
+      (place + 1) signatures,
 )

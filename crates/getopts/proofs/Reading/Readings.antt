@@ -6,10 +6,10 @@ use Rattle.std.specs.Str.{IsUtf8}
 use Rattle.getopts.specs.Names.{Text, AreTexts}
 use Rattle.getopts.specs.Options.{Grammar}
 use Rattle.getopts.specs.Fail.{Fault}
-use Rattle.getopts.specs.Scan.{stop_word, Argument, separate, Item, free, long, cluster}
-use Rattle.getopts.specs.Scan.{argument_words, item_words, spelled_all, IsLawfulItem}
-use Rattle.getopts.specs.Scan.{EndsOrIsDashed, AreWellFollowed, Tail, line_end, stop, rest}
-use Rattle.getopts.specs.Scan.{tail_words, IsLawfulTail, Reading, IsReading, IsFaultAt, IsScanFault}
+use Rattle.getopts.specs.Reading.{stop_word, Argument, separate, Item, free, long, cluster}
+use Rattle.getopts.specs.Reading.{argument_words, item_words, spelled_all, IsLawfulItem}
+use Rattle.getopts.specs.Reading.{EndsOrIsDashed, AreWellFollowed, Tail, line_end, stop, rest}
+use Rattle.getopts.specs.Reading.{tail_words, IsLawfulTail, Reading, IsReading, IsFaultAt, IsScanFault}
 use Rattle.getopts.specs.declared.groups.ParsingStyle.{ParsingStyle}
 use Rattle.getopts.proofs.Lists.{AllByRecursion-right}
 use Rattle.getopts.specs.Turn.{Turn, ends, takes, faults}

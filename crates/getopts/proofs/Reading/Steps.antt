@@ -10,15 +10,15 @@ use Rattle.std.proofs.lemmas.Str.{length-encode, len_utf8_bounds}
 use Rattle.getopts.specs.Names.{Text}
 use Rattle.getopts.specs.Options.{Grammar}
 use Rattle.getopts.specs.Fail.{Fault, unrecognized_option}
-use Rattle.getopts.specs.Scan.{dash, is_dashed, holds_equals, stop_word, Argument, none, attached}
-use Rattle.getopts.specs.Scan.{separate, Dashes, one, two, End, flags, ends_in, Item, free, long}
-use Rattle.getopts.specs.Scan.{cluster, long_word, attached_argument, argument_words, item_words}
-use Rattle.getopts.specs.Scan.{end_text, end_words, MayStandBefore, FitsLong, FitsEnd, IsFlag}
-use Rattle.getopts.specs.Scan.{IsLawfulEnd, IsLawfulCluster, IsLawfulItem, is_bare, EndsOrIsDashed}
-use Rattle.getopts.specs.Scan.{stop, tail_words, IsLawfulTail, IsLongForm, IsShortForm, dash_text}
-use Rattle.getopts.specs.Scan.{HasAfterFlags}
-use Rattle.getopts.specs.Scan.{IsFaultAt, unknown_name, unknown_character, unwanted_argument}
-use Rattle.getopts.specs.Scan.{long_unfinished, short_unfinished}
+use Rattle.getopts.specs.Reading.{dash, is_dashed, holds_equals, stop_word, Argument, none, attached}
+use Rattle.getopts.specs.Reading.{separate, Dashes, one, two, End, flags, ends_in, Item, free, long}
+use Rattle.getopts.specs.Reading.{cluster, long_word, attached_argument, argument_words, item_words}
+use Rattle.getopts.specs.Reading.{end_text, end_words, MayStandBefore, FitsLong, FitsEnd, IsFlag}
+use Rattle.getopts.specs.Reading.{IsLawfulEnd, IsLawfulCluster, IsLawfulItem, is_bare, EndsOrIsDashed}
+use Rattle.getopts.specs.Reading.{stop, tail_words, IsLawfulTail, IsLongForm, IsShortForm, dash_text}
+use Rattle.getopts.specs.Reading.{HasAfterFlags}
+use Rattle.getopts.specs.Reading.{IsFaultAt, unknown_name, unknown_character, unwanted_argument}
+use Rattle.getopts.specs.Reading.{long_unfinished, short_unfinished}
 use Rattle.getopts.specs.Turn.{with_equals, Turn, ends, takes, faults, IsInLongForm}
 use Rattle.getopts.specs.Turn.{chosen_long, chosen_end, chosen_turn, named_turn, cut_at_equals}
 use Rattle.getopts.specs.Turn.{long_turn, first_char, byte_turn, cluster_turn}

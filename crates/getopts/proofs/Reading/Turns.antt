@@ -5,8 +5,8 @@ use Rattle.std.specs.Prelude.{if◌then◌else◌}
 use Rattle.getopts.specs.Names.{Text}
 use Rattle.getopts.specs.Options.{Grammar}
 use Rattle.getopts.specs.Fail.{Fault}
-use Rattle.getopts.specs.Scan.{dash, none, separate, one, two, Item, free, item_words, line_end}
-use Rattle.getopts.specs.Scan.{stop, rest, Reading}
+use Rattle.getopts.specs.Reading.{dash, none, separate, one, two, Item, free, item_words, line_end}
+use Rattle.getopts.specs.Reading.{stop, rest, Reading}
 use Rattle.getopts.specs.Turn.{Turn, ends, takes, faults, long_turn, cluster_turn}
 use Rattle.getopts.specs.declared.groups.ParsingStyle.{ParsingStyle}
 use Rattle.getopts.specs.declared.groups.ParsingStyle.TheVariants.{FloatingFrees, StopAtFirstFree}

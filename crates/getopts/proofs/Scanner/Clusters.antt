@@ -7,8 +7,8 @@ use Rattle.std.proofs.lemmas.List.{take_more, append-nil, map-append, take_all, 
 use Rattle.std.proofs.lemmas.Str.{IsCharBoundary-start, IsCharBoundary-after_ascii}
 use Rattle.getopts.specs.Names.{Text}
 use Rattle.getopts.specs.Options.{Grammar}
-use Rattle.getopts.specs.Scan.{none, flags, ends_in, cluster, IsFlag, Occurrence, at_position}
-use Rattle.getopts.specs.Scan.{mention_of, mentions}
+use Rattle.getopts.specs.Reading.{none, flags, ends_in, cluster, IsFlag, Occurrence, at_position}
+use Rattle.getopts.specs.Reading.{mention_of, mentions}
 use Rattle.getopts.specs.Turn.{chosen_end, chosen_turn, byte_turn, cluster_turn, Chooses}
 use Rattle.getopts.specs.Turn.{AddsItem}
 use Rattle.getopts.specs.declared.groups.HasArg.{HasArg}

@@ -3,8 +3,8 @@ use Rattle.std.proofs.Common.{◌≡◌, ℕ, false, List, [], ◌∷◌, ◌++�
 use Rattle.std.proofs.Common.{Ok, refl, ap, ◌∙◌, slice_get, Bor}
 use Rattle.getopts.specs.Names.{Text, texts}
 use Rattle.getopts.specs.Options.{Grammar}
-use Rattle.getopts.specs.Scan.{Argument, none, attached, Dashes, long, argument_words}
-use Rattle.getopts.specs.Scan.{value_of, holds_equals, Occurrence, at_position}
+use Rattle.getopts.specs.Reading.{Argument, none, attached, Dashes, long, argument_words}
+use Rattle.getopts.specs.Reading.{value_of, holds_equals, Occurrence, at_position}
 use Rattle.getopts.specs.Fail.{Fault, Tells}
 use Rattle.getopts.specs.Turn.{with_equals, faults, chosen_long, chosen_turn}
 use Rattle.getopts.specs.Turn.{named_turn, long_turn, Chooses, AddsItem}

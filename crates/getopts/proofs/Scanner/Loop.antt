@@ -10,10 +10,10 @@ use Rattle.std.proofs.lemmas.Bool.Decides.{nat_tests}
 use Rattle.getopts.specs.Names.{Text, AreTexts, texts}
 use Rattle.getopts.specs.Options.{Grammar}
 use Rattle.getopts.specs.Fail.{Tells}
-use Rattle.getopts.specs.Scan.{is_dashed, stop_word, Argument, none, separate, Item, free}
-use Rattle.getopts.specs.Scan.{argument_words, item_words, Occurrence, at_position, word_count}
-use Rattle.getopts.specs.Scan.{occurrences_after, mentions, free_items, Tail, stop, rest}
-use Rattle.getopts.specs.Scan.{trailing_after, IsReading, IsScanFault}
+use Rattle.getopts.specs.Reading.{is_dashed, stop_word, Argument, none, separate, Item, free}
+use Rattle.getopts.specs.Reading.{argument_words, item_words, Occurrence, at_position, word_count}
+use Rattle.getopts.specs.Reading.{occurrences_after, mentions, free_items, Tail, stop, rest}
+use Rattle.getopts.specs.Reading.{trailing_after, IsReading, IsScanFault}
 use Rattle.getopts.specs.Turn.{Turn, ends, takes, faults, AddsItem}
 use Rattle.getopts.specs.declared.fail.Fail.{Fail}
 use Rattle.getopts.specs.declared.groups.ParsingStyle.TheVariants.{FloatingFrees, StopAtFirstFree}

@@ -6,7 +6,7 @@ use Rattle.std.proofs.lemmas.List.Folds.{list_any_none}
 use Rattle.std.proofs.lemmas.Bool.Decides.{nat_tests}
 use Rattle.std.proofs.lemmas.Grind.{common_steps}
 use Rattle.getopts.specs.Names.{Text}
-use Rattle.getopts.specs.Scan.{equals_sign, holds_equals}
+use Rattle.getopts.specs.Reading.{equals_sign, holds_equals}
 
 -- a text with no byte `=` doesn't hold it
 pub holds_equals-none : (text : Text) → ((i : ℕ) → i < length text → get_or text i 0 ≢ equals_sign)

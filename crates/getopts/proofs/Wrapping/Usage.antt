@@ -14,7 +14,7 @@ use Rattle.std.proofs.lemmas.Option.{same_Some}
 use Rattle.std.proofs.lemmas.Slice.Zip.{all_zipped_more}
 use Rattle.getopts.specs.Held.Groups.{group_view}
 use Rattle.getopts.specs.Names.{Text, is_empty}
-use Rattle.getopts.specs.Options.{Known, Group, Declared}
+use Rattle.getopts.specs.Options.{Signature, Group, Declared}
 use Rattle.getopts.specs.Only.{IsTheOnly}
 use Rattle.getopts.specs.Usage.{AddsTheOnly, any_short, spaces, head, next_row, padding, row_text}
 use Rattle.getopts.specs.Usage.{IsUsageRow, AreUsageRows, usage_text, IsUsageText}
@@ -72,15 +72,15 @@ group_more groups place group is =
 
 -- whether a group has a short name
 abbrev pub has_short : Group → Bool
-has_short group = not (is_empty group.known.names.short)
+has_short group = not (is_empty group.signature.names.short)
 
 -- a group that is known at a place stands there
-pub group_known : (groups : List Group) (place : ℕ) (known : Known)
-    → Some known ≡ option_map (λ (group : Group). group.known) (slice_get groups place)
-    → (group : Group) × (slice_get groups place ≡ Some group) × (known ≡ group.known)
-group_known [] place known is = cc is
-group_known (group ∷ groups) zero known is = (group, refl, same_Some known group.known is)
-group_known (group ∷ groups) (suc place) known is = group_known groups place known is
+pub group_signature : (groups : List Group) (place : ℕ) (signature : Signature)
+    → Some signature ≡ option_map (λ (group : Group). group.signature) (slice_get groups place)
+    → (group : Group) × (slice_get groups place ≡ Some group) × (signature ≡ group.signature)
+group_signature [] place signature is = cc is
+group_signature (group ∷ groups) zero signature is = (group, refl, same_Some signature group.signature is)
+group_signature (group ∷ groups) (suc place) signature is = group_signature groups place signature is
 
 -- whether any group has a short name, with one more group
 pub any_short_more : (groups : List Group) (place : ℕ) (group : Group)

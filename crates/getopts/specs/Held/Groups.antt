@@ -3,13 +3,13 @@ use Rattle.std.specs.Prelude.{◌==◌, ℕ, Bool, List, [], ◌∷◌}
 use Rattle.std.specs.Ordering.{on, eq_of_both}
 use Rattle.std.specs.String.{string_bytes}
 use Rattle.getopts.specs.Names.{Text, Names}
-use Rattle.getopts.specs.Options.{Known, Group, MayBeDeclared}
-use Rattle.getopts.specs.Same.{same_known}
+use Rattle.getopts.specs.Options.{Signature, Group, MayBeDeclared}
+use Rattle.getopts.specs.Same.{same_signature}
 use Rattle.getopts.specs.Held.Pieces.{pieces, IsWellCut}
 use Rattle.getopts.specs.declared.names.Names.{Names as HeldNames}
 use Rattle.getopts.specs.declared.groups.Kinds.{Kinds}
 use Rattle.getopts.specs.declared.groups.GroupRecord.{GroupRecord}
-use Rattle.getopts.specs.declared.groups.Known.{Known as HeldKnown}
+use Rattle.getopts.specs.declared.groups.Signature.{Signature as HeldSignature}
 use Rattle.getopts.specs.declared.groups.Group.{Group as HeldGroup}
 use Rattle.getopts.specs.declared.groups.Groups.TheInside.{Inside}
 
@@ -18,20 +18,20 @@ abbrev pub names_view : HeldNames → Names
 names_view held = record { short = held.short.now; long = held.long.now }
 
 -- what is known of a group with these kinds and names
-abbrev pub known_with : Kinds → Text → Text → Known
-known_with kinds short long = record {
+abbrev pub signature_with : Kinds → Text → Text → Signature
+signature_with kinds short long = record {
   names = record { short = short; long = long };
   kind = kinds.kind;
   occurrence = kinds.occurrence;
 }
 
 -- the kinds of a group
-abbrev pub kinds_of : Known → Kinds
-kinds_of known = record { kind = known.kind; occurrence = known.occurrence }
+abbrev pub kinds_of : Signature → Kinds
+kinds_of signature = record { kind = signature.kind; occurrence = signature.occurrence }
 
 -- whether two groups' kinds are the same
 abbrev pub same_kinds : Kinds → Kinds → Bool
-same_kinds = on (λ kinds. known_with kinds [] []) same_known
+same_kinds = on (λ kinds. signature_with kinds [] []) same_signature
 
 -- where the texts of groups end, in order
 abbrev pub text_ends : List GroupRecord → List ℕ
@@ -42,7 +42,7 @@ text_ends (group ∷ groups) =
 -- groups by their kinds, each with the next four of these texts
 abbrev pub groups_with : List GroupRecord → List Text → List Group
 groups_with (group ∷ groups) (short ∷ long ∷ hint ∷ description ∷ texts) = record {
-  known = known_with group.kinds short long;
+  signature = signature_with group.kinds short long;
   hint = hint;
   description = description;
 } ∷ groups_with groups texts
@@ -66,17 +66,17 @@ same_record = eq_of_both (on (λ group. group.short_end) ◌==◌)
     (eq_of_both (on (λ group. group.desc_end) ◌==◌) (on (λ group. group.kinds) same_kinds))))
 
 -- what is known of a borrowed group
-abbrev pub known_view : HeldKnown → Known
-known_view held = known_with held.kinds held.names.short.now held.names.long.now
+abbrev pub signature_view : HeldSignature → Signature
+signature_view held = signature_with held.kinds held.names.short.now held.names.long.now
 
 -- whether what is known of two borrowed groups is the same
-abbrev pub same_known_view : HeldKnown → HeldKnown → Bool
-same_known_view = on known_view same_known
+abbrev pub same_signature_view : HeldSignature → HeldSignature → Bool
+same_signature_view = on signature_view same_signature
 
 -- a borrowed group
 abbrev pub group_view : HeldGroup → Group
 group_view held = record {
-  known = known_view held.known;
+  signature = signature_view held.signature;
   hint = held.hint.now;
   description = held.desc.now;
 }

@@ -6,8 +6,8 @@ use Rattle.getopts.specs.Names.{Text}
 use Rattle.getopts.specs.Options.{Grammar, MayBeDeclared, names_of, grammar_of}
 use Rattle.getopts.specs.Held.Table.{IsTableOf}
 use Rattle.getopts.specs.Canon.{Content}
-use Rattle.getopts.specs.Scan.{Dashes, is_dashed, stop_word, Occurrence, Reading, IsReading}
-use Rattle.getopts.specs.Scan.{occurrences_of, free_words, trailing_start, IsShortForm}
+use Rattle.getopts.specs.Reading.{Dashes, is_dashed, stop_word, Occurrence, Reading, IsReading}
+use Rattle.getopts.specs.Reading.{occurrences_of, free_words, trailing_start, IsShortForm}
 use Rattle.getopts.specs.Turn.{IsInLongForm}
 use Rattle.getopts.specs.declared.occurrences.Occurrence.{Occurrence as Held}
 use Rattle.getopts.specs.declared.scan.Line.{Line}

@@ -2,7 +2,7 @@
 -- and where the occurrences stand; and groups with what a line gave to each.
 use Rattle.std.specs.Prelude.{◌≡◌, List, length}
 use Rattle.getopts.specs.Names.{Text}
-use Rattle.getopts.specs.Options.{Group, Declared, MayBeDeclared, names_of, knowns_of, grammar_of}
+use Rattle.getopts.specs.Options.{Group, Declared, MayBeDeclared, names_of, signatures_of, grammar_of}
 use Rattle.getopts.specs.Matches.{MatchedGroup, matched, KeepsCounts}
 use Rattle.getopts.specs.Held.Index.{index_of}
 use Rattle.getopts.specs.Held.Line.{ReadsLine}
@@ -24,11 +24,11 @@ pub record IsReadLine (options : Declared) (words : List Text) (read : ReadLine)
 -- and the line keeps the counts
 pub record IsAcceptedLine (options : Declared) (words : List Text) (read : ReadLine) : Type 0 where
   pub is_read : IsReadLine options words read
-  pub keeps : KeepsCounts (matched 0 (knowns_of options.groups) read.line.found)
+  pub keeps : KeepsCounts (matched 0 (signatures_of options.groups) read.line.found)
 
 -- the groups, each with what was found of it
 abbrev pub matched_view : Inside → List MatchedGroup
-matched_view inside = matched 0 (knowns_of inside.groups) inside.found
+matched_view inside = matched 0 (signatures_of inside.groups) inside.found
 
 -- they keep their table, and where the occurrences of each group stand
 pub record KeepsGroups (inside : Inside) : Type 0 where

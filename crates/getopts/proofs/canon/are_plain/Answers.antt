@@ -7,7 +7,7 @@ use Rattle.std.specs.Option.{option_map_or}
 use Rattle.getopts.specs.Names.{main_name}
 use Rattle.getopts.specs.Options.{Group}
 use Rattle.getopts.specs.Matches.{found_at}
-use Rattle.getopts.specs.Scan.{Occurrence, holds_equals}
+use Rattle.getopts.specs.Reading.{Occurrence, holds_equals}
 use Rattle.getopts.specs.Held.Index.{index_of}
 use Rattle.getopts.specs.Canon.{main_at}
 use Rattle.getopts.proofs.Parsing.Counts.{length-found_at, list_all-by_group}
@@ -30,7 +30,7 @@ counted groups found index place count is within asked =
 plain_past : (groups : List Group) (place : ℕ) → length groups ≤ place
     → not (holds_equals (main_at groups place)) ≡ true
 plain_past groups place past =
-    ap (λ o. not (holds_equals (option_map_or (λ (group : Group). main_name group.known.names) o [])))
+    ap (λ o. not (holds_equals (option_map_or (λ (group : Group). main_name group.signature.names) o [])))
     (slice_get_past groups place past)
 
 pub returns-then-holds_equals : goal.returns-then-holds_equals

@@ -1,7 +1,7 @@
 -- No group so far that has an occurrence has a main name that holds `=`.
 use Rattle.std.proofs.Common.{◌≡◌, ◌<◌, ℕ, true, length, not}
 use Rattle.getopts.specs.Matches.{found_at}
-use Rattle.getopts.specs.Scan.{holds_equals}
+use Rattle.getopts.specs.Reading.{holds_equals}
 use Rattle.getopts.specs.Canon.{main_at}
 use Rattle.getopts.proofs.canon.are_plain.Given as goal
 

@@ -3,7 +3,7 @@ use Rattle.std.proofs.Common.{◌≡◌, ◌<◌, ◌++◌, ◌∷◌, [], ◌+�
 use Rattle.std.proofs.lemmas.List.{map-append}
 use Rattle.std.specs.String.{string_bytes}
 use Rattle.getopts.specs.Names.{Text}
-use Rattle.getopts.specs.Scan.{two, long_word, Occurrence}
+use Rattle.getopts.specs.Reading.{two, long_word, Occurrence}
 use Rattle.getopts.specs.Canon.{canonical_word}
 use Rattle.getopts.specs.Held.Line.{occurrence_view}
 use Rattle.getopts.proofs.Lists.{take-get, AllByRecursion-at}

@@ -1,6 +1,6 @@
 use Rattle.std.proofs.Common.{◌≡◌, ◌∷◌, ◌++◌, map, take}
 use Rattle.std.specs.String.{string_bytes}
-use Rattle.getopts.specs.Scan.{stop_word, Occurrence}
+use Rattle.getopts.specs.Reading.{stop_word, Occurrence}
 use Rattle.getopts.specs.Canon.{canonical_word}
 use Rattle.getopts.proofs.canon.canonical_line.Given as goal
 

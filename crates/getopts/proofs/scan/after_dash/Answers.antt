@@ -2,7 +2,7 @@
 use Rattle.std.proofs.Common.{◌≡◌, ◌<◌, get_or, length, arith}
 use Rattle.std.proofs.lemmas.Grind.{common_steps}
 use Rattle.std.proofs.lemmas.Str.{IsCharBoundary-after_ascii}
-use Rattle.getopts.specs.Scan.{dash}
+use Rattle.getopts.specs.Reading.{dash}
 use Rattle.getopts.proofs.scan.after_dash.Goals as goal
 
 pub range_from-requires : goal.range_from-requires

@@ -1,7 +1,7 @@
 -- A text may be cut after its first `=`.
 use Rattle.std.proofs.Common.{◌≡◌, get_or, arith}
 use Rattle.std.proofs.lemmas.Str.{IsCharBoundary-after_ascii}
-use Rattle.getopts.specs.Scan.{equals_sign}
+use Rattle.getopts.specs.Reading.{equals_sign}
 use Rattle.getopts.proofs.scan.name_and_argument.Goals as goal
 
 pub range_from-requires : goal.range_from-requires

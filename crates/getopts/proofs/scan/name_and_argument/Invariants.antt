@@ -1,6 +1,6 @@
 -- The text before this place holds no `=`.
 use Rattle.std.proofs.Common.{◌≡◌, false, take}
-use Rattle.getopts.specs.Scan.{holds_equals}
+use Rattle.getopts.specs.Reading.{holds_equals}
 use Rattle.getopts.proofs.scan.name_and_argument.Given as goal
 
 abbrev pub invariant-loop-at : goal.invariant-loop-at

@@ -6,7 +6,7 @@ use Rattle.std.specs.Option.{option_map}
 use Rattle.std.specs.String.{string_bytes}
 use Rattle.getopts.specs.Names.{Text}
 use Rattle.getopts.specs.Options.{Group}
-use Rattle.getopts.specs.Held.Groups.{known_view}
+use Rattle.getopts.specs.Held.Groups.{signature_view}
 use Rattle.std.proofs.lemmas.List.{get_or_read}
 use Rattle.getopts.proofs.Lists.{slice_get-read}
 use Rattle.getopts.proofs.Held.Groups.{start_at, record_within, groups_from-at, AreEndsOf, AreEndsOf-at}
@@ -61,8 +61,8 @@ returns c =
     let r = c.index-group.result.now in
     let there : slice_get c.args.self.now c.args.place ≡ Some (group_by text start r) =
     rw (← c.self.view_is) (groups_from-at text 0 records c.args.place ∙ ap (option_map (group_by text start)) (record_at at)) in
-    let known : known_view c.known-known.result ≡ (group_by text start r).known =
-    same_Some _ _ (c.known-known.ensures ∙ ap (option_map (λ (g : Group). g.known)) there) in
+    let signature : signature_view c.signature-signature.result ≡ (group_by text start r).signature =
+    same_Some _ _ (c.signature-signature.ensures ∙ ap (option_map (λ (g : Group). g.signature)) there) in
     let hint = c.range-hint.ensures.value ∙ ap (λ (t : Text). between t r.long_end r.hint_end) c.deref.ensures in
     let description = c.range-desc.ensures.value ∙ ap (λ (t : Text). between t r.hint_end r.desc_end) c.deref-2.ensures in
-    (λ i. Some (record { known = known i; hint = hint i; description = description i })) ∙ sym there
+    (λ i. Some (record { signature = signature i; hint = hint i; description = description i })) ∙ sym there

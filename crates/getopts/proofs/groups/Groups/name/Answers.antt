@@ -1,6 +1,6 @@
 -- The name of a number is one of the two names of the group at half the number.
 use Rattle.std.proofs.Common.{sym, arith}
-use Rattle.getopts.specs.Held.Groups.{known_view}
+use Rattle.getopts.specs.Held.Groups.{signature_view}
 use Rattle.getopts.proofs.Held.Groups.{name_at-short, name_at-long, name_at-past}
 use Rattle.getopts.proofs.groups.Groups.name.Goals as goal
 
@@ -10,9 +10,9 @@ returns-then-place-len c =
 
 pub returns-then-number-eq0 : goal.returns-then-number-eq0
 returns-then-number-eq0 c =
-    sym (name_at-short c.args.self.now c.args.number (known_view c.known.result) (sym c.known.ensures) c.if-number-eq0.true)
+    sym (name_at-short c.args.self.now c.args.number (signature_view c.signature.result) (sym c.signature.ensures) c.if-number-eq0.true)
 
 pub returns-else-number-eq0 : goal.returns-else-number-eq0
 returns-else-number-eq0 c =
-    sym (name_at-long c.args.self.now c.args.number (known_view c.known.result) (sym c.known.ensures)
+    sym (name_at-long c.args.self.now c.args.number (signature_view c.signature.result) (sym c.signature.ensures)
     (omega (arith, c.if-number-eq0.false)))

@@ -56,10 +56,10 @@ invariant_of-self-2 c =
       cut = (pushed c).0;
       declared = record {
         named = rw same
-            (AllByRecursion-append (λ (g : Group). IsLawfullyNamed g.known.names) _ (group c ∷ [])
+            (AllByRecursion-append (λ (g : Group). IsLawfullyNamed g.signature.names) _ (group c ∷ [])
             c.self.invariant.declared.named (c.requires, tt));
         shorts = rw same
-            (AllByRecursion-append (λ (g : Group). Rattle.std.specs.Str.IsUtf8 g.known.names.short) _ (group c ∷ [])
+            (AllByRecursion-append (λ (g : Group). Rattle.std.specs.Str.IsUtf8 g.signature.names.short) _ (group c ∷ [])
             c.self.invariant.declared.shorts (c.utf8.short, tt));
       };
     }

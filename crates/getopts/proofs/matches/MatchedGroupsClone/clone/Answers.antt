@@ -1,6 +1,6 @@
 -- The copies are those of what is held.
 use Rattle.std.proofs.Common.{◌≡◌, ◌∙◌, length, sym}
-use Rattle.getopts.specs.Options.{knowns_of}
+use Rattle.getopts.specs.Options.{signatures_of}
 use Rattle.getopts.specs.Matches.{matched}
 use Rattle.getopts.specs.Held.Index.{index_of}
 use Rattle.getopts.proofs.matches.MatchedGroupsClone.clone.Goals as goal
@@ -20,4 +20,4 @@ pub returns : goal.returns
 returns c =
     let groups : c.in_ok-clone.field-0 ≡ c.self.inside.groups = c.in_ok-clone.ensures.cases in
     let found : c.in_ok-clone-3.field-0 ≡ c.self.inside.found = c.in_ok-clone-3.ensures.cases in
-    record { cases = (λ i. matched 0 (knowns_of (groups i)) (found i)) ∙ c.self.view_is }
+    record { cases = (λ i. matched 0 (signatures_of (groups i)) (found i)) ∙ c.self.view_is }

@@ -8,7 +8,7 @@ use Rattle.std.specs.Option.{option_copied}
 use Rattle.std.specs.Str.{IsCharBoundary}
 use Rattle.std.specs.String.{string_bytes}
 use Rattle.getopts.specs.Names.{Text}
-use Rattle.getopts.specs.Scan.{Occurrence}
+use Rattle.getopts.specs.Reading.{Occurrence}
 use Rattle.getopts.specs.Held.Occurrences.{values_end, has_value, value_ends}
 use Rattle.getopts.specs.declared.occurrences.OccurrenceRecord.{OccurrenceRecord}
 use Rattle.getopts.proofs.Lists.{slice_get-read}

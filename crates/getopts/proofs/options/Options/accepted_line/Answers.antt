@@ -2,7 +2,7 @@
 use Rattle.std.proofs.Common.{inl, inr}
 use Rattle.std.proofs.lemmas.Result.{err_from_is_err_and}
 use Rattle.getopts.specs.Names.{texts}
-use Rattle.getopts.specs.Options.{knowns_of}
+use Rattle.getopts.specs.Options.{signatures_of}
 use Rattle.getopts.specs.Matches.{matched, IsCountFault}
 use Rattle.getopts.specs.Parse.{IsRefused, HasNoReading}
 use Rattle.getopts.proofs.Parsing.Faults.{Tells-weaker}
@@ -25,7 +25,7 @@ returns-in_err-check_counts-clause-refused c =
     let line = c.in_ok-read.read.line in
     let left = err_from_is_err_and c.from_residual-in_err-check_counts.result c.from_residual-in_err-check_counts.ensures.1 in
     rw (left.1, left.2)
-    (Tells-weaker c.in_err-check_counts.field-0.0 (IsCountFault (matched 0 (knowns_of c.args.self.now.groups) line.found))
+    (Tells-weaker c.in_err-check_counts.field-0.0 (IsCountFault (matched 0 (signatures_of c.args.self.now.groups) line.found))
     (IsRefused c.args.self.now (texts c.args.words.now))
     (rw c.groups.ensures.groups at c.in_err-check_counts.ensures.err)
     (λ fault is. inr

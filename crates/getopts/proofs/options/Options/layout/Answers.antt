@@ -1,10 +1,10 @@
 use Rattle.std.proofs.Common.{◌||◌, Bool, not, ap, ◌∙◌, arith}
 use Rattle.std.proofs.lemmas.List.{take_all}
 use Rattle.getopts.specs.Names.{is_empty}
-use Rattle.getopts.specs.Options.{Known}
+use Rattle.getopts.specs.Options.{Signature}
 use Rattle.getopts.specs.Usage.{any_short}
-use Rattle.getopts.specs.Held.Groups.{known_view}
-use Rattle.getopts.proofs.Wrapping.Usage.{any_short_more, group_known}
+use Rattle.getopts.specs.Held.Groups.{signature_view}
+use Rattle.getopts.proofs.Wrapping.Usage.{any_short_more, group_signature}
 use Rattle.getopts.proofs.options.Options.layout.Goals as goal
 
 -- one more group
@@ -12,10 +12,10 @@ pub loop-place-preserved : goal.loop-place-preserved
 loop-place-preserved c =
     let groups = c.groups-groups.result.now in
     let place = c.loop-place.place in
-    let there = group_known groups place (known_view c.known.result) c.known.ensures in
+    let there = group_signature groups place (signature_view c.signature.result) c.signature.ensures in
     any_short_more groups place there.0 there.1 c.loop-place.any_short _ c.loop-place.invariant
     (ap (λ (empty : Bool). c.loop-place.any_short || not empty) c.is_empty.ensures
-    ∙ ap (λ (known : Known). c.loop-place.any_short || not (is_empty known.names.short)) there.2)
+    ∙ ap (λ (signature : Signature). c.loop-place.any_short || not (is_empty signature.names.short)) there.2)
 
 -- all groups were asked
 pub returns-clause-any_short : goal.returns-clause-any_short

@@ -1,7 +1,7 @@
 -- The line that was read gives accepted matches, and its options keep the laws of readings.
 use Rattle.std.proofs.Common.{◌≡◌, ◌∙◌, subst}
 use Rattle.getopts.specs.Names.{texts}
-use Rattle.getopts.specs.ScanLaws.{HavePositionsBelow}
+use Rattle.getopts.specs.ReadingLaws.{HavePositionsBelow}
 use Rattle.getopts.proofs.Canonical.Answered.{IsAccepted-line}
 use Rattle.getopts.proofs.Parsing.Parsed.{positions_below-accepted, keeps_laws}
 use Rattle.getopts.proofs.Scanner.Loop.{length-texts}

@@ -2,7 +2,7 @@
 use Rattle.std.proofs.lemmas.Result.{err_from_is_err_and}
 use Rattle.getopts.specs.Names.{texts}
 use Rattle.getopts.specs.Options.{grammar_of}
-use Rattle.getopts.specs.Scan.{IsScanFault}
+use Rattle.getopts.specs.Reading.{IsScanFault}
 use Rattle.getopts.specs.Parse.{HasNoReading}
 use Rattle.getopts.proofs.Parsing.Faults.{Tells-weaker}
 use Rattle.getopts.proofs.Parsing.Parsed.{HasNoReading-fault}

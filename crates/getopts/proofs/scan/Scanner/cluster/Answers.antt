@@ -6,7 +6,7 @@ use Rattle.std.proofs.lemmas.Result.{err_from_is_err_and}
 use Rattle.getopts.specs.Fail.{unrecognized_option}
 use Rattle.getopts.specs.Names.{texts}
 use Rattle.getopts.specs.Held.Line.{scanner_grammar}
-use Rattle.getopts.specs.Scan.{cluster, ends_in}
+use Rattle.getopts.specs.Reading.{cluster, ends_in}
 use Rattle.getopts.specs.Turn.{faults, first_char, chosen_turn, cluster_turn}
 use Rattle.getopts.proofs.Parsing.Faults.{Tells-one, Tells-weaker}
 use Rattle.getopts.proofs.Scanner.Clusters.{FlagsRead-none, FlagsRead-more, AddsItem-flags}

@@ -10,8 +10,8 @@ use Rattle.getopts.proofs.scan.Scanner.option.Goals as goal
 
 -- the kind of argument, by the kinds of the group
 kind_of-kinds : (group : Option Group)
-    → option_map (λ (k : Kinds). k.kind) (option_map (λ (g : Group). kinds_of g.known) group)
-    ≡ option_map (λ (g : Group). g.known.kind) group
+    → option_map (λ (k : Kinds). k.kind) (option_map (λ (g : Group). kinds_of g.signature) group)
+    ≡ option_map (λ (g : Group). g.signature.kind) group
 kind_of-kinds None = refl
 kind_of-kinds (Some group) = refl
 
@@ -27,7 +27,7 @@ pub kinds_at-requires : goal.kinds_at-requires
 kinds_at-requires c =
     let groups = c.groups-groups.result.now in
     let within = resolution_within (names_of groups) c.args.name.now c.in_ok-place.place (sym c.in_ok-place.ensures) in
-    omega (arith, within, length-map groups (λ (group : Group). group.known.names))
+    omega (arith, within, length-map groups (λ (group : Group). group.signature.names))
 
 pub returns : goal.returns
 returns c =

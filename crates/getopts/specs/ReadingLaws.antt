@@ -8,11 +8,11 @@ use Rattle.std.specs.Option.{option_map_or}
 use Rattle.std.specs.List.Sorted.{IsNonDecreasingBy}
 use Rattle.getopts.specs.Names.{Text}
 use Rattle.getopts.specs.Options.{Grammar}
-use Rattle.getopts.specs.Scan.{begins_with_dash, Argument, attached, separate, Dashes, End, flags}
-use Rattle.getopts.specs.Scan.{ends_in, Item, long, cluster, end_text, item_words, spelled_all}
-use Rattle.getopts.specs.Scan.{is_bare, Tail, line_end, stop, tail_words, Reading, IsReading}
-use Rattle.getopts.specs.Scan.{Mention, mentions, Occurrence, at_position, word_count}
-use Rattle.getopts.specs.Scan.{occurrences_of, free_words, trailing_start}
+use Rattle.getopts.specs.Reading.{begins_with_dash, Argument, attached, separate, Dashes, End, flags}
+use Rattle.getopts.specs.Reading.{ends_in, Item, long, cluster, end_text, item_words, spelled_all}
+use Rattle.getopts.specs.Reading.{is_bare, Tail, line_end, stop, tail_words, Reading, IsReading}
+use Rattle.getopts.specs.Reading.{Mention, mentions, Occurrence, at_position, word_count}
+use Rattle.getopts.specs.Reading.{occurrences_of, free_words, trailing_start}
 use Rattle.getopts.specs.Matches.{MatchedGroup}
 use Rattle.getopts.specs.declared.groups.HasArg.TheVariants.{Yes}
 

@@ -5,8 +5,8 @@ use Rattle.std.specs.String.{string_bytes}
 use Rattle.std.proofs.lemmas.List.{get_or_read}
 use Rattle.getopts.proofs.Lists.{slice_get-read}
 use Rattle.getopts.proofs.Held.Groups.{start_at, record_within, groups_from-at, AreEndsOf, AreEndsOf-at}
-use Rattle.getopts.proofs.groups.Groups.known.Goals as goal
-use Rattle.getopts.proofs.groups.Groups.known.Goals.{After-deref-2}
+use Rattle.getopts.proofs.groups.Groups.signature.Goals as goal
+use Rattle.getopts.proofs.groups.Groups.signature.Goals.{After-deref-2}
 
 pub index-group-requires : goal.index-group-requires
 index-group-requires c =

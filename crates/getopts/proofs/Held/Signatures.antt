@@ -1,0 +1,33 @@
+-- What is known of groups, beside the groups.
+use Rattle.std.proofs.Common.{◌≡◌, ℕ, zero, suc, List, [], ◌∷◌, map, length, slice_get, refl, ap}
+use Rattle.std.proofs.lemmas.List.{length-map}
+use Rattle.std.specs.Option.{option_map, option_map_or}
+use Rattle.getopts.specs.Names.{Names, main_name}
+use Rattle.getopts.specs.Options.{Signature, Group, signatures_of, names_of}
+use Rattle.getopts.specs.Canon.{main_at}
+use Rattle.getopts.specs.Held.Groups.{kinds_of}
+
+-- there is as much known as there are groups
+pub length-signatures_of : (groups : List Group) → length (signatures_of groups) ≡ length groups
+length-signatures_of groups = length-map groups (λ group. group.signature)
+
+-- the names of what is known are those of the groups
+pub names-signatures_of : (groups : List Group)
+    → map (λ (signature : Signature). signature.names) (signatures_of groups) ≡ names_of groups
+names-signatures_of [] = refl
+names-signatures_of (group ∷ groups) = ap (λ (more : List Names). group.signature.names ∷ more) (names-signatures_of groups)
+
+-- so are the kinds at a place
+pub kinds-signatures_of : (groups : List Group) (place : ℕ)
+    → option_map (λ (group : Group). kinds_of group.signature) (slice_get groups place)
+    ≡ option_map kinds_of (slice_get (signatures_of groups) place)
+kinds-signatures_of [] place = refl
+kinds-signatures_of (group ∷ groups) zero = refl
+kinds-signatures_of (group ∷ groups) (suc place) = kinds-signatures_of groups place
+
+-- and the main name
+pub main-signatures_of : (groups : List Group) (place : ℕ) → main_at groups place
+    ≡ option_map_or (λ (signature : Signature). main_name signature.names) (slice_get (signatures_of groups) place) []
+main-signatures_of [] place = refl
+main-signatures_of (group ∷ groups) zero = refl
+main-signatures_of (group ∷ groups) (suc place) = main-signatures_of groups place
