@@ -17,7 +17,7 @@ use Rattle.getopts.specs.declared.groups.Groups.TheInside.{Inside}
 abbrev pub names_view : HeldNames → Names
 names_view held = record { short = held.short.now; long = held.long.now }
 
--- what is known of a group with these kinds and names
+-- the signature of a group with these kinds and names
 abbrev pub signature_with : Kinds → Text → Text → Signature
 signature_with kinds short long = record {
   names = record { short = short; long = long };
@@ -65,11 +65,11 @@ same_record = eq_of_both (on (λ group. group.short_end) ◌==◌)
     (eq_of_both (on (λ group. group.hint_end) ◌==◌)
     (eq_of_both (on (λ group. group.desc_end) ◌==◌) (on (λ group. group.kinds) same_kinds))))
 
--- what is known of a borrowed group
+-- the signature of a borrowed group
 abbrev pub signature_view : HeldSignature → Signature
 signature_view held = signature_with held.kinds held.names.short.now held.names.long.now
 
--- whether what is known of two borrowed groups is the same
+-- whether the signatures of two borrowed groups are the same
 abbrev pub same_signature_view : HeldSignature → HeldSignature → Bool
 same_signature_view = on signature_view same_signature
 
