@@ -189,9 +189,15 @@ fi
 check "cargo doc" documented "$here"
 check "cargo package" packaged
 
-# twin NAME CRATE FLAG..: builds the twin of tests/differential over the crate in a folder.
+# Debian's packages stand in for the public registry where they are installed.
+registry=/usr/share/cargo/registry
+compgen -G "$registry/unicode-width-*" >/dev/null || registry=
+# twin NAME CRATE FLAG..: builds the program of tests/differential over the crate in a folder.
 twin() {
-    (unset CARGO_TARGET_DIR && CARGO_FLAGS="${*:3}" "$top/tests/differential/build.sh" "$room/$1" "$2" '')
+    local with="${*:3}"
+    # With a registry of its own the build is offline by itself.
+    [ -z "$registry" ] || with=${with//--offline/}
+    (unset CARGO_TARGET_DIR && CARGO_FLAGS=$with "$top/tests/differential/build.sh" "$room/$1" "$2" "$registry")
 }
 ours=$room/ours/twin/target/release/twin
 theirs=$room/theirs/twin/target/release/twin
@@ -236,6 +242,37 @@ END
 }
 check "a program with the patch" patched
 
+# A shared library that has the crate within it exports its own names alone.
+shared_library() {
+    local names
+    mkdir -p "$room/shared/src"
+    sed 's/patched/shared/; /^\[dependencies\]/i [lib]\ncrate-type = ["cdylib"]' "$room/patched/Cargo.toml" \
+        >"$room/shared/Cargo.toml"
+    cat >"$room/shared/src/lib.rs" <<'END'
+#[no_mangle]
+pub extern "C" fn rust_count() -> usize {
+    getopts::Options::new().parse(["-x"]).is_ok().into()
+}
+END
+    (cd "$room/shared" && cargo build --offline) || return 1
+    names=$(nm -D --defined-only "$room/target/debug/libshared.so" | sed 's/.* //')
+    echo "$names"
+    [ "$names" = rust_count ]
+}
+if has nm; then
+    check "the names of a shared library" shared_library
+else
+    skip "the names of a shared library: there is no nm"
+fi
+
+# Each public call has an example.
+with_examples() {
+    awk '/^    pub fn/ { calls++; if (!example) { print FILENAME ": " $0; bad = 1 } }
+        /^    \/\/\/ ```/ { example = 1 } /^    }/ || /^impl/ { example = 0 }
+        END { print calls " calls"; exit bad || calls < 28 }' "$here"/src/{options,matches}.rs
+}
+says "an example of each call" with_examples
+
 # The C layer and the Rust crate in one program, whichever the linker meets first.
 both_languages() {
     local order
@@ -266,7 +303,7 @@ int main(void) {
         { "v", NULL, NULL, NULL, GETOPTS_NO + GETOPTS_MULTI }, { NULL, NULL, NULL, NULL, 0 },
     };
     char *words[] = { "-vvv", NULL };
-    struct getopts *options = getopts_new(table, 0);
+    struct getopts *options = getopts_new(table, GETOPTS_ORDINARY);
     if (options == NULL || getopts_read(options, 1, words) != GETOPTS_OK)
         return 1;
     size_t count = getopts_count(options, "v");
@@ -297,6 +334,10 @@ ends_with() {
     (cd "$room/bare" && env "$@" cargo build "${flags[@]}") >"$room/told" 2>&1 && return 1
     grep -x "error: $text.*" "$room/told"
 }
+mkdir "$room/bare/native"
+head -c 20000 "$archive" >"$room/bare/native/libgetopts_c.a"
+check "a cut archive" ends_with "native/libgetopts_c.a isn't a whole archive: " A=
+rm -r "$room/bare/native"
 check "no archive" ends_with 'native/libgetopts_c.a is missing: ' A=
 check "the documents without an archive" documented "$room/bare"
 check "another target" ends_with 'the archive is for x86-64 Linux: ' 'RUSTFLAGS=--cfg getopts_elsewhere'

@@ -88,7 +88,9 @@ impl Answer {
 
 /// Makes a list so long, with no more room than that.
 fn grow<T: Clone + Default>(list: &mut Vec<T>, len: usize) {
-    list.reserve_exact(len.saturating_sub(list.len()));
+    if list.capacity() < len {
+        list.reserve_exact(len - list.len());
+    }
     list.resize(len, T::default());
 }
 

@@ -144,7 +144,7 @@ impl Names {
 
     /// The first place of a name among the names of all options, two for each: of few names by a walk, and
     /// of many by halves.
-    pub fn place(&self, name: &str) -> Option<usize> {
+    pub(crate) fn place(&self, name: &str) -> Option<usize> {
         let name = name.as_bytes();
         if self.kinds.len() <= FEW {
             let mut all = self.all();

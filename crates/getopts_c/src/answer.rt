@@ -238,8 +238,6 @@ impl Answer {
     }
 
     /// Hands an answer to a caller: its size always, and what it holds where there is room.
-    // Each export calls it, and a copy in each would make the archive larger.
-    #[inline(never)]
     pub(crate) fn written(
         answer: Result<Answer, Refusal>,
         numbers: &mut [usize],
@@ -275,6 +273,7 @@ impl Answer {
 }
 
 /// The answer of this status, with the name that a fault tells.
+// A copy for each fault would make the archive larger.
 #[inline(never)]
 fn of_name(alloc: Global, status: u32, name: &str) -> Result<Answer, AllocError>
     ensures { IfOk result (λ answer. (answer.status ≡ status)
