@@ -2,7 +2,7 @@
 # Builds or checks the static library over the library getopts as it was proved already.
 #
 #     bindings/over.sh RLIB archive           says whether the archive that is there is the one that this gives
-#     bindings/over.sh RLIB only FUNCTION     checks one function of the static library, with those that it calls
+#     bindings/over.sh RLIB only FUNCTION..   checks these functions of the static library, with those that they call
 #
 # RLIB is the folder getopts.rlib that a proof of the library left (`rt ci` leaves one in crates/getopts/out/rlib).
 # `rt lib` would prove the library once more for the same bytes.
@@ -34,7 +34,8 @@ archive)
     echo "bindings/rust/native/libgetopts_c.a is what the proved source gives"
     ;;
 only)
-    "$kit/bin/rattle" check "${words[@]}" --only "$3"
+    for function in "${@:3}"; do words+=(--only "$function"); done
+    "$kit/bin/rattle" check "${words[@]}"
     ;;
 *)
     sed -n '4,5s/^# *//p' "$0" >&2

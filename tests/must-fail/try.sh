@@ -39,8 +39,9 @@ def replace(edit, name, old, new):
     open(name, "w", encoding="utf-8").write(text.replace(old, new))
 for edit in sys.argv[2:]:
     function, name, old, new = "", "", [], []
-    for line in open(edit, encoding="utf-8").read().splitlines() + ["end: "]:
-        kind, _, rest = line.partition(": ")
+    for line in open(edit, encoding="utf-8").read().splitlines() + ["end:"]:
+        kind, _, rest = line.partition(":")
+        rest = rest.removeprefix(" ")
         if new and kind != "new":
             replace(edit, name, "\n".join(old), "\n".join(new))
             old, new = [], []
@@ -79,10 +80,10 @@ try_edits() {
         for edit in "$@"; do echo "FAILED: $crate: $(basename "$edit" .edit): $(cat "$copy/said")"; done
     else
         mapfile -t functions <<<"$functions"
+        for at in "${functions[@]}"; do only+=(--only "$at"); done
         if [ -n "$over" ] && [ "$crate" = getopts_c ]; then
             bash "$copy/bindings/over.sh" "$over" only "${functions[@]}" >"$copy/said" 2>&1 || status=$?
         else
-            for at in "${functions[@]}"; do only+=(--only "$at"); done
             (cd "$folder" && rt check --jobs 1 "${only[@]}") >"$copy/said" 2>&1 || status=$?
         fi
         for at in "${!functions[@]}"; do
