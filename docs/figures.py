@@ -58,7 +58,7 @@ def tables():
         cells = re.split(r"\s{2,}", line.strip())
         if cells[0] == "job":
             columns = cells[1:]
-        elif len(cells) == len(columns) + 1 and not line.startswith("#"):
+        elif columns and len(cells) == len(columns) + 1:
             kept[title, cells[0]] = dict(zip(columns, cells[1:]))
         else:
             title, columns = line.strip(), []
