@@ -151,9 +151,12 @@ for page, text in pages.items():
     for path in sorted(set(re.findall(r"`([\w./-]+\.(?:md|rt|antt|rs|c|h|sh|py|edit|txt))`", prose))):
         there = [path, os.path.normpath(os.path.join(os.path.dirname(page), path))]
         expect(any(f"/{it}".endswith(f"/{end}") for it in tracked for end in there), f"{page}: there is no file {path}")
-    for target in re.findall(r"\]\(([^)#]+)(?:#[^)]*)?\)", prose):
-        there = os.path.normpath(os.path.join(os.path.dirname(page), target))
+    for target, heading in re.findall(r"\]\(([^)#]*)#?([^)]*)\)", prose):
+        there = os.path.normpath(os.path.join(os.path.dirname(page), target)) if target else page
         expect("://" in target or os.path.exists(there), f"{page}: there is no {target}")
+        headings = re.findall(r"^#+ (.*)", pages.get(there, ""), re.M)
+        anchors = [re.sub(r"[^\w -]", "", it).lower().replace(" ", "-") for it in headings]
+        expect(not heading or heading in anchors, f"{page}: {target} has no heading {heading}")
 
 
 # ---- modules ----
