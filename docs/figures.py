@@ -33,15 +33,6 @@ def files(*patterns):
     return f"{sum(len(glob.glob(it)) for it in patterns):,}"
 
 
-def size(name):
-    """The size of a file in thousands of bytes."""
-    return f"{os.path.getsize(name) / 1000:.0f} KB"
-
-
-def lines(name):
-    return f"{len(read(name).splitlines()):,}"
-
-
 def stated(name, pattern):
     """A number that a source file states."""
     return f"{int(re.search(pattern, read(name))[1]):,}"
