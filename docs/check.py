@@ -5,7 +5,8 @@ usage: docs/check.py [--fix]
 
 - Code: each block of Rattle on a page for callers stands in one file of crates/, which the gate proves, and has the
   imports that it needs from there, and no others.
-- Contracts: docs/CONTRACTS.md names each public function of the library, and clauses that are there.
+- Contracts: docs/CONTRACTS.md names each public function of the library, and clauses that are there; each function in a
+  table of docs/PROOFS.md has the clauses that stand beside it.
 - Names: docs/GRAMMAR.md has each public definition (of getopts_shell each fact) and docs/PROOFS.md each edit; what a
   page names in backquotes exists, as a word of the sources or a file; so does what a page links to.
 - Figures: each figure of ten or more on a page is counted, measured or recorded by docs/figures.py. One that differs
@@ -115,6 +116,24 @@ for name in re.findall(r"(?:fn |, )(?:\w+::)?(\w+)(?:<[^>]*>)?\(", contracts):
 for names in re.findall(r"ensures (\w+(?:, \w+)*):", contracts):
     for name in names.split(", "):
         expect(f"ensures {name} {{" in library, f"docs/CONTRACTS.md: there is no clause {name}")
+
+
+# ---- promises ----
+
+clauses = {}
+for name in tracked:
+    if re.match(r"crates/\w*/src/.*\.rt$", name):
+        for function in re.split(r"\bfn (?=\w)", read(name))[1:]:
+            here = clauses.setdefault(re.match(r"\w+", function)[0], set())
+            here |= set(re.findall(r"ensures (\w+) \{", function))
+clauses["there"] = clauses["one_reading_one_canonical_line"]
+clauses["each export"] = set(re.findall(r"pub (\w+) :", read("crates/getopts_c/specs/Reply.antt")))
+for row in re.findall(r"^\|.*\|$", pages["docs/PROOFS.md"], re.M):
+    for part in re.split(r"[;|]", re.sub(r"\([^)]*\)", "", row)):
+        if it := re.match(r"\s*((?:`\w+`(?: and its kin)?(?:, )?)+|there|each export): ((?:`\w+`(?:, )?)+)", part):
+            for function in re.findall(r"\w+", it[1].replace(" and its kin", "")) if "`" in it[1] else [it[1]]:
+                for clause in re.findall(r"\w+", it[2]):
+                    expect(clause in clauses.get(function, ()), f"docs/PROOFS.md: {function} has no clause {clause}")
 
 
 # ---- names ----
