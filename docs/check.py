@@ -5,9 +5,10 @@ usage: docs/check.py [--fix]
 
 - Code: each block of Rattle on a page for callers stands in one file of crates/, which the gate proves, and has the
   imports that it needs from there, and no others.
-- Contracts: docs/CONTRACTS.md names each public function of the library, and clauses that are there.
-- Names: docs/GRAMMAR.md has each public definition and docs/PROOFS.md each edit; what a page names in backquotes exists, as a word of the sources
-  or a file; so does what a page links to.
+- Contracts: docs/CONTRACTS.md names each public function of the library, and clauses that are there; each function in a
+  table of docs/PROOFS.md has the clauses that stand beside it.
+- Names: docs/GRAMMAR.md has each public definition (of getopts_shell each fact) and docs/PROOFS.md each edit; what a
+  page names in backquotes exists, as a word of the sources or a file; so does what a page links to.
 - Figures: each figure of ten or more on a page is counted, measured or recorded by docs/figures.py. One that differs
   fails, one that is not listed there fails, and each is changed once to see that the change fails. With --fix those
   that differ are replaced.
@@ -117,6 +118,24 @@ for names in re.findall(r"ensures (\w+(?:, \w+)*):", contracts):
         expect(f"ensures {name} {{" in library, f"docs/CONTRACTS.md: there is no clause {name}")
 
 
+# ---- promises ----
+
+clauses = {}
+for name in tracked:
+    if re.match(r"crates/\w*/src/.*\.rt$", name):
+        for function in re.split(r"\bfn (?=\w)", read(name))[1:]:
+            here = clauses.setdefault(re.match(r"\w+", function)[0], set())
+            here |= set(re.findall(r"ensures (\w+) \{", function))
+clauses["there"] = clauses["one_reading_one_canonical_line"]
+clauses["each export"] = set(re.findall(r"pub (\w+) :", read("crates/getopts_c/specs/Reply.antt")))
+for row in re.findall(r"^\|.*\|$", pages["docs/PROOFS.md"], re.M):
+    for part in re.split(r"[;|]", re.sub(r"\([^)]*\)", "", row)):
+        if it := re.match(r"\s*((?:`\w+`(?: and its kin)?(?:, )?)+|there|each export): ((?:`\w+`(?:, )?)+)", part):
+            for function in re.findall(r"\w+", it[1].replace(" and its kin", "")) if "`" in it[1] else [it[1]]:
+                for clause in re.findall(r"\w+", it[2]):
+                    expect(clause in clauses.get(function, ()), f"docs/PROOFS.md: {function} has no clause {clause}")
+
+
 # ---- names ----
 
 named = set(re.findall(r"`([A-Za-z_][\w-]*)`", pages["docs/GRAMMAR.md"]))
@@ -128,7 +147,8 @@ for crate in ["getopts", "getopts_show", "getopts_c", "getopts_shell"]:
     for name in here:
         if not re.match(rf"crates/{crate}/specs/(?:{'|'.join(private)})\b", name):
             for it in re.findall(r"^(?:abbrev |unfoldable )?pub (?:record |data )?([A-Za-z_][\w-]*)", read(name), re.M):
-                expect(it in ("mod", "use") or it in named, f"docs/GRAMMAR.md doesn't name {it} of {name}")
+                passed_over = it in ("mod", "use") or crate == "getopts_shell" and it[0].islower()
+                expect(passed_over or it in named, f"docs/GRAMMAR.md doesn't name {it} of {name}")
 
 for name in tracked:
     if name.endswith(".edit") and "/private/" not in name:
@@ -150,9 +170,12 @@ for page, text in pages.items():
     for path in sorted(set(re.findall(r"`([\w./-]+\.(?:md|rt|antt|rs|c|h|sh|py|edit|txt))`", prose))):
         there = [path, os.path.normpath(os.path.join(os.path.dirname(page), path))]
         expect(any(f"/{it}".endswith(f"/{end}") for it in tracked for end in there), f"{page}: there is no file {path}")
-    for target in re.findall(r"\]\(([^)#]+)(?:#[^)]*)?\)", prose):
-        there = os.path.normpath(os.path.join(os.path.dirname(page), target))
+    for target, heading in re.findall(r"\]\(([^)#]*)#?([^)]*)\)", prose):
+        there = os.path.normpath(os.path.join(os.path.dirname(page), target)) if target else page
         expect("://" in target or os.path.exists(there), f"{page}: there is no {target}")
+        headings = re.findall(r"^#+ (.*)", pages.get(there, ""), re.M)
+        anchors = [re.sub(r"[^\w -]", "", it).lower().replace(" ", "-") for it in headings]
+        expect(not heading or heading in anchors, f"{page}: {target} has no heading {heading}")
 
 
 # ---- modules ----

@@ -33,15 +33,6 @@ def files(*patterns):
     return f"{sum(len(glob.glob(it)) for it in patterns):,}"
 
 
-def size(name):
-    """The size of a file in thousands of bytes."""
-    return f"{os.path.getsize(name) / 1000:.0f} KB"
-
-
-def lines(name):
-    return f"{len(read(name).splitlines()):,}"
-
-
 def stated(name, pattern):
     """A number that a source file states."""
     return f"{int(re.search(pattern, read(name))[1]):,}"
@@ -58,7 +49,7 @@ def tables():
         cells = re.split(r"\s{2,}", line.strip())
         if cells[0] == "job":
             columns = cells[1:]
-        elif len(cells) == len(columns) + 1 and not line.startswith("#"):
+        elif columns and len(cells) == len(columns) + 1:
             kept[title, cells[0]] = dict(zip(columns, cells[1:]))
         else:
             title, columns = line.strip(), []
