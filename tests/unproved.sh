@@ -67,7 +67,7 @@ for crate in crates/*/; do
 done >>"$room/tasks"
 while read -r what crate; do
     while [ "$(jobs -rp | wc -l)" -ge 2 ]; do wait -n; done
-    run "$what" "$crate" &
+    run "$what" "$crate" </dev/null &
 done <"$room/tasks"
 wait
 failed=$(wc -l <"$room/failed")

@@ -163,18 +163,10 @@ fn ending<'w>(
     if !rest.is_empty() {
         return Ok((Some(rest), 0));
     }
-    match (kind, after.first().copied()) {
-        (HasArg::Yes, Some(word)) => Ok((Some(word), 1)),
-        (HasArg::Yes, None) => Err(Fail::argument_missing(alloc, name)),
-        (HasArg::Maybe, Some(word)) => {
-            if is_dashed(word) {
-                Ok((None, 0))
-            } else {
-                Ok((Some(word), 1))
-            }
-        }
-        (HasArg::Maybe, None) => Ok((None, 0)),
-        (HasArg::No, _) => unreachable!(),
+    match after.first() {
+        Some(word) if kind == HasArg::Yes || !is_dashed(word) => Ok((Some(*word), 1)),
+        None if kind == HasArg::Yes => Err(Fail::argument_missing(alloc, name)),
+        _ => Ok((None, 0)),
     }
 }
 
