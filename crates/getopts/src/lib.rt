@@ -1,22 +1,38 @@
 //! Command-line options: declared groups, a list of words, and the one reading of those words.
 #![tactic(auto)]
 
-mod accessors;
-mod canon;
-mod fail;
-mod groups;
-mod index;
-mod laws;
-mod matches;
+// Which pairs of names are lawful.
 mod names;
-mod occurrences;
+// Option groups, held together: their texts as one, and a record of each.
+mod groups;
+// The groups that a caller declares, with a style and a mode, and the calls that declare them.
 mod options;
-mod parse;
-mod row;
-mod scan;
+// Why a line is refused.
+mod fail;
+// The table that a name is looked up in.
 mod table;
-mod usage;
+// The options that a line gives, held together, and those of one group.
+mod occurrences;
+// Reading words as items, from the first to the last.
+mod scan;
+// Where each group's occurrences stand.
+mod index;
+// What an accepted line gave: copies and comparisons.
+mod matches;
+// What matches return for a name.
+mod accessors;
+// Reading a line: its words are scanned, and then its counts are checked.
+mod parse;
+// Writing a line again with main names alone.
+mod canon;
+// Descriptions in rows.
 pub mod wrap;
+// The row of one group in a usage text.
+mod row;
+// Usage texts.
+mod usage;
+// The main theorem, and other laws to cite.
+mod laws;
 
 pub use fail::Fail;
 pub use groups::{HasArg, Occur, ParsingStyle};

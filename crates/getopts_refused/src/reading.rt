@@ -30,6 +30,8 @@ pub enum Given {
     Uncounted,
     /// As a list.
     Lent,
+    /// As a list, whose counts aren't checked.
+    IgnoringCounts,
 }
 
 /// Groups of all kinds. Where the last one is given, a line has no canonical line.
@@ -126,6 +128,7 @@ fn parsed(alloc: Global, options: &Options, words: &[&str], given: Given) -> get
         Given::Counted => options.parse(alloc, words.iter().copied()),
         Given::Uncounted => options.parse(alloc, words.iter().copied().filter(is_taken)),
         Given::Lent => options.parse_words(alloc, words),
+        Given::IgnoringCounts => options.parse_ignoring_counts(alloc, words),
     }
 }
 
@@ -139,11 +142,11 @@ fn written(
     match given {
         Given::Counted => options.canonical(alloc, words.iter().copied()),
         Given::Uncounted => options.canonical(alloc, words.iter().copied().filter(is_taken)),
-        Given::Lent => options.canonical_words(alloc, words),
+        Given::Lent | Given::IgnoringCounts => options.canonical_words(alloc, words),
     }
 }
 
-/// An answer, where it isn't want of memory.
+/// A result, where it isn't out of memory.
 fn with_memory<T>(answer: Result<T, Fail>) -> Result<Result<T, Fail>, AllocError> {
     match answer {
         Err(Fail::OutOfMemory) => Err(AllocError),

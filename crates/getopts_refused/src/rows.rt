@@ -5,7 +5,7 @@ use crate::{accessors, adding, clones, texts};
 use std::alloc::{AllocError, Global};
 
 /// The rows but for those of the calls that add a group: what is called, and on what.
-const ROWS: [(&str, &str); 38] = [
+const ROWS: [(&str, &str); 40] = [
     ("clone", "options"),
     ("clone", "matches"),
     ("clone", "argument_missing"),
@@ -22,6 +22,8 @@ const ROWS: [(&str, &str); 38] = [
     ("parse_by_filter", "accepted"),
     ("parse_words", "accepted"),
     ("parse_words", "unrecognized_option"),
+    ("parse_ignoring_counts", "option_missing"),
+    ("parse_ignoring_counts", "unrecognized_option"),
     ("canonical", "accepted"),
     ("canonical", "unwritable"),
     ("canonical", "argument_missing"),
@@ -55,6 +57,7 @@ pub fn outcome(alloc: Global, call: &str, on: &str) -> Result<&'static str, Allo
         "parse" => reading::parse(alloc, on, Given::Counted),
         "parse_by_filter" => reading::parse(alloc, on, Given::Uncounted),
         "parse_words" => reading::parse(alloc, on, Given::Lent),
+        "parse_ignoring_counts" => reading::parse(alloc, on, Given::IgnoringCounts),
         "canonical" => reading::canonical(alloc, on, Given::Counted),
         "canonical_by_filter" => reading::canonical(alloc, on, Given::Uncounted),
         "canonical_words" => reading::canonical(alloc, on, Given::Lent),
