@@ -232,6 +232,16 @@ impl Groups {
         self.signature(place).names.main()
     }
 
+    /// The two names of the group at a place, by their numbers.
+    #[inline]
+    pub(crate) fn names(&self, place: usize) -> Names<'_>
+        requires { place < length self.now }
+        ensures short { result.short.now ≡ name_at (names_of self.now) (2 * place) }
+        ensures long { result.long.now ≡ name_at (names_of self.now) (2 * place + 1) }
+    {
+        self.signature(place).names
+    }
+
     /// The name of this number, where each group in turn has two, the short one first. Past the last
     /// it is empty: the calls that sort and search a table want closures which take every entry.
     pub(crate) fn name(&self, number: usize) -> &str

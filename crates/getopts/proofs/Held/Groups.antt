@@ -2,7 +2,7 @@
 -- and when two lists of groups are the same.
 use Rattle.std.proofs.Common.{◌≡◌, ◌&&◌, ℕ, zero, suc, ◌-◌, ◌<◌, ◌≤◌, List, [], ◌∷◌, map, ◌++◌}
 use Rattle.std.proofs.Common.{length, get_or, take, drop, slice_get, Option, Some, refl, ap}
-use Rattle.std.proofs.Common.{sym, ◌∙◌, ◌*◌, ◌/◌, ◌%◌, subst, arith}
+use Rattle.std.proofs.Common.{sym, ◌∙◌, ◌*◌, ◌+◌, ◌/◌, ◌%◌, subst, arith}
 use Rattle.std.specs.Bool.{Decides}
 use Rattle.std.specs.List.{All}
 use Rattle.std.specs.Cmp.Lexicographic.{pointwise, pointwise_decides}
@@ -132,6 +132,18 @@ name_at-long (first ∷ groups) (suc zero) signature at odd = ap (λ k. k.names.
 name_at-long (first ∷ groups) (suc (suc number)) signature at odd =
     let half : suc (suc number) / 2 ≡ suc (number / 2) = omega arith in
     name_at-long groups number signature (rw half at at) (omega (arith, odd))
+
+-- the names of a group have the numbers of its place
+pub name_at-place : (groups : List Group) (place : ℕ) (signature : Signature)
+    → Some signature ≡ option_map (λ (group : Group). group.signature) (slice_get groups place)
+    → (signature.names.short ≡ name_at (names_of groups) (2 * place))
+    × (signature.names.long ≡ name_at (names_of groups) (2 * place + 1))
+name_at-place groups place signature is =
+    let half : 2 * place / 2 ≡ place = omega arith in
+    let other : (2 * place + 1) / 2 ≡ place = omega arith in (
+      sym (name_at-short groups (2 * place) signature (rw half (sym is)) (omega arith)),
+      sym (name_at-long groups (2 * place + 1) signature (rw other (sym is)) (omega arith)),
+    )
 
 -- past the last group there is none
 pub name_at-past : (groups : List Group) (number : ℕ) → length groups ≤ number / 2
