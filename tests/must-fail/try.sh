@@ -59,14 +59,14 @@ PY
 
 # refusal SAID FUNCTION: says why a check refused a function. A proof file may name a step that an edit took away: where
 # this is all that is wrong, the check says nothing of the contract.
+names='has no field|has no `|is not in scope|was not admitted|was rejected, was not checked'
 refusal() {
     local proof said=$1 function=$2
     proof=./proofs/${function#*::} proof=${proof//:://}
     grep -m1 "^fn $function: no proof: .*\`search\` did not prove" "$said" ||
-        { grep -F "$proof/" "$said" | grep ": error: " | grep -vE "$names" | head -n 1 | grep . &&
-            grep -q "^fn $function: not proved" "$said"; }
+        { grep -q "^fn $function: not proved" "$said" &&
+            grep -F "$proof/" "$said" | grep ": error: " | grep -vE "$names" | sed -n 1p | grep .; }
 }
-names='has no field|has no `|is not in scope|was not admitted|was rejected, was not checked'
 
 # try_edits COPY EDIT..: makes these edits of one crate together, and says of each whether the check refuses its function.
 try_edits() {
