@@ -40,7 +40,7 @@ struct getopts {
 
 static char *const no_words[] = { NULL };
 
-/* Those arguments of an export that tell the options. */
+/* Those arguments of an export that are the options. */
 #define OPTIONS(options) (options)->texts.bytes, (options)->texts.sizes.bytes, (options)->texts.numbers, \
     (options)->texts.sizes.numbers, (options)->kinds, (options)->groups
 
@@ -49,7 +49,7 @@ typedef uint32_t line_call(const uint8_t *, size_t, const size_t *, size_t, cons
     bool, const uint8_t *, size_t, const size_t *, size_t, size_t *, size_t, uint8_t *, size_t,
     struct getopts_sizes *);
 
-/* A block of the sizes that it tells. */
+/* Allocates a block of its sizes. */
 static bool take(struct block *block) {
     block->numbers = malloc(block->sizes.numbers * sizeof *block->numbers + block->sizes.bytes + 1);
     if (block->numbers != NULL)
@@ -71,8 +71,8 @@ static bool join(struct block *to, char *const *texts, size_t count) {
     return true;
 }
 
-/* GETOPTS_OK if a text is UTF-8, and else GETOPTS_BAD. Of a text that isn't ASCII the archive says it: its usage
- * line has no room. */
+/* GETOPTS_OK if a text is UTF-8, and else GETOPTS_BAD. The archive checks a text that isn't ASCII: as a program's
+ * name, with no buffer for the usage line. */
 static uint32_t check_text(const char *text) {
     struct getopts_sizes sizes;
     const uint8_t *bytes = (const uint8_t *)text;
@@ -154,7 +154,7 @@ static uint32_t blame(size_t count, char *const *words, struct block *to) {
     return status == GETOPTS_OK ? GETOPTS_BAD : status;
 }
 
-/* Asks with a guessed room, in which all words fit, and once more where that was too small. */
+/* Calls an export with buffers of a guessed size, in which all words fit, and once more if that is too small. */
 static uint32_t ask(const struct getopts *options, line_call *call, int given, char *const *words,
     struct block *answer) {
     size_t count = given > 0 ? (size_t)given : 0;
@@ -191,7 +191,7 @@ static char *const *cut(char **texts, char *to, const size_t *lens, size_t count
     return texts;
 }
 
-/* Takes an answer apart, of which every number and byte is there: where nothing was read, only its name. */
+/* Takes apart a fault and what was read, if there are such: all their numbers and bytes are there. */
 static bool read_back(struct reading *reading, uint32_t status, const struct block *fault,
     const struct block *answer, size_t groups) {
     static const char *const around[][2] = {

@@ -1,5 +1,5 @@
-/* The heap of the archive, over the host's. The names are fixed, so all such archives of a program share one
- * heap: this one is weak, and makes room for another that the program has. */
+/* The heap of the archive, over malloc. All archives of the toolchain use these names, so those of one program share
+ * a heap. This one is weak: another heap in the program replaces it. */
 #include "getopts_c.h"
 
 #include <stdlib.h>

@@ -1,5 +1,5 @@
-/* Shows what its words are as options, as the program getopts_show does. Its status is 0 where the words
- * were accepted, 2 where they were refused, and 3 where memory was refused, and then nothing is written. */
+/* Shows what its words are as options, as the program getopts_show does. It exits with 0 if the words were
+ * accepted, with 2 if they were refused, and with 3 if out of memory, and then it prints nothing. */
 #include "getopts.h"
 
 #include <stdio.h>
@@ -67,7 +67,7 @@ static int answer(struct getopts *options, int count, char **words) {
 int main(int argc, char **argv) {
     static char room[BUFSIZ];
     setvbuf(stdout, room, _IOFBF, sizeof room);
-    struct getopts *options = getopts_new(table, 0);
+    struct getopts *options = getopts_new(table, GETOPTS_ORDINARY);
     int status = options != NULL ? answer(options, argc - 1, argv + 1) : 3;
     getopts_delete(options);
     return status;

@@ -150,13 +150,15 @@ class Options:
                     found.add(at)
         return 0 in found
 
-    def parse(self, words):
+    def parse(self, words, with_counts=True):
         """The occurrences, free words and trailing start, or the fault and its name."""
         readings = self.readings(words)
         if not readings:
             faults = list(self.faults(words))
             assert len(faults) == 1, (words, faults)
             return faults[0]
+        if not with_counts:
+            return readings[0]
         counts = [sum(place == mine for place, _, _ in readings[0][0]) for mine in range(len(self.groups))]
         for group, count in zip(self.groups, counts):
             if count > 1 and group.occur != "multi":
@@ -232,8 +234,8 @@ class Session:
             return [line("case", *fields)]
         if self.declare(word, fields):
             return []
-        if word == "words":
-            self.read = self.options.parse(fields)
+        if word in ("words", "ignoring_counts"):
+            self.read = self.options.parse(fields, word == "words")
             return [self.told("accepted", self.read)]
         if word == "canonical":
             return [self.canonical(fields)]
@@ -315,7 +317,7 @@ def held(rows):
             given += len(answers)
             if expected != answers:
                 differ.append((case, one, b"by the rules: " + b" / ".join(expected), b"in the row: " + b" / ".join(answers)))
-        if word == "words":
+        if word in ("words", "ignoring_counts"):
             asked = [line("canonical", *fields)]
             if len(session.read) == 3:
                 names = {name: 0 for group in session.options.groups for name in (group.short, group.long) if name}

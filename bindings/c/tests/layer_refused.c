@@ -120,7 +120,7 @@ static int short_usage(struct getopts *options, const struct call *call) {
 }
 
 static int another(struct getopts *options, const struct call *call) {
-    struct getopts *other = getopts_new(call->table, 0);
+    struct getopts *other = getopts_new(call->table, GETOPTS_ORDINARY);
     (void)options;
     getopts_delete(other);
     return other != NULL ? GETOPTS_OK : GETOPTS_NO_MEMORY;
@@ -164,7 +164,7 @@ static bool answers(const struct call *call) {
     char *before[] = { "-obefore", "-vv", "one", "--", "two" };
     size_t at = heap.at;
     heap.at = heap.blocks = 0;
-    struct getopts *options = getopts_new(call->table, 0);
+    struct getopts *options = getopts_new(call->table, GETOPTS_ORDINARY);
     bool kept = getopts_read(options, 5, before) == GETOPTS_OK;
     size_t blocks = heap.blocks;
     heap.requests = heap.refused = 0;

@@ -198,11 +198,13 @@ static void fault(int of_status, const char *message) {
     free(name);
 }
 
-/* Answers words: the free words, or the fault. */
-static void words(void) {
+/* Answers words: the free words, or the fault. Where counts are ignored, those of options are no fault. */
+static void words(bool ignoring_counts) {
     let_read_go();
     read = getopts_new(table, modes);
     status = read != NULL ? getopts_read(read, count - 1, fields + 1) : GETOPTS_NO_MEMORY;
+    if (ignoring_counts && (status == GETOPTS_OPTION_MISSING || status == GETOPTS_OPTION_DUPLICATED))
+        status = GETOPTS_OK;
     add_all(&answer, status == GETOPTS_OK ? "accepted" : "refused");
     if (status == GETOPTS_OK && getopts_trailing_start(read) < 0)
         field(&answer, "-");
@@ -321,7 +323,9 @@ static bool answers(void) {
         field(&answer, fields[1]);
         add(&answer, '\n');
     } else if (strcmp(fields[0], "words") == 0) {
-        words();
+        words(false);
+    } else if (strcmp(fields[0], "ignoring_counts") == 0) {
+        words(true);
     } else if (of_name) {
         of_words();
     } else if (strcmp(fields[0], "short") == 0 || strcmp(fields[0], "usage") == 0

@@ -30,6 +30,7 @@
 //!
 //! - `words WORD..`: by `accepted START FREE..`, where START is `-` or the trailing start, or by
 //!   `refused FAULT NAME TEXT`, where TEXT is what the fault prints
+//! - `ignoring_counts WORD..`: as `words`, by `parse_ignoring_counts`, which the Rust crate doesn't have
 //! - `option NAME DEFAULT`: by `option NAME present COUNT STR DEFAULTED` or `option NAME absent
 //!   ..`, with the OPTIONAL of `opt_str` and that of `opt_default`; then by a line `strs` with the
 //!   values of `opt_strs`, and a line `pairs` with the texts of `opt_strs_pos`

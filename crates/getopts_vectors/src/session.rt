@@ -140,6 +140,7 @@ impl Session {
             ("style", [style]) => self.set_style(style.as_str()),
             ("mode", [mode]) => self.set_mode(mode.as_str()),
             ("words", words) => self.read_words(alloc, words, answer),
+            ("ignoring_counts", words) => self.read_ignoring_counts(alloc, words, answer),
             ("clear", []) => self.clear(alloc, answer),
             _ if declares(word) => declare(&mut self.side.options, word, fields),
             _ => self.ask(alloc, word, fields, answer),
@@ -181,6 +182,18 @@ impl Session {
     ) -> Result<(), Trouble> {
         let words = words.iter().map(|word| word.as_str());
         self.side.read = Some(self.side.options.parse(alloc, words));
+        self.answer_read(alloc, answer)
+    }
+
+    /// Reads words whatever their counts, and answers what they give.
+    fn read_ignoring_counts(
+        &mut self,
+        alloc: Global,
+        words: &[String],
+        answer: &mut Answer,
+    ) -> Result<(), Trouble> {
+        let words = lent(alloc, words)?;
+        self.side.read = Some(self.side.options.parse_ignoring_counts(alloc, &words));
         self.answer_read(alloc, answer)
     }
 
@@ -256,6 +269,15 @@ impl Session {
             None => answer.text("nothing"),
         }
     }
+}
+
+/// A list of words that are lent.
+fn lent<'w>(alloc: Global, words: &'w [String]) -> Result<Vec<&'w str>, AllocError> {
+    let mut lent = Vec::new(alloc);
+    for word in words {
+        lent.push(word.as_str())?;
+    }
+    Ok(lent)
 }
 
 /// Whether a line with this word adds a group.

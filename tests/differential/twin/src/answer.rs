@@ -97,6 +97,8 @@ impl Session {
                 options.reqopt(f(0), f(1), f(2), f(3));
             }
             "words" => return self.read_words(fields),
+            #[cfg(feature = "canonical")]
+            "ignoring_counts" => return self.read_ignoring_counts(fields),
             "clear" => return self.clear(),
             "same" => return self.same(f(0)),
             _ => return self.ask(asked),
@@ -106,6 +108,12 @@ impl Session {
 
     fn read_words(&mut self, words: &[String]) -> String {
         self.side.read = Some(self.side.options.parse(words));
+        self.told()
+    }
+
+    #[cfg(feature = "canonical")]
+    fn read_ignoring_counts(&mut self, words: &[String]) -> String {
+        self.side.read = Some(self.side.options.parse_ignoring_counts(words));
         self.told()
     }
 
