@@ -90,7 +90,8 @@ try_edits() {
             if [ $status = 1 ] && said=$(refusal "$copy/said" "${functions[at]}"); then
                 echo "refused: $crate: $(basename "${@:at+1:1}" .edit): ${said:0:120}"
             else
-                echo "FAILED: $crate: $(basename "${@:at+1:1}" .edit): the check of ${functions[at]} ended with status $status"
+                said=$(grep -m1 -E "^fn ${functions[at]}: |: error: " "$copy/said" || tail -n 1 "$copy/said")
+                echo "FAILED: $crate: $(basename "${@:at+1:1}" .edit): status $status: ${said:0:300}"
             fi
         done
     fi
