@@ -148,8 +148,8 @@ if ! has cargo cc; then
 fi
 
 in_crate() { (cd "$here" && cargo "$@"); }
-check "the crate's tests" in_crate test "${flags[@]}"
-check "the crate's tests with canonical" in_crate test "${flags[@]}" --features canonical
+check "the crate's tests" in_crate test "${flags[@]}" --lib
+check "the crate's tests and examples of calls with canonical" in_crate test "${flags[@]}" --features canonical
 check "the Rust examples" in_crate build "${flags[@]}" --release --features canonical --examples
 examples+=("$room/target/release/examples/show")
 if [ -n "$preload" ]; then
