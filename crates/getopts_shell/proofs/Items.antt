@@ -76,10 +76,12 @@ one_two : (inside other text : Text) → text ≡ 91 ∷ (inside ++ (93 ∷ []))
     → text ≡ 91 ∷ (other ++ (93 ∷ 46 ∷ 46 ∷ [])) → ⊥
 one_two inside other text is also = ends_apart inside (other ++ (93 ∷ 46 ∷ [])) [] text is
     (also ∙ ap (λ (t : Text). 91 ∷ t) (sym (append_assoc other (93 ∷ 46 ∷ []) (46 ∷ []))))
+
 one_three : (inside other text : Text) → text ≡ 91 ∷ (inside ++ (93 ∷ []))
     → text ≡ 91 ∷ (other ++ (93 ∷ 46 ∷ 46 ∷ 46 ∷ [])) → ⊥
 one_three inside other text is also = ends_apart inside (other ++ (93 ∷ 46 ∷ 46 ∷ [])) [] text is
     (also ∙ ap (λ (t : Text). 91 ∷ t) (sym (append_assoc other (93 ∷ 46 ∷ 46 ∷ []) (46 ∷ []))))
+
 two_three : (inside other text : Text) → text ≡ 91 ∷ (inside ++ (93 ∷ 46 ∷ 46 ∷ []))
     → text ≡ 91 ∷ (other ++ (93 ∷ 46 ∷ 46 ∷ 46 ∷ [])) → ⊥
 two_three inside other text is also = ends_apart inside (other ++ (93 ∷ [])) (46 ∷ 46 ∷ []) text is
@@ -302,6 +304,7 @@ one_names names others text are also = by_shape (shape names text are)
     same_names short long one other =
         ap (λ (s : Text). record { short = s; long = others.long }) (other.0 ∙ sym one.0)
         ∙ ap (λ (l : Text). record { short = names.short; long = l }) (other.1 ∙ sym one.1)
+
     by_shape : Shape names.short names.long text → others ≡ names
     by_shape (long_one none is) =
         let dash = ap (λ (t : Text). get_or t 1 0) is in
@@ -407,9 +410,10 @@ maybe_hinted None text inside opens none = by_kind
         let hint_is = append_cancel_right hint inside (93 ∷ []) cc in
         let both : true ≡ false = sym is.0 ∙ ap is_hint hint_is ∙ none in cc
 maybe_hinted (Some found) text inside opens some =
-    subst (λ (kind : HasArg). IsArgument kind found.1.now (Some text)) (sym some.1)
-    (subst (λ (t : Text). is_hint t ≡ true) (sym some.2) some.0,
-    opens ∙ ap (λ (t : Text). 91 ∷ (t ++ (93 ∷ []))) (sym some.2))
+    subst (λ (kind : HasArg). IsArgument kind found.1.now (Some text)) (sym some.1) (
+      subst (λ (t : Text). is_hint t ≡ true) (sym some.2) some.0,
+      opens ∙ ap (λ (t : Text). 91 ∷ (t ++ (93 ∷ []))) (sym some.2),
+    )
 
 pub no_hint : (text rest : Text) → text ≡ 91 ∷ rest → ((front : Text) → rest ≢ front ++ (93 ∷ []))
     → (kind : HasArg) (hint : Text) → ¬ (IsArgument kind hint (Some text))

@@ -63,11 +63,11 @@ pub declares_group : (line text item rest description : Text) (group : Group) �
     → item ≡ before_gap text → rest ≡ from_gap text → description ≡ trimmed rest
     → group.description ≡ description → IsItem item group.known group.hint → DeclaresGroup line group
 declares_group line text item rest description group text_is there item_is rest_is description_is is of_item =
-  record {
-    there = ap (λ (t : Text). is_empty t || (slice_index t 0 == 35)) (sym text_is) ∙ there;
-    item = subst (λ (t : Text). IsItem t group.known group.hint) (item_is ∙ ap before_gap text_is) of_item;
-    description = is ∙ description_is ∙ ap trimmed (rest_is ∙ ap from_gap text_is);
-  }
+    record {
+      there = ap (λ (t : Text). is_empty t || (slice_index t 0 == 35)) (sym text_is) ∙ there;
+      item = subst (λ (t : Text). IsItem t group.known group.hint) (item_is ∙ ap before_gap text_is) of_item;
+      description = is ∙ description_is ∙ ap trimmed (rest_is ∙ ap from_gap text_is);
+    }
 
 -- a line that isn't passed over and has no item has a fault
 pub faulty_line : (line text item : Text) (number : ℕ) (groups : List Group) → text ≡ trimmed line
@@ -81,6 +81,7 @@ faulty_line line text item number groups text_is there item_is none_of =
   where
     passed_not : is_passed line ≡ false
     passed_not = ap (λ (t : Text). is_empty t || (slice_index t 0 == 35)) (sym text_is) ∙ there
+
     declares_not : (declared : Option Group) → ¬ (Declares line declared)
     declares_not None is = let both : true ≡ false = sym is ∙ passed_not in cc
     declares_not (Some group) is = none_of group.known group.hint
@@ -99,9 +100,11 @@ new_names-append : (before groups more : List Group) → HaveNewNames before gro
     → HaveNewNames (before ++ groups) more → HaveNewNames before (groups ++ more)
 new_names-append before [] more new also =
     subst (λ (b : List Group). HaveNewNames b more) (append-nil before) also
-new_names-append before (group ∷ groups) more new also =
-    (new.0, new_names-append (before ++ group ∷ []) groups more new.1
-    (subst (λ (b : List Group). HaveNewNames b more) (sym (append_assoc before (group ∷ []) groups)) also))
+new_names-append before (group ∷ groups) more new also = (
+  new.0,
+  new_names-append (before ++ group ∷ []) groups more new.1
+      (subst (λ (b : List Group). HaveNewNames b more) (sym (append_assoc before (group ∷ []) groups)) also),
+)
 
 -- what the one option is that a line declares, if any
 kept : (declared : Option Group) → filter_map (λ (d : Option Group). d) (declared ∷ []) ≡ option_to_list declared

@@ -19,11 +19,12 @@ one_item text known other hint another is also =
     let names = one_names known.names other.names is.names is.names_are
     (subst (AreNames other.names) pair.0 also.names_are) in
     let argument = one_argument known.kind other.kind hint another is.argument is.argument_is
-    (subst (λ (a : Option Text). IsArgument other.kind another a) pair.1 also.argument_is) in
-    (ap (λ n. record { names = n; kind = other.kind; occurrence = other.occurrence }) names
-    ∙ ap (λ k. record { names = known.names; kind = k; occurrence = other.occurrence }) argument.0
-    ∙ ap (λ o. record { names = known.names; kind = known.kind; occurrence = o }) same.0,
-    argument.1)
+    (subst (λ (a : Option Text). IsArgument other.kind another a) pair.1 also.argument_is) in (
+      ap (λ n. record { names = n; kind = other.kind; occurrence = other.occurrence }) names
+          ∙ ap (λ k. record { names = known.names; kind = k; occurrence = other.occurrence }) argument.0
+          ∙ ap (λ o. record { names = known.names; kind = known.kind; occurrence = o }) same.0,
+      argument.1,
+    )
 
 -- a line declares one thing
 one_declared : (line : Text) (declared other : Option Group) → Declares line declared

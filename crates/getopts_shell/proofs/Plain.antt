@@ -47,9 +47,10 @@ plain_each [] [] is = tt
 plain_each [] (declared ∷ each) is = absurd is
 plain_each (line ∷ lines) [] is = absurd is
 plain_each (line ∷ lines) (None ∷ each) is = plain_each lines each is.1
-plain_each (line ∷ lines) (Some group ∷ each) is =
-    (plain_main group.known.names is.0.item.names_are.may_be.short_name is.0.item.names_are.may_be.long_name,
-    plain_each lines each is.1)
+plain_each (line ∷ lines) (Some group ∷ each) is = (
+  plain_main group.known.names is.0.item.names_are.may_be.short_name is.0.item.names_are.may_be.long_name,
+  plain_each lines each is.1,
+)
 
 -- the options of a table have main names without `=`
 pub plain_options : (lines : List Text) (groups : List Group) → DeclareOptions lines groups → ArePlainlyNamed groups

@@ -135,11 +135,20 @@ fn add_own_options(options: &mut Options) -> Result<(), AllocError>
 {
     options
         .optopt("b", "brief", "begin the help with TEXT", "TEXT")?
-        .optflag("s", "stop", "leave all words from the first free one on free")?
+        .optflag(
+            "s",
+            "stop",
+            "leave all words from the first free one on free",
+        )?
         .optflag("l", "long-only", "let long names follow one dash too")?
         .optflag("w", "words", "write the words alone, without 'set --'")?
         .optflag("u", "usage", "write the help of TABLE")?
-        .optopt("c", "complete", "write a completion script for bash, zsh or fish", "SHELL")?
+        .optopt(
+            "c",
+            "complete",
+            "write a completion script for bash, zsh or fish",
+            "SHELL",
+        )?
         .optflag("h", "help", "print this help")?;
     Ok(())
 }
@@ -232,8 +241,8 @@ fn name_twice_line(alloc: Global, number: usize, name: &str) -> Result<String, A
     ensures { IfOk result (λ text. string_bytes text
         ≡ table_fault_line (name_twice number name.now)) }
 {
-    format!(
-        in alloc; "getopts_shell: line {number} of the options: the name '{name}' stands there already\n"
+    format!(in alloc;
+        "getopts_shell: line {number} of the options: the name '{name}' stands there already\n"
     )
 }
 
@@ -333,11 +342,7 @@ fn help_of(alloc: Global, own: &Matches, script: Script<'_>) -> Result<String, A
 }
 
 /// The answer of a completion script, or that there is none for this shell.
-fn completion_answer(
-    alloc: Global,
-    shell: &str,
-    script: Script<'_>,
-) -> Result<Outcome, AllocError>
+fn completion_answer(alloc: Global, shell: &str, script: Script<'_>) -> Result<Outcome, AllocError>
     ensures { IfOk result (λ outcome. AnswersCompletion shell.now (answer_of outcome)) }
 {
     match completion(alloc, shell, script.name, script.rows)? {
@@ -425,7 +430,8 @@ fn offers_help(rows: &[Row<'_>]) -> bool
 fn any_is_help(rows: &[Row<'_>]) -> bool
     ensures { result ≡ list_any (λ row. bytes_eq row.long.now (codes "help") && is_no row.kind) rows.now }
 {
-    rows.iter().any(|row| row.long == "help" && takes_none(row.kind))
+    rows.iter()
+        .any(|row| row.long == "help" && takes_none(row.kind))
 }
 
 /// Whether a kind takes no argument.

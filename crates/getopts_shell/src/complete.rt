@@ -4,7 +4,6 @@ ghost use Rattle.std.specs.Prelude.{◌≡◌, IfOk};
 ghost use Rattle.std.specs.Option.{is_some};
 ghost use Rattle.getopts_shell.specs.Program.{has_completion};
 
-
 use crate::quote::push_quoted;
 use crate::row::Row;
 use getopts::{HasArg, Occur};
@@ -218,7 +217,12 @@ fn push_fish_times(text: &mut String, row: &Row<'_>) -> Result<(), AllocError> {
 }
 
 /// Adds the names of an option, each after its mark.
-fn push_fish_names(text: &mut String, short: &str, long: &str, row: &Row<'_>) -> Result<(), AllocError> {
+fn push_fish_names(
+    text: &mut String,
+    short: &str,
+    long: &str,
+    row: &Row<'_>,
+) -> Result<(), AllocError> {
     push_fish_name(text, short, row.short)?;
     push_fish_name(text, long, row.long)
 }

@@ -46,7 +46,11 @@ pub(crate) fn rows_of(alloc: Global, table: &str) -> Result<Vec<Row<'_>>, TableE
 }
 
 /// Adds the option that a line declares, if it declares one.
-fn push_line<'t>(rows: &mut Vec<Row<'t>>, number: usize, line: &'t str) -> Result<(), TableError<'t>>
+fn push_line<'t>(
+    rows: &mut Vec<Row<'t>>,
+    number: usize,
+    line: &'t str,
+) -> Result<(), TableError<'t>>
     ensures declared { OnOk result ((declared : Option Group) × Declares line.now declared
         × (groups_of rows.new.items ≡ groups_of rows.old.items ++ option_to_list declared)
         × HaveNewNames (groups_of rows.old.items) (option_to_list declared)) }

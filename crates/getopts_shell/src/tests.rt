@@ -104,7 +104,8 @@ Options:
     -h, --help          print this help
 ";
 
-const HELP_CODE: &str = "printf %s 'Usage: backup -i FILE [-o FILE] [-v].. [-c [WHEN]] [-L DIR].. [-h]
+const HELP_CODE: &str =
+    "printf %s 'Usage: backup -i FILE [-o FILE] [-v].. [-c [WHEN]] [-L DIR].. [-h]
 
 Options:
     -i, --input FILE    read this file
@@ -139,75 +140,269 @@ Options:
 const OWN: [Row<'static>; 10] = [
     (&["--help"], OWN_HELP, 0),
     (&["-h", "backup", "no table"], OWN_HELP, 0),
-    (&["-h", "--nope"], "getopts_shell: Unrecognized option: 'nope'\n", 5),
-    (&["--nope", "backup", TABLE], "getopts_shell: Unrecognized option: 'nope'\n", 5),
-    (&["-b"], "getopts_shell: Argument to option 'b' missing\n", 5),
-    (&["-uu", "x", ""], "getopts_shell: Option 'usage' given more than once\n", 5),
+    (
+        &["-h", "--nope"],
+        "getopts_shell: Unrecognized option: 'nope'\n",
+        5,
+    ),
+    (
+        &["--nope", "backup", TABLE],
+        "getopts_shell: Unrecognized option: 'nope'\n",
+        5,
+    ),
+    (
+        &["-b"],
+        "getopts_shell: Argument to option 'b' missing\n",
+        5,
+    ),
+    (
+        &["-uu", "x", ""],
+        "getopts_shell: Option 'usage' given more than once\n",
+        5,
+    ),
     (&[], NEEDED, 5),
     (&["backup"], NEEDED, 5),
     (&["--", "backup"], NEEDED, 5),
-    (&["-c", "tcsh", "backup", TABLE], "getopts_shell: no completion for 'tcsh'\n", 5),
+    (
+        &["-c", "tcsh", "backup", TABLE],
+        "getopts_shell: no completion for 'tcsh'\n",
+        5,
+    ),
 ];
 
 /// Words of a script.
 const WORDS: [Row<'static>; 21] = [
     (&["-u", "backup", TABLE], HELP, 0),
-    (&["--usage", "--brief=Back files up.", "backup", TABLE, "--nope"], BRIEF_HELP, 0),
+    (
+        &[
+            "--usage",
+            "--brief=Back files up.",
+            "backup",
+            TABLE,
+            "--nope",
+        ],
+        BRIEF_HELP,
+        0,
+    ),
     (&["-u", "-c", "tcsh", "backup", TABLE], HELP, 0),
     (&["backup", TABLE, "-h"], HELP_CODE, 0),
-    (&["backup", TABLE, "-o", "a", "-o", "b", "--help", "-h"], HELP_CODE, 0),
+    (
+        &["backup", TABLE, "-o", "a", "-o", "b", "--help", "-h"],
+        HELP_CODE,
+        0,
+    ),
     (&["backup", TABLE, "-h", "--nope"], UNKNOWN, 2),
     (&["backup", TABLE], MISSING, 2),
     (&["backup", TABLE, "--nope", "-i"], UNKNOWN, 2),
     (&["backup", TABLE, "-ia", "-ob", "--output=c"], TWICE, 2),
-    (&["it's", "[-h|--help]  print this script's help", "-h"], QUOTED_HELP, 0),
-    (&["backup", TABLE, "-vi", "a b", "x"], "set -- '--verbose' '--input=a b' '--' 'x'\n", 0),
-    (&["backup", TABLE, "-i", "it's", "--", "-v", "'"], "set -- '--input=it'\\''s' '--' '-v' ''\\'''\n", 0),
-    (&["backup", TABLE, "x", "-iy", "-c", "z", "-L", "l"], "set -- '--input=y' '--color=z' '--L=l' '--' 'x'\n", 0),
-    (&["-s", "backup", TABLE, "-iy", "x", "-v"], "set -- '--input=y' '--' 'x' '-v'\n", 0),
-    (&["-l", "backup", TABLE, "-input", "y", "-v"], "set -- '--input=y' '--verbose' '--'\n", 0),
-    (&["-w", "backup", TABLE, "-iy", "x"], "'--input=y' '--' 'x'\n", 0),
+    (
+        &["it's", "[-h|--help]  print this script's help", "-h"],
+        QUOTED_HELP,
+        0,
+    ),
+    (
+        &["backup", TABLE, "-vi", "a b", "x"],
+        "set -- '--verbose' '--input=a b' '--' 'x'\n",
+        0,
+    ),
+    (
+        &["backup", TABLE, "-i", "it's", "--", "-v", "'"],
+        "set -- '--input=it'\\''s' '--' '-v' ''\\'''\n",
+        0,
+    ),
+    (
+        &["backup", TABLE, "x", "-iy", "-c", "z", "-L", "l"],
+        "set -- '--input=y' '--color=z' '--L=l' '--' 'x'\n",
+        0,
+    ),
+    (
+        &["-s", "backup", TABLE, "-iy", "x", "-v"],
+        "set -- '--input=y' '--' 'x' '-v'\n",
+        0,
+    ),
+    (
+        &["-l", "backup", TABLE, "-input", "y", "-v"],
+        "set -- '--input=y' '--verbose' '--'\n",
+        0,
+    ),
+    (
+        &["-w", "backup", TABLE, "-iy", "x"],
+        "'--input=y' '--' 'x'\n",
+        0,
+    ),
     (&["-w", "x", ""], "'--'\n", 0),
-    (&["x", "", "\n", "\\", "$HOME", "\u{e9}"], "set -- '--' '\n' '\\' '$HOME' '\u{e9}'\n", 0),
-    (&["x", "[--help FILE]", "--help", "a"], "set -- '--help=a' '--'\n", 0),
+    (
+        &["x", "", "\n", "\\", "$HOME", "\u{e9}"],
+        "set -- '--' '\n' '\\' '$HOME' '\u{e9}'\n",
+        0,
+    ),
+    (
+        &["x", "[--help FILE]", "--help", "a"],
+        "set -- '--help=a' '--'\n",
+        0,
+    ),
     (&["x", "[-h]", "-h"], "set -- '--h' '--'\n", 0),
-    (&["-sb", "Do it.", "x", "[--help]", "--help"], "printf %s 'Do it.\n\nOptions:\n    --help              \n'; exit 0\n", 0),
+    (
+        &["-sb", "Do it.", "x", "[--help]", "--help"],
+        "printf %s 'Do it.\n\nOptions:\n    --help              \n'; exit 0\n",
+        0,
+    ),
 ];
 
 /// Tables: what their lines are, and which are refused.
 const TABLES: [Row<'static>; 32] = [
-    (&["x", "#\n # -a\n\t-a\r\n  [--bc]", "-a", "--bc"], "set -- '--a' '--bc' '--'\n", 0),
-    (&["x", "[-a|--bc D]...\tsay\n", "-ax", "--bc=y"], "set -- '--bc=x' '--bc=y' '--'\n", 0),
-    (&["-ub", "U", "x", "[-a D]\t  it  is \t so \r\n[-b]  [x]"], "U\n\nOptions:\n    -a D                it is so\n    -b                  [x]\n", 0),
+    (
+        &["x", "#\n # -a\n\t-a\r\n  [--bc]", "-a", "--bc"],
+        "set -- '--a' '--bc' '--'\n",
+        0,
+    ),
+    (
+        &["x", "[-a|--bc D]...\tsay\n", "-ax", "--bc=y"],
+        "set -- '--bc=x' '--bc=y' '--'\n",
+        0,
+    ),
+    (
+        &["-ub", "U", "x", "[-a D]\t  it  is \t so \r\n[-b]  [x]"],
+        "U\n\nOptions:\n    -a D                it is so\n    -b                  [x]\n",
+        0,
+    ),
     (&["x", "a"], "getopts_shell: line 1 of the options: a\n", 5),
-    (&["x", "\n\n-a  ok\n-b|  no"], "getopts_shell: line 4 of the options: -b|\n", 5),
-    (&["x", "-ab  no"], "getopts_shell: line 1 of the options: -ab\n", 5),
-    (&["x", "--a"], "getopts_shell: line 1 of the options: --a\n", 5),
-    (&["x", "--"], "getopts_shell: line 1 of the options: --\n", 5),
+    (
+        &["x", "\n\n-a  ok\n-b|  no"],
+        "getopts_shell: line 4 of the options: -b|\n",
+        5,
+    ),
+    (
+        &["x", "-ab  no"],
+        "getopts_shell: line 1 of the options: -ab\n",
+        5,
+    ),
+    (
+        &["x", "--a"],
+        "getopts_shell: line 1 of the options: --a\n",
+        5,
+    ),
+    (
+        &["x", "--"],
+        "getopts_shell: line 1 of the options: --\n",
+        5,
+    ),
     (&["x", "-"], "getopts_shell: line 1 of the options: -\n", 5),
-    (&["x", "---ab"], "getopts_shell: line 1 of the options: ---ab\n", 5),
-    (&["x", "-a|-b"], "getopts_shell: line 1 of the options: -a|-b\n", 5),
-    (&["x", "-a|--bc|--de"], "getopts_shell: line 1 of the options: -a|--bc|--de\n", 5),
-    (&["x", "-a|--"], "getopts_shell: line 1 of the options: -a|--\n", 5),
-    (&["x", "-a|--b"], "getopts_shell: line 1 of the options: -a|--b\n", 5),
-    (&["x", "--bc|-a"], "getopts_shell: line 1 of the options: --bc|-a\n", 5),
-    (&["x", "--b=c"], "getopts_shell: line 1 of the options: --b=c\n", 5),
-    (&["x", "-\u{e9}"], "getopts_shell: line 1 of the options: -\u{e9}\n", 5),
-    (&["x", "[-a"], "getopts_shell: line 1 of the options: [-a\n", 5),
-    (&["x", "-a]"], "getopts_shell: line 1 of the options: -a]\n", 5),
-    (&["x", "[-a]."], "getopts_shell: line 1 of the options: [-a].\n", 5),
-    (&["x", "[-a]...."], "getopts_shell: line 1 of the options: [-a]....\n", 5),
-    (&["x", "-a.."], "getopts_shell: line 1 of the options: -a..\n", 5),
-    (&["x", "[[-a]]"], "getopts_shell: line 1 of the options: [[-a]]\n", 5),
-    (&["x", "-a []"], "getopts_shell: line 1 of the options: -a []\n", 5),
-    (&["x", "-a [b"], "getopts_shell: line 1 of the options: -a [b\n", 5),
-    (&["x", "-a b c"], "getopts_shell: line 1 of the options: -a b c\n", 5),
-    (&["x", "-a \tb"], "getopts_shell: line 1 of the options: -a \n", 5),
-    (&["x", "-a|--bc\n-d\n--bc"], "getopts_shell: line 3 of the options: the name 'bc' stands there already\n", 5),
-    (&["x", "\n-v\n-v|--verbose"], "getopts_shell: line 3 of the options: the name 'v' stands there already\n", 5),
-    (&["x", "-v\n-v\n-\n"], "getopts_shell: line 2 of the options: the name 'v' stands there already\n", 5),
-    (&["x", "-v\n-\n-v\n"], "getopts_shell: line 2 of the options: -\n", 5),
-    (&["-u", "x", "-\u{7f}"], "getopts_shell: line 1 of the options: -\u{7f}\n", 5),
+    (
+        &["x", "---ab"],
+        "getopts_shell: line 1 of the options: ---ab\n",
+        5,
+    ),
+    (
+        &["x", "-a|-b"],
+        "getopts_shell: line 1 of the options: -a|-b\n",
+        5,
+    ),
+    (
+        &["x", "-a|--bc|--de"],
+        "getopts_shell: line 1 of the options: -a|--bc|--de\n",
+        5,
+    ),
+    (
+        &["x", "-a|--"],
+        "getopts_shell: line 1 of the options: -a|--\n",
+        5,
+    ),
+    (
+        &["x", "-a|--b"],
+        "getopts_shell: line 1 of the options: -a|--b\n",
+        5,
+    ),
+    (
+        &["x", "--bc|-a"],
+        "getopts_shell: line 1 of the options: --bc|-a\n",
+        5,
+    ),
+    (
+        &["x", "--b=c"],
+        "getopts_shell: line 1 of the options: --b=c\n",
+        5,
+    ),
+    (
+        &["x", "-\u{e9}"],
+        "getopts_shell: line 1 of the options: -\u{e9}\n",
+        5,
+    ),
+    (
+        &["x", "[-a"],
+        "getopts_shell: line 1 of the options: [-a\n",
+        5,
+    ),
+    (
+        &["x", "-a]"],
+        "getopts_shell: line 1 of the options: -a]\n",
+        5,
+    ),
+    (
+        &["x", "[-a]."],
+        "getopts_shell: line 1 of the options: [-a].\n",
+        5,
+    ),
+    (
+        &["x", "[-a]...."],
+        "getopts_shell: line 1 of the options: [-a]....\n",
+        5,
+    ),
+    (
+        &["x", "-a.."],
+        "getopts_shell: line 1 of the options: -a..\n",
+        5,
+    ),
+    (
+        &["x", "[[-a]]"],
+        "getopts_shell: line 1 of the options: [[-a]]\n",
+        5,
+    ),
+    (
+        &["x", "-a []"],
+        "getopts_shell: line 1 of the options: -a []\n",
+        5,
+    ),
+    (
+        &["x", "-a [b"],
+        "getopts_shell: line 1 of the options: -a [b\n",
+        5,
+    ),
+    (
+        &["x", "-a b c"],
+        "getopts_shell: line 1 of the options: -a b c\n",
+        5,
+    ),
+    (
+        &["x", "-a \tb"],
+        "getopts_shell: line 1 of the options: -a \n",
+        5,
+    ),
+    (
+        &["x", "-a|--bc\n-d\n--bc"],
+        "getopts_shell: line 3 of the options: the name 'bc' stands there already\n",
+        5,
+    ),
+    (
+        &["x", "\n-v\n-v|--verbose"],
+        "getopts_shell: line 3 of the options: the name 'v' stands there already\n",
+        5,
+    ),
+    (
+        &["x", "-v\n-v\n-\n"],
+        "getopts_shell: line 2 of the options: the name 'v' stands there already\n",
+        5,
+    ),
+    (
+        &["x", "-v\n-\n-v\n"],
+        "getopts_shell: line 2 of the options: -\n",
+        5,
+    ),
+    (
+        &["-u", "x", "-\u{7f}"],
+        "getopts_shell: line 1 of the options: -\u{7f}\n",
+        5,
+    ),
 ];
 
 /// A writer's faults: how many bytes it takes at most at a time, which write fails, which flush fails,
@@ -231,20 +426,33 @@ fn ends_with(rt: &impl Abort, text: &str, answer: u8, status: u8) {
 
 /// A writer holds a text, after so many writes and flushes.
 fn holds(rt: &impl Abort, out: &Memory, text: &str, writes: usize, flushes: usize) {
-    assert!(rt; out.held.as_slice() == text.as_bytes(), "{text:?} {:?}", out.held.as_slice());
+    assert!(rt;
+        out.held.as_slice() == text.as_bytes(),
+        "{text:?} {:?}",
+        out.held.as_slice()
+    );
     assert!(rt; out.writes == writes);
     assert!(rt; out.flushes == flushes);
 }
 
 /// Over writers that take so many bytes at a time, the row's text is written on one in so many writes, and
 /// flushed once, and nothing is on the other.
-fn is_written(rt: &(impl Abort + AllocGlobal), step: usize, row: Row<'_>) -> Result<(), AllocError> {
+fn is_written(
+    rt: &(impl Abort + AllocGlobal),
+    step: usize,
+    row: Row<'_>,
+) -> Result<(), AllocError> {
     let (words, text, status) = row;
     let mut out = Memory::new(rt.alloc())?;
     let mut err = Memory::new(rt.alloc())?;
     out.step = step;
     err.step = step;
-    ends_with(rt, text, answer(rt.alloc(), words, &mut out, &mut err), status);
+    ends_with(
+        rt,
+        text,
+        answer(rt.alloc(), words, &mut out, &mut err),
+        status,
+    );
     let writes = if step == 1 { text.len() } else { 1 };
     if status == 0 {
         holds(rt, &out, text, writes, 1);
@@ -284,11 +492,7 @@ fn tables_are_read(rt: HostRuntime) -> Result<(), Fail> {
 }
 
 /// The row answers 4 over writers with these faults, of which it uses one.
-fn fails(
-    rt: &(impl Abort + AllocGlobal),
-    faults: Faults,
-    row: Row<'_>,
-) -> Result<(), AllocError> {
+fn fails(rt: &(impl Abort + AllocGlobal), faults: Faults, row: Row<'_>) -> Result<(), AllocError> {
     let (step, failing_write, failing_flush, taken) = faults;
     let (words, text, status) = row;
     let mut out = Memory::new(rt.alloc())?;
@@ -357,15 +561,15 @@ fn push_often(text: &mut String, part: &str, count: usize) -> Result<(), AllocEr
 }
 
 /// A table declares the option `a` after so many lines of another text.
-fn declares_a(
-    rt: &(impl Abort + AllocGlobal),
-    line: &str,
-    count: usize,
-) -> Result<(), AllocError> {
+fn declares_a(rt: &(impl Abort + AllocGlobal), line: &str, count: usize) -> Result<(), AllocError> {
     let mut table = String::new(rt.alloc());
     push_often(&mut table, line, count)?;
     table.push_str("-a")?;
-    is_written(rt, usize::MAX, (&["x", table.as_str(), "-a"], "set -- '--a' '--'\n", 0))
+    is_written(
+        rt,
+        usize::MAX,
+        (&["x", table.as_str(), "-a"], "set -- '--a' '--'\n", 0),
+    )
 }
 
 #[test]

@@ -27,7 +27,7 @@ returns-then-bytes-lt6 c = λ names are.
     let more : 2 < length c.args.text.now = omega (arith, len, c.if-bytes-eq2.false, c.if-bytes-lt2.false) in
     let between = between_names c.args.text.now no_dash more names are in
     elim c.then-bytes-lt6.branch [
-      then-bytes-lt6-via-then-bytes-lt6 w ↦ absurd (omega (arith, len, w.if-bytes-lt6.true, between.long_enough))
+      | then-bytes-lt6-via-then-bytes-lt6 w ↦ absurd (omega (arith, len, w.if-bytes-lt6.true, between.long_enough))
       | then-bytes-lt6-via-else-bytes-lt6+then-bytes-ne124 w ↦ absurd ((rw value at w.if-bytes-ne124.true) between.bar)
       | then-bytes-lt6-via-else-bytes-lt6+else-bytes-ne124+then-bytes-ne45-2 w ↦ absurd ((rw value at w.if-bytes-ne45-2.true) between.first_dash)
       | then-bytes-lt6-via-else-bytes-lt6+else-bytes-ne124+else-bytes-ne45-2+then-bytes-ne45-3 w ↦ absurd ((rw value at w.if-bytes-ne45-3.true) between.second_dash)

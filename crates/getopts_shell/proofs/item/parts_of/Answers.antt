@@ -10,6 +10,7 @@ returns-in-Some c =
 
 pub returns-in-None : goal.returns-in-None
 returns-in-None c =
-    let none = split_parts 32 c.args.text.now None c.in-None.ensures.cases (lit< tt) in
-    (recursion_from_All (λ (b : ℕ). b ≢ 32) _ (All-from_get_or (λ (b : ℕ). b ≢ 32) _ 0 none),
-    sym (append-nil c.args.text.now))
+    let none = split_parts 32 c.args.text.now None c.in-None.ensures.cases (lit< tt) in (
+      recursion_from_All (λ (b : ℕ). b ≢ 32) _ (All-from_get_or (λ (b : ℕ). b ≢ 32) _ 0 none),
+      sym (append-nil c.args.text.now),
+    )

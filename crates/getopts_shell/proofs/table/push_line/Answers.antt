@@ -23,12 +23,16 @@ returns-in-Some-name_again-clause-fault c =
     ∙ sym c.name_again.ensures ∙ ap option_copied c.in-Some-name_again.is)
 
 pub returns-in-Ok-clause-declared : goal.returns-in-Ok-clause-declared
-returns-in-Ok-clause-declared c =
-    (Some (group_of_row c.in-Some.row),
-    declares_group c.args.line.now c.trimmed-line.result.now c.cut_at_gap.result.0.now c.cut_at_gap.result.1.now
-    c.trimmed.result.now (group_of_row c.in-Some.row) c.trimmed-line.ensures
-    (sym c.declares_nothing.ensures ∙ c.if-declares_nothing.false) c.cut_at_gap.ensures.before c.cut_at_gap.ensures.after
-    c.trimmed.ensures c.in-Some.ensures.description c.in-Some.ensures.option,
-    ap groups_of c.in-Ok.ensures.items ∙ map-append group_of_row c.args.rows.now.items (c.in-Some.row ∷ []),
-    (ap (λ rows. name_again (groups_of rows) (group_of_row c.in-Some.row)) (sym c.deref.ensures.value)
-    ∙ sym c.name_again.ensures ∙ ap option_copied c.in-None.is, tt))
+returns-in-Ok-clause-declared c = (
+  Some (group_of_row c.in-Some.row),
+  declares_group c.args.line.now c.trimmed-line.result.now c.cut_at_gap.result.0.now c.cut_at_gap.result.1.now
+      c.trimmed.result.now (group_of_row c.in-Some.row) c.trimmed-line.ensures
+      (sym c.declares_nothing.ensures ∙ c.if-declares_nothing.false) c.cut_at_gap.ensures.before c.cut_at_gap.ensures.after
+      c.trimmed.ensures c.in-Some.ensures.description c.in-Some.ensures.option,
+  ap groups_of c.in-Ok.ensures.items ∙ map-append group_of_row c.args.rows.now.items (c.in-Some.row ∷ []),
+  (
+    ap (λ rows. name_again (groups_of rows) (group_of_row c.in-Some.row)) (sym c.deref.ensures.value)
+        ∙ sym c.name_again.ensures ∙ ap option_copied c.in-None.is,
+    tt,
+  ),
+)
