@@ -29,12 +29,13 @@ room=$(mktemp -d)
 trap 'rm -rf "$room"' EXIT
 rows=$PWD/crates/getopts_refused/out/getopts_refused
 show=$PWD/crates/getopts_show/out/getopts_show
+shell=$PWD/crates/getopts_shell/out/getopts_shell
 passed=0 failed=0 calls=0
 # shellcheck source=tests/memory/loop.sh
 . tests/memory/loop.sh
 
 command -v rt >/dev/null || lacks "there is no rt on the path"
-for program in "$rows" "$show"; do
+for program in "$rows" "$show" "$shell"; do
     [ -x "$program" ] || lacks "$program is not there: run 'rt ci' first"
 done
 
@@ -78,6 +79,16 @@ for words in "--output=x.txt --verbose in.txt" "-vvLd -La -Lb -c auto -o x.txt f
     read -r -a line <<<"$words"
     answer=$("$show" "${line[@]}"; echo "status $?")
     refuses "getopts_show $words" 0 "$answer" "status 3" "$show" "${line[@]}"
+done
+
+part "refusing each request of the program for shell scripts"
+# Its own help, a script's help, words, a completion script, and accepted words.
+table=$'[-v|--verbose]..  say more\n-o|--output FILE  write to FILE\n[-h|--help]  print this help'
+for words in "-h" "-u backup TABLE" "backup TABLE -h" "-c zsh backup TABLE" "backup TABLE -vo x y"; do
+    read -r -a line <<<"$words"
+    line=("${line[@]/#TABLE/$table}")
+    answer=$("$shell" "${line[@]}"; echo "status $?")
+    refuses "getopts_shell $words" 0 "$answer" "status 3" "$shell" "${line[@]}"
 done
 
 part ""

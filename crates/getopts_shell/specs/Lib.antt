@@ -2,6 +2,11 @@
 
 -- words in quotes, and what a shell makes of them
 pub mod Quote
-
 -- the table of options
 pub mod Table
+-- what the program answers
+pub mod Program
+-- Cited by private clauses alone.
+
+-- what the code holds, as the definitions see it
+pub mod Held

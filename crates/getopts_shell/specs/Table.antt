@@ -1,14 +1,20 @@
 -- The table of options: what each line of it declares, and which options it declares.
-use Rattle.std.specs.Prelude.{◌≡◌, ◌≢◌, ◌==◌, ◌||◌, ◌&&◌, ◌⊎◌, not, ℕ, ◌+◌, nat_lt, Bool, true, false}
+use Rattle.std.specs.Prelude.{◌≡◌, ◌≢◌, ◌==◌, ◌||◌, ◌&&◌, ◌⊎◌, not, ℕ, ◌+◌, nat_lt, min, ◌-◌, ◌^◌, Bool, true, false}
 use Rattle.std.specs.Prelude.{List, [], ◌∷◌, ◌++◌, Option, Some, None, codes, if◌then◌else◌, slice_index, length}
 use Rattle.std.specs.Prelude.{⊤}
-use Rattle.std.specs.List.{AllByRecursion, AllZip, filter_map, list_all, list_any, flat_map}
+use Rattle.std.specs.List.{AllByRecursion, AllZip, filter_map, list_all, list_any}
 use Rattle.std.specs.Option.{option_map_or}
 use Rattle.std.specs.Str.{bytes_eq}
+<<<<<<< HEAD
 use Rattle.getopts.specs.Names.{Text, Names, IsLawfullyNamed, is_empty}
 use Rattle.getopts.specs.Options.{Group, Signature}
 use Rattle.getopts.specs.Reading.{begins_with_dash}
 use Rattle.getopts.specs.Usage.{argument_part, bracketed, option_argument}
+=======
+use Rattle.getopts.specs.Names.{Text, Names, AreLawful, is_empty}
+use Rattle.getopts.specs.Options.{Group, Known}
+use Rattle.getopts.specs.Scan.{begins_with_dash}
+>>>>>>> wt-shell
 use Rattle.getopts.specs.Wrap.{lines_of}
 use Rattle.getopts.specs.declared.groups.HasArg.{HasArg}
 use Rattle.getopts.specs.declared.groups.HasArg.TheVariants.{Yes, No, Maybe}
@@ -41,11 +47,15 @@ names_text names =
     else (codes "-" ++ (names.short
     ++ (if is_empty names.long then [] else codes "|--" ++ names.long)))
 
+-- names that may stand in a table: they are lawful, and each may be a name
+pub record MayBeNames (short long : Text) : Type 0 where
+  pub lawful : AreLawful short long
+  pub short_name : is_name short ≡ true
+  pub long_name : is_name long ≡ true
+
 -- these names, written so
 pub record AreNames (names : Names) (text : Text) : Type 0 where
-  pub lawful : IsLawfullyNamed names
-  pub short : is_name names.short ≡ true
-  pub long : is_name names.long ≡ true
+  pub may_be : MayBeNames names.short names.long
   pub written : text ≡ names_text names
 
 -- the argument of a kind, with this hint: none for No, the hint for Yes, and for Maybe the hint in
@@ -58,7 +68,7 @@ IsArgument kind hint argument = ⊥
 
 -- names, which hold no space, and after one space the argument, if there is one
 abbrev pub HasParts : Text → Text → Option Text → Type 0
-HasParts text names argument = (list_any (λ byte. byte == 32) names ≡ false)
+HasParts text names argument = AllByRecursion (λ byte. byte ≢ 32) names
     × (text ≡ names ++ option_map_or (λ argument. codes " " ++ argument) argument [])
 
 -- a text in the brackets of an occurrence: none for Req, `[` and `]` for Optional, and for Multi `[`
@@ -142,14 +152,20 @@ abbrev pub DeclareGroups : List Text → List Group → Type 0
 DeclareGroups lines groups = (each : List (Option Group)) × AllZip Declares lines each
     × (groups ≡ filter_map (λ declared. declared) each)
 
+<<<<<<< HEAD
 -- whether a group has this name
 abbrev pub has_name : Text → Group → Bool
 has_name name group = not (is_empty name)
     && (bytes_eq group.signature.names.short name || bytes_eq group.signature.names.long name)
 
 -- whether any of these groups has this name
+=======
+-- whether one of these groups has this name
+>>>>>>> wt-shell
 abbrev pub any_has_name : List Group → Text → Bool
-any_has_name groups name = list_any (has_name name) groups
+any_has_name groups name = not (is_empty name)
+    && list_any (λ group. bytes_eq group.known.names.short name || bytes_eq group.known.names.long name)
+    groups
 
 -- the first of a group's names that one of these groups has already
 abbrev pub name_again : List Group → Group → Option Text
@@ -172,6 +188,11 @@ pub record DeclareOptions (lines : List Text) (groups : List Group) : Type 0 whe
 abbrev pub DeclaresOptions : Text → List Group → Type 0
 DeclaresOptions table groups = DeclareOptions (lines_of table) groups
 
+-- a table declares one list of options at most
+abbrev pub OneTableOneList : Type 0
+OneTableOneList = (table : Text) (groups others : List Group) → DeclaresOptions table groups
+    → DeclaresOptions table others → others ≡ groups
+
 -- ---- faults
 
 -- a fault of a table: the number of a line, and its item or a name
@@ -188,6 +209,10 @@ pub data IsLineFault (number : ℕ) (groups : List Group) (line : Text) : TableF
       → name_again groups group ≡ Some name
       → IsLineFault number groups line (name_twice number name)
 
+-- the number of the line after so many; numbers end at the highest of 64 bits
+abbrev pub line_number : ℕ → ℕ
+line_number before = min (before + 1) (2 ^ 64 - 1)
+
 -- the fault of a table: that of the first line that has one
 pub record IsTableFault (table : Text) (fault : TableFault) : Type 0 where
   pub before : List Text
@@ -196,6 +221,7 @@ pub record IsTableFault (table : Text) (fault : TableFault) : Type 0 where
   pub lines_are : lines_of table ≡ before ++ line ∷ after
   pub groups : List Group
   pub declared : DeclareOptions before groups
+<<<<<<< HEAD
   pub fault_at : IsLineFault (length before + 1) groups line fault
 
 -- ---- options, written line by line
@@ -236,3 +262,6 @@ pub record CanBeWritten (group : Group) : Type 0 where
 abbrev pub WrittenIsDeclared : Type 0
 WrittenIsDeclared = (groups : List Group) → AllByRecursion CanBeWritten groups
     → HaveNewNames [] groups → DeclaresOptions (table_text groups) groups
+=======
+  pub fault_at : IsLineFault (line_number (length before)) groups line fault
+>>>>>>> wt-shell

@@ -1,10 +1,35 @@
-//! Reads a shell script's words by a table of options.
+//! Reads a shell script's words by a table of options, and writes them as code that the script runs.
 #![tactic(auto)]
 
+ghost use Rattle.std.specs.Prelude.{IfOk};
+ghost use Rattle.getopts_shell.specs.Program.{IsStatus};
+
+mod answer;
+mod complete;
+mod item;
 mod quote;
+mod row;
+mod table;
+#[cfg(test)]
+mod tests;
+mod words;
 
+use answer::{NO_MEMORY, answer};
+use std::io;
 use std::process::ExitCode;
+use words::{system_words, texts_of};
 
-fn main(_rt: HostRuntime) -> ExitCode {
-    ExitCode::from(0)
+/// Runs over the system's words, without the program's own name, the standard output and the standard error.
+fn main(rt: HostRuntime) -> ExitCode {
+    ExitCode::from(run(&rt).unwrap_or(NO_MEMORY))
+}
+
+/// The status of `answer` for the system's words. An error comes where they can't be read or held, and
+/// then nothing is written.
+fn run(rt: &HostRuntime) -> io::Result<u8>
+    ensures { IfOk result IsStatus }
+{
+    let words = system_words(rt)?;
+    let texts = texts_of(rt.alloc(), &words)?;
+    Ok(answer(rt.alloc(), &texts, &mut io::writer(rt), &mut rt.stderr()))
 }

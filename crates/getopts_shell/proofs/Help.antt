@@ -1,0 +1,59 @@
+-- Whether words ask for help.
+use Rattle.std.proofs.Common.{◌≡◌, ◌↔◌, ℕ, Bool, true, false, List, [], Option, Some, None, refl, sym, ap, subst, ◌∙◌}
+use Rattle.std.specs.Prelude.{codes, length, nat_lt, IsSome}
+use Rattle.std.specs.Option.{option_map_or}
+use Rattle.getopts.specs.Accessors.{IsDefined, found_in, is_present, place_of}
+use Rattle.getopts.specs.Fail.{Fault, fault_of}
+use Rattle.getopts.specs.Matches.{Matched, MatchedGroup, matches_of}
+use Rattle.getopts.specs.Names.{Text}
+use Rattle.getopts.specs.Options.{Declared}
+use Rattle.getopts.specs.Parse.{HasReading, HasNoReading}
+use Rattle.getopts.specs.declared.fail.Fail.{Fail}
+use Rattle.getopts.specs.declared.fail.Fail.TheVariants as fail
+use Rattle.getopts_shell.specs.Program.{AskHelp, offers_help}
+
+-- an option that isn't defined isn't there
+pub undefined_absent : (groups : List MatchedGroup) (name : Text) → ¬ (IsDefined groups name)
+    → is_present groups name ≡ false
+undefined_absent groups name none = by_place (place_of groups name) none
+  where
+    by_place : (place : Option ℕ) → ¬ (IsSome place)
+        → nat_lt 0 (length (option_map_or (found_in groups) place [])) ≡ false
+    by_place None none = refl
+    by_place (Some place) none = absurd (none refl)
+
+-- words have the matches of one reading
+one_reading : (options : Declared) (words : List Text) (matches others : Matched)
+    → HasReading options words matches → HasReading options words others → others ≡ matches
+one_reading options words matches others is also =
+    let same = (is.only also.reading).0 ((also.only also.reading).1 refl) in
+    also.matches_are ∙ ap (matches_of options) same ∙ sym is.matches_are
+
+-- words that have a reading ask for help where its matches do
+pub asked_is : (options : Declared) (words : List Text) (matches : Matched) (asked : Bool)
+    → HasReading options words matches → offers_help options.groups ≡ true
+    → asked ≡ is_present matches.groups (codes "help")
+    → (asked ≡ true) ↔ AskHelp options words
+asked_is options words matches asked read offers is = (
+  λ yes. (matches, read, offers, sym is ∙ yes),
+  λ asks. is ∙ ap (λ (m : Matched). is_present m.groups (codes "help"))
+      (sym (one_reading options words matches asks.0 read asks.1)) ∙ asks.3,
+)
+
+-- words that have no reading don't ask for help
+pub never_asked : (options : Declared) (words : List Text) (fault : Fault)
+    → HasNoReading options words fault → (false ≡ true) ↔ AskHelp options words
+never_asked options words fault none = (
+  λ bad. cc,
+  λ asks. absurd (none.no_reading asks.1.reading ((asks.1.only asks.1.reading).1 refl)),
+)
+
+-- what a refusal tells, unless it tells that memory was refused
+pub fault_told_of : (refusal : Fail) → ¬ (refusal ≡ fail.OutOfMemory)
+    → (fault : Fault) × (fault_of refusal ≡ Some fault)
+fault_told_of (fail.ArgumentMissing name) other = (_, refl)
+fault_told_of (fail.UnrecognizedOption name) other = (_, refl)
+fault_told_of (fail.OptionMissing name) other = (_, refl)
+fault_told_of (fail.OptionDuplicated name) other = (_, refl)
+fault_told_of (fail.UnexpectedArgument name) other = (_, refl)
+fault_told_of fail.OutOfMemory other = absurd (other refl)

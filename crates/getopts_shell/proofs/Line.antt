@@ -1,0 +1,60 @@
+-- The canonical line of a script's words.
+use Rattle.std.proofs.Common.{◌≡◌, ◌≢◌, ℕ, zero, suc, Bool, true, false, List, [], ◌∷◌, ◌++◌, Option, Some, None}
+use Rattle.std.proofs.Common.{refl, sym, ap, subst, ◌∙◌}
+use Rattle.std.specs.List.{AllByRecursion}
+use Rattle.std.specs.Option.{option_map_or}
+use Rattle.getopts.specs.Canon.{canonical_word, main_at}
+use Rattle.getopts.specs.CanonAnswers.{IsUnwritable, IsWritten, KeepsLineLaws}
+use Rattle.getopts.specs.Names.{Text, resolution, EmptyResolvesNot}
+use Rattle.getopts.specs.Options.{Declared, Group, names_of}
+use Rattle.getopts.specs.Scan.{Mention, holds_equals, stop_word}
+use Rattle.getopts_shell.specs.Held.{ArePlainlyNamed}
+use Rattle.getopts_shell.specs.Program.{TellsWords}
+use Rattle.getopts_shell.proofs.Quoting.{words_same}
+
+-- no main name holds `=`
+plain_main : (groups : List Group) → ArePlainlyNamed groups → (place : ℕ)
+    → holds_equals (main_at groups place) ≡ false
+plain_main [] plain zero = refl
+plain_main [] plain (suc place) = refl
+plain_main (group ∷ groups) plain zero = plain.0
+plain_main (group ∷ groups) plain (suc place) = plain_main groups plain.1 place
+
+-- each content is plain
+always_plain : (groups : List Group) → ArePlainlyNamed groups → (mentioned : List Mention)
+    → AllByRecursion (λ (m : Mention). holds_equals (main_at groups m.group) ≡ false) mentioned
+always_plain groups plain [] = tt
+always_plain groups plain (m ∷ mentioned) = (plain_main groups plain m.group, always_plain groups plain mentioned)
+
+-- there are no words whose content can't be written
+pub never_unwritable : (options : Declared) (words : List Text) → ArePlainlyNamed options.groups
+    → IsUnwritable options words → ⊥
+never_unwritable options words plain is = is.not_plain (always_plain options.groups plain is.content.mentions)
+
+-- a word of a main name isn't the stop
+main_no_stop : (groups : List Group) → EmptyResolvesNot (names_of groups) → (m : Mention)
+    → resolution (names_of groups) (main_at groups m.group) ≡ Some m.group
+    → canonical_word groups m ≢ stop_word
+main_no_stop groups empty m sound = λ same. by_main (main_at groups m.group) sound same
+  where
+    by_main : (main : Text) → resolution (names_of groups) main ≡ Some m.group
+        → 45 ∷ 45 ∷ (main ++ option_map_or (λ (text : Text). 61 ∷ text) m.value []) ≡ 45 ∷ 45 ∷ [] → ⊥
+    by_main [] sound same = let both : None ≡ Some m.group = sym empty ∙ sound in cc
+    by_main (byte ∷ main) sound same = cc
+
+no_stops : (groups : List Group) → EmptyResolvesNot (names_of groups) → (mentioned : List Mention)
+    → AllByRecursion (λ (m : Mention). resolution (names_of groups) (main_at groups m.group) ≡ Some m.group) mentioned
+    → AllByRecursion (λ (m : Mention). canonical_word groups m ≢ stop_word) mentioned
+no_stops groups empty [] sound = tt
+no_stops groups empty (m ∷ mentioned) sound =
+    (main_no_stop groups empty m sound.0, no_stops groups empty mentioned sound.1)
+
+-- a canonical line tells the words
+pub tells_words : (options : Declared) (words line : List Text) → EmptyResolvesNot (names_of options.groups)
+    → KeepsLineLaws options → IsWritten options words line → TellsWords options words line
+tells_words options words line empty laws written = record {
+  shell = words_same line;
+  written = written;
+  reads_back = laws words line written;
+  stop_is_first = no_stops options.groups empty written.content.mentions (laws words line written).sound;
+}

@@ -1,0 +1,58 @@
+-- No name of a table holds `=`.
+use Rattle.std.proofs.Common.{◌≡◌, ℕ, Bool, true, false, cond, eqb, List, [], ◌∷◌, Option, Some, None}
+use Rattle.std.proofs.Common.{refl, sym, ap, subst, ◌∙◌, arith}
+use Rattle.std.specs.Prelude.{◌&&◌, ◌||◌, not}
+use Rattle.std.specs.List.{AllZip, filter_map, list_all, list_any}
+use Rattle.getopts.specs.Names.{Text, Names, is_empty, main_name}
+use Rattle.getopts.specs.Options.{Group}
+use Rattle.getopts.specs.Scan.{begins_with_dash, holds_equals}
+use Rattle.getopts_shell.specs.Held.{ArePlainlyNamed}
+use Rattle.getopts_shell.specs.Table.{is_name, is_name_byte, Declares, DeclareOptions, DeclaresGroup}
+use Rattle.std.proofs.lemmas.Bool.Decides.{nat_tests}
+
+-- a byte of a name isn't `=`
+plain_byte : (byte : ℕ) → is_name_byte byte ≡ true → eqb byte 61 ≡ false
+plain_byte byte is = grind (arith, nat_tests)
+
+-- both of two tests
+both_true : (a b : Bool) → (a && b) ≡ true → (a ≡ true) × (b ≡ true)
+both_true true b is = (refl, is)
+both_true false b is = cc
+
+-- neither of two tests
+none_true : (a b : Bool) → a ≡ false → b ≡ false → (a || b) ≡ false
+none_true true b is also = cc
+none_true false b is also = also
+
+plain_bytes : (text : Text) → list_all is_name_byte text ≡ true → holds_equals text ≡ false
+plain_bytes [] is = refl
+plain_bytes (byte ∷ text) is =
+    let each = both_true (is_name_byte byte) (list_all is_name_byte text) is in
+    none_true (eqb byte 61) (holds_equals text) (plain_byte byte each.0) (plain_bytes text each.1)
+
+plain_name : (text : Text) → is_name text ≡ true → holds_equals text ≡ false
+plain_name text is = plain_bytes text (both_true (not (begins_with_dash text)) (list_all is_name_byte text) is).1
+
+plain_main : (names : Names) → is_name names.short ≡ true → is_name names.long ≡ true
+    → holds_equals (main_name names) ≡ false
+plain_main names short long = by_test (is_empty names.long)
+  where
+    by_test : (test : Bool) → holds_equals (cond test names.short names.long) ≡ false
+    by_test true = plain_name names.short short
+    by_test false = plain_name names.long long
+
+plain_each : (lines : List Text) (each : List (Option Group)) → AllZip Declares lines each
+    → ArePlainlyNamed (filter_map (λ (d : Option Group). d) each)
+plain_each [] [] is = tt
+plain_each [] (declared ∷ each) is = absurd is
+plain_each (line ∷ lines) [] is = absurd is
+plain_each (line ∷ lines) (None ∷ each) is = plain_each lines each is.1
+plain_each (line ∷ lines) (Some group ∷ each) is = (
+  plain_main group.known.names is.0.item.names_are.may_be.short_name is.0.item.names_are.may_be.long_name,
+  plain_each lines each is.1,
+)
+
+-- the options of a table have main names without `=`
+pub plain_options : (lines : List Text) (groups : List Group) → DeclareOptions lines groups → ArePlainlyNamed groups
+plain_options lines groups are = subst ArePlainlyNamed (sym are.declared.2)
+    (plain_each lines are.declared.0 are.declared.1)

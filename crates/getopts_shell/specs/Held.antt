@@ -1,0 +1,54 @@
+-- What the code holds, as the definitions see it.
+use Rattle.std.specs.Prelude.{◌≡◌, ⊤, List, [], ◌∷◌, Option, Some, None, map, MatchOption, false}
+use Rattle.std.specs.List.{AllByRecursion}
+use Rattle.std.specs.String.{string_bytes}
+use Rattle.getopts.specs.Matches.{MatchedGroup, matched}
+use Rattle.getopts.specs.Names.{Text, Names, main_name}
+use Rattle.getopts.specs.Options.{Declared, Group, group_of, knowns_of, with_group}
+use Rattle.getopts.specs.Scan.{Occurrence, holds_equals}
+use Rattle.getopts_shell.specs.Program.{Answer, own_groups}
+use Rattle.getopts_shell.specs.Table.{TableFault, no_option, name_twice}
+use Rattle.getopts_shell.specs.declared.answer.Outcome.{Outcome}
+use Rattle.getopts_shell.specs.declared.row.Row.{Row}
+use Rattle.getopts_shell.specs.declared.table.TableError.{TableError}
+use Rattle.getopts_shell.specs.declared.table.TableError.TheVariants as error
+
+-- the group of a row
+abbrev pub group_of_row : Row → Group
+group_of_row row = group_of row.short.now row.long.now row.description.now row.hint.now
+    row.kind row.occurrence
+
+-- the names of a row
+abbrev pub names_of_row : Row → Names
+names_of_row row = record { short = row.short.now; long = row.long.now }
+
+-- the groups of rows
+abbrev pub groups_of : List Row → List Group
+groups_of rows = map group_of_row rows
+
+-- the fault that an error of a table tells, unless it tells that memory was refused
+abbrev pub fault_told : TableError → Option TableFault
+fault_told (error.NoOption number item) = Some (no_option number item.now)
+fault_told (error.NameTwice number name) = Some (name_twice number name.now)
+fault_told error.OutOfMemory = None
+
+-- what an error of a table tells meets this
+abbrev pub TellsFault : TableError → (TableFault → Type 0) → Type 0
+TellsFault error P = MatchOption (fault_told error) ⊤ P
+
+-- the answer that the code holds
+abbrev pub answer_of : Outcome → Answer
+answer_of outcome = record { text = string_bytes outcome.text; status = outcome.status }
+
+-- the groups are the program's own, each with its share of some occurrences
+abbrev pub HasOwnGroups : List MatchedGroup → Type 0
+HasOwnGroups groups = (occurrences : List Occurrence) × (groups ≡ matched 0 (knowns_of own_groups) occurrences)
+
+-- no main name holds `=`
+abbrev pub ArePlainlyNamed : List Group → Type 0
+ArePlainlyNamed groups = AllByRecursion (λ group. holds_equals (main_name group.known.names) ≡ false) groups
+
+-- the options with these groups too, the last ones
+abbrev pub with_groups : Declared → List Group → Declared
+with_groups options [] = options
+with_groups options (group ∷ groups) = with_groups (with_group options group) groups

@@ -1,0 +1,216 @@
+-- The program: what it answers to words, and with which status.
+use Rattle.std.specs.Prelude.{◌≡◌, ◌≢◌, ◌≤◌, ◌&&◌, ◌||◌, ℕ, Bool, true, false, List, [], ◌∷◌, ◌++◌, Option}
+use Rattle.std.specs.Prelude.{Some, None, codes, decimal, map, if◌then◌else◌}
+use Rattle.std.specs.Io.KnownBytes.{Appends}
+use Rattle.std.specs.List.{AllByRecursion, list_any}
+use Rattle.std.specs.Option.{unwrap_or}
+use Rattle.std.specs.Str.{bytes_eq}
+use Rattle.getopts.specs.Accessors.{first_value, found_of, is_present}
+use Rattle.getopts.specs.Canon.{Content, HasCanonicalLine, canonical_word}
+use Rattle.getopts.specs.CanonAnswers.{IsWritten}
+use Rattle.getopts.specs.Fail.{Fault, fault_text}
+use Rattle.getopts.specs.Matches.{Matched}
+use Rattle.getopts.specs.Names.{Text}
+use Rattle.getopts.specs.Only.{IsTheOnly}
+use Rattle.getopts.specs.Options.{Group, Declared, group_of}
+use Rattle.getopts.specs.Parse.{HasReading, IsAccepted, IsRefused}
+use Rattle.getopts.specs.Scan.{stop_word}
+use Rattle.getopts.specs.Usage.{IsUsageText, short_usage_text}
+use Rattle.getopts.specs.declared.groups.HasArg.{HasArg}
+use Rattle.getopts.specs.declared.groups.HasArg.TheVariants.{Yes, No, Maybe}
+use Rattle.getopts.specs.declared.groups.Occur.TheVariants.{Optional}
+use Rattle.getopts.specs.declared.groups.ParsingStyle.TheVariants.{FloatingFrees, StopAtFirstFree}
+use Rattle.getopts_shell.specs.Quote.{quoted, quoted_words, shell_words}
+use Rattle.getopts_shell.specs.Table.{DeclaresOptions, IsTableFault, TableFault, no_option, name_twice}
+
+-- ---- the program's own options
+
+abbrev pub own_groups : List Group
+own_groups =
+    group_of (codes "b") (codes "brief") (codes "begin the help with TEXT") (codes "TEXT") Yes Optional
+    ∷ group_of (codes "s") (codes "stop") (codes "leave all words from the first free one on free") [] No Optional
+    ∷ group_of (codes "l") (codes "long-only") (codes "let long names follow one dash too") [] No Optional
+    ∷ group_of (codes "w") (codes "words") (codes "write the words alone, without 'set --'") [] No Optional
+    ∷ group_of (codes "u") (codes "usage") (codes "write the help of TABLE") [] No Optional
+    ∷ group_of (codes "c") (codes "complete") (codes "write a completion script for bash, zsh or fish") (codes "SHELL") Yes Optional
+    ∷ group_of (codes "h") (codes "help") (codes "print this help") [] No Optional
+    ∷ []
+
+-- the program's own options: words from the first free one on are free
+abbrev pub own_options : Declared
+own_options = record { groups = own_groups; style = StopAtFirstFree; long_only = false }
+
+-- whether matches have an option of this name
+abbrev pub is_given : Matched → Text → Bool
+is_given own name = is_present own.groups name
+
+-- the value that an option of this name has, if it has one
+abbrev pub value_given : Matched → Text → Option Text
+value_given own name = first_value (found_of own.groups name)
+
+-- ---- answers
+
+-- an answer: the text that is written, on the standard output where the status is 0, and else on the
+-- standard error
+pub record Answer : Type 0 where
+  pub text : Text
+  pub status : ℕ
+
+-- text for the script
+abbrev pub done : Text → Answer
+done text = record { text = text; status = 0 }
+
+-- a fault in how the script calls the program
+abbrev pub misused : Text → Answer
+misused text = record { text = text; status = 5 }
+
+-- the line of a fault, after a name
+abbrev pub fault_line : Text → Fault → Text
+fault_line name fault = name ++ (codes ": " ++ (fault_text fault ++ codes "\n"))
+
+-- a fault of the script's words, with its short usage
+abbrev pub refused_text : Declared → Text → Fault → Text
+refused_text options name fault =
+    fault_line name fault ++ (short_usage_text options name ++ codes "\n")
+
+-- the line of a fault of a table
+abbrev pub table_fault_line : TableFault → Text
+table_fault_line (no_option number item) = codes "getopts_shell: line "
+    ++ (decimal number ++ (codes " of the options: " ++ (item ++ codes "\n")))
+table_fault_line (name_twice number name) = codes "getopts_shell: line "
+    ++ (decimal number ++ (codes " of the options: the name '" ++ (name ++ codes "' stands there already\n")))
+
+-- ---- a script
+
+-- the options of a script, in the style and the mode that the program's own words ask for
+abbrev pub script_options : Matched → List Group → Declared
+script_options own groups = record {
+  groups = groups;
+  style = if is_given own (codes "stop") then StopAtFirstFree else FloatingFrees;
+  long_only = is_given own (codes "long-only");
+}
+
+-- what the help of a script begins with: the text that was given, or the short usage
+abbrev pub brief_of : Matched → Text → Declared → Text
+brief_of own name options = unwrap_or (value_given own (codes "brief")) (short_usage_text options name)
+
+-- the help of a script
+abbrev pub IsHelp : Matched → Text → Declared → Text → Type 0
+IsHelp own name options help = IsTheOnly (IsUsageText options (brief_of own name options)) help
+
+-- the code that prints a help, and ends the script
+abbrev pub help_code : Text → Text
+help_code help = codes "printf %s " ++ (quoted help ++ codes "; exit 0\n")
+
+-- whether a kind takes no argument
+abbrev pub is_no : HasArg → Bool
+is_no No = true
+is_no kind = false
+
+-- whether one of the options is called `help`, and takes no argument
+abbrev pub offers_help : List Group → Bool
+offers_help groups =
+    list_any (λ group. bytes_eq group.known.names.long (codes "help") && is_no group.known.kind) groups
+
+-- the words ask for help: they have a reading, whatever its counts, with such an option
+abbrev pub AskHelp : Declared → List Text → Type 0
+AskHelp options words = (matches : Matched) × HasReading options words matches
+    × (offers_help options.groups ≡ true) × (is_present matches.groups (codes "help") ≡ true)
+
+-- the code that sets a script's words to those of a line, or the words alone
+abbrev pub line_code : Matched → List Text → Text
+line_code own line =
+    (if is_given own (codes "words") then [] else codes "set -- ") ++ (quoted_words line ++ codes "\n")
+
+-- What a canonical line tells: a shell makes of it, as it is written, the same words; it is accepted in
+-- both styles and both modes with the content of the words, and says nothing else; and of its words the
+-- first that is `--` is the stop.
+pub record TellsWords (options : Declared) (words line : List Text) : Type 0 where
+  pub shell : shell_words (quoted_words line) ≡ Some line
+  pub written : IsWritten options words line
+  pub reads_back : HasCanonicalLine options written.content
+  pub stop_is_first : AllByRecursion (λ m. canonical_word options.groups m ≢ stop_word) written.content.mentions
+
+-- the answer to words that don't ask for help: the canonical line of accepted words, or the first fault
+pub data AnswersLine (own : Matched) (name : Text) (options : Declared) (words : List Text)
+    : Answer → Type 0 where
+  accepted : (line : List Text) → TellsWords options words line
+      → AnswersLine own name options words (done (line_code own line))
+  refused : (fault : Fault) → IsRefused options words fault
+      → AnswersLine own name options words (record { text = refused_text options name fault; status = 2 })
+
+-- whether there are completion scripts for a shell
+abbrev pub has_completion : Text → Bool
+has_completion shell = bytes_eq shell (codes "bash") || bytes_eq shell (codes "zsh")
+    || bytes_eq shell (codes "fish")
+
+-- what is said where there are none
+abbrev pub no_completion : Text → Text
+no_completion shell = codes "getopts_shell: no completion for '" ++ (shell ++ codes "'\n")
+
+-- the answer of a completion script, of whose text nothing is said, or that there is none for this shell
+pub data AnswersCompletion (shell : Text) : Answer → Type 0 where
+  script : (text : Text) → has_completion shell ≡ true → AnswersCompletion shell (done text)
+  no_script : has_completion shell ≡ false → AnswersCompletion shell (misused (no_completion shell))
+
+-- the answer to the words of a script: the code that prints its help where they ask for it, or else
+-- what they are
+pub data AnswersWords (own : Matched) (name : Text) (options : Declared) (words : List Text)
+    : Answer → Type 0 where
+  help : (help : Text) → AskHelp options words → IsHelp own name options help
+      → AnswersWords own name options words (done (help_code help))
+  line : (answer : Answer) → ¬ (AskHelp options words) → AnswersLine own name options words answer
+      → AnswersWords own name options words answer
+
+-- the answer for a script with these options: its help, its completion script, or that to its words
+pub data AnswersScript (own : Matched) (name : Text) (options : Declared) (words : List Text)
+    : Answer → Type 0 where
+  usage : (help : Text) → is_given own (codes "usage") ≡ true → IsHelp own name options help
+      → AnswersScript own name options words (done help)
+  completion : (shell : Text) (answer : Answer) → is_given own (codes "usage") ≡ false
+      → value_given own (codes "complete") ≡ Some shell → AnswersCompletion shell answer
+      → AnswersScript own name options words answer
+  of_words : (answer : Answer) → is_given own (codes "usage") ≡ false
+      → value_given own (codes "complete") ≡ None
+      → AnswersWords own name options words answer → AnswersScript own name options words answer
+
+-- the answer to a script's name, its table and its words: the fault of the table, or that for its options
+pub data AnswersTable (own : Matched) (name table : Text) (words : List Text) : Answer → Type 0 where
+  faulty : (fault : TableFault) → IsTableFault table fault
+      → AnswersTable own name table words (misused (table_fault_line fault))
+  declared : (groups : List Group) (answer : Answer) → DeclaresOptions table groups
+      → AnswersScript own name (script_options own groups) words answer
+      → AnswersTable own name table words answer
+
+-- the answer to the free words of the program's own
+abbrev pub AnswersFree : Matched → List Text → Answer → Type 0
+AnswersFree own (name ∷ table ∷ words) answer = AnswersTable own name table words answer
+AnswersFree own words answer = answer ≡ misused (codes "getopts_shell: a name and a table of options are needed\n")
+
+-- the answer to the program's own words, where they are accepted with these matches: its help, or the
+-- answer to its free words
+pub data AnswersOwn (own : Matched) : Answer → Type 0 where
+  own_help : (help : Text) → is_given own (codes "help") ≡ true
+      → IsTheOnly (IsUsageText own_options (codes "Usage: getopts_shell [options] NAME TABLE [WORD].."))
+      help → AnswersOwn own (done help)
+  of_free : (answer : Answer) → is_given own (codes "help") ≡ false
+      → AnswersFree own own.free answer → AnswersOwn own answer
+
+-- The answer to words: the fault of the program's own words, or the answer to these.
+pub data IsAnswer (words : List Text) : Answer → Type 0 where
+  refused_own : (fault : Fault) → IsRefused own_options words fault
+      → IsAnswer words (misused (fault_line (codes "getopts_shell") fault))
+  accepted_own : (own : Matched) (answer : Answer) → IsAccepted own_options words own
+      → AnswersOwn own answer → IsAnswer words answer
+
+-- ---- statuses
+
+-- 0 where text was written for the script, 2 where its words are refused, 3 where memory was refused, 4
+-- where a write or a flush failed, 5 where the script calls the program wrongly
+abbrev pub IsStatus : ℕ → Type 0
+IsStatus status = (status ≤ 5) × (status ≢ 1)
+
+-- what a writer holds has grown by the text of the answer to these words, which has this status
+abbrev pub ShowsAnswer : Option (List ℕ) → Option (List ℕ) → List Text → ℕ → Type 0
+ShowsAnswer old new words status = (text : Text)
+    × IsAnswer words (record { text = text; status = status }) × Appends old new text

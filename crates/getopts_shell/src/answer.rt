@@ -1,0 +1,511 @@
+//! What the program answers to words.
+
+ghost use Rattle.std.specs.Prelude.{◌≡◌, ◌≢◌, ◌≤◌, ◌⊎◌, ◌++◌, ◌↔◌, ◌&&◌, codes, map, true, false, IsTrue, List, Option, IfOk, OnOk, Some};
+ghost use Rattle.std.specs.Io.KnownBytes.{Appends};
+ghost use Rattle.std.specs.List.{list_any};
+ghost use Rattle.std.specs.Str.{bytes_eq};
+ghost use Rattle.std.specs.String.{string_bytes};
+ghost use Rattle.getopts.specs.Accessors.{is_present};
+ghost use Rattle.getopts.specs.Fail.{Fault, Tells, fault_of, fault_text};
+ghost use Rattle.getopts.specs.Matches.{Matched};
+ghost use Rattle.getopts.specs.Names.{Text, texts};
+ghost use Rattle.getopts.specs.Options.{with_group};
+ghost use Rattle.getopts.specs.Parse.{IsAccepted, IsRefused};
+ghost use Rattle.getopts_shell.specs.Held.{group_of_row, groups_of, fault_told, answer_of, HasOwnGroups, ArePlainlyNamed};
+ghost use Rattle.getopts_shell.specs.Program.{own_groups, own_options, script_options, done, misused, table_fault_line, fault_line, refused_text};
+ghost use Rattle.getopts_shell.specs.Program.{IsHelp, help_code, AskHelp, is_no, offers_help, line_code, AnswersLine, AnswersWords, AnswersScript};
+ghost use Rattle.getopts_shell.specs.Program.{AnswersTable, AnswersFree, AnswersOwn, IsAnswer, IsStatus, ShowsAnswer};
+ghost use Rattle.getopts_shell.specs.Program.{AnswersCompletion, no_completion};
+ghost use Rattle.getopts_shell.specs.Table.{TableFault, no_option, name_twice};
+ghost use Rattle.getopts_shell.specs.Held.{with_groups};
+
+use crate::complete::completion;
+use crate::quote::{push_quoted, push_quoted_words};
+use crate::row::Row;
+use crate::table::{TableError, rows_of};
+use crate::words::texts_of;
+use getopts::{Fail, HasArg, Matches, Options, ParsingStyle, names_resolve};
+use std::alloc::{AllocError, Global};
+use std::io;
+use std::io::Write;
+
+/// The status where text was written for the script.
+const DONE: u8 = 0;
+/// The status where the script's words were refused, and the fault was written.
+const REFUSED: u8 = 2;
+/// The status where memory was refused.
+pub(crate) const NO_MEMORY: u8 = 3;
+/// The status where a write or a flush failed.
+const NOT_WRITTEN: u8 = 4;
+/// The status where the script calls the program wrongly, and the fault was written.
+const MISUSED: u8 = 5;
+
+/// The line before the options in the program's own help.
+const BRIEF: &str = "Usage: getopts_shell [options] NAME TABLE [WORD]..";
+
+/// What is written where a name or a table isn't there.
+const NEEDED: &str = "getopts_shell: a name and a table of options are needed\n";
+
+/// What the program has to write, and the status that it ends with.
+#[derive(Drop)]
+struct Outcome {
+    text: String,
+    status: u8,
+}
+
+/// A script: its name, and its options, as the rows of its table declare them.
+#[derive(Clone, Copy)]
+struct Script<'s> {
+    name: &'s str,
+    rows: &'s [Row<'s>],
+    options: &'s Options,
+}
+
+/// Reads words by a table of options, and writes them as code for a shell.
+pub fn answer<W: Write, E: Write>(alloc: Global, words: &[&str], out: &mut W, err: &mut E) -> u8
+    ensures status { IsStatus result }
+    ensures shown { result ≡ 0
+        → ShowsAnswer (W.contents out.old) (W.contents out.new) (texts words.now) result }
+    ensures shown_only { result ≡ 0 → err.new ≡ err.old }
+    ensures refused { (result ≡ 2) ⊎ (result ≡ 5)
+        → ShowsAnswer (E.contents err.old) (E.contents err.new) (texts words.now) result }
+    ensures refused_only { (result ≡ 2) ⊎ (result ≡ 5) → out.new ≡ out.old }
+    ensures nothing_written { result ≡ 3 → (out.new ≡ out.old) × (err.new ≡ err.old) }
+{
+    match answer_to(alloc, words) {
+        Ok(outcome) => match write_answer(&outcome, out, err) {
+            Ok(()) => outcome.status,
+            Err(_) => NOT_WRITTEN,
+        },
+        Err(_) => NO_MEMORY,
+    }
+}
+
+/// Writes the text of an answer: on `out` where the status is 0, and else on `err`.
+fn write_answer<W: Write, E: Write>(outcome: &Outcome, out: &mut W, err: &mut E) -> io::Result<()>
+    ensures out { OnOk result (outcome.now.status ≡ 0
+        → Appends (W.contents out.old) (W.contents out.new) (string_bytes outcome.now.text)) }
+    ensures out_only { outcome.now.status ≡ 0 → err.new ≡ err.old }
+    ensures err { OnOk result (outcome.now.status ≢ 0
+        → Appends (E.contents err.old) (E.contents err.new) (string_bytes outcome.now.text)) }
+    ensures err_only { outcome.now.status ≢ 0 → out.new ≡ out.old }
+{
+    if outcome.status == DONE {
+        print(out, outcome.text.as_str())
+    } else {
+        print(err, outcome.text.as_str())
+    }
+}
+
+/// Writes a text, and flushes it.
+fn print<W: Write>(out: &mut W, text: &str) -> io::Result<()>
+    ensures { OnOk result (Appends (W.contents out.old) (W.contents out.new) text.now) }
+{
+    out.write_all(text.as_bytes())?;
+    out.flush()
+}
+
+/// What the program says to words.
+fn answer_to(alloc: Global, words: &[&str]) -> Result<Outcome, AllocError>
+    ensures { IfOk result (λ outcome. IsAnswer (texts words.now) (answer_of outcome)) }
+{
+    let options = own_options(alloc)?;
+    match options.parse_words(alloc, words) {
+        Ok(own) => own_answer(alloc, &options, &own),
+        Err(fail) => Ok(Outcome {
+            text: fault_line(alloc, "getopts_shell", &fail)?,
+            status: MISUSED,
+        }),
+    }
+}
+
+/// The program's own options.
+fn own_options(alloc: Global) -> Result<Options, AllocError>
+    ensures { IfOk result (λ options. options ≡ own_options) }
+{
+    let mut options = Options::new(alloc);
+    options.parsing_style(ParsingStyle::StopAtFirstFree);
+    add_own_options(&mut options)?;
+    Ok(options)
+}
+
+/// Adds the program's own options.
+fn add_own_options(options: &mut Options) -> Result<(), AllocError>
+    ensures { OnOk result (options.new ≡ with_groups options.old own_groups) }
+{
+    options
+        .optopt("b", "brief", "begin the help with TEXT", "TEXT")?
+        .optflag(
+            "s",
+            "stop",
+            "leave all words from the first free one on free",
+        )?
+        .optflag("l", "long-only", "let long names follow one dash too")?
+        .optflag("w", "words", "write the words alone, without 'set --'")?
+        .optflag("u", "usage", "write the help of TABLE")?
+        .optopt(
+            "c",
+            "complete",
+            "write a completion script for bash, zsh or fish",
+            "SHELL",
+        )?
+        .optflag("h", "help", "print this help")?;
+    Ok(())
+}
+
+/// The line of the fault that a refusal tells, after a name.
+fn fault_line(alloc: Global, name: &str, fail: &Fail) -> Result<String, AllocError>
+    ensures { IfOk result (λ text. (fault : Fault) × (fault_of fail.now ≡ Some fault)
+        × (string_bytes text ≡ fault_line name.now fault)) }
+{
+    match fail {
+        Fail::OutOfMemory => Err(AllocError),
+        _ => format!(in alloc; "{name}: {fail}\n"),
+    }
+}
+
+/// The answer to the program's own words, where they are accepted with these matches.
+fn own_answer(alloc: Global, options: &Options, own: &Matches) -> Result<Outcome, AllocError>
+    requires options { options.now ≡ own_options }
+    requires own { HasOwnGroups own.now.groups }
+    ensures { IfOk result (λ outcome. AnswersOwn own.now (answer_of outcome)) }
+{
+    if own.opt_present("help") {
+        Ok(Outcome {
+            text: options.usage(alloc, BRIEF)?,
+            status: DONE,
+        })
+    } else {
+        let words = texts_of(alloc, &own.free)?;
+        free_answer(alloc, own, &words)
+    }
+}
+
+/// The answer to the free words of the program's own.
+fn free_answer(alloc: Global, own: &Matches, words: &[&str]) -> Result<Outcome, AllocError>
+    requires own { HasOwnGroups own.now.groups }
+    ensures { IfOk result (λ outcome. AnswersFree own.now (texts words.now) (answer_of outcome)) }
+{
+    match words {
+        [name, table, words @ ..] => table_answer(alloc, own, name, table, words),
+        _ => Ok(Outcome {
+            text: String::from_str(alloc, NEEDED)?,
+            status: MISUSED,
+        }),
+    }
+}
+
+/// The answer to a script's name, its table and its words.
+fn table_answer(
+    alloc: Global,
+    own: &Matches,
+    name: &str,
+    table: &str,
+    words: &[&str],
+) -> Result<Outcome, AllocError>
+    requires own { HasOwnGroups own.now.groups }
+    ensures { IfOk result (λ outcome.
+        AnswersTable own.now name.now table.now (texts words.now) (answer_of outcome)) }
+{
+    match rows_of(alloc, table) {
+        Ok(rows) => rows_answer(alloc, own, name, &rows, words),
+        Err(error) => Ok(Outcome {
+            text: table_refusal(alloc, error)?,
+            status: MISUSED,
+        }),
+    }
+}
+
+/// The line of the fault of a table.
+fn table_refusal(alloc: Global, error: TableError<'_>) -> Result<String, AllocError>
+    ensures { IfOk result (λ text. (fault : TableFault) × (fault_told error.entry ≡ Some fault)
+        × (string_bytes text ≡ table_fault_line fault)) }
+{
+    match error {
+        TableError::NoOption(number, item) => no_option_line(alloc, number, item),
+        TableError::NameTwice(number, name) => name_twice_line(alloc, number, name),
+        TableError::OutOfMemory => Err(AllocError),
+    }
+}
+
+/// The line of a fault: the line with this number is no option, and this is its item.
+fn no_option_line(alloc: Global, number: usize, item: &str) -> Result<String, AllocError>
+    ensures { IfOk result (λ text. string_bytes text
+        ≡ table_fault_line (no_option number item.now)) }
+{
+    format!(in alloc; "getopts_shell: line {number} of the options: {item}\n")
+}
+
+/// The line of a fault: the line with this number has a name that stands there already.
+fn name_twice_line(alloc: Global, number: usize, name: &str) -> Result<String, AllocError>
+    ensures { IfOk result (λ text. string_bytes text
+        ≡ table_fault_line (name_twice number name.now)) }
+{
+    format!(in alloc;
+        "getopts_shell: line {number} of the options: the name '{name}' stands there already\n"
+    )
+}
+
+/// The answer to words by the options of a table.
+fn rows_answer(
+    alloc: Global,
+    own: &Matches,
+    name: &str,
+    rows: &[Row<'_>],
+    words: &[&str],
+) -> Result<Outcome, AllocError>
+    requires own { HasOwnGroups own.now.groups }
+    requires plain { ArePlainlyNamed (groups_of rows.now) }
+    ensures { IfOk result (λ outcome. AnswersScript own.now name.now
+        (script_options own.now (groups_of rows.now)) (texts words.now) (answer_of outcome)) }
+{
+    let options = options_of(alloc, own, rows)?;
+    let script = Script {
+        name,
+        rows,
+        options: &options,
+    };
+    script_answer(alloc, own, script, words)
+}
+
+/// The options of a table, in the style and the mode that the program's own words ask for.
+fn options_of(alloc: Global, own: &Matches, rows: &[Row<'_>]) -> Result<Options, AllocError>
+    requires own { HasOwnGroups own.now.groups }
+    ensures { IfOk result (λ options. options ≡ script_options own.now (groups_of rows.now)) }
+{
+    let mut options = Options::new(alloc);
+    if own.opt_present("stop") {
+        options.parsing_style(ParsingStyle::StopAtFirstFree);
+    }
+    options.long_only(own.opt_present("long-only"));
+    add_rows(&mut options, rows)?;
+    Ok(options)
+}
+
+/// Adds the options of a table.
+fn add_rows(options: &mut Options, rows: &[Row<'_>]) -> Result<(), AllocError>
+    ensures { OnOk result (options.new ≡ record options.old { groups = options.old.groups ++ groups_of rows.now }) }
+{
+    for row in rows {
+        options.add_group(
+            row.short,
+            row.long,
+            row.description,
+            row.hint,
+            row.kind,
+            row.occurrence,
+        )?;
+    }
+    Ok(())
+}
+
+/// The answer for a script and its words.
+fn script_answer(
+    alloc: Global,
+    own: &Matches,
+    script: Script<'_>,
+    words: &[&str],
+) -> Result<Outcome, AllocError>
+    requires own { HasOwnGroups own.now.groups }
+    requires rows { script.options.now.groups ≡ groups_of script.rows.now }
+    requires plain { ArePlainlyNamed (groups_of script.rows.now) }
+    ensures { IfOk result (λ outcome. AnswersScript own.now script.entry.name.now
+        script.entry.options.now (texts words.now) (answer_of outcome)) }
+{
+    if own.opt_present("usage") {
+        Ok(Outcome {
+            text: help_of(alloc, own, script)?,
+            status: DONE,
+        })
+    } else {
+        let shell = own.opt_str(alloc, "complete")?;
+        match shell {
+            Some(shell) => completion_answer(alloc, shell.as_str(), script),
+            None => words_answer(alloc, own, script, words),
+        }
+    }
+}
+
+/// The help of a script.
+fn help_of(alloc: Global, own: &Matches, script: Script<'_>) -> Result<String, AllocError>
+    requires { HasOwnGroups own.now.groups }
+    ensures { IfOk result (λ text.
+        IsHelp own.now script.entry.name.now script.entry.options.now (string_bytes text)) }
+{
+    match own.opt_str(alloc, "brief")? {
+        Some(brief) => script.options.usage(alloc, brief.as_str()),
+        None => {
+            let brief = script.options.short_usage(alloc, script.name)?;
+            script.options.usage(alloc, brief.as_str())
+        }
+    }
+}
+
+/// The answer of a completion script, or that there is none for this shell.
+fn completion_answer(alloc: Global, shell: &str, script: Script<'_>) -> Result<Outcome, AllocError>
+    ensures { IfOk result (λ outcome. AnswersCompletion shell.now (answer_of outcome)) }
+{
+    match completion(alloc, shell, script.name, script.rows)? {
+        Some(text) => Ok(Outcome { text, status: DONE }),
+        None => Ok(Outcome {
+            text: no_completion_line(alloc, shell)?,
+            status: MISUSED,
+        }),
+    }
+}
+
+/// The line of a fault: there is no completion for this shell.
+fn no_completion_line(alloc: Global, shell: &str) -> Result<String, AllocError>
+    ensures { IfOk result (λ text. string_bytes text ≡ no_completion shell.now) }
+{
+    format!(in alloc; "getopts_shell: no completion for '{shell}'\n")
+}
+
+/// The answer to the words of a script.
+fn words_answer(
+    alloc: Global,
+    own: &Matches,
+    script: Script<'_>,
+    words: &[&str],
+) -> Result<Outcome, AllocError>
+    requires own { HasOwnGroups own.now.groups }
+    requires rows { script.options.now.groups ≡ groups_of script.rows.now }
+    requires plain { ArePlainlyNamed (groups_of script.rows.now) }
+    ensures { IfOk result (λ outcome. AnswersWords own.now script.entry.name.now
+        script.entry.options.now (texts words.now) (answer_of outcome)) }
+{
+    let asked = asks_help(alloc, script, words)?;
+    if asked {
+        Ok(Outcome {
+            text: help_code(alloc, own, script)?,
+            status: DONE,
+        })
+    } else {
+        line_answer(alloc, own, script, words)
+    }
+}
+
+/// Whether the words ask for help.
+fn asks_help(alloc: Global, script: Script<'_>, words: &[&str]) -> Result<bool, AllocError>
+    requires { script.options.now.groups ≡ groups_of script.rows.now }
+    ensures { IfOk result (λ asked.
+        (asked ≡ true) ↔ AskHelp script.entry.options.now (texts words.now)) }
+{
+    let offered = offers_help(script.rows);
+    if !offered {
+        return Ok(false);
+    }
+    match script.options.parse_ignoring_counts(alloc, words) {
+        Ok(matches) => Ok(has_help(&matches)),
+        Err(fail) => not_asked(&fail),
+    }
+}
+
+/// Words that have no reading don't ask for help. An error comes where the refusal tells that memory was
+/// refused.
+fn not_asked(fail: &Fail) -> Result<bool, AllocError>
+    ensures { IfOk result (λ asked. (asked ≡ false) × (fault : Fault) × (fault_of fail.now ≡ Some fault)) }
+{
+    match fail {
+        Fail::OutOfMemory => Err(AllocError),
+        _ => Ok(false),
+    }
+}
+
+/// Whether matches have an option called `help`.
+fn has_help(matches: &Matches) -> bool
+    ensures { result ≡ is_present matches.now.groups (codes "help") }
+{
+    matches.opt_defined("help") && matches.opt_present("help")
+}
+
+/// Whether one of the options is called `help`, and takes no argument.
+fn offers_help(rows: &[Row<'_>]) -> bool
+    ensures { result ≡ offers_help (groups_of rows.now) }
+{
+    any_is_help(rows)
+}
+
+/// Whether one of the rows is called `help`, and takes no argument.
+fn any_is_help(rows: &[Row<'_>]) -> bool
+    ensures { result ≡ list_any (λ row. bytes_eq row.long.now (codes "help") && is_no row.kind) rows.now }
+{
+    rows.iter()
+        .any(|row| row.long == "help" && takes_none(row.kind))
+}
+
+/// Whether a kind takes no argument.
+fn takes_none(kind: HasArg) -> bool
+    ensures { result ≡ is_no kind }
+{
+    match kind {
+        HasArg::No => true,
+        _ => false,
+    }
+}
+
+/// The code that prints the help of a script, and ends it.
+fn help_code(alloc: Global, own: &Matches, script: Script<'_>) -> Result<String, AllocError>
+    requires { HasOwnGroups own.now.groups }
+    ensures { IfOk result (λ text. (help : Text)
+        × IsHelp own.now script.entry.name.now script.entry.options.now help
+        × (string_bytes text ≡ help_code help)) }
+{
+    let help = help_of(alloc, own, script)?;
+    let mut text = String::from_str(alloc, "printf %s ")?;
+    push_quoted(&mut text, help.as_str())?;
+    text.push_str("; exit 0\n")?;
+    Ok(text)
+}
+
+/// The answer to words that don't ask for help: the canonical line of accepted words, or the first fault.
+fn line_answer(
+    alloc: Global,
+    own: &Matches,
+    script: Script<'_>,
+    words: &[&str],
+) -> Result<Outcome, AllocError>
+    requires own { HasOwnGroups own.now.groups }
+    requires plain { ArePlainlyNamed script.options.now.groups }
+    ensures { IfOk result (λ outcome. AnswersLine own.now script.entry.name.now
+        script.entry.options.now (texts words.now) (answer_of outcome)) }
+{
+    names_resolve(script.options);
+    match script.options.canonical_words(alloc, words) {
+        Ok(Some(line)) => Ok(Outcome {
+            text: line_code(alloc, own, &line)?,
+            status: DONE,
+        }),
+        Ok(None) => unreachable!(),
+        Err(fail) => Ok(Outcome {
+            text: refusal(alloc, script, &fail)?,
+            status: REFUSED,
+        }),
+    }
+}
+
+/// The code that sets a script's words to those of a line, or the words alone.
+fn line_code(alloc: Global, own: &Matches, line: &[String]) -> Result<String, AllocError>
+    requires { HasOwnGroups own.now.groups }
+    ensures { IfOk result (λ text. string_bytes text ≡ line_code own.now (map string_bytes line.now)) }
+{
+    let mut text = String::new(alloc);
+    if !own.opt_present("words") {
+        text.push_str("set -- ")?;
+    }
+    push_quoted_words(&mut text, line)?;
+    text.push('\n')?;
+    Ok(text)
+}
+
+/// Why a script's words are refused, and its short usage.
+fn refusal(alloc: Global, script: Script<'_>, fail: &Fail) -> Result<String, AllocError>
+    ensures { IfOk result (λ text. (fault : Fault) × (fault_of fail.now ≡ Some fault)
+        × (string_bytes text ≡ refused_text script.entry.options.now script.entry.name.now fault)) }
+{
+    let mut text = fault_line(alloc, script.name, fail)?;
+    let usage = script.options.short_usage(alloc, script.name)?;
+    text.push_str(usage.as_str())?;
+    text.push('\n')?;
+    Ok(text)
+}

@@ -1,0 +1,17 @@
+//! A row of a table of options: the option that a line declares.
+
+ghost use Rattle.getopts.specs.Names.{AreLawful};
+
+use getopts::{HasArg, Occur};
+
+/// An option that a line of a table declares, by lawful names.
+#[derive(Clone, Copy)]
+pub struct Row<'t> {
+    pub short: &'t str,
+    pub long: &'t str,
+    pub kind: HasArg,
+    pub occurrence: Occur,
+    pub hint: &'t str,
+    pub description: &'t str,
+    ghost lawful: { AreLawful short.now long.now },
+}

@@ -1,0 +1,174 @@
+//! Tables of options: their lines, and the options that these declare.
+
+ghost use Rattle.std.specs.Prelude.{◌≡◌, ◌++◌, ◌∷◌, [], List, Option, ◌||◌, ◌==◌, slice_index, MatchResult, IfErr, OnOk, Some, None, map};
+ghost use Rattle.std.specs.List.{list_any};
+ghost use Rattle.std.specs.Option.{option_copied, option_to_list};
+ghost use Rattle.std.specs.Str.{bytes_eq};
+ghost use Rattle.getopts.specs.Names.{Text, is_empty};
+ghost use Rattle.getopts.specs.Options.{Group};
+ghost use Rattle.getopts_shell.specs.Held.{group_of_row, groups_of, TellsFault};
+ghost use Rattle.getopts_shell.specs.Table.{is_blank, after_blanks, before_blanks, trimmed, begins_gap};
+ghost use Rattle.getopts_shell.specs.Table.{before_gap, from_gap, any_has_name, name_again, HaveNewNames};
+ghost use Rattle.getopts_shell.specs.Table.{OneTableOneList, Declares, DeclaresOptions, IsLineFault, IsTableFault};
+
+use crate::item::row_of;
+use crate::row::Row;
+use std::alloc::{AllocError, Global};
+
+/// Why a table is refused.
+#[derive(Drop)]
+pub(crate) enum TableError<'t> {
+    /// The line with this number is no option. Tells its item.
+    NoOption(usize, &'t str),
+    /// The line with this number has a name that stands there already. Tells the name.
+    NameTwice(usize, &'t str),
+    /// Memory was refused.
+    OutOfMemory,
+}
+
+/// A table declares one list of options at most: a law to cite, which does nothing.
+pub fn one_table_one_list()
+    ensures { OneTableOneList }
+{}
+
+/// The options that a table declares, in order.
+pub(crate) fn rows_of(alloc: Global, table: &str) -> Result<Vec<Row<'_>>, TableError<'_>>
+    ensures { MatchResult result (λ rows. DeclaresOptions table.now (groups_of rows.items))
+        (λ error. TellsFault error (IsTableFault table.now)) }
+{
+    let mut rows = Vec::new(alloc);
+    let mut number = 0usize;
+    for line in table.split('\n') {
+        number = number.saturating_add(1);
+        push_line(&mut rows, number, line)?;
+    }
+    Ok(rows)
+}
+
+/// Adds the option that a line declares, if it declares one.
+fn push_line<'t>(
+    rows: &mut Vec<Row<'t>>,
+    number: usize,
+    line: &'t str,
+) -> Result<(), TableError<'t>>
+    ensures declared { OnOk result ((declared : Option Group) × Declares line.now declared
+        × (groups_of rows.new.items ≡ groups_of rows.old.items ++ option_to_list declared)
+        × HaveNewNames (groups_of rows.old.items) (option_to_list declared)) }
+    ensures fault { IfErr result (λ error.
+        TellsFault error (IsLineFault number (groups_of rows.old.items) line.now)) }
+{
+    let line = trimmed(line);
+    if declares_nothing(line) {
+        return Ok(());
+    }
+    let (item, description) = cut_at_gap(line);
+    let Some(row) = row_of(item, trimmed(description)) else {
+        return Err(TableError::NoOption(number, item));
+    };
+    match name_again(rows, row) {
+        Some(name) => Err(TableError::NameTwice(number, name)),
+        None => match rows.push(row) {
+            Ok(()) => Ok(()),
+            Err(_) => Err(TableError::OutOfMemory),
+        },
+    }
+}
+
+/// Whether a line without blanks at its ends declares nothing.
+fn declares_nothing(line: &str) -> bool
+    ensures { result ≡ (is_empty line.now || slice_index line.now 0 == 35) }
+{
+    line.is_empty() || line.starts_with('#')
+}
+
+/// The first of a row's names that one of the rows has already.
+fn name_again<'t>(rows: &[Row<'t>], row: Row<'t>) -> Option<&'t str>
+    ensures { option_copied result ≡ name_again (groups_of rows.now) (group_of_row row.entry) }
+{
+    if any_has_name(rows, row.short) {
+        Some(row.short)
+    } else if any_has_name(rows, row.long) {
+        Some(row.long)
+    } else {
+        None
+    }
+}
+
+/// Whether one of the rows has this name.
+fn any_has_name(rows: &[Row<'_>], name: &str) -> bool
+    ensures { result ≡ any_has_name (groups_of rows.now) name.now }
+{
+    !name.is_empty() && any_is_called(rows, name)
+}
+
+/// Whether one of the rows has this text as a name.
+fn any_is_called(rows: &[Row<'_>], text: &str) -> bool
+    ensures { result ≡ list_any (λ row. bytes_eq row.short.now text.now || bytes_eq row.long.now text.now) rows.now }
+{
+    rows.iter().any(|row| row.short == text || row.long == text)
+}
+
+/// A text without the spaces, tabs and carriage returns at both ends.
+fn trimmed(text: &str) -> &str
+    ensures { result.now ≡ trimmed text.now }
+{
+    before_blanks(after_blanks(text))
+}
+
+/// Whether a byte is a space, a tab or a carriage return.
+fn is_blank(byte: u8) -> bool
+    ensures { result ≡ is_blank byte }
+{
+    byte == b' ' || byte == b'\t' || byte == b'\r'
+}
+
+/// A text without the blanks that it begins with.
+fn after_blanks(text: &str) -> &str
+    ensures { result.now ≡ after_blanks text.now }
+{
+    let bytes = text.as_bytes();
+    for at in 0..bytes.len() {
+        if !is_blank(bytes[at]) {
+            return &text[at..];
+        }
+    }
+    ""
+}
+
+/// A text without the blanks that it ends in.
+fn before_blanks(text: &str) -> &str
+    ensures { result.now ≡ before_blanks text.now }
+{
+    let bytes = text.as_bytes();
+    for at in (0..bytes.len()).rev() {
+        if !is_blank(bytes[at]) {
+            return &text[..at + 1];
+        }
+    }
+    ""
+}
+
+/// A text in two: what stands before its first tab or two spaces, and what begins with these.
+fn cut_at_gap(text: &str) -> (&str, &str)
+    ensures before { result.0.now ≡ before_gap text.now }
+    ensures after { result.1.now ≡ from_gap text.now }
+{
+    let bytes = text.as_bytes();
+    for at in 0..bytes.len() {
+        if begins_gap(&bytes[at..]) {
+            return (&text[..at], &text[at..]);
+        }
+    }
+    (text, "")
+}
+
+/// Whether bytes begin with a tab or two spaces.
+fn begins_gap(bytes: &[u8]) -> bool
+    ensures { result ≡ begins_gap bytes.now }
+{
+    match bytes {
+        [b'\t', ..] => true,
+        [b' ', b' ', ..] => true,
+        _ => false,
+    }
+}

@@ -1,0 +1,59 @@
+//! The system's words, without the program's own name.
+
+ghost use Rattle.std.specs.Prelude.{◌≡◌, map, IfOk};
+ghost use Rattle.std.specs.String.{string_bytes};
+ghost use Rattle.getopts.specs.Names.{texts};
+
+use std::alloc::{AllocError, Global};
+use std::env::{Env, FillError};
+use std::{env, io};
+
+/// The system, with the program's own name passed over unread, since it may be no text.
+#[derive(Drop)]
+struct AfterName<'r>(&'r HostRuntime);
+
+impl Alloc for AfterName<'_> {
+    type A = Global;
+
+    fn alloc(&self) -> Global {
+        self.0.alloc()
+    }
+}
+
+impl Env for AfterName<'_> {
+    fn arg(&self, i: usize, buf: &mut [u8]) -> Result<usize, FillError> {
+        match i.checked_add(1) {
+            Some(place) => self.0.arg(place, buf),
+            None => Err(FillError::NotPresent),
+        }
+    }
+
+    fn var(&self, name: &str, buf: &mut [u8]) -> Result<usize, FillError> {
+        self.0.var(name, buf)
+    }
+
+    fn var_at(&self, i: usize, buf: &mut [u8]) -> Result<usize, FillError> {
+        self.0.var_at(i, buf)
+    }
+}
+
+/// The words that the system gave, after the program's own name. An error comes where one is no text,
+/// or where memory was refused.
+pub(crate) fn system_words(rt: &HostRuntime) -> io::Result<Vec<String>> {
+    let mut words = Vec::new(rt.alloc());
+    for word in env::args(&AfterName(rt))? {
+        words.push(word)?;
+    }
+    Ok(words)
+}
+
+/// The texts of words, in order.
+pub(crate) fn texts_of(alloc: Global, words: &[String]) -> Result<Vec<&str>, AllocError>
+    ensures { IfOk result (λ lent. texts lent.items ≡ map string_bytes words.now) }
+{
+    let mut texts = Vec::with_capacity(alloc, words.len())?;
+    for word in words {
+        texts.push(word.as_str())?;
+    }
+    Ok(texts)
+}

@@ -1,0 +1,333 @@
+#!/usr/bin/env python3
+"""Tries getopts_shell in the shells that are installed, and beside getopt(1).
+
+usage: tests/shell/run.py [PROGRAM]
+
+- The script of bindings/shell/README.md and the scripts of bindings/shell/examples do the same in each shell.
+- The words of random lines come out of `eval` in each shell as the canonical line.
+- getopt(1) reads the same options, values and free words, for tables and words that both take.
+- Completion offers in bash and fish what it should.
+
+It says which shells it found. What is expected is computed here, by the rules, and not by the program.
+"""
+
+import os
+import random
+import re
+import shlex
+import shutil
+import subprocess
+import sys
+import tempfile
+from pathlib import Path
+
+ROOT = Path(__file__).resolve().parent.parent.parent
+SHELLS = ["dash", "bash", "bash --posix", "zsh", "ksh93", "mksh", "yash", "busybox sh"]
+LINES = 2000
+TABLE = """
+-i|--input FILE       read this file
+[-o|--output FILE]    write to FILE
+[-v|--verbose]..      say more
+[-c|--color [WHEN]]   colour the output
+[-L DIR]..            add a folder
+[-h|--help]           print this help
+"""
+# Every option may come again, so that counts play no part.
+MANY = """
+[-i|--input FILE]..
+[-o|--output FILE]..
+[-v|--verbose]..
+[-c|--color [WHEN]]..
+[-L DIR]..
+"""
+SPECIAL = list("'\"\\$`!~=*?[]{}()<>|&;#%^ \t\n\r-") + ["''", "\\'", "$(", "\n\n", "$HOME", "--", "\u00a0", "\u2028"]
+failed = []
+
+
+def fail(what):
+    failed.append(what)
+    print("FAILED:", what)
+
+
+def run(words, **more):
+    return subprocess.run(words, stdout=subprocess.PIPE, stderr=subprocess.PIPE, **more)
+
+
+def text_of(rng):
+    """A random text of up to ten characters, of every kind that a word may hold."""
+    chars = []
+    for _ in range(rng.choice([0, 1, 1, 2, 3, 5, 10])):
+        kind = rng.random()
+        if kind < 0.5:
+            chars.append(rng.choice(SPECIAL))
+        elif kind < 0.7:
+            chars.append(chr(rng.randrange(1, 128)))
+        elif kind < 0.9:
+            chars.append(rng.choice("abcxyz"))
+        else:
+            code = rng.randrange(0xA0, 0x110000)
+            chars.append(chr(code if not 0xD800 <= code < 0xE000 else 0xE9))
+    return "".join(chars)
+
+
+def line_of(rng):
+    """Random words by the table MANY, and their canonical line by the rules."""
+    words, options, free = [], [], []
+    for _ in range(rng.randrange(0, 5)):
+        kind, value = rng.randrange(8), text_of(rng)
+        if kind == 0:
+            words += ["-o", value]
+            options.append("--output=" + value)
+        elif kind == 1:
+            words.append("--input=" + value)
+            options.append("--input=" + value)
+        elif kind == 2:
+            words += ["--output", value]
+            options.append("--output=" + value)
+        elif kind == 3:
+            words.append("-vvL" + value if value else "-v")
+            options += ["--verbose", "--verbose", "--L=" + value] if value else ["--verbose"]
+        elif kind == 4:
+            words.append("--color=" + value)
+            options.append("--color=" + value)
+        elif kind == 5:
+            words += ["--color", "-v"]
+            options += ["--color", "--verbose"]
+        elif value == "-" or not value.startswith("-"):
+            words.append(value)
+            free.append(value)
+    if rng.random() < 0.5:
+        rest = [text_of(rng) for _ in range(rng.randrange(0, 4))]
+        words += ["--"] + rest
+        free += rest
+    return words, options + ["--"] + free
+
+
+def shells():
+    found = []
+    for shell in SHELLS:
+        words = shell.split()
+        if shutil.which(words[0]) and run(words + ["-c", "exit 7"]).returncode == 7:
+            found.append(words)
+    return found
+
+
+def random_lines(program, found, room):
+    rng = random.Random(43)
+    wanted = []
+    for place in range(LINES):
+        words, line = line_of(rng)
+        done = run([program, "try", MANY] + words)
+        if done.returncode != 0 or done.stderr:
+            fail(f"random line {place}: status {done.returncode} for {words!r}: {done.stderr!r}")
+        (room / f"code.{place}").write_bytes(done.stdout)
+        wanted.append(line)
+    script = room / "lines"
+    script.write_text(
+        "n=0\nwhile [ $n -lt %d ]; do\n    code=$(cat code.$n) || exit\n    eval \"$code\"\n"
+        "    printf '%%s\\0' \"$#\" \"$@\"\n    n=$((n + 1))\ndone\n" % LINES
+    )
+    for shell in found:
+        done = run(shell + [str(script)], cwd=room)
+        told = done.stdout.split(b"\0")
+        place = 0
+        for number, line in enumerate(wanted):
+            count = int(told[place] or b"-1") if place < len(told) else -1
+            words = [word.decode() for word in told[place + 1 : place + 1 + max(count, 0)]]
+            if words != line:
+                fail(f"{' '.join(shell)}: line {number}: {words!r}, not {line!r}; {done.stderr[:200]!r}")
+                break
+            place += 1 + count
+        else:
+            print(f"{' '.join(shell)}: the words of {LINES} random lines")
+
+
+def page_script():
+    """The script of the page, with a loop that shows what it read."""
+    page = (ROOT / "bindings/shell/README.md").read_text()
+    code = re.search(r"```sh\n(.*?)```", page, re.S).group(1)
+    show = "printf '%s\\n' \"$input|$output|$verbose|$color|$folders\"\nfor word do printf '%s\\n' \"$word\"; done\n"
+    return "verbose=0 input= output= color= folders=\n" + code + show
+
+
+RUNS = [
+    (["-i", "a b"], 0, "a b||0||\n"),
+    (["x", "-vvi", "a", "--color", "--output=it's", "-L", "d", "-Le", "--", "-v", ""],
+     0, "a|it's|2|auto| d e\nx\n-v\n\n"),
+    (["--input=a", "--color=auto=x"], 0, "a||0|auto=x|\n"),
+]
+
+
+def page(program, found, room):
+    path = f"{Path(program).parent}:{os.environ['PATH']}"
+    script = room / "page"
+    script.write_text(page_script())
+    short = "Usage: backup -i FILE [-o FILE] [-v].. [-c [WHEN]] [-L DIR].. [-h]\n"
+    for shell in found:
+        for words, status, out in RUNS:
+            done = run(shell + [str(script)] + words, env={**os.environ, "PATH": path})
+            if (done.returncode, done.stdout.decode(), done.stderr) != (status, out, b""):
+                fail(f"{' '.join(shell)}: the page's script with {words!r}: {done}")
+        done = run(shell + [str(script), "-v"], env={**os.environ, "PATH": path})
+        wanted = "backup: Required option 'input' missing\n" + short
+        if (done.returncode, done.stdout, done.stderr.decode()) != (2, b"", wanted):
+            fail(f"{' '.join(shell)}: the page's script without input: {done}")
+        done = run(shell + [str(script), "--help"], env={**os.environ, "PATH": path})
+        if done.returncode != 0 or not done.stdout.decode().startswith(short + "\nOptions:\n    -i, --input FILE "):
+            fail(f"{' '.join(shell)}: the page's script, help: {done}")
+        examples(shell, path, room)
+        print(f"{' '.join(shell)}: the page's script and the examples")
+
+
+def examples(shell, path, room):
+    env = {**os.environ, "PATH": path}
+    folder = ROOT / "bindings/shell/examples"
+    done = run(shell + [str(folder / "backup"), "-vi", "a", "x"], env=env)
+    if done.stdout.decode() != "input: a\noutput: \nverbose: 1\ncolor: never\nfolders:\nfree: x\n":
+        fail(f"{' '.join(shell)}: the example backup: {done}")
+    notes = room / "notes.txt"
+    notes.write_text("")
+    for words in (["add", "-ta", "--tag=b", "it's", "-x" if False else "two"], ["--", "add", "--", "-x"]):
+        run(shell + [str(folder / "notes"), "--file", str(notes)] + words, env=env, cwd=room)
+    done = run(shell + [str(folder / "notes"), "-f", str(notes), "list"], env=env)
+    if done.stdout.decode() != "[a] [b] it's\n[a] [b] two\n-x\n":
+        fail(f"{' '.join(shell)}: the example notes: {done}")
+    done = run(shell + [str(folder / "notes"), "-f", str(notes), "list", "--tag"], env=env)
+    if done.returncode != 2 or not done.stderr.startswith(b"notes list: Unrecognized option: 'tag'\n"):
+        fail(f"{' '.join(shell)}: the example notes, refused: {done}")
+
+
+def by_getopt(words):
+    """What getopt(1) reads, in canonical form, or None where it refuses the words."""
+    done = run(["getopt", "-o", "i:o:vc::L:", "--long", "input:,output:,verbose,color::", "--"] + words,
+               env={**os.environ, "GETOPT_COMPATIBLE": "", "LC_ALL": "C.UTF-8"} if False else
+               {**os.environ, "LC_ALL": "C.UTF-8"})
+    if done.returncode != 0:
+        return None
+    names = {"-i": "--input", "-o": "--output", "-v": "--verbose", "-c": "--color", "-L": "--L"}
+    told, line, place = shlex.split(done.stdout.decode()), [], 0
+    while told[place] != "--":
+        name = names.get(told[place], told[place])
+        if name in ("--input", "--output", "--L"):
+            place += 1
+            line.append(f"{name}={told[place]}")
+        elif name == "--color":
+            place += 1
+            line.append(name if told[place] == "" else f"{name}={told[place]}")
+        else:
+            line.append(name)
+        place += 1
+    return line + told[place:]
+
+
+def beside_getopt(program):
+    if not shutil.which("getopt") or run(["getopt", "--test"]).returncode != 4:
+        print("no getopt(1) of util-linux here")
+        return
+    rng = random.Random(44)
+    refused = 0
+    for place in range(500):
+        words, _ = line_of(rng)
+        if rng.random() < 0.2:
+            words.insert(0, rng.choice(["-x", "--nope", "--verbose=a", "--nope=b", "-vx"]))
+        if rng.random() < 0.1:
+            words.append(rng.choice(["-o", "--input", "-vL"]))
+        # With getopt(1) an optional argument that is empty is none.
+        if any(word == "--color=" for word in words):
+            continue
+        done = run([program, "-w", "try", MANY] + words)
+        ours = shlex.split(done.stdout.decode()) if done.returncode == 0 else None
+        theirs = by_getopt(words)
+        refused += ours is None
+        if ours != theirs:
+            fail(f"beside getopt: {words!r}: {ours!r}, and {theirs!r}")
+    print(f"beside getopt(1): 500 lines, {refused} refused by both")
+
+
+BASH = r"""
+_complete() {
+    COMP_WORDS=(backup "$@") COMP_CWORD=$# COMP_TYPE=37 COMPREPLY=()
+    _getopts_shell backup "${!#}" "${@:$#-1:1}"
+    printf '%s,' "${COMPREPLY[@]}"
+    echo
+}
+_complete --
+_complete -
+_complete -v --output = x --color --
+_complete -vofile -
+_complete -o -
+_complete --output -
+_complete -- -
+_complete x
+_complete -c --inp
+"""
+BASH_WANTED = """--input,--output,--verbose,--color,--help,
+--input,-i,--output,-o,--verbose,-v,--color,-c,-L,--help,-h,
+--input,--verbose,--help,
+--input,-i,--verbose,-v,--color,-c,-L,--help,-h,
+,
+,
+,
+,
+--input,
+"""
+
+
+def completion(program, room):
+    if shutil.which("bash"):
+        code = run([program, "-c", "bash", "backup", TABLE]).stdout.decode()
+        done = run(["bash", "-c", code + BASH])
+        if done.stdout.decode() != BASH_WANTED or done.stderr:
+            fail(f"completion in bash: {done.stdout.decode()}{done.stderr.decode()}")
+        else:
+            print("completion in bash")
+    if shutil.which("zsh"):
+        script = room / "completion.zsh"
+        script.write_bytes(b"compdef() { print -r -- \"$2\" }\n" + run([program, "-c", "zsh", "it's", TABLE]).stdout)
+        done = run(["zsh", "-f", str(script)])
+        if done.stdout.decode() != "it's\n" or done.stderr:
+            fail(f"completion in zsh: {done}")
+        else:
+            print("completion in zsh: the script is read")
+    if shutil.which("fish"):
+        code = run([program, "-c", "fish", "backup", TABLE + "[--it\\'s]  don't \\ stop\n"]).stdout.decode()
+        told = {}
+        for line in ("backup --", "backup --verbose --help --", "backup --output=x -"):
+            done = run(["fish", "--no-config", "-c", code + f"complete -C {shlex.quote(line)}"],
+                       env={**os.environ, "HOME": str(room), "XDG_CONFIG_HOME": str(room)})
+            told[line] = [each for each in done.stdout.decode().splitlines() if each.startswith("-")]
+            if done.stderr:
+                fail(f"completion in fish: {done.stderr!r}")
+        names = ["--color", "--help", "--input", "--it\\'s", "--output", "--verbose"]
+        got = sorted(each.split("\t")[0].rstrip("=") for each in told["backup --"])
+        if [name for name in names if name not in got and name != "--it\\'s"]:
+            fail(f"completion in fish: {told['backup --']}")
+        if any(each.startswith("--help") for each in told["backup --verbose --help --"]):
+            fail(f"completion in fish offers help again: {told}")
+        if not any(each.endswith("say more") for each in told["backup --verbose --help --"]):
+            fail(f"completion in fish lost verbose: {told}")
+        print("completion in fish")
+
+
+def main():
+    program = str(Path(sys.argv[1] if len(sys.argv) > 1 else ROOT / "crates/getopts_shell/out/getopts_shell").resolve())
+    os.environ["LC_ALL"] = "C.UTF-8"
+    os.environ.pop("POSIXLY_CORRECT", None)
+    found = shells()
+    print("shells:", ", ".join(" ".join(shell) for shell in found))
+    with tempfile.TemporaryDirectory() as room:
+        room = Path(room)
+        (room / "bin").mkdir()
+        (room / "bin/getopts_shell").symlink_to(program)
+        program = str(room / "bin/getopts_shell")
+        random_lines(program, found, room)
+        page(program, found, room)
+        beside_getopt(program)
+        completion(program, room)
+    if failed:
+        print(f"{len(failed)} failed")
+        sys.exit(1)
+    print("all passed")
+
+
+main()
