@@ -118,14 +118,9 @@ room=$(mktemp -d)
 trap 'kill $(jobs -p) 2>/dev/null || true; rm -rf "$room"' EXIT
 
 if [ -n "$quick" ]; then
-<<<<<<< HEAD
     begin "C and Rust" bash bindings/test.sh --quick "$@"
-    if [ -x crates/getopts_refused/out/getopts_refused ] && [ -x crates/getopts_show/out/getopts_show ]; then
-=======
-    begin "C and Rust" bash bindings/test.sh --short "$@"
     if [ -x crates/getopts_refused/out/getopts_refused ] && [ -x crates/getopts_show/out/getopts_show ] &&
         [ -x crates/getopts_shell/out/getopts_shell ]; then
->>>>>>> wt-shell
         begin "refused memory" bash tests/memory/run.sh
         begin "the program and the system" python3 tests/system/run.py
         begin "the program for shell scripts" bash tests/shell/run.sh
@@ -141,12 +136,8 @@ else
     (once getopts_show -- true >/dev/null; touch "$room/show") &
     begin "refused memory" once getopts_refused getopts_show getopts_shell -- bash tests/memory/run.sh
     begin "the program and the system" once getopts_show -- python3 tests/system/run.py
-<<<<<<< HEAD
-    begin "recorded cases by the rules" once getopts_vectors -- python3 tests/differential/rules.py
-=======
     begin "the program for shell scripts" once getopts_shell -- bash tests/shell/run.sh
-    begin "recorded cases by the rules" once getopts_replay -- python3 tests/differential/rules.py
->>>>>>> wt-shell
+    begin "recorded cases by the rules" once getopts_vectors -- python3 tests/differential/rules.py
     part "proofs, tests and programs of all crates" proofs
 fi
 part "pages and modules" python3 docs/check.py

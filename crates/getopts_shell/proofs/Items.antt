@@ -7,7 +7,7 @@ use Rattle.std.specs.Option.{option_map_or}
 use Rattle.std.proofs.lemmas.Bool.Decides.{nat_tests}
 use Rattle.std.proofs.lemmas.List.{append_cancel_right}
 use Rattle.getopts.specs.Names.{Text, Names, AreLawful, is_empty}
-use Rattle.getopts.specs.Options.{Known}
+use Rattle.getopts.specs.Options.{Signature}
 use Rattle.getopts.specs.declared.groups.HasArg.{HasArg}
 use Rattle.getopts.specs.declared.groups.HasArg.TheVariants.{Yes, No, Maybe}
 use Rattle.getopts.specs.declared.groups.Occur.{Occur}
@@ -354,13 +354,13 @@ one_argument Maybe Yes hint other (Some text) is also =
 
 -- an item of which one part is none is none
 pub no_brackets_none : (text : Text) → ((occurrence : Occur) (inside : Text) → ¬ (IsBracketed occurrence inside text))
-    → (known : Known) (hint : Text) → ¬ (IsItem text known hint)
+    → (known : Signature) (hint : Text) → ¬ (IsItem text known hint)
 no_brackets_none text none known hint is = none known.occurrence is.inside is.brackets
 
 pub no_names_none : (text inside names : Text) (occurrence : Occur) (argument : Option Text)
     → IsBracketed occurrence inside text → HasParts inside names argument
     → ((are : Names) → ¬ (AreNames are names))
-    → (known : Known) (hint : Text) → ¬ (IsItem text known hint)
+    → (known : Signature) (hint : Text) → ¬ (IsItem text known hint)
 no_names_none text inside names occurrence argument brackets parts none known hint is =
     let same = one_bracketed occurrence known.occurrence inside is.inside text brackets is.brackets in
     let pair = one_pair inside names is.names argument is.argument parts
@@ -370,7 +370,7 @@ no_names_none text inside names occurrence argument brackets parts none known hi
 pub no_argument_none : (text inside names : Text) (occurrence : Occur) (argument : Option Text)
     → IsBracketed occurrence inside text → HasParts inside names argument
     → ((kind : HasArg) (hint : Text) → ¬ (IsArgument kind hint argument))
-    → (known : Known) (hint : Text) → ¬ (IsItem text known hint)
+    → (known : Signature) (hint : Text) → ¬ (IsItem text known hint)
 no_argument_none text inside names occurrence argument brackets parts none known hint is =
     let same = one_bracketed occurrence known.occurrence inside is.inside text brackets is.brackets in
     let pair = one_pair inside names is.names argument is.argument parts

@@ -7,7 +7,7 @@ use Rattle.getopts.specs.Canon.{canonical_word, main_at}
 use Rattle.getopts.specs.CanonAnswers.{IsUnwritable, IsWritten, KeepsLineLaws}
 use Rattle.getopts.specs.Names.{Text, resolution, EmptyResolvesNot}
 use Rattle.getopts.specs.Options.{Declared, Group, names_of}
-use Rattle.getopts.specs.Scan.{Mention, holds_equals, stop_word}
+use Rattle.getopts.specs.Reading.{Mention, holds_equals, stop_word}
 use Rattle.getopts_shell.specs.Held.{ArePlainlyNamed}
 use Rattle.getopts_shell.specs.Program.{TellsWords}
 use Rattle.getopts_shell.proofs.Quoting.{words_same}

@@ -11,7 +11,7 @@ use Rattle.std.proofs.lemmas.List.Elements.{filter_map-append}
 use Rattle.std.proofs.lemmas.List.{at_drop_more}
 use Rattle.std.proofs.lemmas.List.Folds.{list_all_at}
 use Rattle.getopts.specs.Names.{Text, is_empty}
-use Rattle.getopts.specs.Options.{Group, Known}
+use Rattle.getopts.specs.Options.{Group, Signature}
 use Rattle.getopts.specs.Wrap.{lines_of}
 use Rattle.getopts_shell.specs.Held.{TellsFault}
 use Rattle.getopts_shell.specs.declared.table.TableError.{TableError}
@@ -61,18 +61,18 @@ ends_before_blanks (byte ∷ text) (suc n) below plain blanks =
 pub declares_group : (line text item rest description : Text) (group : Group) → text ≡ trimmed line
     → (is_empty text || (slice_index text 0 == 35)) ≡ false
     → item ≡ before_gap text → rest ≡ from_gap text → description ≡ trimmed rest
-    → group.description ≡ description → IsItem item group.known group.hint → DeclaresGroup line group
+    → group.description ≡ description → IsItem item group.signature group.hint → DeclaresGroup line group
 declares_group line text item rest description group text_is there item_is rest_is description_is is of_item =
     record {
       there = ap (λ (t : Text). is_empty t || (slice_index t 0 == 35)) (sym text_is) ∙ there;
-      item = subst (λ (t : Text). IsItem t group.known group.hint) (item_is ∙ ap before_gap text_is) of_item;
+      item = subst (λ (t : Text). IsItem t group.signature group.hint) (item_is ∙ ap before_gap text_is) of_item;
       description = is ∙ description_is ∙ ap trimmed (rest_is ∙ ap from_gap text_is);
     }
 
 -- a line that isn't passed over and has no item has a fault
 pub faulty_line : (line text item : Text) (number : ℕ) (groups : List Group) → text ≡ trimmed line
     → (is_empty text || (slice_index text 0 == 35)) ≡ false → item ≡ before_gap text
-    → ((known : Known) (hint : Text) → ¬ (IsItem item known hint))
+    → ((known : Signature) (hint : Text) → ¬ (IsItem item known hint))
     → IsLineFault number groups line (no_option number item)
 faulty_line line text item number groups text_is there item_is none_of =
     subst (λ (t : Text). IsLineFault number groups line (no_option number t))
@@ -84,8 +84,8 @@ faulty_line line text item number groups text_is there item_is none_of =
 
     declares_not : (declared : Option Group) → ¬ (Declares line declared)
     declares_not None is = let both : true ≡ false = sym is ∙ passed_not in cc
-    declares_not (Some group) is = none_of group.known group.hint
-        (subst (λ (t : Text). IsItem t group.known group.hint) (sym (item_is ∙ ap before_gap text_is)) is.item)
+    declares_not (Some group) is = none_of group.signature group.hint
+        (subst (λ (t : Text). IsItem t group.signature group.hint) (sym (item_is ∙ ap before_gap text_is)) is.item)
 
 -- ---- lines, one after the other
 

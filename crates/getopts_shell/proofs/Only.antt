@@ -3,14 +3,14 @@ use Rattle.std.proofs.Common.{◌≡◌, ◌≢◌, ℕ, true, false, List, [], 
 use Rattle.std.proofs.Common.{refl, sym, ap, subst, ◌∙◌, ◌<◌}
 use Rattle.std.specs.List.{AllZip, filter_map}
 use Rattle.getopts.specs.Names.{Text, Names}
-use Rattle.getopts.specs.Options.{Group, Known}
+use Rattle.getopts.specs.Options.{Group, Signature}
 use Rattle.getopts.specs.Wrap.{lines_of}
 use Rattle.getopts_shell.specs.Table.{AreNames, IsItem, HasParts, IsArgument, Declares, DeclareGroups, DeclaresOptions}
 use Rattle.getopts_shell.specs.Table.{OneTableOneList}
 use Rattle.getopts_shell.proofs.Items.{one_bracketed, one_pair, one_names, one_argument}
 
 -- an item has one meaning
-one_item : (text : Text) (known other : Known) (hint another : Text) → IsItem text known hint
+one_item : (text : Text) (known other : Signature) (hint another : Text) → IsItem text known hint
     → IsItem text other another → (other ≡ known) × (another ≡ hint)
 one_item text known other hint another is also =
     let same = one_bracketed known.occurrence other.occurrence is.inside also.inside text is.brackets also.brackets in
@@ -33,10 +33,10 @@ one_declared line None None is also = refl
 one_declared line None (Some group) is also = let both : true ≡ false = sym is ∙ also.there in cc
 one_declared line (Some group) None is also = let both : true ≡ false = sym also ∙ is.there in cc
 one_declared line (Some group) (Some other) is also =
-    let same = one_item _ group.known other.known group.hint other.hint is.item also.item in
-    ap Some (ap (λ (k : Known). record { known = k; hint = other.hint; description = other.description }) same.0
-    ∙ ap (λ (h : Text). record { known = group.known; hint = h; description = other.description }) same.1
-    ∙ ap (λ (d : Text). record { known = group.known; hint = group.hint; description = d })
+    let same = one_item _ group.signature other.known group.hint other.hint is.item also.item in
+    ap Some (ap (λ (k : Signature). record { known = k; hint = other.hint; description = other.description }) same.0
+    ∙ ap (λ (h : Text). record { known = group.signature; hint = h; description = other.description }) same.1
+    ∙ ap (λ (d : Text). record { known = group.signature; hint = group.hint; description = d })
     (also.description ∙ sym is.description))
 
 one_each : (lines : List Text) (each others : List (Option Group)) → AllZip Declares lines each

@@ -5,7 +5,7 @@ use Rattle.std.specs.Prelude.{◌&&◌, ◌||◌, not}
 use Rattle.std.specs.List.{AllZip, filter_map, list_all, list_any}
 use Rattle.getopts.specs.Names.{Text, Names, is_empty, main_name}
 use Rattle.getopts.specs.Options.{Group}
-use Rattle.getopts.specs.Scan.{begins_with_dash, holds_equals}
+use Rattle.getopts.specs.Reading.{begins_with_dash, holds_equals}
 use Rattle.getopts_shell.specs.Held.{ArePlainlyNamed}
 use Rattle.getopts_shell.specs.Table.{is_name, is_name_byte, Declares, DeclareOptions, DeclaresGroup}
 use Rattle.std.proofs.lemmas.Bool.Decides.{nat_tests}
@@ -48,7 +48,7 @@ plain_each [] (declared ∷ each) is = absurd is
 plain_each (line ∷ lines) [] is = absurd is
 plain_each (line ∷ lines) (None ∷ each) is = plain_each lines each is.1
 plain_each (line ∷ lines) (Some group ∷ each) is = (
-  plain_main group.known.names is.0.item.names_are.may_be.short_name is.0.item.names_are.may_be.long_name,
+  plain_main group.signature.names is.0.item.names_are.may_be.short_name is.0.item.names_are.may_be.long_name,
   plain_each lines each is.1,
 )
 

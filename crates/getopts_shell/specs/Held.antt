@@ -4,8 +4,8 @@ use Rattle.std.specs.List.{AllByRecursion}
 use Rattle.std.specs.String.{string_bytes}
 use Rattle.getopts.specs.Matches.{MatchedGroup, matched}
 use Rattle.getopts.specs.Names.{Text, Names, main_name}
-use Rattle.getopts.specs.Options.{Declared, Group, group_of, knowns_of, with_group}
-use Rattle.getopts.specs.Scan.{Occurrence, holds_equals}
+use Rattle.getopts.specs.Options.{Declared, Group, group_of, signatures_of, with_group}
+use Rattle.getopts.specs.Reading.{Occurrence, holds_equals}
 use Rattle.getopts_shell.specs.Program.{Answer, own_groups}
 use Rattle.getopts_shell.specs.Table.{TableFault, no_option, name_twice}
 use Rattle.getopts_shell.specs.declared.answer.Outcome.{Outcome}
@@ -42,11 +42,11 @@ answer_of outcome = record { text = string_bytes outcome.text; status = outcome.
 
 -- the groups are the program's own, each with its share of some occurrences
 abbrev pub HasOwnGroups : List MatchedGroup → Type 0
-HasOwnGroups groups = (occurrences : List Occurrence) × (groups ≡ matched 0 (knowns_of own_groups) occurrences)
+HasOwnGroups groups = (occurrences : List Occurrence) × (groups ≡ matched 0 (signatures_of own_groups) occurrences)
 
 -- no main name holds `=`
 abbrev pub ArePlainlyNamed : List Group → Type 0
-ArePlainlyNamed groups = AllByRecursion (λ group. holds_equals (main_name group.known.names) ≡ false) groups
+ArePlainlyNamed groups = AllByRecursion (λ group. holds_equals (main_name group.signature.names) ≡ false) groups
 
 -- the options with these groups too, the last ones
 abbrev pub with_groups : Declared → List Group → Declared

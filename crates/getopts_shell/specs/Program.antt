@@ -14,7 +14,7 @@ use Rattle.getopts.specs.Names.{Text}
 use Rattle.getopts.specs.Only.{IsTheOnly}
 use Rattle.getopts.specs.Options.{Group, Declared, group_of}
 use Rattle.getopts.specs.Parse.{HasReading, IsAccepted, IsRefused}
-use Rattle.getopts.specs.Scan.{stop_word}
+use Rattle.getopts.specs.Reading.{stop_word}
 use Rattle.getopts.specs.Usage.{IsUsageText, short_usage_text}
 use Rattle.getopts.specs.declared.groups.HasArg.{HasArg}
 use Rattle.getopts.specs.declared.groups.HasArg.TheVariants.{Yes, No, Maybe}
@@ -110,7 +110,7 @@ is_no kind = false
 -- whether one of the options is called `help`, and takes no argument
 abbrev pub offers_help : List Group → Bool
 offers_help groups =
-    list_any (λ group. bytes_eq group.known.names.long (codes "help") && is_no group.known.kind) groups
+    list_any (λ group. bytes_eq group.signature.names.long (codes "help") && is_no group.signature.kind) groups
 
 -- the words ask for help: they have a reading, whatever its counts, with such an option
 abbrev pub AskHelp : Declared → List Text → Type 0

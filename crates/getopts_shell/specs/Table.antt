@@ -5,16 +5,9 @@ use Rattle.std.specs.Prelude.{⊤}
 use Rattle.std.specs.List.{AllByRecursion, AllZip, filter_map, list_all, list_any}
 use Rattle.std.specs.Option.{option_map_or}
 use Rattle.std.specs.Str.{bytes_eq}
-<<<<<<< HEAD
-use Rattle.getopts.specs.Names.{Text, Names, IsLawfullyNamed, is_empty}
+use Rattle.getopts.specs.Names.{Text, Names, AreLawful, is_empty}
 use Rattle.getopts.specs.Options.{Group, Signature}
 use Rattle.getopts.specs.Reading.{begins_with_dash}
-use Rattle.getopts.specs.Usage.{argument_part, bracketed, option_argument}
-=======
-use Rattle.getopts.specs.Names.{Text, Names, AreLawful, is_empty}
-use Rattle.getopts.specs.Options.{Group, Known}
-use Rattle.getopts.specs.Scan.{begins_with_dash}
->>>>>>> wt-shell
 use Rattle.getopts.specs.Wrap.{lines_of}
 use Rattle.getopts.specs.declared.groups.HasArg.{HasArg}
 use Rattle.getopts.specs.declared.groups.HasArg.TheVariants.{Yes, No, Maybe}
@@ -152,19 +145,10 @@ abbrev pub DeclareGroups : List Text → List Group → Type 0
 DeclareGroups lines groups = (each : List (Option Group)) × AllZip Declares lines each
     × (groups ≡ filter_map (λ declared. declared) each)
 
-<<<<<<< HEAD
--- whether a group has this name
-abbrev pub has_name : Text → Group → Bool
-has_name name group = not (is_empty name)
-    && (bytes_eq group.signature.names.short name || bytes_eq group.signature.names.long name)
-
--- whether any of these groups has this name
-=======
 -- whether one of these groups has this name
->>>>>>> wt-shell
 abbrev pub any_has_name : List Group → Text → Bool
 any_has_name groups name = not (is_empty name)
-    && list_any (λ group. bytes_eq group.known.names.short name || bytes_eq group.known.names.long name)
+    && list_any (λ group. bytes_eq group.signature.names.short name || bytes_eq group.signature.names.long name)
     groups
 
 -- the first of a group's names that one of these groups has already
@@ -221,47 +205,4 @@ pub record IsTableFault (table : Text) (fault : TableFault) : Type 0 where
   pub lines_are : lines_of table ≡ before ++ line ∷ after
   pub groups : List Group
   pub declared : DeclareOptions before groups
-<<<<<<< HEAD
-  pub fault_at : IsLineFault (length before + 1) groups line fault
-
--- ---- options, written line by line
-
--- an item that is written for a group
-abbrev pub item_text : Group → Text
-item_text group = bracketed group.signature.occurrence
-    (names_text group.signature.names ++ option_argument group.signature.kind group.hint)
-
--- the line that is written for a group
-abbrev pub line_text : Group → Text
-line_text group = item_text group
-    ++ (if is_empty group.description then [] else codes "  " ++ group.description)
-
--- the table that is written for groups
-abbrev pub table_text : List Group → Text
-table_text groups = flat_map (λ group. line_text group ++ codes "\n") groups
-
--- a hint of this kind
-abbrev pub FitsHint : HasArg → Text → Type 0
-FitsHint No hint = hint ≡ []
-FitsHint kind hint = is_hint hint ≡ true
-
--- whether a text stands in one line, with no blanks at its ends
-abbrev pub is_one_line : Text → Bool
-is_one_line text = bytes_eq (trimmed text) text && not (list_any (λ byte. byte == 10) text)
-
--- A group that can be written in a line.
-pub record CanBeWritten (group : Group) : Type 0 where
-  pub lawful : IsLawfullyNamed group.signature.names
-  pub short : is_name group.signature.names.short ≡ true
-  pub long : is_name group.signature.names.long ≡ true
-  pub hint : FitsHint group.signature.kind group.hint
-  pub hint_line : is_one_line group.hint ≡ true
-  pub description_line : is_one_line group.description ≡ true
-
--- options whose texts can be written in a table are declared by what is written
-abbrev pub WrittenIsDeclared : Type 0
-WrittenIsDeclared = (groups : List Group) → AllByRecursion CanBeWritten groups
-    → HaveNewNames [] groups → DeclaresOptions (table_text groups) groups
-=======
   pub fault_at : IsLineFault (line_number (length before)) groups line fault
->>>>>>> wt-shell

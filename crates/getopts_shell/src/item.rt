@@ -4,7 +4,7 @@ ghost use Rattle.std.specs.Prelude.{◌≡◌, MatchOption, true, false};
 ghost use Rattle.std.specs.List.{list_all};
 ghost use Rattle.std.specs.Option.{option_copied};
 ghost use Rattle.getopts.specs.Names.{Text, Names};
-ghost use Rattle.getopts.specs.Options.{Known};
+ghost use Rattle.getopts.specs.Options.{Signature};
 ghost use Rattle.getopts.specs.declared.groups.HasArg.{HasArg as Kind};
 ghost use Rattle.getopts.specs.declared.groups.Occur.{Occur as Occurrence};
 ghost use Rattle.getopts_shell.specs.Held.{group_of_row};
@@ -16,7 +16,7 @@ use getopts::{HasArg, Occur, names_lawful};
 
 /// The option of an item with this description, if the text is an item.
 pub(crate) fn row_of<'t>(item: &'t str, description: &'t str) -> Option<Row<'t>>
-    ensures option { MatchOption result ((known : Known) (hint : Text) → ¬ (IsItem item.now known hint))
+    ensures option { MatchOption result ((known : Signature) (hint : Text) → ¬ (IsItem item.now known hint))
         (λ row. IsItem item.now (group_of_row row).known row.hint.now) }
     ensures description { MatchOption result (Unit {0}) (λ row. row.description.now ≡ description.now) }
 {

@@ -9,5 +9,5 @@ use Rattle.getopts_shell.proofs.answer.offers_help.Goals as goal
 
 pub returns : goal.returns
 returns c = c.any_is_help.ensures ∙ sym (list_any-map
-    (λ (group : Group). bytes_eq group.known.names.long (codes "help") && is_no group.known.kind)
+    (λ (group : Group). bytes_eq group.signature.names.long (codes "help") && is_no group.signature.kind)
     group_of_row c.args.rows.now)
