@@ -20,7 +20,7 @@ words=(-vi a --output=b x --color)
 
 # instructions COMMAND..: the instructions of a run.
 instructions() {
-    LC_ALL=C valgrind --tool=callgrind --callgrind-out-file=/dev/null "$@" 2>&1 >/dev/null |
+    LC_ALL=C.UTF-8 valgrind --tool=callgrind --callgrind-out-file=/dev/null "$@" 2>&1 >/dev/null |
         sed -n 's/.*Collected : \([0-9]*\).*/\1/p'
 }
 

@@ -187,7 +187,7 @@ def examples(shell, path, room):
         fail(f"{' '.join(shell)}: the example backup: {done}")
     notes = room / "notes.txt"
     notes.write_text("")
-    for words in (["add", "-ta", "--tag=b", "it's", "-x" if False else "two"], ["--", "add", "--", "-x"]):
+    for words in (["add", "-ta", "--tag=b", "it's", "two"], ["--", "add", "--", "-x"]):
         run(shell + [str(folder / "notes"), "--file", str(notes)] + words, env=env, cwd=room)
     done = run(shell + [str(folder / "notes"), "-f", str(notes), "list"], env=env)
     if done.stdout.decode() != "[a] [b] it's\n[a] [b] two\n-x\n":
@@ -200,8 +200,7 @@ def examples(shell, path, room):
 def by_getopt(words):
     """What getopt(1) reads, in canonical form, or None where it refuses the words."""
     done = run(["getopt", "-o", "i:o:vc::L:", "--long", "input:,output:,verbose,color::", "--"] + words,
-               env={**os.environ, "GETOPT_COMPATIBLE": "", "LC_ALL": "C.UTF-8"} if False else
-               {**os.environ, "LC_ALL": "C.UTF-8"})
+               env={**os.environ, "LC_ALL": "C.UTF-8"})
     if done.returncode != 0:
         return None
     names = {"-i": "--input", "-o": "--output", "-v": "--verbose", "-c": "--color", "-L": "--L"}
@@ -261,6 +260,25 @@ _complete -- -
 _complete x
 _complete -c --inp
 """
+ZSH = r"""
+zmodload zsh/zpty
+zpty -b driven "ZDOTDIR=$ROOM TERM=dumb COLUMNS=80 zsh -i"
+typeset said= out=
+wait_for() {
+    integer turns=0
+    while (( turns++ < 100 )); do
+        zpty -rt driven out 2>/dev/null && said+=$out
+        [[ $said == *$1* ]] && return
+        sleep 0.1
+    done
+}
+wait_for '> '
+said=
+zpty -wn driven $'backup --help -v --\t'
+wait_for 'say more'
+print -r -- "$said"
+zpty -d driven
+"""
 BASH_WANTED = """--input,--output,--verbose,--color,--help,
 --input,-i,--output,-o,--verbose,-v,--color,-c,-L,--help,-h,
 --input,--verbose,--help,
@@ -281,14 +299,18 @@ def completion(program, room):
             fail(f"completion in bash: {done.stdout.decode()}{done.stderr.decode()}")
         else:
             print("completion in bash")
-    if shutil.which("zsh"):
-        script = room / "completion.zsh"
-        script.write_bytes(b"compdef() { print -r -- \"$2\" }\n" + run([program, "-c", "zsh", "it's", TABLE]).stdout)
-        done = run(["zsh", "-f", str(script)])
-        if done.stdout.decode() != "it's\n" or done.stderr:
-            fail(f"completion in zsh: {done}")
+    if shutil.which("zsh") and run(["zsh", "-f", "-c", "zmodload zsh/zpty"]).returncode == 0:
+        (room / "table.zsh").write_bytes(run([program, "-c", "zsh", "backup", TABLE]).stdout)
+        (room / ".zshrc").write_text(f"PS1='> '\nautoload -Uz compinit\ncompinit -u -d {room}/dump\nsource {room}/table.zsh\n")
+        (room / "drive.zsh").write_text(ZSH)
+        done = run(["zsh", "-f", str(room / "drive.zsh")], env={**os.environ, "ROOM": str(room)})
+        offered = sorted(set(re.findall(r"^(-\S+) +-- (.*?) *\r?$", done.stdout.decode(), re.M)))
+        wanted = [("--color", "colour the output"), ("--input", "read this file"),
+                  ("--output", "write to FILE"), ("--verbose", "say more")]
+        if offered != wanted or done.stderr:
+            fail(f"completion in zsh: {offered!r}, {done!r}")
         else:
-            print("completion in zsh: the script is read")
+            print("completion in zsh")
     if shutil.which("fish"):
         code = run([program, "-c", "fish", "backup", TABLE + "[--it\\'s]  don't \\ stop\n"]).stdout.decode()
         told = {}

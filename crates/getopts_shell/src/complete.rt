@@ -41,7 +41,7 @@ _getopts_shell() {
     done
     if [[ $want || $cur != -* ]]; then return; fi
     while IFS=' ' read -r short long takes times about; do
-        if [[ $times == once && ${given[/$long/$short]} ]]; then continue; fi
+        if [[ -z $takes || ( $times == once && ${given[/$long/$short]} ) ]]; then continue; fi
         for word in "--$long" "-$short"; do
             if [[ $word == "$cur"* && $word != -- && $word != --- ]]; then
                 found+=("$word") abouts+=("$about")
@@ -90,7 +90,7 @@ _getopts_shell() {
     if [[ -n $want || $PREFIX != -* ]]; then _files; return; fi
     if [[ $PREFIX == --*=* ]]; then compset -P '*='; _files; return; fi
     while IFS=' ' read -r short long takes times about; do
-        if [[ $times == once && -n $given[/$long/$short] ]]; then continue; fi
+        if [[ -z $takes || ( $times == once && -n $given[/$long/$short] ) ]]; then continue; fi
         for word in "--$long" "-$short"; do
             if [[ $word != -- && $word != --- ]]; then found+=("${word//:/\\:}:$about"); fi
         done
