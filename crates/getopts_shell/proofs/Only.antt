@@ -33,10 +33,10 @@ one_declared line None None is also = refl
 one_declared line None (Some group) is also = let both : true ≡ false = sym is ∙ also.there in cc
 one_declared line (Some group) None is also = let both : true ≡ false = sym also ∙ is.there in cc
 one_declared line (Some group) (Some other) is also =
-    let same = one_item _ group.signature other.known group.hint other.hint is.item also.item in
-    ap Some (ap (λ (k : Signature). record { known = k; hint = other.hint; description = other.description }) same.0
-    ∙ ap (λ (h : Text). record { known = group.signature; hint = h; description = other.description }) same.1
-    ∙ ap (λ (d : Text). record { known = group.signature; hint = group.hint; description = d })
+    let same = one_item _ group.signature other.signature group.hint other.hint is.item also.item in
+    ap Some (ap (λ (k : Signature). record { signature = k; hint = other.hint; description = other.description }) same.0
+    ∙ ap (λ (h : Text). record { signature = group.signature; hint = h; description = other.description }) same.1
+    ∙ ap (λ (d : Text). record { signature = group.signature; hint = group.hint; description = d })
     (also.description ∙ sym is.description))
 
 one_each : (lines : List Text) (each others : List (Option Group)) → AllZip Declares lines each

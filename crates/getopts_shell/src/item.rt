@@ -17,7 +17,7 @@ use getopts::{HasArg, Occur, names_lawful};
 /// The option of an item with this description, if the text is an item.
 pub(crate) fn row_of<'t>(item: &'t str, description: &'t str) -> Option<Row<'t>>
     ensures option { MatchOption result ((known : Signature) (hint : Text) → ¬ (IsItem item.now known hint))
-        (λ row. IsItem item.now (group_of_row row).known row.hint.now) }
+        (λ row. IsItem item.now (group_of_row row).signature row.hint.now) }
     ensures description { MatchOption result (Unit {0}) (λ row. row.description.now ≡ description.now) }
 {
     let (inside, occurrence) = unbracketed(item)?;
