@@ -7,7 +7,7 @@ usage: docs/check.py [--fix]
   imports that it needs from there, and no others.
 - Contracts: docs/CONTRACTS.md names each public function of the library, and clauses that are there; each function in a
   table of docs/PROOFS.md has the clauses that stand beside it.
-- Names: docs/GRAMMAR.md has each public definition and docs/PROOFS.md each edit; what a
+- Names: docs/GRAMMAR.md has each public definition (of getopts_shell each fact) and docs/PROOFS.md each edit; what a
   page names in backquotes exists, as a word of the sources or a file; so does what a page links to.
 - Figures: each figure of ten or more on a page is counted, measured or recorded by docs/figures.py. One that differs
   fails, one that is not listed there fails, and each is changed once to see that the change fails. With --fix those
@@ -139,7 +139,7 @@ for row in re.findall(r"^\|.*\|$", pages["docs/PROOFS.md"], re.M):
 # ---- names ----
 
 named = set(re.findall(r"`([A-Za-z_][\w-]*)`", pages["docs/GRAMMAR.md"]))
-for crate in ["getopts", "getopts_show", "getopts_c"]:
+for crate in ["getopts", "getopts_show", "getopts_c", "getopts_shell"]:
     here = [name for name in tracked if name.startswith(f"crates/{crate}/specs/")]
     # Modules that stand under private clauses alone have their rules in comments.
     order = read(f"crates/{crate}/specs/Lib.antt") if here else ""
@@ -147,7 +147,7 @@ for crate in ["getopts", "getopts_show", "getopts_c"]:
     for name in here:
         if not re.match(rf"crates/{crate}/specs/(?:{'|'.join(private)})\b", name):
             for it in re.findall(r"^(?:abbrev |unfoldable )?pub (?:record |data )?([A-Za-z_][\w-]*)", read(name), re.M):
-                passed_over = it in ("mod", "use")
+                passed_over = it in ("mod", "use") or crate == "getopts_shell" and it[0].islower()
                 expect(passed_over or it in named, f"docs/GRAMMAR.md doesn't name {it} of {name}")
 
 for name in tracked:
