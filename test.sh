@@ -97,14 +97,14 @@ once() {
     "$@"
 }
 
-# over_proved: in a copy, makes the archive again over the library as it was proved, and tries the edit of its crate.
+# over_proved: in a copy, makes the archive again over the library as it was proved, and tries the edits over it.
 over_proved() {
     local rlib=crates/getopts/out/rlib/getopts.rlib
     mkdir -p "$room/over/${rlib%/*}" &&
         tar --exclude=./.git --exclude=out --exclude=target -c . | tar -C "$room/over" -x &&
         cp -a "$rlib" "$room/over/${rlib%/*}/" &&
         bash "$room/over/bindings/over.sh" "$room/over/$rlib" archive &&
-        bash "$room/over/tests/must-fail/try.sh" --jobs 1 --over "$room/over/$rlib" getopts_c
+        bash "$room/over/tests/must-fail/try.sh" --jobs 1 --over "$room/over/$rlib" getopts_c getopts_shell
 }
 
 # edits: in a copy, tries the edits of the library.
@@ -131,7 +131,7 @@ if [ -n "$quick" ]; then
 else
     # Each of these begins beside the proofs, and waits for what it stands on.
     begin "edits of the library" edits
-    begin "the archive over the proved library, and the edit of its crate" once getopts -- over_proved
+    begin "the archive over the proved library, and edits over it" once getopts -- over_proved
     begin "C and Rust" bash bindings/test.sh --no-proofs --after "$room/show" "$@"
     (once getopts_show -- true >/dev/null; touch "$room/show") &
     begin "refused memory" once getopts_refused getopts_show getopts_shell -- bash tests/memory/run.sh

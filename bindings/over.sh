@@ -1,8 +1,8 @@
 #!/usr/bin/env bash
-# Builds or checks the static library over the library getopts as it was proved already.
+# Builds or checks the static library, or checks a program, over the library getopts as it was proved already.
 #
 #     bindings/over.sh RLIB archive           says whether the archive that is there is the one that this gives
-#     bindings/over.sh RLIB only FUNCTION..   checks these functions of the static library, with those that they call
+#     bindings/over.sh RLIB only FUNCTION..   checks these functions of one crate, with those that they call
 #
 # RLIB is the folder getopts.rlib that a proof of the library left (`rt ci` leaves one in crates/getopts/out/rlib).
 # `rt lib` would prove the library once more for the same bytes.
@@ -16,12 +16,19 @@ command -v rt >/dev/null || { echo 'bindings/over.sh: there is no rt on the path
 rlib=$(cd "$1" && pwd)
 here=$PWD/bindings/rust/native/libgetopts_c.a
 kit=$(cd "$(dirname "$(realpath "$(command -v rt)")")/.." && pwd)
-words=(--crate-name getopts_c src/lib.rt --crate-type staticlib --jobs "${JOBS:-1}"
+crate=getopts_c
+[ "$2" = archive ] || crate=${3%%::*}
+if [ -f "crates/$crate/src/main.rt" ]; then
+    root=(src/main.rt)
+else
+    root=(src/lib.rt --crate-type staticlib --links "$crate=")
+fi
+words=(--crate-name "$crate" "${root[@]}" --jobs "${JOBS:-1}"
     --extern "std=$kit/rlibs/std.rlib" --extern "getopts=$rlib"
-    -L "dependency=$kit/rlibs" -L "dependency=$(dirname "$rlib")" --links getopts_c=
+    -L "dependency=$kit/rlibs" -L "dependency=$(dirname "$rlib")"
     --antt-project "$kit/rattle/logic/antt-project.json" --logic-built "$kit/logic_built"
     --incremental out/incremental)
-cd crates/getopts_c
+cd "crates/$crate"
 mkdir -p out
 case $2 in
 archive)

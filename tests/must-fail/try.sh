@@ -81,7 +81,7 @@ try_edits() {
     else
         mapfile -t functions <<<"$functions"
         for at in "${functions[@]}"; do only+=(--only "$at"); done
-        if [ -n "$over" ] && [ "$crate" = getopts_c ]; then
+        if [ -n "$over" ] && [ "$crate" != getopts ]; then
             bash "$copy/bindings/over.sh" "$over" only "${functions[@]}" >"$copy/said" 2>&1 || status=$?
         else
             (cd "$folder" && rt check --jobs 1 "${only[@]}") >"$copy/said" 2>&1 || status=$?
