@@ -61,7 +61,17 @@ struct Script<'s> {
     options: &'s Options,
 }
 
-/// Reads words by a table of options, and writes them as code for a shell.
+/// Reads a script's words by a table of options, and writes what the script does with them.
+///
+/// The words are the program's own options, the script's name, its table and its words. The text is made
+/// whole, then written once and flushed: on `out` where the status is 0, and on `err` where it is 2 or 5.
+///
+/// - 0: code that sets the script's words to those of the canonical line, or that prints the script's help;
+///   with `--usage` the help itself, with `--complete` a completion script, with `--help` the program's help
+/// - 2: why the script's words are refused, and its short usage
+/// - 3: out of memory, with nothing written
+/// - 4: a write or a flush failed
+/// - 5: why the program can't be called so: its own words, a table that isn't there, or a line of the table
 pub fn answer<W: Write, E: Write>(alloc: Global, words: &[&str], out: &mut W, err: &mut E) -> u8
     ensures status { IsStatus result }
     ensures shown { result ≡ 0

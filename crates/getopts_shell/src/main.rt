@@ -7,6 +7,7 @@ ghost use Rattle.getopts_shell.specs.Program.{IsStatus};
 mod answer;
 mod complete;
 mod item;
+mod laws;
 mod quote;
 mod row;
 mod table;

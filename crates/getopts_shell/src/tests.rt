@@ -7,7 +7,7 @@ use std::io::{ErrorKind, Write};
 use std::process::Abort;
 use std::test::Fail;
 
-/// A writer over memory that takes at most so many bytes a write, and fails where it is told to.
+/// A writer over memory that takes at most so many bytes a write, and fails at the chosen write or flush.
 #[derive(Drop)]
 struct Memory {
     held: Vec<u8>,
@@ -491,7 +491,7 @@ fn tables_are_read(rt: HostRuntime) -> Result<(), Fail> {
     Ok(())
 }
 
-/// The row answers 4 over writers with these faults, of which it uses one.
+/// The status of the row is 4 over writers with these faults, of which it uses one.
 fn fails(rt: &(impl Abort + AllocGlobal), faults: Faults, row: Row<'_>) -> Result<(), AllocError> {
     let (step, failing_write, failing_flush, taken) = faults;
     let (words, text, status) = row;
@@ -515,7 +515,7 @@ fn fails(rt: &(impl Abort + AllocGlobal), faults: Faults, row: Row<'_>) -> Resul
 }
 
 #[test]
-fn failing_writers_are_answered(rt: HostRuntime) -> Result<(), Fail> {
+fn failing_writers_end_with_their_status(rt: HostRuntime) -> Result<(), Fail> {
     for row in &WORDS {
         for faults in FAULTS {
             fails(&rt, faults, *row)?;
@@ -524,8 +524,7 @@ fn failing_writers_are_answered(rt: HostRuntime) -> Result<(), Fail> {
     Ok(())
 }
 
-/// Whichever growth is refused, want of memory is answered with nothing written, and else the text of
-/// the row is.
+/// Out of memory, nothing is written and the status is 3; else the text of the row is written.
 fn is_written_or_nothing(
     rt: &(impl Abort + AllocGlobal),
     out: &mut Memory,
