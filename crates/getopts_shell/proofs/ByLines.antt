@@ -6,7 +6,7 @@ use Rattle.std.specs.List.{AllByRecursion, AllZip, filter_map, list_all, slice_s
 use Rattle.std.specs.Option.{option_map_or}
 use Rattle.std.proofs.lemmas.Bool.Decides.{nat_tests}
 use Rattle.getopts.specs.Names.{Text, Names, is_empty}
-use Rattle.getopts.specs.Options.{Group, Known}
+use Rattle.getopts.specs.Options.{Group, Signature}
 use Rattle.getopts.specs.Usage.{bracketed, option_argument}
 use Rattle.getopts.specs.declared.groups.HasArg.{HasArg}
 use Rattle.getopts.specs.declared.groups.HasArg.TheVariants.{Yes, No, Maybe}
@@ -225,26 +225,26 @@ spaced_parts before after names Maybe hint is also may written =
     ∙ sym (append_assoc before (names_text names) (32 ∷ 91 ∷ ((hint ++ (93 ∷ [])) ++ after))))
 
 item_spaced : (group : Group) → CanBeWritten group → IsSpaced (item_text group)
-item_spaced group is = by_occurrence group.known.occurrence
+item_spaced group is = by_occurrence group.signature.occurrence
   where
     by_occurrence : (occurrence : Occur)
-        → IsSpaced (bracketed occurrence (names_text group.known.names ++ option_argument group.known.kind group.hint))
+        → IsSpaced (bracketed occurrence (names_text group.signature.names ++ option_argument group.signature.kind group.hint))
     by_occurrence Req = subst IsSpaced (append-nil _)
-        (spaced_parts [] [] group.known.names group.known.kind group.hint refl refl is.names is.hint)
+        (spaced_parts [] [] group.signature.names group.signature.kind group.hint refl refl is.names is.hint)
     by_occurrence Optional =
-        spaced_parts (91 ∷ []) (93 ∷ []) group.known.names group.known.kind group.hint refl refl is.names is.hint
+        spaced_parts (91 ∷ []) (93 ∷ []) group.signature.names group.signature.kind group.hint refl refl is.names is.hint
     by_occurrence Multi =
-        spaced_parts (91 ∷ []) (93 ∷ 46 ∷ 46 ∷ []) group.known.names group.known.kind group.hint refl refl is.names is.hint
+        spaced_parts (91 ∷ []) (93 ∷ 46 ∷ 46 ∷ []) group.signature.names group.signature.kind group.hint refl refl is.names is.hint
 
 item_begins : (group : Group) → Begins (item_text group)
-item_begins group = by_occurrence group.known.occurrence
+item_begins group = by_occurrence group.signature.occurrence
   where
     by_occurrence : (occurrence : Occur)
-        → Begins (bracketed occurrence (names_text group.known.names ++ option_argument group.known.kind group.hint))
+        → Begins (bracketed occurrence (names_text group.signature.names ++ option_argument group.signature.kind group.hint))
     by_occurrence Req =
-        let head = names_begin group.known.names in
-        begins 45 (head.0 ++ option_argument group.known.kind group.hint)
-        (ap (λ (t : Text). t ++ option_argument group.known.kind group.hint) head.1) refl refl
+        let head = names_begin group.signature.names in
+        begins 45 (head.0 ++ option_argument group.signature.kind group.hint)
+        (ap (λ (t : Text). t ++ option_argument group.signature.kind group.hint) head.1) refl refl
     by_occurrence Optional = begins 91 _ refl refl refl
     by_occurrence Multi = begins 91 _ refl refl refl
 
@@ -266,19 +266,19 @@ argument_of Maybe hint = Some (91 ∷ (hint ++ (93 ∷ [])))
 apart : (dash bracket : ℕ) → dash ≡ 45 → bracket ≡ 91 → dash ≡ bracket → ⊥
 apart dash bracket is also same = absurd (omega arith)
 
-item_is : (group : Group) → CanBeWritten group → IsItem (item_text group) group.known group.hint
+item_is : (group : Group) → CanBeWritten group → IsItem (item_text group) group.signature group.hint
 unfolding argument_of
 item_is group is = record {
-  inside = names_text group.known.names ++ option_argument group.known.kind group.hint;
-  brackets = by_occurrence group.known.occurrence;
-  names = names_text group.known.names;
-  argument = argument_of group.known.kind group.hint;
+  inside = names_text group.signature.names ++ option_argument group.signature.kind group.hint;
+  brackets = by_occurrence group.signature.occurrence;
+  names = names_text group.signature.names;
+  argument = argument_of group.signature.kind group.hint;
   parts = (
-    no_spaces (names_text group.known.names) (names_dense group.known.names is.names),
-    ap (λ (t : Text). names_text group.known.names ++ t) (by_kind group.known.kind group.hint),
+    no_spaces (names_text group.signature.names) (names_dense group.signature.names is.names),
+    ap (λ (t : Text). names_text group.signature.names ++ t) (by_kind group.signature.kind group.hint),
   );
   names_are = record { may_be = is.names; written = refl };
-  argument_is = by_hint group.known.kind group.hint is.hint;
+  argument_is = by_hint group.signature.kind group.hint is.hint;
 }
   where
     by_kind : (kind : HasArg) (hint : Text)
@@ -293,12 +293,12 @@ item_is group is = record {
     by_hint Maybe hint written = (written.0, refl)
 
     by_occurrence : (occurrence : Occur) → IsBracketed occurrence
-        (names_text group.known.names ++ option_argument group.known.kind group.hint)
-        (bracketed occurrence (names_text group.known.names ++ option_argument group.known.kind group.hint))
+        (names_text group.signature.names ++ option_argument group.signature.kind group.hint)
+        (bracketed occurrence (names_text group.signature.names ++ option_argument group.signature.kind group.hint))
     by_occurrence Req = (
       refl,
-      let head = names_begin group.known.names in
-          λ opens. apart 45 91 refl refl (sym (ap (λ (t : Text). slice_index (t ++ option_argument group.known.kind group.hint) 0) head.1) ∙ opens),
+      let head = names_begin group.signature.names in
+          λ opens. apart 45 91 refl refl (sym (ap (λ (t : Text). slice_index (t ++ option_argument group.signature.kind group.hint) 0) head.1) ∙ opens),
     )
     by_occurrence Optional = refl
     by_occurrence Multi = inl refl
@@ -345,7 +345,7 @@ all_after (byte ∷ rest) = refl
 line_declares : (group : Group) → CanBeWritten group → DeclaresGroup (line_text group) group
 line_declares group is = record {
   there = ap (λ (t : Text). is_empty t || (slice_index t 0 == 35)) (line_trimmed group is) ∙ by_begin (item_begins group);
-  item = subst (λ (t : Text). IsItem t group.known group.hint)
+  item = subst (λ (t : Text). IsItem t group.signature group.hint)
       (sym (ap before_gap (line_trimmed group is)
       ∙ before_spaced (item_text group) (after_item group.description) (item_spaced group is)
       (no_gap_after group.description)))

@@ -11,8 +11,8 @@ use Rattle.getopts_shell.specs.Table.{DeclaresOptions}
 
 -- the item that is written for a group
 abbrev pub item_text : Group → Text
-item_text group = bracketed group.known.occurrence
-    (names_text group.known.names ++ option_argument group.known.kind group.hint)
+item_text group = bracketed group.signature.occurrence
+    (names_text group.signature.names ++ option_argument group.signature.kind group.hint)
 
 -- what follows an item: a tab and the description, if there is one
 abbrev pub after_item : Text → Text
@@ -46,8 +46,8 @@ IsWrittenDescription (byte ∷ text) = (is_blank byte ≡ false)
 
 -- A group that can be written in a line.
 pub record CanBeWritten (group : Group) : Type 0 where
-  pub names : MayBeNames group.known.names.short group.known.names.long
-  pub hint : IsWrittenHint group.known.kind group.hint
+  pub names : MayBeNames group.signature.names.short group.signature.names.long
+  pub hint : IsWrittenHint group.signature.kind group.hint
   pub description : IsWrittenDescription group.description
 
 -- options whose texts can be written in a table are declared by what is written
