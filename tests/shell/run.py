@@ -6,6 +6,7 @@ usage: tests/shell/run.py [PROGRAM]
 - The script of bindings/shell/README.md and the scripts of bindings/shell/examples do the same in each shell.
 - The words of random lines come out of `eval` in each shell as the canonical line.
 - getopt(1) reads the same options, values and free words, for tables and words that both take.
+- Tables with one byte changed have the fault that a reader of the rules here finds, or none.
 - Completion offers in bash and fish what it should.
 
 It says which shells it found. What is expected is computed here, by the rules, and not by the program.
@@ -331,6 +332,70 @@ def completion(program, room):
         print("completion in fish")
 
 
+def is_name(name):
+    return name and not name.startswith("-") and not any(c in " |[]=" or c < " " or c == "\x7f" for c in name)
+
+
+def is_hint(hint):
+    return hint and not any(c in " \t[]" for c in hint)
+
+
+def names_of(inside):
+    """The names of what stands in an item's brackets, or None where it isn't lawful."""
+    names, space, argument = inside.partition(" ")
+    hint = argument[1:-1] if len(argument) > 1 and argument[0] == "[" and argument[-1] == "]" else argument
+    short, bar, long = names.partition("|")
+    if not bar and short.startswith("--"):
+        short, long = "", short
+    if (space and not is_hint(hint)) or (bar and not (short and long)) or not (short or long):
+        return None
+    lawful = (not short or (len(short) == 2 and short[0] == "-" and is_name(short[1:])))
+    lawful = lawful and (not long or (len(long) > 3 and long.startswith("--") and is_name(long[2:])))
+    return [name for name in (short[1:], long[2:]) if name] if lawful else None
+
+
+def table_fault(table):
+    """The message for a table's first fault, or None."""
+    seen = set()
+    for number, line in enumerate(table.split("\n"), 1):
+        line = line.strip(" \t\r")
+        if not line or line.startswith("#"):
+            continue
+        item = re.split("\t|  ", line)[0]
+        inside = item
+        for end in ("]...", "]..", "]"):
+            if item.startswith("[") and item.endswith(end):
+                inside = item[1:-len(end)]
+                break
+        names = names_of(inside)
+        if names is None:
+            return f"line {number} of the options: {item}"
+        for name in names:
+            if name in seen:
+                return f"line {number} of the options: the name '{name}' stands there already"
+        seen.update(names)
+    return None
+
+
+def changed_tables(program):
+    """Each byte of good lines, changed in turn to each of many others, left out and doubled."""
+    good = ["-v|--verbose  say more", "[-c|--color [WHEN]]..\tcolour it", "[-o|--output FILE]  write"]
+    others = [chr(c) for c in range(32, 128)] + ["", "\t", "\n", "\r", "\x01"]
+    tables, refused = 0, 0
+    for at, line in enumerate(good):
+        for place in range(len(line)):
+            for other in others + [2 * line[place]]:
+                table = "\n".join(good[:at] + [line[:place] + other + line[place + 1:]] + good[at + 1:])
+                fault = table_fault(table)
+                said = run([program, "--usage", "x", table])
+                wanted = b"" if fault is None else f"getopts_shell: {fault}\n".encode()
+                if (said.returncode, said.stderr) != (0 if fault is None else 5, wanted):
+                    fail(f"the table {table!r}: {said.returncode} {said.stderr!r}, and not {wanted!r}")
+                    return
+                tables, refused = tables + 1, refused + (fault is not None)
+    print(f"{tables} tables with one byte changed, {refused} refused")
+
+
 def main():
     program = str(Path(sys.argv[1] if len(sys.argv) > 1 else ROOT / "crates/getopts_shell/out/getopts_shell").resolve())
     os.environ["LC_ALL"] = "C.UTF-8"
@@ -345,6 +410,7 @@ def main():
         random_lines(program, found, room)
         page(program, found, room)
         beside_getopt(program)
+        changed_tables(program)
         completion(program, room)
     if failed:
         print(f"{len(failed)} failed")
