@@ -38,6 +38,13 @@ def stated(name, pattern):
     return f"{int(re.search(pattern, read(name))[1]):,}"
 
 
+def glibc(program):
+    """The least version of glibc that a program runs with."""
+    with open(program, "rb") as file:
+        needed = re.findall(rb"GLIBC_(\d+)\.(\d+)", file.read())
+    return "{}.{}".format(*max((int(one), int(other)) for one, other in needed))
+
+
 # ---- what is recorded ----
 
 
@@ -121,6 +128,9 @@ FIGURES = [
     ("CALLING.md", r"the library once, in ([^|]*?) of processor time", lambda: minutes("rt lib")[:1]),
     ("tests/differential/README.md", r"first ([\d,]+) of seed 1",
      lambda: [stated("tests/differential/record.sh", r"choose 1 (\d+)")]),
+    ("bindings/rust/README.md", r"Rust ([\d.]+) or later",
+     lambda: re.findall(r'rust-version = "(.*)"', read("bindings/rust/Cargo.toml"))),
+    ("bindings/shell/README.md", r"glibc ([\d.]+) or later", lambda: [glibc("bindings/shell/getopts_shell")]),
     ("bench/README.md", r"holds is ([\d.]+) MB here, ([\d.]+) MB in the Rust\s+crate and ([\d.]+) MB",
      lambda: [megabytes("this library"), megabytes("Rust crate"), megabytes("bindings/rust")]),
 ]
@@ -129,7 +139,7 @@ FIGURES = [
 OTHERS = re.compile(r"""
     \bU\+\w+ | \b0\.2\.24\b | Apache-2\.0 | x86-64(-v2)?
     | 1,000\ words | 100,000\ words | 200\ options | 400\ words | 4,000\ names | 1,000\ options\ each
-    | 54\ columns | 24\ (spaces|columns) | stop\ at\ 255 | 24\ bytes | 80\ words | 200,000\ cases | about\ 2009
+    | 54\ columns | 24\ (spaces|columns) | stop\ at\ 255 | 24\ bytes | C\+\+11 | 80\ words | 200,000\ cases | about\ 2009
     # experiments that were done once
     | 393\ small\ changes | told\ 375 | 585\ small\ changes | told\ 492 | 54\ of\ the\ other\ 93 | 39\ are
 """, re.X)

@@ -71,8 +71,8 @@ int getopts_read(struct getopts *options, int count, char *const *words);
  * was read and the table is right. The text is valid until the next reading. */
 const char *getopts_message(const struct getopts *options);
 
-/* The next calls take any name of an option. If nothing was read, if no option has that name, or if it was given
- * less often, they return false, 0, -1 and NULL. */
+/* The next calls take any name of an option, and nth counts from 0. If nothing was read, if no option has that name,
+ * or if it was given less often, they return false, 0, -1 and NULL; getopts_long_value alone returns true then. */
 
 /* Whether an option has this name. */
 bool getopts_defined(const struct getopts *options, const char *name);
@@ -87,7 +87,8 @@ int getopts_position(const struct getopts *options, const char *name, size_t nth
 const char *getopts_value(const struct getopts *options, const char *name, size_t nth);
 
 /* Stores that value in *value if it is a decimal number that fits a long. Returns false, and stores nothing, if
- * it isn't. If there is no value, it stores nothing and returns true, so that a default stays. */
+ * it isn't. If there is no value, it stores nothing and returns true, so that a default stays: also where no option
+ * has that name, which getopts_defined tells. */
 bool getopts_long_value(const struct getopts *options, const char *name, size_t nth, long *value);
 
 /* How many words are free. */

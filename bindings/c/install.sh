@@ -6,16 +6,16 @@
 # - PREFIX/lib: libgetopts.a, and libgetopts.so, which exports the functions of getopts.h alone
 # - PREFIX/include: getopts.h and getopts_c.h
 # - PREFIX/lib/pkgconfig: getopts.pc, and getopts-static.pc for a program that holds the library itself
-# - PREFIX/share/man/man3: getopts.3
+# - PREFIX/share/man/man3: getopts.3, also by the name of each function
 # - PREFIX/share/doc/getopts: README.md, head.c and the licences
 #
-# It uses CC, AR and CFLAGS, and writes its files below DESTDIR. It needs a C compiler and ar, on x86-64 Linux.
+# It uses CC, AR, CFLAGS and LDFLAGS, and writes its files below DESTDIR. It needs a C compiler and ar, on x86-64 Linux.
 set -euo pipefail
 here=$(cd "$(dirname "$0")" && pwd)
 top=$here/../..
 archive=$here/../rust/native/libgetopts_c.a
-compiler=${CC:-cc}
-ar=${AR:-ar}
+read -ra compiler <<<"${CC:-cc}"
+read -ra ar <<<"${AR:-ar}"
 
 fail() {
     echo "bindings/c/install.sh: $1" >&2
@@ -53,12 +53,16 @@ to=$root$prefix
 version=$(sed -n 's/^#define GETOPTS_VERSION "\(.*\)"/\1/p' "$here/getopts.h")
 soname=libgetopts.so.${version%%.*}
 shared=libgetopts.so.$version
+mapfile -t functions < <(sed -n 's/^[a-z].*[ *]\(getopts_[a-z_]*\)(.*/\1/p' "$here/getopts.h")
 
 # Each installed file: from where, and its place below PREFIX, with a tab between them.
 files() {
     local file
     printf '%s\t%s\n' "$here/getopts.h" include/getopts.h "$here/getopts_c.h" include/getopts_c.h \
         "$here/getopts.3" share/man/man3/getopts.3
+    for file in "${functions[@]}"; do
+        printf '%s\t%s\n' "$room/page.3" "share/man/man3/$file.3"
+    done
     for file in "$here/README.md" "$here/head.c" "$top"/{LICENSE-MIT,LICENSE-APACHE,NOTICE}; do
         printf '%s\t%s\n' "$file" "share/doc/getopts/$(basename "$file")"
     done
@@ -69,18 +73,19 @@ files() {
 room=$(mktemp -d)
 trap 'rm -rf "$room"' EXIT
 
+# Another version's library goes too.
 if [ -n "$remove" ]; then
     while IFS=$'\t' read -r _ place; do
         rm -f "$to/$place"
     done < <(files)
-    rm -f "$to/lib/$soname" "$to/lib/libgetopts.so"
+    rm -f "$to/lib/$soname" "$to/lib/$soname".* "$to/lib/libgetopts.so"
     rmdir "$to/share/doc/getopts" 2>/dev/null || true
     echo "removed from $to"
     exit
 fi
 
 [ -f "$archive" ] || fail "there is no bindings/rust/native/libgetopts_c.a: bindings/archive.sh makes it"
-for tool in "$compiler" "$ar"; do
+for tool in "${compiler[0]}" "${ar[0]}"; do
     command -v "$tool" >/dev/null || fail "there is no $tool"
 done
 case $(uname -sm) in
@@ -90,19 +95,19 @@ esac
 
 for part in heap getopts; do
     # shellcheck disable=SC2086
-    "$compiler" -std=c11 -O2 -fPIC ${CFLAGS:-} -c "$here/$part.c" -o "$room/$part.o"
+    "${compiler[@]}" -std=c11 -O2 -fPIC ${CFLAGS:-} -c "$here/$part.c" -o "$room/$part.o"
 done
 cp "$archive" "$room/libgetopts.a"
 chmod u+w "$room/libgetopts.a"
-"$ar" rs "$room/libgetopts.a" "$room/heap.o" "$room/getopts.o" 2>/dev/null
+"${ar[@]}" rs "$room/libgetopts.a" "$room/heap.o" "$room/getopts.o" 2>/dev/null
 # The shared library exports what getopts.h declares.
 {
     echo "{ global:"
-    sed -n 's/^[a-z].*[ *]\(getopts_[a-z_]*\)(.*/\1;/p' "$here/getopts.h"
+    printf '%s;\n' "${functions[@]}"
     echo "local: *; };"
 } >"$room/exports"
 # shellcheck disable=SC2086
-"$compiler" -shared ${CFLAGS:-} -Wl,-soname,"$soname" -Wl,--version-script="$room/exports" -Wl,-z,defs -Wl,-z,text \
+"${compiler[@]}" -shared ${CFLAGS:-} ${LDFLAGS:-} -Wl,-soname,"$soname" -Wl,--version-script="$room/exports" -Wl,-z,defs -Wl,-z,text \
     "$room/getopts.o" "$room/heap.o" "$archive" -o "$room/$shared"
 
 # describe LIBS: a file for pkg-config.
@@ -125,6 +130,8 @@ describe '"-L${libdir}" -lgetopts' >"$room/getopts.pc"
 # shellcheck disable=SC2016
 describe '"${libdir}/libgetopts.a"' >"$room/getopts-static.pc"
 
+echo '.so man3/getopts.3' >"$room/page.3"
+rm -f "$to/lib/$soname".*
 while IFS=$'\t' read -r from place; do
     install -D -m 644 "$from" "$to/$place"
 done < <(files)

@@ -148,7 +148,7 @@ def page_script():
     page = (ROOT / "bindings/shell/README.md").read_text()
     code = re.search(r"```sh\n(.*?)```", page, re.S).group(1)
     show = "printf '%s\\n' \"$input|$output|$verbose|$color|$folders\"\nfor word do printf '%s\\n' \"$word\"; done\n"
-    return "verbose=0 input= output= color= folders=\n" + code + show
+    return code + show
 
 
 RUNS = [
@@ -161,19 +161,22 @@ RUNS = [
 
 def page(program, found, room):
     path = f"{Path(program).parent}:{os.environ['PATH']}"
+    # What the script reads doesn't come from variables that are there already.
+    others = {name: "1" for name in ("input", "output", "verbose", "color", "folders")}
+    env = {**os.environ, **others, "PATH": path}
     script = room / "page"
     script.write_text(page_script())
     short = "Usage: backup -i FILE [-o FILE] [-v].. [-c [WHEN]] [-L DIR].. [-h]\n"
     for shell in found:
         for words, status, out in RUNS:
-            done = run(shell + [str(script)] + words, env={**os.environ, "PATH": path})
+            done = run(shell + [str(script)] + words, env=env)
             if (done.returncode, done.stdout.decode(), done.stderr) != (status, out, b""):
                 fail(f"{' '.join(shell)}: the page's script with {words!r}: {done}")
-        done = run(shell + [str(script), "-v"], env={**os.environ, "PATH": path})
+        done = run(shell + [str(script), "-v"], env=env)
         wanted = "backup: Required option 'input' missing\n" + short
         if (done.returncode, done.stdout, done.stderr.decode()) != (2, b"", wanted):
             fail(f"{' '.join(shell)}: the page's script without input: {done}")
-        done = run(shell + [str(script), "--help"], env={**os.environ, "PATH": path})
+        done = run(shell + [str(script), "--help"], env=env)
         if done.returncode != 0 or not done.stdout.decode().startswith(short + "\nOptions:\n    -i, --input FILE "):
             fail(f"{' '.join(shell)}: the page's script, help: {done}")
         examples(shell, path, room)
@@ -186,6 +189,9 @@ def examples(shell, path, room):
     done = run(shell + [str(folder / "backup"), "-vi", "a", "x"], env=env)
     if done.stdout.decode() != "input: a\noutput: \nverbose: 1\ncolor: never\nfolders:\nfree: x\n":
         fail(f"{' '.join(shell)}: the example backup: {done}")
+    done = run(shell + [str(folder / "backup"), "--completion", "fish"], env=env)
+    if done.returncode != 0 or not done.stdout.startswith(b"complete -c 'backup' -s 'i' -l 'input' -r "):
+        fail(f"{' '.join(shell)}: the completion of the example backup: {done}")
     notes = room / "notes.txt"
     notes.write_text("")
     for words in (["add", "-ta", "--tag=b", "it's", "two"], ["--", "add", "--", "-x"]):

@@ -36,7 +36,8 @@ compile_error!(
 
 #[cfg(all(getopts_elsewhere, not(doc)))]
 compile_error!(
-    "the archive is for x86-64 Linux: for another target leave out the patch of getopts"
+    "the archive is for x86-64 Linux: for another target depend on the crate getopts itself (leave out the patch, or \
+     the git dependency)"
 );
 
 mod answer;

@@ -200,6 +200,7 @@ impl Matches {
     /// options.optflag("a", "", "").optflag("b", "", "");
     /// assert!(options.parse(["-b"]).unwrap().opts_present_any(["a", "b"]));
     /// ```
+    #[must_use]
     pub fn opts_present_any<C: IntoIterator>(&self, names: C) -> bool
     where
         C::Item: AsRef<str>,
@@ -231,6 +232,7 @@ impl Matches {
     /// let matches = options.parse(["-bx"]).unwrap();
     /// assert_eq!(matches.opts_str_first(["a", "b"]).unwrap(), "x");
     /// ```
+    #[must_use]
     pub fn opts_str_first<C: IntoIterator>(&self, names: C) -> Option<String>
     where
         C::Item: AsRef<str>,

@@ -576,6 +576,7 @@ impl Options {
     /// let text = options.usage_with_format(|rows| rows.collect::<Vec<_>>().join("\n"));
     /// assert_eq!(text, "    -h, --help          print this");
     /// ```
+    #[must_use]
     pub fn usage_with_format<F: FnMut(&mut dyn Iterator<Item = String>) -> String>(
         &self,
         mut formatter: F,

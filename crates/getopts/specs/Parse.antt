@@ -20,20 +20,18 @@ pub record HasReading (options : Declared) (words : List Text) (matches : Matche
   pub only : IsTheOnly (Reads options words) reading
   pub matches_are : matches ≡ matches_of options reading
 
--- The words are accepted with these matches: they have one reading, which keeps the counts, and the
--- matches are what it gives.
+-- The words are accepted with these matches: they have one reading, and what it gives keeps the
+-- counts.
 pub record IsAccepted (options : Declared) (words : List Text) (matches : Matched) : Type 0 where
-  pub reading : Reading
-  pub only : IsTheOnly (Reads options words) reading
-  pub counts : KeepsCounts (matches_of options reading).groups
-  pub matches_are : matches ≡ matches_of options reading
+  pub read : HasReading options words matches
+  pub counts : KeepsCounts matches.groups
 
--- The words have one reading, which breaks the counts, and the fault is that of the first group
--- that breaks its count.
+-- The words have one reading, what it gives breaks the counts, and the fault is that of the first
+-- group that breaks its count.
 pub record BreaksCounts (options : Declared) (words : List Text) (fault : Fault) : Type 0 where
-  pub reading : Reading
-  pub only : IsTheOnly (Reads options words) reading
-  pub breaks : IsCountFault (matches_of options reading).groups fault
+  pub matches : Matched
+  pub read : HasReading options words matches
+  pub breaks : IsCountFault matches.groups fault
 
 -- The words have no reading, and this is their only scan fault.
 pub record HasNoReading (options : Declared) (words : List Text) (fault : Fault) : Type 0 where

@@ -229,23 +229,25 @@ impl<'o> Scanner<'o> {
         Ok(used)
     }
 
-    /// The option that the byte at a place in a cluster names; only names of one byte resolve there.
-    fn option_at(&self, text: &str, at: usize) -> Option<(usize, HasArg)>
+    /// The option that the byte at a place in a cluster names, with that name; only names of one byte
+    /// resolve there.
+    fn option_at<'t>(&self, text: &'t str, at: usize) -> Option<(&'t str, usize, HasArg)>
         requires lawful { IsLawfulScanner self.now }
         requires within { at < length text.now }
         requires boundary { IsCharBoundary text.now at }
         ensures option { let grammar = scanner_grammar self.now in
             let name = slice_index text.now at ∷ [] in
             MatchOption result (grammar.kind name ≡ None)
-            (λ option. (grammar.place name ≡ Some option.0)
-            × (grammar.kind name ≡ Some option.1)) }
+            (λ option. (option.0.now ≡ name) × (grammar.place name ≡ Some option.1)
+            × (grammar.kind name ≡ Some option.2)) }
         ensures ascii { OnSome result (slice_index text.now at < 128) }
     {
-        if text.as_bytes()[at].is_ascii() {
-            self.option(&text[at..at + 1])
-        } else {
-            None
+        if !text.as_bytes()[at].is_ascii() {
+            return None;
         }
+        let name = &text[at..at + 1];
+        let (group, kind) = self.option(name)?;
+        Some((name, group, kind))
     }
 
     /// Reads a cluster, by its text after the dash and the words after its first. Adds its occurrences,
@@ -273,13 +275,12 @@ impl<'o> Scanner<'o> {
                     let name = first_character(&text[at..]);
                     return Err(Fail::unrecognized_option(alloc, name));
                 }
-                Some((group, HasArg::No)) => found.push(Occurrence {
+                Some((_, group, HasArg::No)) => found.push(Occurrence {
                     group,
                     position,
                     value: None,
                 })?,
-                Some((group, kind)) => {
-                    let name = &text[at..at + 1];
+                Some((name, group, kind)) => {
                     let (value, used) = ending(alloc, kind, name, &text[at + 1..], after)?;
                     found.push(Occurrence {
                         group,

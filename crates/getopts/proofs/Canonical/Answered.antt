@@ -15,7 +15,7 @@ use Rattle.getopts.specs.ReadingLaws.{mentions_of}
 use Rattle.getopts.specs.Held.Line.{line_content}
 use Rattle.getopts.specs.Matches.{Matched, MatchedGroup, matches_of, matched, KeepsCount}
 use Rattle.getopts.specs.Matches.{KeepsCounts, IsCountFault}
-use Rattle.getopts.specs.Parse.{Reads, IsAccepted, HasReading, BreaksCounts, IsRefused}
+use Rattle.getopts.specs.Parse.{Reads, IsAccepted, HasReading, IsRefused}
 use Rattle.getopts.specs.Canon.{Content, IsCountKeeping, content_of, main_at, IsPlain}
 use Rattle.getopts.specs.Canon.{canonical_line, IsAcceptedWith, Says}
 use Rattle.getopts.specs.Held.Matches.{IsReadLine, IsAcceptedLine}
@@ -29,8 +29,7 @@ use Rattle.getopts.proofs.Canonical.Lines.{FitsGroup, FitsGroup-within, IsFittin
 use Rattle.getopts.proofs.Lists.{AllByRecursion-follows, AllByRecursion-unmap}
 use Rattle.getopts.proofs.Parsing.Counts.{broken_count}
 use Rattle.getopts.proofs.Parsing.Only.{meets}
-use Rattle.getopts.proofs.Parsing.Parsed.{only_reads, named_here, groups_are, IsAccepted-reading}
-use Rattle.getopts.proofs.Parsing.Parsed.{HasReading-reading}
+use Rattle.getopts.proofs.Parsing.Parsed.{only_reads, named_here, groups_are, HasReading-reading}
 use Rattle.getopts.proofs.Scanner.Words.{holds_equals-none}
 
 -- a test that finds `=` just where it is
@@ -84,9 +83,7 @@ module _ (options : Declared) (words : List Text) (accepted : ReadLine)
     free = map string_bytes accepted.line.free.items;
     trailing_start = accepted.line.trailing_start;
   })
-  IsAccepted-line = IsAccepted-reading options is.is_read.declared words is.is_read.reads.reading is.is_read.reads.reads
-      accepted.line.found is.is_read.reads.occurrences (map string_bytes accepted.line.free.items)
-      accepted.line.trailing_start is.keeps is.is_read.reads.free is.is_read.reads.trailing
+  IsAccepted-line = record { read = HasReading-line options words accepted is.is_read; counts = is.keeps }
 
   -- its occurrences are of the groups
   pub groups_within : AllByRecursion (λ o. o.mention.group < length options.groups) accepted.line.found
@@ -197,50 +194,48 @@ no_count_fault : (groups : List MatchedGroup) (fault : Fault) → KeepsCounts gr
 no_count_fault groups fault keeps is = is.broken (KeepsCount-at is.before is.group is.after (subst KeepsCounts is.groups_are keeps))
 
 module _ (options : Declared) (words : List Text) where
-  -- accepted words, and those that break the counts, have their reading
-  pub accepted_reads : (m : Matched) (is : IsAccepted options words m)
-      → Reads options words is.reading
-  accepted_reads m is = meets (Reads options words) is.reading is.only
+  -- words that have a reading have it
+  pub reads_of : (m : Matched) (has : HasReading options words m) → Reads options words has.reading
+  reads_of m has = meets (Reads options words) has.reading has.only
 
-  pub breaking_reads : (fault : Fault) (is : BreaksCounts options words fault)
-      → Reads options words is.reading
-  breaking_reads fault is = meets (Reads options words) is.reading is.only
+  -- that of accepted words keeps the counts
+  pub keeps_accepted : (m : Matched) (is : IsAccepted options words m)
+      → IsCountKeeping options is.read.reading words
+  keeps_accepted m is = record {
+    reads = reads_of m is.read;
+    keeps = subst (λ (m : Matched). KeepsCounts m.groups) is.read.matches_are is.counts;
+  }
 
-  pub only_matches : (m n : Matched) → IsAccepted options words m → IsAccepted options words n
-      → m ≡ n
-  only_matches m n is is_other =
-      is.matches_are ∙ ap (matches_of options) ((is_other.only is.reading).0 (accepted_reads m is)) ∙ sym is_other.matches_are
+  -- words have one reading's matches
+  only_matches : (m n : Matched) → HasReading options words m → HasReading options words n → m ≡ n
+  only_matches m n has other =
+      has.matches_are ∙ ap (matches_of options) ((other.only has.reading).0 (reads_of m has)) ∙ sym other.matches_are
 
   only_refusal : (fault other : Fault) → IsRefused options words fault
       → IsRefused options words other → fault ≡ other
   only_refusal fault other (inl is) (inl is_other) = (is_other.only fault).0 (meets (IsScanFault (grammar_of options) words) fault is.only)
-  only_refusal fault other (inl is) (inr is_other) = absurd (is.no_reading is_other.reading (breaking_reads other is_other))
-  only_refusal fault other (inr is) (inl is_other) = absurd (is_other.no_reading is.reading (breaking_reads fault is))
-  only_refusal fault other (inr is) (inr is_other) =
-      let same : is.reading ≡ is_other.reading = (is_other.only is.reading).0 (breaking_reads fault is) in
-      only_count_fault (matches_of options is_other.reading).groups fault other
-      (subst (λ (r : Reading). IsCountFault (matches_of options r).groups fault) same is.breaks) is_other.breaks
+  only_refusal fault other (inl is) (inr is_other) = absurd (is.no_reading is_other.read.reading (reads_of is_other.matches is_other.read))
+  only_refusal fault other (inr is) (inl is_other) = absurd (is_other.no_reading is.read.reading (reads_of is.matches is.read))
+  only_refusal fault other (inr is) (inr is_other) = only_count_fault is_other.matches.groups fault other
+      (subst (λ (m : Matched). IsCountFault m.groups fault)
+      (only_matches is.matches is_other.matches is.read is_other.read) is.breaks) is_other.breaks
 
   -- words with a reading that keeps the counts aren't refused
   pub not_refused : (reading : Reading) (fault : Fault) → IsCountKeeping options reading words
       → IsRefused options words fault → ⊥
   not_refused reading fault keeps (inl is) = is.no_reading reading keeps.reads
   not_refused reading fault keeps (inr is) =
-      let same : reading ≡ is.reading = (is.only reading).0 keeps.reads in
-      no_count_fault (matches_of options is.reading).groups fault
-      (subst (λ (r : Reading). KeepsCounts (matches_of options r).groups) same keeps.keeps) is.breaks
+      let same : matches_of options reading ≡ is.matches =
+      ap (matches_of options) ((is.read.only reading).0 keeps.reads) ∙ sym is.read.matches_are in
+      no_count_fault is.matches.groups fault
+      (subst (λ (m : Matched). KeepsCounts m.groups) same keeps.keeps) is.breaks
 
   -- words have one answer of `parse`
   pub only_parse_answer : (answer other : Result Matched Fault) → IsParseAnswer options words answer
       → IsParseAnswer options words other → answer ≡ other
-  only_parse_answer (Ok m) (Ok n) is is_other = ap Ok (only_matches m n is is_other)
-  only_parse_answer (Ok m)
-      (Err other) is is_other =
-      absurd (not_refused is.reading other (record { reads = accepted_reads m is; keeps = is.counts }) is_other)
-  only_parse_answer (Err fault)
-      (Ok n) is is_other =
-      absurd (not_refused is_other.reading fault
-      (record { reads = accepted_reads n is_other; keeps = is_other.counts }) is)
+  only_parse_answer (Ok m) (Ok n) is is_other = ap Ok (only_matches m n is.read is_other.read)
+  only_parse_answer (Ok m) (Err other) is is_other = absurd (not_refused is.read.reading other (keeps_accepted m is) is_other)
+  only_parse_answer (Err fault) (Ok n) is is_other = absurd (not_refused is_other.read.reading fault (keeps_accepted n is_other) is)
   only_parse_answer (Err fault) (Err other) is is_other = ap Err (only_refusal fault other is is_other)
 
   -- words are accepted with one content

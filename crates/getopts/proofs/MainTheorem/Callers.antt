@@ -124,10 +124,10 @@ OneContentHoldsSame_lem options accepted_when words others old new matches accep
     let grammar = grammar_of options in
     let told : mentions_of grammar new ≡ mentions_of grammar old = ap (λ (content : Content). content.mentions) same in
     let free : free_words new ≡ free_words old = ap (λ (content : Content). content.free) same in
-    let is : old ≡ accepted.reading = (accepted.only old).0 reads in
+    let matches_are : matches_of options old ≡ matches =
+    ap (matches_of options) ((accepted.read.only old).0 reads) ∙ sym accepted.read.matches_are in
     let kept : KeepsCounts (matches_of options old).groups =
-    subst (λ (reading : Reading). KeepsCounts (matches_of options reading).groups) (sym is) accepted.counts in
-    let matches_are : matches_of options old ≡ matches = ap (matches_of options) is ∙ sym accepted.matches_are in
+    subst (λ (those : Matched). KeepsCounts those.groups) (sym matches_are) accepted.counts in
     let keeps : KeepsCounts (matches_of options new).groups = KeepsCounts-mentions
     (signatures_of options.groups) grammar grammar old new (sym told) kept in (
       (accepted_when others (matches_of options new)).1 (new, record { reads = reads_new; keeps = keeps }, refl),

@@ -5,7 +5,7 @@ use Rattle.getopts.specs.Options.{Declared, MayBeDeclared, grammar_of}
 use Rattle.getopts.specs.Fail.{Fault}
 use Rattle.getopts.specs.Reading.{Reading, IsReading, IsScanFault}
 use Rattle.getopts.specs.Matches.{Matched, MatchedGroup, matches_of, KeepsCounts, IsCountFault}
-use Rattle.getopts.specs.Parse.{IsAccepted, BreaksCounts, HasNoReading, IsRefused}
+use Rattle.getopts.specs.Parse.{IsAccepted, BreaksCounts, HasReading, HasNoReading, IsRefused}
 use Rattle.getopts.specs.Canon.{content_of, IsPlain, IsCountKeeping}
 use Rattle.getopts.specs.Canon.{HasCanonicalLine, Content, IsAcceptedWith, Says}
 use Rattle.getopts.specs.CanonAnswers.{IsParseAnswer}
@@ -13,7 +13,7 @@ use Rattle.getopts.specs.Theorem.{OneReading, AcceptedExactlyWhen, RefusedExactl
 use Rattle.getopts.specs.Theorem.{HaveOneAnswer, OneLineOneContent}
 use Rattle.getopts.specs.Only.{IsTheOnly}
 use Rattle.getopts.proofs.Canonical.Lines.{HasCanonicalLine-says, OneLineOneContent-lawful}
-use Rattle.getopts.proofs.Canonical.Answered.{accepted_reads, breaking_reads}
+use Rattle.getopts.proofs.Canonical.Answered.{reads_of, keeps_accepted}
 use Rattle.getopts.proofs.Canonical.Answered.{not_refused, only_parse_answer}
 use Rattle.getopts.proofs.Parsing.Only.{IsTheOnly-from, meets}
 use Rattle.getopts.proofs.Parsing.Parsed.{only_reads, named_here, HasNoReading-fault}
@@ -39,15 +39,18 @@ module _ (options : Declared) (declared : MayBeDeclared options.groups) where
   pub OneReading-options : OneReading options
   OneReading-options words reading other reads other_reads = only_reading (grammar_of options) named words reading other reads other_reads
 
+  has_reading : (words : List Text) (reading : Reading) → IsReading (grammar_of options) reading words
+      → HasReading options words (matches_of options reading)
+  has_reading words reading reads = record {
+    reading = reading;
+    only = only_reads options declared words reading reads;
+    matches_are = refl;
+  }
+
   -- a reading that keeps the counts is accepted, with its matches and its content
   accepted : (words : List Text) (reading : Reading) → IsCountKeeping options reading words
       → IsAccepted options words (matches_of options reading)
-  accepted words reading keeps = record {
-    reading = reading;
-    only = only_reads options declared words reading keeps.reads;
-    counts = keeps.keeps;
-    matches_are = refl;
-  }
+  accepted words reading keeps = record { read = has_reading words reading keeps.reads; counts = keeps.keeps }
 
   accepted_with : (words : List Text) (reading : Reading) → IsCountKeeping options reading words
       → IsAcceptedWith options words (content_of options reading)
@@ -67,7 +70,7 @@ module _ (options : Declared) (declared : MayBeDeclared options.groups) where
   -- accepted exactly when a reading keeps the counts
   pub AcceptedExactlyWhen-options : AcceptedExactlyWhen options
   AcceptedExactlyWhen-options words matches = (
-    λ is. (is.reading, record { reads = accepted_reads options words matches is; keeps = is.counts }, is.matches_are),
+    λ is. (is.read.reading, keeps_accepted options words matches is, is.read.matches_are),
     λ has. subst (IsAccepted options words) (sym has.2) (accepted words has.0 has.1),
   )
 
@@ -80,14 +83,18 @@ module _ (options : Declared) (declared : MayBeDeclared options.groups) where
   first_fault : (words : List Text) (fault : Fault) → IsRefused options words fault
       → IsFirstFault words fault
   first_fault words fault (inl is) = inl (meets (IsScanFault (grammar_of options) words) fault is.only)
-  first_fault words fault (inr is) = inr (is.reading, breaking_reads options words fault is, is.breaks)
+  first_fault words fault (inr is) = inr (
+    is.read.reading,
+    reads_of options words is.matches is.read,
+    subst (λ (m : Matched). IsCountFault m.groups fault) is.read.matches_are is.breaks,
+  )
 
   breaks_counts : (words : List Text) (fault : Fault) (reading : Reading)
       → IsReading (grammar_of options) reading words
       → IsCountFault (matches_of options reading).groups fault → BreaksCounts options words fault
   breaks_counts words fault reading reads breaks = record {
-    reading = reading;
-    only = only_reads options declared words reading reads;
+    matches = matches_of options reading;
+    read = has_reading words reading reads;
     breaks = breaks;
   }
 

@@ -31,8 +31,7 @@ use Rattle.getopts.proofs.Canonical.Lines.{kind_at, FitsGroup, IsFitting-reading
 use Rattle.getopts.proofs.Held.Matches.{signatures-matched}
 use Rattle.getopts.proofs.Reading.Readings.{spelled_all-append}
 use Rattle.getopts.proofs.Held.Signatures.{names-signatures_of}
-use Rattle.getopts.proofs.Parsing.Parsed.{HasReading-accepted, counts-accepted, positions_below-accepted}
-use Rattle.getopts.proofs.Parsing.Parsed.{HavePositionsInOrder-read}
+use Rattle.getopts.proofs.Parsing.Parsed.{HavePositionsInOrder-read, positions_below-read}
 use Rattle.getopts.proofs.Scanner.Loop.{length-texts}
 
 -- each occurrence has a value, or none, as this kind of argument wants
@@ -226,12 +225,11 @@ module _ (options : Declared) (words : List Text) (matches : Matched)
 pub HoldDeclared-accepted : (options : Declared) (words : List Text) (matches : Matched)
     → IsAccepted options words matches → HoldDeclared options matches.groups
 HoldDeclared-accepted options words matches accepted =
-    let given = HoldGiven-read options words matches (HasReading-accepted options words matches accepted) in
-    let counts = counts-accepted options words matches accepted in
+    let given = HoldGiven-read options words matches accepted.read in
     record {
       given = given;
-      counts_kept = counts;
-      required = required-groups options matches.groups given.same_groups counts;
+      counts_kept = accepted.counts;
+      required = required-groups options matches.groups given.same_groups accepted.counts;
     }
 
 -- the words of a tail end in its free words
@@ -262,13 +260,12 @@ EndIn-reading grammar reading words reads style =
     let parts : words ≡ front ++ tail_words reading.tail = sym reads.spells ∙ spelled_all-append reading.items [] (tail_words reading.tail) in
     (front ++ tail.0, parts ∙ ap (λ (ws : List Text). front ++ ws) tail.1 ∙ joined ∙ ap (λ (ws : List Text). (front ++ tail.0) ++ ws) (sym none))
 
--- under `StopAtFirstFree` the words end in the free words that accepted matches hold
-pub HaveLastWordsFree-accepted : (options : Declared) (words : List Text) (matches : Matched)
-    → IsAccepted options words matches → HaveLastWordsFree options words matches.free
-HaveLastWordsFree-accepted options words matches accepted style =
-    subst (EndIn words) (ap (λ (m : Matched). m.free) (sym accepted.matches_are))
-    (EndIn-reading (grammar_of options) accepted.reading words
-    ((accepted.only accepted.reading).1 refl) style)
+-- under `StopAtFirstFree` the words end in the free words that matches hold
+pub HaveLastWordsFree-read : (options : Declared) (words : List Text) (matches : Matched)
+    → HasReading options words matches → HaveLastWordsFree options words matches.free
+HaveLastWordsFree-read options words matches has style =
+    subst (EndIn words) (ap (λ (m : Matched). m.free) (sym has.matches_are))
+    (EndIn-reading (grammar_of options) has.reading words ((has.only has.reading).1 refl) style)
 
 -- what accepted words tell of their matches
 pub Accepts-accepted : (options : Declared) (words : List (Bor Text)) (matches : Matched)
@@ -276,6 +273,6 @@ pub Accepts-accepted : (options : Declared) (words : List (Bor Text)) (matches :
 Accepts-accepted options words matches accepted = record {
   accepted = accepted;
   positions_below = subst (λ n. HavePositionsBelow n matches.groups) (length-texts words)
-      (positions_below-accepted options (texts words) matches accepted);
-  free_last = HaveLastWordsFree-accepted options (texts words) matches accepted;
+      (positions_below-read options (texts words) matches accepted.read);
+  free_last = HaveLastWordsFree-read options (texts words) matches accepted.read;
 }

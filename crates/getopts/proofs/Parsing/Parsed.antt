@@ -6,10 +6,9 @@ use Rattle.getopts.specs.Options.{Declared, MayBeDeclared, signatures_of, gramma
 use Rattle.getopts.specs.Fail.{Fault}
 use Rattle.getopts.specs.Reading.{Reading, IsReading, IsScanFault, Occurrence, occurrences_of}
 use Rattle.getopts.specs.Reading.{free_words, trailing_start}
-use Rattle.getopts.specs.Matches.{Matched, matched, matches_of, KeepsCounts, IsCountFault}
+use Rattle.getopts.specs.Matches.{Matched, matched, matches_of}
 use Rattle.getopts.specs.ReadingLaws.{HavePositionsInOrder, HavePositionsBelow}
-use Rattle.getopts.specs.Parse.{Reads, IsAccepted, HasReading, BreaksCounts}
-use Rattle.getopts.specs.Parse.{HasNoReading, KeepsReadingLaws}
+use Rattle.getopts.specs.Parse.{Reads, HasReading, HasNoReading, KeepsReadingLaws}
 use Rattle.getopts.proofs.Lookup.Names.{named_grammar}
 use Rattle.getopts.proofs.Parsing.Only.{IsTheOnly-from, meets}
 use Rattle.getopts.proofs.Reading.Laws.{LongAttachedOrSeparate_lem, ShortAttachedOrSeparate_lem}
@@ -64,33 +63,6 @@ module _ (options : Declared) (declared : MayBeDeclared options.groups) where
         matches_are = λ i. record { groups = groups_are i; free = free_are i; trailing_start = trailing_is i };
       }
 
-      -- a reading that keeps the counts is accepted
-      pub IsAccepted-reading : (frees : List Text) (trailing : Option ℕ)
-          → KeepsCounts (matched 0 (signatures_of options.groups) occurrences)
-          → frees ≡ free_words reading → trailing ≡ trailing_start reading
-          → IsAccepted options words
-          (record {
-            groups = matched 0 (signatures_of options.groups) occurrences;
-            free = frees;
-            trailing_start = trailing;
-          })
-      IsAccepted-reading frees trailing kept free_are trailing_is = record {
-        reading = reading;
-        only = only_reads reading reads;
-        counts = subst KeepsCounts groups_are kept;
-        matches_are = λ i. record { groups = groups_are i; free = free_are i; trailing_start = trailing_is i };
-      }
-
-      -- a reading that doesn't has a count fault
-      pub BreaksCounts-reading : (fault : Fault)
-          → IsCountFault (matched 0 (signatures_of options.groups) occurrences) fault
-          → BreaksCounts options words fault
-      BreaksCounts-reading fault breaks = record {
-        reading = reading;
-        only = only_reads reading reads;
-        breaks = subst (λ gs. IsCountFault gs fault) groups_are breaks;
-      }
-
   -- readings keep the laws
   pub keeps_laws : KeepsReadingLaws (grammar_of options)
   keeps_laws = record {
@@ -106,21 +78,6 @@ module _ (options : Declared) (declared : MayBeDeclared options.groups) where
     positions = PositionsAreWords_lem (grammar_of options);
   }
 
--- accepted words have a reading
-pub HasReading-accepted : (options : Declared) (words : List Text) (matches : Matched)
-    → IsAccepted options words matches → HasReading options words matches
-HasReading-accepted options words matches accepted = record {
-  reading = accepted.reading;
-  only = accepted.only;
-  matches_are = accepted.matches_are;
-}
-
--- accepted matches keep the counts
-pub counts-accepted : (options : Declared) (words : List Text) (matches : Matched)
-    → IsAccepted options words matches → KeepsCounts matches.groups
-counts-accepted options words matches accepted =
-    subst KeepsCounts (ap (λ (m : Matched). m.groups) (sym accepted.matches_are)) accepted.counts
-
 -- positions are in order
 pub HavePositionsInOrder-read : (options : Declared) (words : List Text) (matches : Matched)
     → HasReading options words matches → HavePositionsInOrder matches.groups
@@ -128,11 +85,10 @@ HavePositionsInOrder-read options words matches has =
     subst HavePositionsInOrder (ap (λ (m : Matched). m.groups) (sym has.matches_are))
     (HavePositionsInOrder-matched (grammar_of options) has.reading 0 (signatures_of options.groups))
 
--- the positions of accepted matches are below the number of words
-pub positions_below-accepted : (options : Declared) (words : List Text) (matches : Matched)
-    → IsAccepted options words matches → HavePositionsBelow (length words) matches.groups
-positions_below-accepted options words matches accepted =
-    let groups : (matches_of options accepted.reading).groups ≡ matches.groups = ap (λ (m : Matched). m.groups) (sym accepted.matches_are) in
-    subst (HavePositionsBelow (length words)) groups (HavePositionsBelow-matched
-    (grammar_of options) accepted.reading words (meets (Reads options words) accepted.reading accepted.only) 0
-    (signatures_of options.groups))
+-- positions are below the number of words
+pub positions_below-read : (options : Declared) (words : List Text) (matches : Matched)
+    → HasReading options words matches → HavePositionsBelow (length words) matches.groups
+positions_below-read options words matches has =
+    subst (HavePositionsBelow (length words)) (ap (λ (m : Matched). m.groups) (sym has.matches_are))
+    (HavePositionsBelow-matched (grammar_of options) has.reading words
+    (meets (Reads options words) has.reading has.only) 0 (signatures_of options.groups))

@@ -29,7 +29,7 @@ scanner_grammar scanner = grammar_of scanner.options.now
 -- the options of a scanner are declared, and its table is that of their names
 pub record IsLawfulScanner (scanner : Scanner) : Type 0 where
   pub declared : MayBeDeclared scanner.options.now.groups
-  pub table : IsTableOf (names_of scanner.options.now.groups) scanner.table.now
+  pub table : IsTableOf (names_of scanner.options.now.groups) scanner.table.now.entries.items
 
 -- what a word is to a line
 abbrev pub HasShape : Grammar → Text → Shape → Type 0

@@ -12,7 +12,7 @@ use Rattle.getopts.specs.declared.matches.ReadLine.{ReadLine}
 
 -- a line that was read holds the table and the index of these groups
 pub record IsOfGroups (groups : List Group) (read : ReadLine) : Type 0 where
-  pub table : IsTableOf (names_of groups) read.table
+  pub table : IsTableOf (names_of groups) read.table.entries.items
   pub index : read.index ≡ index_of (length groups) read.line.found
 
 -- words were read to this line by declared options
@@ -32,5 +32,5 @@ matched_view inside = matched 0 (signatures_of inside.groups) inside.found
 
 -- they keep their table, and where the occurrences of each group stand
 pub record KeepsGroups (inside : Inside) : Type 0 where
-  pub table : IsTableOf (names_of inside.groups) inside.table
+  pub table : IsTableOf (names_of inside.groups) inside.table.entries.items
   pub index : inside.index ≡ index_of (length inside.groups) inside.found

@@ -1,12 +1,13 @@
 -- A fault of the words or of the counts is the first of the line.
-use Rattle.std.proofs.Common.{inl, inr}
+use Rattle.std.proofs.Common.{inl, inr, map}
+use Rattle.std.specs.String.{string_bytes}
 use Rattle.std.proofs.lemmas.Result.{err_from_is_err_and}
 use Rattle.getopts.specs.Names.{texts}
 use Rattle.getopts.specs.Options.{signatures_of}
 use Rattle.getopts.specs.Matches.{matched, IsCountFault}
 use Rattle.getopts.specs.Parse.{IsRefused, HasNoReading}
 use Rattle.getopts.proofs.Parsing.Faults.{Tells-weaker}
-use Rattle.getopts.proofs.Parsing.Parsed.{BreaksCounts-reading}
+use Rattle.getopts.proofs.Canonical.Answered.{HasReading-line}
 use Rattle.getopts.proofs.options.Options.accepted_line.Goals as goal
 
 pub returns-in_err-read-clause-refused : goal.returns-in_err-read-clause-refused
@@ -21,16 +22,21 @@ check_counts-requires c = rw (c.groups.ensures.groups) c.in_ok-read.ensures.read
 
 pub returns-in_err-check_counts-clause-refused : goal.returns-in_err-check_counts-clause-refused
 returns-in_err-check_counts-clause-refused c =
-    let read = c.in_ok-read.ensures.read in
     let line = c.in_ok-read.read.line in
     let left = err_from_is_err_and c.from_residual-in_err-check_counts.result c.from_residual-in_err-check_counts.ensures.1 in
     rw (left.1, left.2)
     (Tells-weaker c.in_err-check_counts.field-0.0 (IsCountFault (matched 0 (signatures_of c.args.self.now.groups) line.found))
     (IsRefused c.args.self.now (texts c.args.words.now))
     (rw c.groups.ensures.groups at c.in_err-check_counts.ensures.err)
-    (λ fault is. inr
-    (BreaksCounts-reading c.args.self.now read.declared (texts c.args.words.now) read.reads.reading read.reads.reads
-    line.found read.reads.occurrences fault is)))
+    (λ fault is. inr (record {
+      matches = record {
+        groups = matched 0 (signatures_of c.args.self.now.groups) line.found;
+        free = map string_bytes line.free.items;
+        trailing_start = line.trailing_start;
+      };
+      read = HasReading-line c.args.self.now (texts c.args.words.now) c.in_ok-read.read c.in_ok-read.ensures.read;
+      breaks = is;
+    })))
 
 pub returns-clause-accepted : goal.returns-clause-accepted
 returns-clause-accepted c = record {

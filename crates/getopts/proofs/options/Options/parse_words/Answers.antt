@@ -3,9 +3,9 @@ use Rattle.std.proofs.Common.{◌≡◌, ◌∙◌, subst}
 use Rattle.getopts.specs.Names.{texts}
 use Rattle.getopts.specs.ReadingLaws.{HavePositionsBelow}
 use Rattle.getopts.proofs.Canonical.Answered.{IsAccepted-line}
-use Rattle.getopts.proofs.Parsing.Parsed.{positions_below-accepted, keeps_laws}
+use Rattle.getopts.proofs.Parsing.Parsed.{positions_below-read, keeps_laws}
 use Rattle.getopts.proofs.Scanner.Loop.{length-texts}
-use Rattle.getopts.proofs.Parsing.Holds.{HoldDeclared-accepted, HaveLastWordsFree-accepted}
+use Rattle.getopts.proofs.Parsing.Holds.{HoldDeclared-accepted, HaveLastWordsFree-read}
 use Rattle.getopts.proofs.options.Options.parse_words.Goals as goal
 
 pub returns-clause-accepted : goal.returns-clause-accepted
@@ -21,10 +21,10 @@ returns-clause-declared c = HoldDeclared-accepted c.args.self.now (texts c.args.
 pub returns-clause-positions_below : goal.returns-clause-positions_below
 returns-clause-positions_below c =
     subst (λ n. HavePositionsBelow n c.of_line.result.groups) (length-texts c.args.words.now)
-    (positions_below-accepted c.args.self.now (texts c.args.words.now) c.of_line.result (returns-clause-accepted c))
+    (positions_below-read c.args.self.now (texts c.args.words.now) c.of_line.result (returns-clause-accepted c).read)
 
 pub returns-clause-free_last : goal.returns-clause-free_last
-returns-clause-free_last c = HaveLastWordsFree-accepted c.args.self.now (texts c.args.words.now) c.of_line.result (returns-clause-accepted c)
+returns-clause-free_last c = HaveLastWordsFree-read c.args.self.now (texts c.args.words.now) c.of_line.result (returns-clause-accepted c).read
 
 pub returns-clause-laws : goal.returns-clause-laws
 returns-clause-laws c = keeps_laws c.args.self.now c.groups.ensures.declared
