@@ -46,8 +46,7 @@ static char *const no_words[] = { NULL };
 
 /* An export that reads words. */
 typedef uint32_t line_call(const uint8_t *, size_t, const size_t *, size_t, const uint8_t *, size_t, bool,
-    bool, const uint8_t *, size_t, const size_t *, size_t, size_t *, size_t, uint8_t *, size_t,
-    struct getopts_sizes *);
+    bool, size_t, size_t, size_t *, size_t, uint8_t *, size_t, struct getopts_sizes *);
 
 /* Allocates a block of its sizes. */
 static bool take(struct block *block) {
@@ -57,10 +56,20 @@ static bool take(struct block *block) {
     return block->numbers != NULL;
 }
 
-static bool join(struct block *to, char *const *texts, size_t count) {
-    to->sizes.numbers = count;
+/* How many bytes texts have together. */
+static size_t length(char *const *texts, size_t count) {
+    size_t len = 0;
     for (size_t nth = 0; nth < count; nth++)
-        to->sizes.bytes += strlen(texts[nth]);
+        len += strlen(texts[nth]);
+    return len;
+}
+
+/* Puts texts at the front of a block, which is allocated: of its sizes, or of theirs where those are larger. */
+static bool join(struct block *to, char *const *texts, size_t count, size_t len) {
+    if (to->sizes.numbers < count)
+        to->sizes.numbers = count;
+    if (to->sizes.bytes < len)
+        to->sizes.bytes = len;
     if (!take(to))
         return false;
     uint8_t *end = to->bytes;
@@ -130,7 +139,7 @@ struct getopts *getopts_new(const struct getopts_option *table, enum getopts_mod
         status = wrong(options, "%u is no sum of modes", (unsigned)modes);
     if (status == GETOPTS_BAD)
         groups = 0;
-    if (status != GETOPTS_NO_MEMORY && join(&options->texts, texts, 4 * groups)) {
+    if (status != GETOPTS_NO_MEMORY && join(&options->texts, texts, 4 * groups, length(texts, 4 * groups))) {
         options->groups = groups;
         options->modes = (unsigned)modes;
         options->reading = (struct reading){ .message = options->wrong, .free_words = no_words };
@@ -157,20 +166,16 @@ static uint32_t blame(size_t count, char *const *words, struct block *to) {
 /* Calls an export with buffers of a guessed size, in which all words fit, and once more if that is too small. */
 static uint32_t ask(const struct getopts *options, line_call *call, int given, char *const *words,
     struct block *answer) {
-    size_t count = given > 0 ? (size_t)given : 0;
-    struct block line = { 0 };
-    uint32_t status = options->wrong[0] != '\0' ? GETOPTS_BAD
-        : join(&line, words, count) ? GETOPTS_TOO_SMALL : GETOPTS_NO_MEMORY;
+    size_t count = given > 0 ? (size_t)given : 0, len = length(words, count);
+    uint32_t status = options->wrong[0] != '\0' ? GETOPTS_BAD : GETOPTS_TOO_SMALL;
     struct getopts_sizes *sizes = &answer->sizes;
-    *answer = (struct block){ .sizes = { 3 * options->groups + 4 * count + 8, 2 * line.sizes.bytes + 64 } };
+    *answer = (struct block){ .sizes = { 3 * options->groups + 4 * count + 8, 2 * len + 64 } };
     while (status == GETOPTS_TOO_SMALL) {
         free(answer->numbers);
-        status = !take(answer) ? GETOPTS_NO_MEMORY
-            : call(OPTIONS(options), options->modes & GETOPTS_STOP, options->modes & GETOPTS_LONG_ONLY,
-                line.bytes, line.sizes.bytes, line.numbers, count, answer->numbers, sizes->numbers,
-                answer->bytes, sizes->bytes, sizes);
+        status = !join(answer, words, count, len) ? GETOPTS_NO_MEMORY
+            : call(OPTIONS(options), options->modes & GETOPTS_STOP, options->modes & GETOPTS_LONG_ONLY, count, len,
+                answer->numbers, sizes->numbers, answer->bytes, sizes->bytes, sizes);
     }
-    free(line.numbers);
     return status == GETOPTS_BAD && answer->bytes != NULL ? blame(count, words, answer) : status;
 }
 

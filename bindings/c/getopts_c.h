@@ -23,7 +23,7 @@
 #include <stdint.h>
 
 /* The version of these declarations: one more with each change that a caller has to follow. */
-#define GETOPTS_C_VERSION 2
+#define GETOPTS_C_VERSION 3
 
 #ifdef __cplusplus
 extern "C" {
@@ -43,7 +43,7 @@ enum {
 };
 
 /* After GETOPTS_TOO_SMALL the same request with buffers of these sizes isn't answered so again. So a caller asks
- * with buffers of a guessed size, or with none, and then once more. */
+ * with buffers of a guessed size, or with no more than the words take, and then once more. */
 
 /* GETOPTS_BAD is returned if the texts, lengths and kinds aren't those of options with UTF-8 texts and right
  * names, or if the words, the brief or the program's name aren't UTF-8 texts of these lengths, and only then;
@@ -69,7 +69,9 @@ enum getopts_kind {
     GETOPTS_MULTI = 8     /* it comes any number of times */
 };
 
-/* Reads words by options.
+/* Reads words by options. The words stand at the front of the two buffers, and the answer is written over them:
+ * with the last three statuses they are as they were. If a buffer has less than is said to stand there, all that
+ * it has is meant.
  *
  * The numbers are, for each name of each group in order, the short one and the long one, 1 and the place
  * of the group that it names, from 0, or 0 where it names none. Then how many groups there are, and for
@@ -86,13 +88,11 @@ uint32_t getopts_c_parse(
     size_t kinds_len,        /* how many groups */
     bool stop,               /* whether all words from the first free one on are free */
     bool long_only,          /* whether long names follow one dash or two */
-    const uint8_t *words,    /* the words, one after the other */
+    size_t words,            /* how many words */
     size_t words_len,        /* how many bytes they are together */
-    const size_t *word_lens, /* the length of each word */
-    size_t word_lens_len,    /* how many words */
-    size_t *numbers,         /* where the numbers go */
+    size_t *numbers,         /* the length of each word at the front; where the numbers go */
     size_t numbers_len,      /* how many fit */
-    uint8_t *bytes,          /* where the bytes go */
+    uint8_t *bytes,          /* the words, one after the other, at the front; where the bytes go */
     size_t bytes_len,        /* how many fit */
     struct getopts_sizes *sizes /* how much the answer has */
 );
@@ -108,10 +108,8 @@ uint32_t getopts_c_parse_ignoring_counts(
     size_t kinds_len,
     bool stop,
     bool long_only,
-    const uint8_t *words,
+    size_t words,
     size_t words_len,
-    const size_t *word_lens,
-    size_t word_lens_len,
     size_t *numbers,
     size_t numbers_len,
     uint8_t *bytes,
@@ -130,10 +128,8 @@ uint32_t getopts_c_canonical(
     size_t kinds_len,
     bool stop,
     bool long_only,
-    const uint8_t *words,
+    size_t words,
     size_t words_len,
-    const size_t *word_lens,
-    size_t word_lens_len,
     size_t *numbers,
     size_t numbers_len,
     uint8_t *bytes,

@@ -35,13 +35,25 @@ struct room {
     struct getopts_sizes sizes;
 };
 
-/* Rooms that no answer has been written to, which would tell wrong sizes. */
-static void empty(struct room *room) {
+/* What stood in the rooms before a call. */
+static struct room before;
+
+/* Rooms that no answer has been written to, which would tell wrong sizes, with words at the front. */
+static void put(struct room *room, const char *words, size_t words_len, const size_t *word_lens, size_t count) {
     for (size_t i = 0; i < 64; i++)
         room->numbers[i] = 9;
     memset(room->bytes, '.', sizeof room->bytes);
     room->sizes.numbers = 77;
     room->sizes.bytes = 77;
+    if (count > 0) {
+        memcpy(room->numbers, word_lens, count * sizeof *word_lens);
+        memcpy(room->bytes, words, words_len);
+    }
+    before = *room;
+}
+
+static void empty(struct room *room) {
+    put(room, "", 0, NULL, 0);
 }
 
 static const uint8_t *bytes_of(const char *text) {
@@ -51,16 +63,21 @@ static const uint8_t *bytes_of(const char *text) {
 /* What words of these lengths are answered, by that option of this kind, in rooms of these sizes. */
 static uint32_t parsed(uint8_t kind, const char *words, size_t words_len, const size_t *word_lens, size_t count,
     size_t numbers, size_t bytes, struct room *room) {
-    empty(room);
-    return getopts_c_parse(bytes_of(texts), sizeof texts - 1, lens, 4, &kind, 1, false, false, bytes_of(words),
-        words_len, word_lens, count, room->numbers, numbers, room->bytes, bytes, &room->sizes);
+    put(room, words, words_len, word_lens, count);
+    return getopts_c_parse(bytes_of(texts), sizeof texts - 1, lens, 4, &kind, 1, false, false, count, words_len,
+        room->numbers, numbers, room->bytes, bytes, &room->sizes);
 }
 
 /* Whether a room holds these numbers and bytes, all that it has of them and then what stood there. */
 static bool holds(const struct room *room, const size_t *numbers, size_t count, const char *bytes) {
     size_t len = strlen(bytes);
-    return (count == 0 || memcmp(room->numbers, numbers, count * sizeof *numbers) == 0) && room->numbers[count] == 9
-        && memcmp(room->bytes, bytes, len) == 0 && room->bytes[len] == '.';
+    return (count == 0 || memcmp(room->numbers, numbers, count * sizeof *numbers) == 0)
+        && memcmp(room->numbers + count, before.numbers + count, (64 - count) * sizeof *numbers) == 0
+        && memcmp(room->bytes, bytes, len) == 0 && memcmp(room->bytes + len, before.bytes + len, 256 - len) == 0;
+}
+
+static bool untouched(const struct room *room) {
+    return holds(room, NULL, 0, "");
 }
 
 static bool tells(const struct room *room, size_t numbers, size_t bytes) {
@@ -98,15 +115,17 @@ static void each_line_has_its_status(void) {
 
 static void accepted_words_are_told(void) {
     struct room room;
-    expect(parsed(once, "-oabx", 5, (size_t[]){ 4, 1 }, 2, 9, 3, &room) == GETOPTS_OK, "accepted");
+    expect(parsed(once, "-oabx", 5, (size_t[]){ 4, 1 }, 2, 9, 5, &room) == GETOPTS_OK, "accepted");
     expect(holds(&room, (size_t[]){ 1, 1, 1, 1, 0, 3, 1, 1, 0 }, 9, "abx"), "what was accepted");
-    expect(tells(&room, 9, 3), "the sizes of what was accepted, which fill the rooms");
+    expect(tells(&room, 9, 3), "the sizes of what was accepted, which fills the room for numbers");
 }
 
 static void small_room_tells_the_size(void) {
     struct room room;
-    expect(parsed(once, "x", 1, (size_t[]){ 1 }, 1, 0, 0, &room) == GETOPTS_TOO_SMALL, "no room");
-    expect(tells(&room, 7, 1) && room.numbers[0] == 9 && room.bytes[0] == '.', "sizes where there is no room");
+    expect(parsed(once, "x", 1, (size_t[]){ 1 }, 1, 1, 1, &room) == GETOPTS_TOO_SMALL, "room for the word alone");
+    expect(tells(&room, 7, 1) && untouched(&room), "sizes where there is too little room");
+    expect(parsed(once, "xy", 2, (size_t[]){ 1, 1 }, 2, 1, 1, &room) == GETOPTS_TOO_SMALL, "room for one of two words");
+    expect(tells(&room, 7, 1) && untouched(&room), "the sizes for the word that is there");
 }
 
 static void a_fault_is_told(void) {
@@ -132,10 +151,10 @@ static void counts_are_ignored(void) {
     struct room room;
     for (size_t i = 0; i < sizeof rows / sizeof *rows; i++) {
         const struct row *row = &rows[i];
-        empty(&room);
+        size_t len = strlen(row->words);
+        put(&room, row->words, len, row->lens, row->count);
         uint32_t status = getopts_c_parse_ignoring_counts(bytes_of(texts), sizeof texts - 1, lens, 4, &row->kind, 1,
-            false, false, bytes_of(row->words), strlen(row->words), row->lens, row->count, room.numbers, sizes[i],
-            room.bytes, strlen(row->bytes), &room.sizes);
+            false, false, row->count, len, room.numbers, sizes[i], room.bytes, len, &room.sizes);
         expect(status == row->status, "the status where counts are ignored");
         expect(holds(&room, row->numbers, sizes[i], row->bytes) && tells(&room, sizes[i], strlen(row->bytes)),
             "what is told where counts are ignored");
@@ -144,9 +163,9 @@ static void counts_are_ignored(void) {
 
 static void the_canonical_line_is_told(void) {
     struct room room;
-    empty(&room);
-    expect(getopts_c_canonical(bytes_of(texts), sizeof texts - 1, lens, 4, &once, 1, false, false, bytes_of("x-oab"),
-               5, (size_t[]){ 1, 4 }, 2, room.numbers, 5, room.bytes, 16, &room.sizes)
+    put(&room, "x-oab", 5, (size_t[]){ 1, 4 }, 2);
+    expect(getopts_c_canonical(bytes_of(texts), sizeof texts - 1, lens, 4, &once, 1, false, false, 2, 5, room.numbers, 5,
+               room.bytes, 16, &room.sizes)
             == GETOPTS_OK,
         "a canonical line");
     expect(holds(&room, (size_t[]){ 3, 11, 2, 1 }, 4, "--output=ab--x") && tells(&room, 4, 14), "its words");
@@ -164,7 +183,7 @@ static void the_short_usage_is_told(void) {
     expect(short_usage(21, &room) == GETOPTS_OK, "a short usage");
     expect(holds(&room, NULL, 0, "Usage: copy [-o NAME]") && tells(&room, 0, 21), "its text, which fills the room");
     expect(short_usage(20, &room) == GETOPTS_TOO_SMALL, "a byte too little for it");
-    expect(tells(&room, 0, 21) && room.bytes[0] == '.', "what a byte too little for it tells");
+    expect(tells(&room, 0, 21) && untouched(&room), "what a byte too little for it tells");
 }
 
 static void the_usage_is_told(void) {
@@ -179,7 +198,7 @@ static void the_usage_is_told(void) {
     status = getopts_c_usage(bytes_of(texts), sizeof texts - 1, lens, 4, &once, 1, false, bytes_of("B"), 1, room.bytes,
         sizeof text - 2, &room.sizes);
     expect(status == GETOPTS_TOO_SMALL, "a byte too little");
-    expect(tells(&room, 0, sizeof text - 1) && room.bytes[0] == '.', "what a byte too little tells");
+    expect(tells(&room, 0, sizeof text - 1) && untouched(&room), "what a byte too little tells");
 }
 
 /* The rows of the usage text, in so much room. */
@@ -195,9 +214,9 @@ static void the_usage_rows_are_told(void) {
     expect(holds(&room, (size_t[]){ 1, 38 }, 2, "    -o, --output NAME   set the output") && tells(&room, 2, 38),
         "the rows, which fill the rooms");
     expect(usage_rows(1, 38, &room) == GETOPTS_TOO_SMALL && tells(&room, 2, 38), "a number too little for the rows");
-    expect(room.numbers[0] == 9 && room.bytes[0] == '.', "nothing is written where a number is too little");
+    expect(untouched(&room), "nothing is written where a number is too little");
     expect(usage_rows(2, 37, &room) == GETOPTS_TOO_SMALL && tells(&room, 2, 38), "a byte too little for the rows");
-    expect(room.numbers[0] == 9 && room.bytes[0] == '.', "nothing is written where a byte is too little");
+    expect(untouched(&room), "nothing is written where a byte is too little");
 }
 
 int main(void) {

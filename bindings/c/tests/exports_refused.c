@@ -7,7 +7,7 @@
 #include <stdlib.h>
 #include <string.h>
 
-enum { GROUPS = 2, WORDS = 3, ROOM = 1024, MOST = 1000 };
+enum { GROUPS = 2, WORDS = 3, LITTLE = 6, ROOM = 1024, MOST = 1000 };
 
 /* The heap: which request it refuses, and whether those after it too; the requests so far, how many of
  * them were refused, and the blocks that weren't let go. */
@@ -86,7 +86,7 @@ struct room {
     struct getopts_sizes sizes;
 };
 
-static struct room room, untouched;
+static struct room room, before;
 
 /* A call: an export, on kinds and words, with room for so many numbers and so many bytes. */
 struct call {
@@ -101,21 +101,18 @@ struct call {
 #define OPTIONS(call) (const uint8_t *)texts, sizeof texts - 1, lens, 4 * GROUPS, (call)->kinds, GROUPS
 
 static uint32_t parse(const struct call *call) {
-    return getopts_c_parse(OPTIONS(call), false, false, (const uint8_t *)call->words->bytes,
-        strlen(call->words->bytes), call->words->lens, WORDS, room.numbers, call->fits, room.bytes,
-        call->fits, &room.sizes);
+    return getopts_c_parse(OPTIONS(call), false, false, WORDS, strlen(call->words->bytes), room.numbers, call->fits,
+        room.bytes, call->fits, &room.sizes);
 }
 
 static uint32_t ignoring_counts(const struct call *call) {
-    return getopts_c_parse_ignoring_counts(OPTIONS(call), false, false, (const uint8_t *)call->words->bytes,
-        strlen(call->words->bytes), call->words->lens, WORDS, room.numbers, call->fits, room.bytes,
-        call->fits, &room.sizes);
+    return getopts_c_parse_ignoring_counts(OPTIONS(call), false, false, WORDS, strlen(call->words->bytes), room.numbers, call->fits,
+        room.bytes, call->fits, &room.sizes);
 }
 
 static uint32_t canonical(const struct call *call) {
-    return getopts_c_canonical(OPTIONS(call), false, false, (const uint8_t *)call->words->bytes,
-        strlen(call->words->bytes), call->words->lens, WORDS, room.numbers, call->fits, room.bytes,
-        call->fits, &room.sizes);
+    return getopts_c_canonical(OPTIONS(call), false, false, WORDS, strlen(call->words->bytes), room.numbers, call->fits,
+        room.bytes, call->fits, &room.sizes);
 }
 
 static uint32_t usage(const struct call *call) {
@@ -138,14 +135,14 @@ static const struct call calls[] = {
     { "parse, a fault", parse, lawful, &unknown, ROOM, GETOPTS_UNRECOGNIZED_OPTION },
     { "parse, a bad kind", parse, unlawful, &accepted, ROOM, GETOPTS_BAD },
     { "parse, bad words", parse, lawful, &uncut, ROOM, GETOPTS_BAD },
-    { "parse, no room", parse, lawful, &accepted, 0, GETOPTS_TOO_SMALL },
+    { "parse, little room", parse, lawful, &accepted, LITTLE, GETOPTS_TOO_SMALL },
     { "parse, a count", parse, missing, &twice, ROOM, GETOPTS_OPTION_DUPLICATED },
     { "ignoring counts", ignoring_counts, missing, &twice, ROOM, GETOPTS_OK },
     { "ignoring counts, a fault", ignoring_counts, missing, &unknown, ROOM, GETOPTS_UNRECOGNIZED_OPTION },
     { "canonical", canonical, lawful, &accepted, ROOM, GETOPTS_OK },
     { "canonical, a fault", canonical, lawful, &unknown, ROOM, GETOPTS_UNRECOGNIZED_OPTION },
     { "canonical, bad words", canonical, lawful, &uncut, ROOM, GETOPTS_BAD },
-    { "canonical, no room", canonical, lawful, &accepted, 0, GETOPTS_TOO_SMALL },
+    { "canonical, little room", canonical, lawful, &accepted, LITTLE, GETOPTS_TOO_SMALL },
     { "usage", usage, lawful, &accepted, ROOM, GETOPTS_OK },
     { "usage, a bad kind", usage, unlawful, &accepted, ROOM, GETOPTS_BAD },
     { "usage, no room", usage, lawful, &accepted, 0, GETOPTS_TOO_SMALL },
@@ -155,13 +152,16 @@ static const struct call calls[] = {
     { "usage_rows, no room", usage_rows, lawful, &accepted, 0, GETOPTS_TOO_SMALL },
 };
 
-/* Makes a call, and tells whether it was answered as it has to be. */
+/* Makes a call, with its words at the front of the room, and tells whether it was answered as it has to be. */
 static bool answers(const struct call *call) {
     heap.requests = heap.refused = heap.blocks = 0;
-    memcpy(&room, &untouched, sizeof room);
+    memset(&room, 0x5a, sizeof room);
+    memcpy(room.numbers, call->words->lens, sizeof call->words->lens);
+    memcpy(room.bytes, call->words->bytes, strlen(call->words->bytes));
+    memcpy(&before, &room, sizeof room);
     uint32_t status = call->export(call);
     uint32_t wanted = heap.refused > 0 ? GETOPTS_NO_MEMORY : call->status;
-    bool keeps = wanted != GETOPTS_NO_MEMORY || memcmp(&room, &untouched, sizeof room) == 0;
+    bool keeps = wanted != GETOPTS_NO_MEMORY || memcmp(&room, &before, sizeof room) == 0;
     if (status == wanted && keeps && heap.blocks == 0)
         return true;
     printf("%s, request %zu refused%s: status %u, %zu blocks left, %s\n", call->name, heap.at,
@@ -172,7 +172,6 @@ static bool answers(const struct call *call) {
 
 int main(void) {
     size_t runs = 0;
-    memset(&untouched, 0x5a, sizeof untouched);
     for (size_t place = 0; place < sizeof calls / sizeof *calls; place++)
         for (int on = 0; on < 2; on++) {
             heap.on = on == 1;

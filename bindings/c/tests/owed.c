@@ -42,7 +42,8 @@ static void expect(bool holds, const char *what) {
     }
 }
 
-/* What a request tells: `o`/`output`, and the words `-oab` and `x`, which are a brief too. */
+/* What a request tells: `o`/`output`, and the words `-oab` and `x`, which are a brief too. To be read as words they
+ * are put at the front of the rooms. */
 struct request {
     size_t lens[4], word_lens[2];
     uint8_t kind, texts[25], words[5];
@@ -63,15 +64,18 @@ struct rooms {
 };
 
 #define OPTIONS from->texts, sizeof from->texts, from->lens, 4, &from->kind, 1
-#define WORDS from->words, sizeof from->words, from->word_lens, 2
 #define ROOMS to->numbers, to->numbers_len, to->bytes, to->bytes_len, to->sizes
 
 static uint32_t ask(int export, const struct request *from, const struct rooms *to) {
+    if (export == PARSE || export == CANONICAL) {
+        memcpy(to->numbers, request.word_lens, sizeof request.word_lens);
+        memcpy(to->bytes, request.words, sizeof request.words);
+    }
     switch (export) {
     case PARSE:
-        return getopts_c_parse(OPTIONS, false, false, WORDS, ROOMS);
+        return getopts_c_parse(OPTIONS, false, false, 2, sizeof request.words, ROOMS);
     case CANONICAL:
-        return getopts_c_canonical(OPTIONS, false, false, WORDS, ROOMS);
+        return getopts_c_canonical(OPTIONS, false, false, 2, sizeof request.words, ROOMS);
     case USAGE:
         return getopts_c_usage(OPTIONS, false, from->words, sizeof from->words, to->bytes, to->bytes_len, to->sizes);
     case SHORT_USAGE:
@@ -104,16 +108,24 @@ static bool same(const struct answer *one, const struct answer *other) {
         && memcmp(one->bytes, other->bytes, BYTES) == 0;
 }
 
-/* One array is the texts and the words, and one the lengths of both; the kind is a byte of the lengths. */
+/* An answer whose rooms have words at the front. */
+static struct answer with_words(const uint8_t *words, size_t words_len, const size_t *word_lens, size_t count) {
+    struct answer answer = { .status = GETOPTS_BAD };
+    memcpy(answer.numbers, word_lens, count * sizeof *word_lens);
+    memcpy(answer.bytes, words, words_len);
+    return answer;
+}
+
+/* The kind is a byte of the lengths, and the texts are the program's name too. */
 static void what_is_read_may_overlap(void) {
     static const uint8_t texts[] = "--vthe", apart[] = "--vthe";
     static const size_t lens[4] = { 0, 4, 0, 2 }, lens_apart[4] = { 0, 4, 0, 2 };
     static const uint8_t flag = GETOPTS_NO + GETOPTS_REQ, *kind = (const uint8_t *)(lens + 1);
-    struct answer one = { .status = GETOPTS_BAD }, other = { .status = GETOPTS_BAD };
-    one.status = getopts_c_parse(texts, 6, lens, 4, kind, 1, false, false, texts, 6, lens, 4, one.numbers, NUMBERS,
-        one.bytes, BYTES, &one.sizes);
-    other.status = getopts_c_parse(texts, 6, lens, 4, &flag, 1, false, false, apart, 6, lens_apart, 4, other.numbers,
-        NUMBERS, other.bytes, BYTES, &other.sizes);
+    struct answer one = with_words(texts, 6, lens, 4), other = one;
+    one.status = getopts_c_parse(texts, 6, lens, 4, kind, 1, false, false, 4, 6, one.numbers, NUMBERS, one.bytes,
+        BYTES, &one.sizes);
+    other.status = getopts_c_parse(apart, 6, lens_apart, 4, &flag, 1, false, false, 4, 6, other.numbers, NUMBERS,
+        other.bytes, BYTES, &other.sizes);
     expect(one.status == GETOPTS_UNRECOGNIZED_OPTION && same(&one, &other), "what is only read overlaps");
     one.status = getopts_c_short_usage(texts, 6, lens, 4, kind, 1, texts, 6, one.bytes, BYTES, &one.sizes);
     other.status = getopts_c_short_usage(texts, 6, lens, 4, &flag, 1, apart, 6, other.bytes, BYTES, &other.sizes);
@@ -194,8 +206,7 @@ static size_t rooms_that_overlap(void) {
 
 /* An export as a caller might declare it that has no bool. */
 typedef uint32_t parse_by_bytes(const uint8_t *, size_t, const size_t *, size_t, const uint8_t *, size_t, uint8_t,
-    uint8_t, const uint8_t *, size_t, const size_t *, size_t, size_t *, size_t, uint8_t *, size_t,
-    struct getopts_sizes *);
+    uint8_t, size_t, size_t, size_t *, size_t, uint8_t *, size_t, struct getopts_sizes *);
 
 typedef void any_call(void);
 
@@ -205,9 +216,9 @@ static struct answer read_by(uint8_t stop, uint8_t long_only) {
     static const size_t lens[4] = { 1, 6, 0, 0 }, word_lens[3] = { 9, 1, 10 };
     static const uint8_t kind = GETOPTS_YES + GETOPTS_MULTI;
     parse_by_bytes *parse = (parse_by_bytes *)(any_call *)getopts_c_parse;
-    struct answer answer = { .status = GETOPTS_BAD };
-    answer.status = parse(texts, 7, lens, 4, &kind, 1, stop, long_only, words, 20, word_lens, 3, answer.numbers,
-        NUMBERS, answer.bytes, BYTES, &answer.sizes);
+    struct answer answer = with_words(words, 20, word_lens, 3);
+    answer.status = parse(texts, 7, lens, 4, &kind, 1, stop, long_only, 3, 20, answer.numbers, NUMBERS, answer.bytes,
+        BYTES, &answer.sizes);
     return answer;
 }
 

@@ -1,8 +1,9 @@
 /* Makes random requests of the exports, of which every second is broken, and writes those that are lawful
  * with their answers as rows: requests COUNT ROWS ZEROS. Rows with a zero byte in a text go to ZEROS.
  *
- * What is read lies between pages that can't be touched, and can't be written. The rooms have one number or
- * one byte less than was told, and then as much, between such pages too. GETOPTS_BAD has to be answered where
+ * What is only read lies between pages that can't be touched, and can't be written. The rooms have one number or
+ * one byte less than was told, and then as much, between such pages too; but never less than the words need that
+ * stand in them. GETOPTS_BAD has to be answered where
  * a request isn't lawful, by the rules written here once more, and only there. Every number and byte of an
  * answer has to be used when it is read back. */
 #define _DEFAULT_SOURCE
@@ -34,9 +35,12 @@ static void demand(bool holds, const char *what) {
 }
 
 /* Memory between two pages that can't be touched, for each array of a request and of an answer. */
-enum { TEXTS, LENS, KINDS, LINE, LINE_LENS, START, NUMBERS, BYTES, ARRAYS };
+enum { TEXTS, LENS, KINDS, START, NUMBERS, BYTES, ARRAYS };
 
 static uint8_t *memory[ARRAYS];
+
+/* What stood in the memory of the rooms before a call. */
+static uint8_t before[ARRAYS][ROOM];
 
 static void guard(void) {
     for (int array = 0; array < ARRAYS; array++) {
@@ -47,7 +51,7 @@ static void guard(void) {
     }
 }
 
-/* Lets what is read be written, or not. */
+/* Lets what is only read be written, or not. */
 static void protect(int protection) {
     for (int array = TEXTS; array < NUMBERS; array++)
         mprotect(memory[array], ROOM, protection);
@@ -253,6 +257,10 @@ static bool are_texts(const struct told *told) {
     return from == told->len;
 }
 
+static bool reads_words(const struct request *request) {
+    return request->export <= CANONICAL || request->export == IGNORING_COUNTS;
+}
+
 /* By the rules of getopts_c.h: whether something lawful is what the request says. */
 static bool is_lawful(const struct request *request) {
     const struct told *told = &request->texts;
@@ -264,7 +272,7 @@ static bool is_lawful(const struct request *request) {
         if (kind > 10 || kind % 4 > 2 || short_len > 1 || long_len == 1 || short_len + long_len == 0)
             return false;
     }
-    if (request->export <= CANONICAL || request->export == IGNORING_COUNTS)
+    if (reads_words(request))
         return are_texts(&request->words);
     return request->export == ROWS || is_utf8(request->start.bytes, request->start.len);
 }
@@ -284,26 +292,30 @@ static uint32_t ask(const struct request *request, struct room *room) {
     const uint8_t *t = copied(TEXTS, told->bytes, told->len, at_end);
     const size_t *l = copied(LENS, told->lens, told->count * sizeof(size_t), at_end);
     const uint8_t *k = copied(KINDS, request->kinds, request->kinds_len, at_end);
-    const uint8_t *w = copied(LINE, line->bytes, line->len, at_end);
-    const size_t *wl = copied(LINE_LENS, line->lens, line->count * sizeof(size_t), at_end);
     const uint8_t *s = copied(START, start->bytes, start->len, at_end);
     protect(PROT_READ);
     memset(memory[NUMBERS], 0x5a, ROOM);
     memset(memory[BYTES], 0x5a, ROOM);
     room->numbers = place(NUMBERS, room->numbers_len * sizeof(size_t), at_end);
     room->bytes = place(BYTES, room->bytes_len, at_end);
+    if (reads_words(request) && line->count > 0)
+        memcpy(room->numbers, line->lens, line->count * sizeof(size_t));
+    if (reads_words(request) && line->len > 0)
+        memcpy(room->bytes, line->bytes, line->len);
+    memcpy(before[NUMBERS], memory[NUMBERS], ROOM);
+    memcpy(before[BYTES], memory[BYTES], ROOM);
     switch (request->export) {
     case PARSE:
         return getopts_c_parse(t, told->len, l, told->count, k, request->kinds_len, request->stop,
-            request->long_only, w, line->len, wl, line->count, room->numbers, room->numbers_len, room->bytes,
+            request->long_only, line->count, line->len, room->numbers, room->numbers_len, room->bytes,
             room->bytes_len, &room->sizes);
     case IGNORING_COUNTS:
         return getopts_c_parse_ignoring_counts(t, told->len, l, told->count, k, request->kinds_len, request->stop,
-            request->long_only, w, line->len, wl, line->count, room->numbers, room->numbers_len, room->bytes,
+            request->long_only, line->count, line->len, room->numbers, room->numbers_len, room->bytes,
             room->bytes_len, &room->sizes);
     case CANONICAL:
         return getopts_c_canonical(t, told->len, l, told->count, k, request->kinds_len, request->stop,
-            request->long_only, w, line->len, wl, line->count, room->numbers, room->numbers_len, room->bytes,
+            request->long_only, line->count, line->len, room->numbers, room->numbers_len, room->bytes,
             room->bytes_len, &room->sizes);
     case USAGE:
         return getopts_c_usage(t, told->len, l, told->count, k, request->kinds_len, request->long_only, s,
@@ -319,18 +331,19 @@ static uint32_t ask(const struct request *request, struct room *room) {
 
 /* Whether nothing was written to the rooms, nor beside them. */
 static bool untouched(void) {
-    for (size_t nth = 0; nth < ROOM; nth++)
-        if (memory[NUMBERS][nth] != 0x5a || memory[BYTES][nth] != 0x5a)
-            return false;
-    return true;
+    return memcmp(memory[NUMBERS], before[NUMBERS], ROOM) == 0 && memcmp(memory[BYTES], before[BYTES], ROOM) == 0;
+}
+
+/* Puts what stood in a room there again. */
+static void put_back(int array, void *room, size_t size) {
+    if (size > 0)
+        memcpy(room, before[array] + ((uint8_t *)room - memory[array]), size);
 }
 
 /* Whether nothing was written beside the rooms. */
 static bool only_rooms(const struct room *room) {
-    if (room->numbers_len > 0)
-        memset(room->numbers, 0x5a, room->numbers_len * sizeof(size_t));
-    if (room->bytes_len > 0)
-        memset(room->bytes, 0x5a, room->bytes_len);
+    put_back(NUMBERS, room->numbers, room->numbers_len * sizeof(size_t));
+    put_back(BYTES, room->bytes, room->bytes_len);
     return untouched();
 }
 
@@ -574,9 +587,12 @@ static bool has_zero(const struct request *request) {
         || memchr(request->start.bytes, 0, request->start.len) != NULL;
 }
 
-/* Asks with no room, with the room told, and with one less, and tells whether the request was lawful. */
+/* Asks with no room but for the words, with the room told, and with one less, and tells whether the request was
+ * lawful. */
 static bool answered(const struct request *request, FILE *rows, FILE *zeros) {
-    struct room room = { .sizes = { 77, 78 } };
+    size_t words = reads_words(request) ? request->words.count : 0;
+    size_t words_len = reads_words(request) ? request->words.len : 0;
+    struct room room = { .numbers_len = words, .bytes_len = words_len, .sizes = { 77, 78 } };
     bool lawful = is_lawful(request);
     uint32_t status = ask(request, &room);
     demand(status <= GETOPTS_TOO_SMALL && status != GETOPTS_NO_MEMORY, "an impossible status");
@@ -588,13 +604,13 @@ static bool answered(const struct request *request, FILE *rows, FILE *zeros) {
     struct getopts_sizes told = room.sizes;
     bool has_numbers = request->export != USAGE && request->export != SHORT_USAGE;
     demand(has_numbers || told.numbers == 0, "numbers of a text");
-    demand((status == GETOPTS_TOO_SMALL) == (told.numbers + told.bytes > 0), "no room, and it fits");
+    demand((status == GETOPTS_TOO_SMALL) == (told.numbers > words || told.bytes > words_len), "no room, and it fits");
     for (int less = 2; less >= 0; less--) {
         /* One number less, then one byte less, then none less. */
-        if ((less == 2 && told.numbers == 0) || (less == 1 && told.bytes == 0))
+        if ((less == 2 && told.numbers <= words) || (less == 1 && told.bytes <= words_len))
             continue;
-        room.numbers_len = told.numbers - (less == 2);
-        room.bytes_len = told.bytes - (less == 1);
+        room.numbers_len = told.numbers > words ? told.numbers - (less == 2) : words;
+        room.bytes_len = told.bytes > words_len ? told.bytes - (less == 1) : words_len;
         status = ask(request, &room);
         demand(room.sizes.numbers == told.numbers && room.sizes.bytes == told.bytes, "other sizes are told");
         demand(less == 0 || (status == GETOPTS_TOO_SMALL && untouched()), "answered in less room than told");

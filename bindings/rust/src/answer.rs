@@ -30,41 +30,37 @@ impl Answer {
         Answer::to(Line::default(), numbers, bytes, |_, room| ask(room))
     }
 
-    /// What it answers to words. The room is made behind them, where they stand, so that they need not be
-    /// copied, and is as large as is asked for.
+    /// What it answers to words. The answer is written over them, where they stand, in room as large as is
+    /// asked for.
     pub fn to(
         line: Line,
         numbers: usize,
         bytes: usize,
-        mut ask: impl FnMut(Words<'_>, Room<'_>) -> u32,
+        mut ask: impl FnMut(Words, Room<'_>) -> u32,
     ) -> Answer {
-        let Line {
-            bytes: mut text,
-            lens: mut all_numbers,
-        } = line;
-        let (len, count) = (text.len(), all_numbers.len());
+        let (mut all_numbers, mut text) = (line.lens, line.bytes);
+        let words = Words {
+            count: all_numbers.len(),
+            len: text.len(),
+        };
         let mut sizes = Sizes { numbers, bytes };
         loop {
-            grow(&mut text, len + sizes.bytes);
-            grow(&mut all_numbers, count + sizes.numbers);
-            let (words, bytes) = text.split_at_mut(len);
-            let (lens, numbers) = all_numbers.split_at_mut(count);
+            fit(&mut all_numbers, sizes.numbers);
+            fit(&mut text, sizes.bytes);
             let room = Room {
-                numbers,
-                bytes,
+                numbers: &mut all_numbers,
+                bytes: &mut text,
                 sizes: &mut sizes,
             };
-            let status = ask(Words { text: words, lens }, room);
+            let status = ask(words, room);
             match status {
                 TOO_SMALL => continue,
                 NO_MEMORY => handle_alloc_error(Layout::new::<u8>()),
                 BAD => panic!("this long-format option was given no name"),
                 _ => {}
             }
-            all_numbers.truncate(count + sizes.numbers);
-            all_numbers.drain(..count);
-            text.truncate(len + sizes.bytes);
-            text.drain(..len);
+            all_numbers.truncate(sizes.numbers);
+            text.truncate(sizes.bytes);
             return Answer {
                 status,
                 numbers: all_numbers,
@@ -86,10 +82,14 @@ impl Answer {
     }
 }
 
-/// Makes a list so long, with no more room than that.
-fn grow<T: Clone + Default>(list: &mut Vec<T>, len: usize) {
+/// Makes a list at least so long, with no more room than that where the room is large.
+fn fit<T: Clone + Default>(list: &mut Vec<T>, len: usize) {
+    const LARGE: usize = 1 << 16;
+    let len = len.max(list.len());
     if list.capacity() < len {
         list.reserve_exact(len - list.len());
+    } else if list.capacity() > LARGE {
+        list.shrink_to(len);
     }
     list.resize(len, T::default());
 }

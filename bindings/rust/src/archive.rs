@@ -32,14 +32,15 @@ pub struct Request<'r> {
     pub long_only: bool,
 }
 
-/// Words one after the other, and their lengths.
+/// How many words stand in front of a room: their lengths are its first numbers, and they are its first bytes,
+/// so many.
 #[derive(Clone, Copy)]
-pub struct Words<'w> {
-    pub text: &'w [u8],
-    pub lens: &'w [usize],
+pub struct Words {
+    pub count: usize,
+    pub len: usize,
 }
 
-/// The room for an answer.
+/// The room for an answer, which is written over the words.
 pub struct Room<'r> {
     pub numbers: &'r mut [usize],
     pub bytes: &'r mut [u8],
@@ -49,7 +50,7 @@ pub struct Room<'r> {
 #[rustfmt::skip]
 type Line = unsafe extern "C" fn(
     *const u8, usize, *const usize, usize, *const u8, usize, bool, bool,
-    *const u8, usize, *const usize, usize, *mut usize, usize, *mut u8, usize, *mut Sizes,
+    usize, usize, *mut usize, usize, *mut u8, usize, *mut Sizes,
 ) -> u32;
 
 #[rustfmt::skip]
@@ -57,7 +58,7 @@ extern "C" {
     fn getopts_c_parse(
         texts: *const u8, texts_len: usize, lens: *const usize, lens_len: usize,
         kinds: *const u8, kinds_len: usize, stop: bool, long_only: bool,
-        words: *const u8, words_len: usize, word_lens: *const usize, word_lens_len: usize,
+        words: usize, words_len: usize,
         numbers: *mut usize, numbers_len: usize, bytes: *mut u8, bytes_len: usize,
         sizes: *mut Sizes,
     ) -> u32;
@@ -65,7 +66,7 @@ extern "C" {
     fn getopts_c_parse_ignoring_counts(
         texts: *const u8, texts_len: usize, lens: *const usize, lens_len: usize,
         kinds: *const u8, kinds_len: usize, stop: bool, long_only: bool,
-        words: *const u8, words_len: usize, word_lens: *const usize, word_lens_len: usize,
+        words: usize, words_len: usize,
         numbers: *mut usize, numbers_len: usize, bytes: *mut u8, bytes_len: usize,
         sizes: *mut Sizes,
     ) -> u32;
@@ -73,7 +74,7 @@ extern "C" {
     fn getopts_c_canonical(
         texts: *const u8, texts_len: usize, lens: *const usize, lens_len: usize,
         kinds: *const u8, kinds_len: usize, stop: bool, long_only: bool,
-        words: *const u8, words_len: usize, word_lens: *const usize, word_lens_len: usize,
+        words: usize, words_len: usize,
         numbers: *mut usize, numbers_len: usize, bytes: *mut u8, bytes_len: usize,
         sizes: *mut Sizes,
     ) -> u32;
@@ -99,14 +100,14 @@ extern "C" {
 }
 
 #[rustfmt::skip]
-fn line(export: Line, request: Request<'_>, words: Words<'_>, room: Room<'_>) -> u32 {
+fn line(export: Line, request: Request<'_>, words: Words, room: Room<'_>) -> u32 {
     // SAFETY: the export has this type; each pointer and length are those of one slice, which is
     // borrowed until the call ends.
     unsafe {
         export(
             request.texts.as_ptr(), request.texts.len(), request.lens.as_ptr(), request.lens.len(),
             request.kinds.as_ptr(), request.kinds.len(), request.stop, request.long_only,
-            words.text.as_ptr(), words.text.len(), words.lens.as_ptr(), words.lens.len(),
+            words.count, words.len,
             room.numbers.as_mut_ptr(), room.numbers.len(), room.bytes.as_mut_ptr(), room.bytes.len(),
             room.sizes,
         )
@@ -114,19 +115,19 @@ fn line(export: Line, request: Request<'_>, words: Words<'_>, room: Room<'_>) ->
 }
 
 /// Writes what words give.
-pub fn parse(request: Request<'_>, words: Words<'_>, room: Room<'_>) -> u32 {
+pub fn parse(request: Request<'_>, words: Words, room: Room<'_>) -> u32 {
     line(getopts_c_parse, request, words, room)
 }
 
 /// Writes what words give, however often options came.
 #[cfg(feature = "canonical")]
-pub fn parse_ignoring_counts(request: Request<'_>, words: Words<'_>, room: Room<'_>) -> u32 {
+pub fn parse_ignoring_counts(request: Request<'_>, words: Words, room: Room<'_>) -> u32 {
     line(getopts_c_parse_ignoring_counts, request, words, room)
 }
 
 /// Writes the canonical line of words.
 #[cfg(feature = "canonical")]
-pub fn canonical(request: Request<'_>, words: Words<'_>, room: Room<'_>) -> u32 {
+pub fn canonical(request: Request<'_>, words: Words, room: Room<'_>) -> u32 {
     line(getopts_c_canonical, request, words, room)
 }
 

@@ -134,6 +134,18 @@ impl Names {
             })
     }
 
+    /// Which bytes name an option that takes no argument.
+    fn flags(&self) -> [bool; 256] {
+        let mut flags = [false; 256];
+        for name in self.all() {
+            if let [short_name] = self.bytes(name) {
+                let (hasarg, _) = kinds_of(self.kinds[name.place / 2]);
+                flags[usize::from(*short_name)] |= hasarg == HasArg::No;
+            }
+        }
+        flags
+    }
+
     fn sorted(&self) -> Vec<Name> {
         let mut names: Vec<Name> = self.all().collect();
         // Of equal names the first stays, since this sort keeps their order.
@@ -389,13 +401,34 @@ impl Options {
         }
     }
 
-    /// The room for numbers that most lines take, by how many their words are answered with.
+    /// The room for the numbers of a line, and for those that matches add, by how many answer its words.
     fn room(&self, numbers: usize) -> usize {
-        3 * self.names.kinds.len() + numbers + 8
+        5 * self.names.kinds.len() + numbers + 8
     }
 
-    /// The words of a line, with room behind them for what they give. The first that isn't UTF-8 is
-    /// refused.
+    /// The room for numbers that most lines of few words take, and that any line of more takes at most. Few words
+    /// aren't looked at, since that would take longer than it saves.
+    fn room_of(&self, line: &Line) -> usize {
+        const FEW: usize = 4096;
+        if line.lens.len() <= FEW {
+            return self.room(4 * line.lens.len());
+        }
+        let flags = self.names.flags();
+        let is_flag = |letter: &&u8| flags[usize::from(**letter)];
+        // One number answers a free word, and two an option. Options are joined up to one with an argument.
+        let numbers = |word: &[u8]| match word {
+            [b'-', b'-', ..] => 2,
+            [b'-', _, ..] if self.long_only => 2,
+            [b'-', letters @ ..] if !letters.is_empty() => {
+                let joined = letters.iter().take_while(is_flag).count();
+                2 * letters.len().min(joined + 1)
+            }
+            _ => 1,
+        };
+        self.room(line.words().map(numbers).sum())
+    }
+
+    /// The words of a line, with room for what they give. The first that isn't UTF-8 is refused.
     fn line_of<C: IntoIterator>(&self, args: C) -> std::result::Result<Line, Fail>
     where
         C::Item: AsRef<OsStr>,
@@ -403,9 +436,7 @@ impl Options {
         let args = args.into_iter();
         // A hint is trusted so far only.
         let count = args.size_hint().0.min(1024);
-        // What matches add to the numbers fits there too.
-        let numbers = count + self.room(4 * count) + 2 * self.names.kinds.len();
-        let mut line = Line::with_room(numbers, 32 * count + 16);
+        let mut line = Line::with_room(self.room(4 * count), 32 * count + 16);
         for arg in args {
             let arg = arg.as_ref();
             let word = arg.as_encoded_bytes();
@@ -479,14 +510,14 @@ impl Options {
     fn read<C: IntoIterator>(
         &self,
         args: C,
-        ask: impl Fn(Request<'_>, Words<'_>, Room<'_>) -> u32,
+        ask: impl Fn(Request<'_>, Words, Room<'_>) -> u32,
     ) -> Result
     where
         C::Item: AsRef<OsStr>,
     {
         self.check_names();
         let line = self.line_of(args)?;
-        let (numbers, bytes) = (self.room(line.numbers()), line.bytes.len() + 16);
+        let (numbers, bytes) = (self.room_of(&line), line.bytes.len() + 16);
         let answer = Answer::to(line, numbers, bytes, |words, room| {
             ask(self.request(&self.names.texts), words, room)
         });
@@ -521,7 +552,7 @@ impl Options {
     {
         self.check_names();
         let line = self.line_of(args)?;
-        let (numbers, bytes) = (self.room(line.numbers()), 2 * line.bytes.len() + 16);
+        let (numbers, bytes) = (self.room_of(&line), 2 * line.bytes.len() + 16);
         let answer = Answer::to(line, numbers, bytes, |words, room| {
             archive::canonical(self.request(&self.names.texts), words, room)
         })

@@ -29,25 +29,14 @@ impl Line {
         self.lens.push(word.len());
     }
 
-    /// How many numbers answer most such lines: one for a free word, two for an option, and few words join more
-    /// than two options. Few words aren't looked at, since that would take longer than it saves.
-    pub fn numbers(&self) -> usize {
-        const FEW: usize = 4096;
-        if self.lens.len() <= FEW {
-            return 4 * self.lens.len();
-        }
+    /// The words.
+    pub fn words(&self) -> impl Iterator<Item = &[u8]> {
         let mut rest = self.bytes.as_slice();
-        let numbers = |&len: &usize| {
+        self.lens.iter().map(move |&len| {
             let (word, after) = rest.split_at(len);
             rest = after;
-            match word {
-                [b'-', b'-', ..] => 2,
-                [b'-', _, _, ..] => 4,
-                [b'-', ..] => 2,
-                _ => 1,
-            }
-        };
-        self.lens.iter().map(numbers).sum()
+            word
+        })
     }
 }
 

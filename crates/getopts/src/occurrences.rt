@@ -78,6 +78,8 @@ fn packed(end: usize, has_value: bool) -> usize
 /// The bytes that there is room for with each option, once one has a value: so few values grow nothing
 /// again.
 const VALUE_BYTES: usize = 8;
+/// The bytes that there is room for with all options, at most.
+const MOST_BYTES: usize = 8192;
 
 /// Adds a value, the first with room for so many.
 #[inline(always)]
@@ -89,7 +91,7 @@ fn push_value(values: &mut String, value: &str, room: usize) -> Result<(), Alloc
         return Ok(());
     }
     if values.is_empty() {
-        values.reserve(room.saturating_mul(VALUE_BYTES))?;
+        values.reserve(room.saturating_mul(VALUE_BYTES).min(MOST_BYTES))?;
     }
     values.push_str(value)
 }

@@ -17,8 +17,8 @@ use crate::options::Options;
 use crate::table::Table;
 use std::alloc::{AllocError, Global};
 
-/// The words that there is room for before the first has come, at most: an iterator may give fewer
-/// than it promises, and a line may give no option.
+/// So many words are few. More than that an iterator isn't trusted to give before they have come, and more than
+/// that are looked at before there is room for what they give.
 pub(crate) const FIRST_ROOM: usize = 1024;
 
 /// A `&str` is a text.
@@ -47,12 +47,16 @@ impl Line {
     ghost use Rattle.getopts.specs.Held.Line.{IsEmptyLine};
 
     /// A line that gives nothing, with room for so many options and so many free words.
-    pub(crate) fn with_capacity(alloc: Global, room: usize) -> Result<Line, AllocError>
+    pub(crate) fn with_capacity(
+        alloc: Global,
+        found: usize,
+        free: usize,
+    ) -> Result<Line, AllocError>
         ensures { IfOk result IsEmptyLine }
     {
         Ok(Line {
-            found: LineOccurrences::with_capacity(alloc, room)?,
-            free: Vec::with_capacity(alloc, room)?,
+            found: LineOccurrences::with_capacity(alloc, found)?,
+            free: Vec::with_capacity(alloc, free)?,
             trailing_start: None,
         })
     }
@@ -133,6 +137,25 @@ fn is_dashed(word: &str) -> bool
         [b'-', _, ..] => true,
         _ => false,
     }
+}
+
+/// How many options and how many free words there is room for before the first word is read. Few words aren't
+/// looked at: there is room for as many of each. Of many there is room for those that are dashed, up to where all
+/// others are free, and for the others.
+fn first_rooms(words: &[&str], stops: bool) -> (usize, usize) {
+    if words.len() <= FIRST_ROOM {
+        return (words.len(), words.len());
+    }
+    let mut dashed: usize = 0;
+    'words: for word in words {
+        match word.as_bytes() {
+            [b'-', b'-'] => break 'words,
+            [b'-', _, ..] => dashed = dashed.saturating_add(1),
+            _ if stops => break 'words,
+            _ => {}
+        }
+    }
+    (dashed, words.len().saturating_sub(dashed))
 }
 
 /// The first character of a text, as a text.
@@ -320,7 +343,8 @@ impl<'o> Scanner<'o> {
             (Spec.IsScanFault (scanner_grammar self.now) (texts words.now))) }
     {
         let stops = self.options.style() == ParsingStyle::StopAtFirstFree;
-        let mut line = Line::with_capacity(alloc, words.len().min(FIRST_ROOM))?;
+        let (found, free) = first_rooms(words, stops);
+        let mut line = Line::with_capacity(alloc, found, free)?;
         let mut at = 0;
         'items: while at < words.len() {
             let after = &words[at + 1..];

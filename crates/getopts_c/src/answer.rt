@@ -315,8 +315,32 @@ fn number_count(matches: &Matches, groups: usize) -> usize {
     count
 }
 
+/// Words of more bytes than these are long.
+const LONG: usize = 65_536;
+
+/// How many bytes tell matches that have so many groups, where the words had so many: room to ask for. Only of long
+/// words the bytes are counted.
+fn byte_count(matches: &Matches, groups: usize, bytes: usize) -> usize {
+    if bytes <= LONG {
+        return bytes;
+    }
+    let mut count: usize = 0;
+    for word in &matches.free {
+        count = count.saturating_add(word.len());
+    }
+    for place in 0..groups {
+        let occurrences = matches.occurrences_at(place);
+        for nth in 0..occurrences.len() {
+            if let Some((_, Some(value))) = occurrences.get(nth) {
+                count = count.saturating_add(value.len());
+            }
+        }
+    }
+    count
+}
+
 /// The answer that tells matches, by the names of these groups, which are theirs, with room for its
-/// numbers and for so many bytes.
+/// numbers and bytes, where the words had so many.
 fn accepted(
     alloc: Global,
     matches: &Matches,
@@ -330,6 +354,7 @@ fn accepted(
         × (string_bytes answer.body.bytes ≡ matches_bytes matches.now)) }
 {
     let numbers = number_count(matches, groups.len());
+    let bytes = byte_count(matches, groups.len(), bytes);
     let mut body = Body::with_capacity(alloc, numbers, bytes)?;
     body.push_all_places(matches, groups)?;
     body.push_groups(matches, groups.len())?;

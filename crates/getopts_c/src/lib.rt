@@ -4,7 +4,7 @@
 //! lawful is what the bytes say; 8 where there was too little room.
 #![tactic(auto)]
 
-ghost use Rattle.std.specs.Prelude.{◌≡◌, ◌≢◌, ⊤, ℕ, Bool, false, List, []};
+ghost use Rattle.std.specs.Prelude.{◌≡◌, ◌≢◌, ⊤, ℕ, Bool, false, List, [], take};
 ghost use Rattle.std.specs.Str.{IsUtf8};
 ghost use Rattle.getopts.specs.Only.{AtMostOne};
 ghost use Rattle.getopts.specs.Fail.{Fault};
@@ -25,7 +25,9 @@ use crate::answer::{Answer, Sizes, answer_to, line_of, rows_of, short_usage_of, 
 use crate::request::{Request, Words};
 use std::alloc::Global;
 
-/// Reads words by options, and writes what they give.
+/// Reads words by options, and writes what they give over them.
+///
+/// So many words are there: their lengths are the first of `numbers`, and they are the first bytes, so many.
 ///
 /// Options are `texts`, cut by `lens`: of each group the short name, the long name, the hint and
 /// the description. `kinds` has a byte for each group: the number of its kind of argument (none 0,
@@ -39,17 +41,17 @@ pub extern "C" fn getopts_c_parse(
     kinds: &[u8],
     stop: bool,
     long_only: bool,
-    words: &[u8],
-    word_lens: &[usize],
+    words: usize,
+    words_len: usize,
     numbers: &mut [usize],
     bytes: &mut [u8],
     sizes: &mut Sizes,
 ) -> u32
     ensures { IsReply
         (SayOptions texts.now lens.now kinds.now stop long_only)
-        (SayTexts words.now word_lens.now)
+        (SayTexts (take words_len bytes.old) (take words numbers.old))
         (IsAnswered with_counts texts.now lens.now kinds.now stop long_only
-        words.now word_lens.now)
+        (take words_len bytes.old) (take words numbers.old))
         result (rooms numbers.old bytes.old sizes.old)
         (rooms numbers.new bytes.new sizes.new) }
 {
@@ -60,16 +62,9 @@ pub extern "C" fn getopts_c_parse(
         stop,
         long_only,
     };
-    let words = Words {
-        bytes: words,
-        lens: word_lens,
-    };
-    Answer::written(
-        answer_to(alloc, request, words, true),
-        numbers,
-        bytes,
-        sizes,
-    )
+    let words = Words::in_front(bytes, words_len, numbers, words);
+    let answer = answer_to(alloc, request, words, true);
+    Answer::written(answer, numbers, bytes, sizes)
 }
 
 /// Reads words by options as `getopts_c_parse` does, whatever their counts, and writes what they give:
@@ -82,17 +77,17 @@ pub extern "C" fn getopts_c_parse_ignoring_counts(
     kinds: &[u8],
     stop: bool,
     long_only: bool,
-    words: &[u8],
-    word_lens: &[usize],
+    words: usize,
+    words_len: usize,
     numbers: &mut [usize],
     bytes: &mut [u8],
     sizes: &mut Sizes,
 ) -> u32
     ensures { IsReply
         (SayOptions texts.now lens.now kinds.now stop long_only)
-        (SayTexts words.now word_lens.now)
+        (SayTexts (take words_len bytes.old) (take words numbers.old))
         (IsAnswered without_counts texts.now lens.now kinds.now stop long_only
-        words.now word_lens.now)
+        (take words_len bytes.old) (take words numbers.old))
         result (rooms numbers.old bytes.old sizes.old)
         (rooms numbers.new bytes.new sizes.new) }
 {
@@ -103,16 +98,9 @@ pub extern "C" fn getopts_c_parse_ignoring_counts(
         stop,
         long_only,
     };
-    let words = Words {
-        bytes: words,
-        lens: word_lens,
-    };
-    Answer::written(
-        answer_to(alloc, request, words, false),
-        numbers,
-        bytes,
-        sizes,
-    )
+    let words = Words::in_front(bytes, words_len, numbers, words);
+    let answer = answer_to(alloc, request, words, false);
+    Answer::written(answer, numbers, bytes, sizes)
 }
 
 /// Writes the usage text of options.
@@ -216,16 +204,17 @@ pub extern "C" fn getopts_c_canonical(
     kinds: &[u8],
     stop: bool,
     long_only: bool,
-    words: &[u8],
-    word_lens: &[usize],
+    words: usize,
+    words_len: usize,
     numbers: &mut [usize],
     bytes: &mut [u8],
     sizes: &mut Sizes,
 ) -> u32
     ensures { IsReply
         (SayOptions texts.now lens.now kinds.now stop long_only)
-        (SayTexts words.now word_lens.now)
-        (IsCanonicalOf texts.now lens.now kinds.now stop long_only words.now word_lens.now)
+        (SayTexts (take words_len bytes.old) (take words numbers.old))
+        (IsCanonicalOf texts.now lens.now kinds.now stop long_only
+        (take words_len bytes.old) (take words numbers.old))
         result (rooms numbers.old bytes.old sizes.old)
         (rooms numbers.new bytes.new sizes.new) }
 {
@@ -236,11 +225,9 @@ pub extern "C" fn getopts_c_canonical(
         stop,
         long_only,
     };
-    let words = Words {
-        bytes: words,
-        lens: word_lens,
-    };
-    Answer::written(line_of(alloc, request, words), numbers, bytes, sizes)
+    let words = Words::in_front(bytes, words_len, numbers, words);
+    let answer = line_of(alloc, request, words);
+    Answer::written(answer, numbers, bytes, sizes)
 }
 
 /// Bytes, lengths and kinds say one set of options at most, and bytes and lengths one list of

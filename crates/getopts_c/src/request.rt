@@ -1,7 +1,7 @@
 //! What a caller hands in: texts as bytes with their lengths.
 
 ghost use Rattle.std.specs.Prelude.{◌≡◌, ◌≢◌, IfErr, IfNone, IfOk, IfSome, OnErr, OnOk};
-ghost use Rattle.std.specs.Prelude.{List, [], length, map};
+ghost use Rattle.std.specs.Prelude.{List, [], length, map, take};
 ghost use Rattle.std.specs.List.{AllByRecursion, flat_map};
 ghost use Rattle.std.specs.Str.{IsUtf8};
 ghost use Rattle.getopts.specs.Names.{AreTexts, IsLawfullyNamed, texts};
@@ -54,6 +54,25 @@ pub(crate) struct Request<'r> {
 pub(crate) struct Words<'r> {
     pub bytes: &'r [u8],
     pub lens: &'r [usize],
+}
+
+impl<'r> Words<'r> {
+    /// So many words in front of rooms, where they have so many bytes.
+    #[tactic(auto, using(std::proofs::lemmas::List::take_min))]
+    pub(crate) fn in_front(
+        bytes: &'r [u8],
+        len: usize,
+        lens: &'r [usize],
+        count: usize,
+    ) -> Words<'r>
+        ensures bytes { result.bytes.now ≡ take len bytes.now }
+        ensures lens { result.lens.now ≡ take count lens.now }
+    {
+        Words {
+            bytes: &bytes[..len.min(bytes.len())],
+            lens: &lens[..count.min(lens.len())],
+        }
+    }
 }
 
 /// Bytes as a text.

@@ -4,6 +4,7 @@ use Rattle.getopts_c.proofs.getopts_c_canonical.Goals as goal
 pub returns : goal.returns
 returns c =
     let out = c.written.ensures in
-    let is = c.line_of.ensures in
-    IsReply-handed_out c.line_of.result out.known out.untouched out.untold out.within out.written
-    out.small out.sizes_told out.lawful out.bad is.answered is.lawful is.bad
+    let is = c.line_of-answer.ensures in
+    let front = c.in_front-words.ensures in
+    rw (← front.bytes, ← front.lens) (IsReply-handed_out c.line_of-answer.result out.known out.untouched
+    out.untold out.within out.written out.small out.sizes_told out.lawful out.bad is.answered is.lawful is.bad)
