@@ -1,33 +1,35 @@
 -- Options that are written line by line are declared by what is written.
-use Rattle.std.proofs.Common.{◌≡◌, ◌≢◌, ℕ, ◌<◌, Bool, true, false, cond, eqb, List, [], ◌∷◌, ◌++◌, length}
-use Rattle.std.proofs.Common.{Option, Some, None, inl, inr, refl, sym, ap, subst, ◌∙◌, arith, append_assoc, append-nil}
-use Rattle.std.specs.Prelude.{◌&&◌, ◌||◌, ◌==◌, ◌⊎◌, not, slice_index}
-use Rattle.std.specs.List.{AllByRecursion, AllZip, filter_map, list_all, slice_split, onto_first}
+use Rattle.std.proofs.Common.{◌≡◌, ◌≢◌, ℕ, Bool, true, false, cond, eqb, List, [], ◌∷◌, ◌++◌}
+use Rattle.std.proofs.Common.{Option, Some, None, inl, refl, sym, ap, subst, ◌∙◌, arith, append_assoc, append-nil}
+use Rattle.std.specs.Prelude.{◌&&◌, ◌||◌, ◌==◌, not, slice_index}
+use Rattle.std.specs.List.{AllByRecursion, list_all, slice_split, onto_first}
 use Rattle.std.specs.Option.{option_map_or}
+use Rattle.std.proofs.lemmas.Bool.{and_parts, and_from, and_right, not-true}
 use Rattle.std.proofs.lemmas.Bool.Decides.{nat_tests}
+use Rattle.std.proofs.lemmas.List.Folds.{list_all-append}
+use Rattle.std.proofs.lemmas.List.Splits.{slice_split-cons_no}
 use Rattle.getopts.specs.Names.{Text, Names, is_empty}
-use Rattle.getopts.specs.Options.{Group, Signature}
+use Rattle.getopts.specs.Options.{Group}
+use Rattle.getopts.specs.Reading.{begins_with_dash}
 use Rattle.getopts.specs.Usage.{bracketed, option_argument}
 use Rattle.getopts.specs.declared.groups.HasArg.{HasArg}
 use Rattle.getopts.specs.declared.groups.HasArg.TheVariants.{Yes, No, Maybe}
 use Rattle.getopts.specs.declared.groups.Occur.{Occur}
 use Rattle.getopts.specs.declared.groups.Occur.TheVariants.{Req, Optional, Multi}
-use Rattle.getopts_shell.specs.Table.{is_name, is_name_byte, is_hint, names_text, MayBeNames, AreNames, IsArgument}
-use Rattle.getopts_shell.specs.Table.{HasParts, IsBracketed, IsItem, is_blank, after_blanks, before_blanks, trimmed}
-use Rattle.getopts_shell.specs.Table.{begins_gap, before_gap, from_gap, is_passed, DeclaresGroup, Declares, DeclareGroups}
-use Rattle.getopts_shell.specs.Table.{HaveNewNames, DeclaresOptions, DeclareOptions}
+use Rattle.getopts_shell.specs.Table.{is_name, is_name_byte, names_text, MayBeNames, IsArgument}
+use Rattle.getopts_shell.specs.Table.{IsBracketed, IsItem, is_blank, after_blanks, before_blanks, trimmed}
+use Rattle.getopts_shell.specs.Table.{begins_gap, before_gap, from_gap, DeclaresGroup, DeclareGroups}
 use Rattle.getopts_shell.specs.TableText.{item_text, after_item, line_text, table_text}
 use Rattle.getopts_shell.specs.TableText.{is_dense_byte, IsWrittenHint, IsWrittenDescription, CanBeWritten, WrittenIsDeclared}
+use Rattle.getopts_shell.proofs.Items.{is_empty-cons}
 
--- ---- tests
-
-both_true : (a b : Bool) → (a && b) ≡ true → (a ≡ true) × (b ≡ true)
-both_true true b is = (refl, is)
-both_true false b is = cc
-
-true_both : (a b : Bool) → a ≡ true → b ≡ true → (a && b) ≡ true
-true_both true b is also = also
-true_both false b is also = cc
+-- bytes that pass a test pass each weaker one
+all_weaker : (test weaker : ℕ → Bool) → ((byte : ℕ) → test byte ≡ true → weaker byte ≡ true) → (text : Text)
+    → list_all test text ≡ true → list_all weaker text ≡ true
+all_weaker test weaker each [] is = refl
+all_weaker test weaker each (byte ∷ text) is =
+    let both = and_parts (test byte) (list_all test text) is in
+    and_from (weaker byte) (list_all weaker text) (each byte both.0) (all_weaker test weaker each text both.1)
 
 -- ---- texts with no blanks and no line ends
 
@@ -35,24 +37,15 @@ abbrev IsDense : Text → Type 0
 IsDense text = list_all is_dense_byte text ≡ true
 
 dense-append : (text other : Text) → IsDense text → IsDense other → IsDense (text ++ other)
-dense-append [] other is also = also
-dense-append (byte ∷ text) other is also =
-    let each = both_true (is_dense_byte byte) (list_all is_dense_byte text) is in
-    true_both (is_dense_byte byte) (list_all is_dense_byte (text ++ other)) each.0
-    (dense-append text other each.1 also)
+dense-append text other is also = list_all-append is_dense_byte text other
+    ∙ and_from (list_all is_dense_byte text) (list_all is_dense_byte other) is also
 
 name_byte_dense : (byte : ℕ) → is_name_byte byte ≡ true → is_dense_byte byte ≡ true
 name_byte_dense byte is = grind (arith, nat_tests)
 
-name_bytes_dense : (text : Text) → list_all is_name_byte text ≡ true → IsDense text
-name_bytes_dense [] is = refl
-name_bytes_dense (byte ∷ text) is =
-    let each = both_true (is_name_byte byte) (list_all is_name_byte text) is in
-    true_both (is_dense_byte byte) (list_all is_dense_byte text) (name_byte_dense byte each.0)
-    (name_bytes_dense text each.1)
-
 name_dense : (text : Text) → is_name text ≡ true → IsDense text
-name_dense text is = name_bytes_dense text (both_true _ (list_all is_name_byte text) is).1
+name_dense text is = all_weaker is_name_byte is_dense_byte name_byte_dense text
+    (and_parts (not (begins_with_dash text)) (list_all is_name_byte text) is).1
 
 names_dense : (names : Names) → MayBeNames names.short names.long → IsDense (names_text names)
 names_dense names may = by_test (is_empty names.short) (is_empty names.long)
@@ -86,14 +79,14 @@ no_gap byte more is =
 before_gap_dense : (text more : Text) → IsDense text → before_gap (text ++ more) ≡ text ++ before_gap more
 before_gap_dense [] more is = refl
 before_gap_dense (byte ∷ text) more is =
-    let each = both_true (is_dense_byte byte) (list_all is_dense_byte text) is in
+    let each = and_parts (is_dense_byte byte) (list_all is_dense_byte text) is in
     ap (λ (b : Bool). cond b [] (byte ∷ before_gap (text ++ more))) (no_gap byte (text ++ more) each.0)
     ∙ ap (λ (t : Text). byte ∷ t) (before_gap_dense text more each.1)
 
 from_gap_dense : (text more : Text) → IsDense text → from_gap (text ++ more) ≡ from_gap more
 from_gap_dense [] more is = refl
 from_gap_dense (byte ∷ text) more is =
-    let each = both_true (is_dense_byte byte) (list_all is_dense_byte text) is in
+    let each = and_parts (is_dense_byte byte) (list_all is_dense_byte text) is in
     ap (λ (b : Bool). cond b (byte ∷ (text ++ more)) (from_gap (text ++ more))) (no_gap byte (text ++ more) each.0)
     ∙ from_gap_dense text more each.1
 
@@ -103,22 +96,14 @@ keeps_front : (text more : Text) → list_all is_blank more ≡ false
     → before_blanks (text ++ more) ≡ text ++ before_blanks more
 keeps_front [] more some = refl
 keeps_front (byte ∷ text) more some =
-    ap (λ (b : Bool). cond b [] (byte ∷ before_blanks (text ++ more))) (some_left (byte ∷ text) more some)
+    ap (λ (b : Bool). cond b [] (byte ∷ before_blanks (text ++ more))) (list_all-append is_blank (byte ∷ text) more
+    ∙ and_right (list_all is_blank (byte ∷ text)) (list_all is_blank more) some)
     ∙ ap (λ (t : Text). byte ∷ t) (keeps_front text more some)
-  where
-    false_any : (b : Bool) → (b && false) ≡ false
-    false_any true = refl
-    false_any false = refl
-
-    some_left : (text more : Text) → list_all is_blank more ≡ false → list_all is_blank (text ++ more) ≡ false
-    some_left [] more some = some
-    some_left (byte ∷ text) more some =
-        ap (λ (b : Bool). is_blank byte && b) (some_left text more some) ∙ false_any (is_blank byte)
 
 dense_ends : (text : Text) → IsDense text → before_blanks text ≡ text
 dense_ends [] is = refl
 dense_ends (byte ∷ text) is =
-    let each = both_true (is_dense_byte byte) (list_all is_dense_byte text) is in
+    let each = and_parts (is_dense_byte byte) (list_all is_dense_byte text) is in
     ap (λ (b : Bool). cond (b && list_all is_blank text) [] (byte ∷ before_blanks text)) (not_blank byte each.0)
     ∙ ap (λ (t : Text). byte ∷ t) (dense_ends text each.1)
 
@@ -134,7 +119,7 @@ before_spaced : (text tail : Text) → IsSpaced text → before_gap tail ≡ [] 
 before_spaced text tail (plain is) none =
     before_gap_dense text tail is ∙ ap (λ (t : Text). text ++ t) none ∙ append-nil text
 before_spaced text tail (parted front first back is also text_is) none =
-    let head = both_true (is_dense_byte first) (list_all is_dense_byte back) also in
+    let head = and_parts (is_dense_byte first) (list_all is_dense_byte back) also in
     ap (λ (t : Text). before_gap (t ++ tail)) text_is
     ∙ ap before_gap (append_assoc front (32 ∷ first ∷ back) tail)
     ∙ before_gap_dense front (32 ∷ first ∷ (back ++ tail)) is
@@ -146,7 +131,7 @@ before_spaced text tail (parted front first back is also text_is) none =
 from_spaced : (text tail : Text) → IsSpaced text → from_gap tail ≡ tail → from_gap (text ++ tail) ≡ tail
 from_spaced text tail (plain is) all = from_gap_dense text tail is ∙ all
 from_spaced text tail (parted front first back is also text_is) all =
-    let head = both_true (is_dense_byte first) (list_all is_dense_byte back) also in
+    let head = and_parts (is_dense_byte first) (list_all is_dense_byte back) also in
     ap (λ (t : Text). from_gap (t ++ tail)) text_is
     ∙ ap from_gap (append_assoc front (32 ∷ first ∷ back) tail)
     ∙ from_gap_dense front (32 ∷ first ∷ (back ++ tail)) is
@@ -156,7 +141,7 @@ from_spaced text tail (parted front first back is also text_is) all =
 spaced_ends : (text : Text) → IsSpaced text → before_blanks text ≡ text
 spaced_ends text (plain is) = dense_ends text is
 spaced_ends text (parted front first back is also text_is) =
-    let head = both_true (is_dense_byte first) (list_all is_dense_byte back) also in
+    let head = and_parts (is_dense_byte first) (list_all is_dense_byte back) also in
     let some : list_all is_blank (32 ∷ first ∷ back) ≡ false =
     ap (λ (b : Bool). b && list_all is_blank back) (not_blank first head.0) in
     ap before_blanks text_is ∙ keeps_front front (32 ∷ first ∷ back) some
@@ -170,18 +155,11 @@ abbrev HasNoEnd : Text → Type 0
 HasNoEnd text = list_all (λ byte. not (byte == 10)) text ≡ true
 
 no_end-append : (text other : Text) → HasNoEnd text → HasNoEnd other → HasNoEnd (text ++ other)
-no_end-append [] other is also = also
-no_end-append (byte ∷ text) other is also =
-    let each = both_true (not (eqb byte 10)) (list_all (λ byte. not (byte == 10)) text) is in
-    true_both (not (eqb byte 10)) (list_all (λ byte. not (byte == 10)) (text ++ other)) each.0
-    (no_end-append text other each.1 also)
+no_end-append text other is also = list_all-append (λ byte. not (byte == 10)) text other
+    ∙ and_from (list_all (λ byte. not (byte == 10)) text) (list_all (λ byte. not (byte == 10)) other) is also
 
 dense_line : (text : Text) → IsDense text → HasNoEnd text
-dense_line [] is = refl
-dense_line (byte ∷ text) is =
-    let each = both_true (is_dense_byte byte) (list_all is_dense_byte text) is in
-    true_both (not (eqb byte 10)) (list_all (λ byte. not (byte == 10)) text) (no_end byte each.0)
-    (dense_line text each.1)
+dense_line = all_weaker is_dense_byte (λ byte. not (byte == 10)) no_end
 
 spaced_line : (text : Text) → IsSpaced text → HasNoEnd text
 spaced_line text (plain is) = dense_line text is
@@ -252,7 +230,7 @@ item_begins group = by_occurrence group.signature.occurrence
 no_spaces : (text : Text) → IsDense text → AllByRecursion (λ byte. byte ≢ 32) text
 no_spaces [] is = tt
 no_spaces (byte ∷ text) is =
-    let each = both_true (is_dense_byte byte) (list_all is_dense_byte text) is in (
+    let each = and_parts (is_dense_byte byte) (list_all is_dense_byte text) is in (
       λ same. let both : true ≡ false = sym (ap (λ (b : ℕ). eqb b 32) same) ∙ no_space byte each.0 in cc,
       no_spaces text each.1,
     )
@@ -356,9 +334,6 @@ line_declares group is = record {
       (all_after group.description)));
 }
   where
-    is_empty-cons : (byte : ℕ) (text : Text) → is_empty (byte ∷ text) ≡ false
-    is_empty-cons byte text = grind (arith, nat_tests)
-
     by_begin : Begins (item_text group) → (is_empty (line_text group) || (slice_index (line_text group) 0 == 35)) ≡ false
     by_begin (begins first rest item_is dense none) =
         ap (λ (t : Text). is_empty (t ++ after_item group.description) || (slice_index (t ++ after_item group.description) 0 == 35)) item_is
@@ -373,14 +348,9 @@ split_line : (line more : Text) → HasNoEnd line
     → slice_split (λ (b : ℕ). eqb b 10) (line ++ (10 ∷ more)) ≡ line ∷ slice_split (λ (b : ℕ). eqb b 10) more
 split_line [] more is = refl
 split_line (byte ∷ line) more is =
-    let each = both_true (not (eqb byte 10)) (list_all (λ byte. not (byte == 10)) line) is in
-    ap (λ (b : Bool). cond b ([] ∷ slice_split (λ (b : ℕ). eqb b 10) (line ++ (10 ∷ more)))
-    (onto_first byte (slice_split (λ (b : ℕ). eqb b 10) (line ++ (10 ∷ more))))) (none (eqb byte 10) each.0)
+    let each = and_parts (not (eqb byte 10)) (list_all (λ byte. not (byte == 10)) line) is in
+    slice_split-cons_no (λ (b : ℕ). eqb b 10) byte (line ++ (10 ∷ more)) (not-true (eqb byte 10) each.0)
     ∙ ap (λ (lines : List Text). onto_first byte lines) (split_line line more each.1)
-  where
-    none : (b : Bool) → not b ≡ true → b ≡ false
-    none true is = cc
-    none false is = refl
 
 lines_declare : (groups : List Group) → AllByRecursion CanBeWritten groups
     → DeclareGroups (slice_split (λ (b : ℕ). eqb b 10) (table_text groups)) groups

@@ -1,5 +1,5 @@
 -- Whether words ask for help.
-use Rattle.std.proofs.Common.{◌≡◌, ◌↔◌, ℕ, Bool, true, false, List, [], Option, Some, None, refl, sym, ap, subst, ◌∙◌}
+use Rattle.std.proofs.Common.{◌≡◌, ◌↔◌, ℕ, Bool, true, false, List, [], Option, Some, None, refl, sym, ap, ◌∙◌}
 use Rattle.std.specs.Prelude.{codes, length, nat_lt, IsSome}
 use Rattle.std.specs.Option.{option_map_or}
 use Rattle.getopts.specs.Accessors.{IsDefined, found_in, is_present, place_of}

@@ -1,12 +1,12 @@
 -- Items: what they are made of, in one way each.
-use Rattle.std.proofs.Common.{◌≡◌, ◌≢◌, ℕ, ◌<◌, Bool, true, false, eqb, List, [], ◌∷◌, ◌++◌, length, get_or}
-use Rattle.std.proofs.Common.{Bor, MatchOption, cond, drop, take, Option, Some, None, inl, inr, suc, refl, sym, ap, subst, ◌∙◌, arith, append_assoc, append-nil}
+use Rattle.std.proofs.Common.{◌≡◌, ◌≢◌, ℕ, ◌<◌, Bool, true, false, [], ◌∷◌, ◌++◌, length, get_or}
+use Rattle.std.proofs.Common.{Bor, MatchOption, cond, drop, take, Option, Some, None, inl, inr, refl, sym, ap, subst, ◌∙◌, arith, append_assoc}
 use Rattle.std.specs.Prelude.{slice_index, ◌&&◌, not}
 use Rattle.std.specs.List.{AllByRecursion, last_or, list_all}
 use Rattle.std.specs.Option.{option_map_or}
 use Rattle.std.proofs.lemmas.Bool.Decides.{nat_tests}
 use Rattle.std.proofs.lemmas.List.{append_cancel_right}
-use Rattle.getopts.specs.Names.{Text, Names, AreLawful, is_empty}
+use Rattle.getopts.specs.Names.{Text, Names, is_empty}
 use Rattle.getopts.specs.Options.{Signature}
 use Rattle.getopts.specs.declared.groups.HasArg.{HasArg}
 use Rattle.getopts.specs.declared.groups.HasArg.TheVariants.{Yes, No, Maybe}
@@ -149,7 +149,7 @@ one_pair text names others argument other parts also =
 -- ---- names
 
 -- a text with a byte isn't empty
-is_empty-cons : (byte : ℕ) (text : Text) → is_empty (byte ∷ text) ≡ false
+pub is_empty-cons : (byte : ℕ) (text : Text) → is_empty (byte ∷ text) ≡ false
 is_empty-cons byte text = grind (arith, nat_tests)
 
 -- a name doesn't begin with a dash

@@ -2,6 +2,7 @@ mod Quoting
 mod Items
 mod Lines
 mod Only
+mod OneAnswer
 mod ByLines
 mod Plain
 mod Help

@@ -1,10 +1,10 @@
 -- Lines of a table.
 use Rattle.std.proofs.Common.{◌≡◌, ℕ, ◌<◌, ◌+◌, Bool, true, false, cond, List, [], ◌∷◌, ◌++◌, length, take, drop, get_or}
 use Rattle.std.proofs.Common.{map, refl, sym, ap, ◌∙◌, arith, suc, zero}
-use Rattle.std.specs.Prelude.{◌||◌, ◌==◌, Option, Some, None, slice_index, min, ◌-◌, ◌^◌, MatchOption}
+use Rattle.std.specs.Prelude.{◌||◌, ◌==◌, Option, Some, None, slice_index, min, ◌-◌, ◌^◌}
 use Rattle.std.specs.List.{AllZip, filter_map, list_all, list_any}
 use Rattle.std.specs.Option.{option_to_list}
-use Rattle.std.proofs.Common.{append_assoc, append-nil, subst, ◌≤◌, length-append}
+use Rattle.std.proofs.Common.{append_assoc, append-nil, subst, length-append}
 use Rattle.std.proofs.lemmas.Bool.Decides.{nat_tests}
 use Rattle.std.proofs.lemmas.List.{take-append-drop}
 use Rattle.std.proofs.lemmas.List.Elements.{filter_map-append}
@@ -17,9 +17,9 @@ use Rattle.getopts_shell.specs.Held.{TellsFault}
 use Rattle.getopts_shell.specs.declared.table.TableError.{TableError}
 use Rattle.getopts_shell.specs.declared.table.TableError.TheVariants as error
 use Rattle.getopts_shell.specs.Table.{is_blank, before_blanks, after_blanks, trimmed, before_gap, from_gap}
-use Rattle.getopts_shell.specs.Table.{item_of, is_passed, IsItem, DeclaresGroup, Declares, DeclareGroups}
-use Rattle.getopts_shell.specs.Table.{name_again, HaveNewNames, DeclareOptions, DeclaresOptions, TableFault}
-use Rattle.getopts_shell.specs.Table.{IsLineFault, IsTableFault, line_number, no_option, none}
+use Rattle.getopts_shell.specs.Table.{is_passed, IsItem, DeclaresGroup, Declares}
+use Rattle.getopts_shell.specs.Table.{HaveNewNames, DeclareOptions, TableFault}
+use Rattle.getopts_shell.specs.Table.{IsLineFault, IsTableFault, no_option, none}
 
 -- a test of what is made of elements
 pub list_any-map : {X Y : Type 0} (p : Y → Bool) (f : X → Y) (xs : List X)

@@ -1,37 +1,28 @@
 -- No name of a table holds `=`.
 use Rattle.std.proofs.Common.{◌≡◌, ℕ, Bool, true, false, cond, eqb, List, [], ◌∷◌, Option, Some, None}
-use Rattle.std.proofs.Common.{refl, sym, ap, subst, ◌∙◌, arith}
-use Rattle.std.specs.Prelude.{◌&&◌, ◌||◌, not}
-use Rattle.std.specs.List.{AllZip, filter_map, list_all, list_any}
+use Rattle.std.proofs.Common.{refl, sym, subst, arith}
+use Rattle.std.specs.Prelude.{not}
+use Rattle.std.specs.List.{AllZip, filter_map, list_all}
 use Rattle.getopts.specs.Names.{Text, Names, is_empty, main_name}
 use Rattle.getopts.specs.Options.{Group}
 use Rattle.getopts.specs.Reading.{begins_with_dash, holds_equals}
 use Rattle.getopts_shell.specs.Held.{ArePlainlyNamed}
-use Rattle.getopts_shell.specs.Table.{is_name, is_name_byte, Declares, DeclareOptions, DeclaresGroup}
+use Rattle.getopts_shell.specs.Table.{is_name, is_name_byte, Declares, DeclareOptions}
+use Rattle.std.proofs.lemmas.Bool.{and_parts, or_from}
 use Rattle.std.proofs.lemmas.Bool.Decides.{nat_tests}
 
 -- a byte of a name isn't `=`
 plain_byte : (byte : ℕ) → is_name_byte byte ≡ true → eqb byte 61 ≡ false
 plain_byte byte is = grind (arith, nat_tests)
 
--- both of two tests
-both_true : (a b : Bool) → (a && b) ≡ true → (a ≡ true) × (b ≡ true)
-both_true true b is = (refl, is)
-both_true false b is = cc
-
--- neither of two tests
-none_true : (a b : Bool) → a ≡ false → b ≡ false → (a || b) ≡ false
-none_true true b is also = cc
-none_true false b is also = also
-
 plain_bytes : (text : Text) → list_all is_name_byte text ≡ true → holds_equals text ≡ false
 plain_bytes [] is = refl
 plain_bytes (byte ∷ text) is =
-    let each = both_true (is_name_byte byte) (list_all is_name_byte text) is in
-    none_true (eqb byte 61) (holds_equals text) (plain_byte byte each.0) (plain_bytes text each.1)
+    let each = and_parts (is_name_byte byte) (list_all is_name_byte text) is in
+    or_from (eqb byte 61) (holds_equals text) (plain_byte byte each.0) (plain_bytes text each.1)
 
 plain_name : (text : Text) → is_name text ≡ true → holds_equals text ≡ false
-plain_name text is = plain_bytes text (both_true (not (begins_with_dash text)) (list_all is_name_byte text) is).1
+plain_name text is = plain_bytes text (and_parts (not (begins_with_dash text)) (list_all is_name_byte text) is).1
 
 plain_main : (names : Names) → is_name names.short ≡ true → is_name names.long ≡ true
     → holds_equals (main_name names) ≡ false

@@ -1,5 +1,5 @@
 -- A shell makes of words in quotes the same words.
-use Rattle.std.proofs.Common.{◌≡◌, ℕ, Bool, true, false, eqb, List, [], ◌∷◌, ◌++◌, Option, Some, None}
+use Rattle.std.proofs.Common.{◌≡◌, ℕ, Bool, true, false, eqb, List, [], ◌∷◌, ◌++◌, Some, None}
 use Rattle.std.proofs.Common.{suc, refl, sym, ap, subst, ◌∙◌, ◌<◌, length, append_assoc, append-nil, arith}
 use Rattle.std.specs.List.{flat_map, fold, slice_split, onto_first}
 use Rattle.std.specs.Prelude.{nat_lt}
@@ -9,7 +9,7 @@ use Rattle.std.proofs.lemmas.Bool.{eqb-true}
 use Rattle.std.proofs.lemmas.List.Concat.{flat_map-append}
 use Rattle.std.proofs.lemmas.List.Splits.{length-slice_split}
 use Rattle.getopts.specs.Names.{Text}
-use Rattle.getopts_shell.specs.Quote.{Progress, outside, quoting, escaping, read_byte, words_read}
+use Rattle.getopts_shell.specs.Quote.{outside, quoting, read_byte, words_read}
 use Rattle.getopts_shell.specs.Quote.{shell_words, quoted_byte, quoted, spaced, quoted_words}
 
 -- a byte of a word in quotes is read as that byte

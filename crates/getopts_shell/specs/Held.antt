@@ -3,7 +3,7 @@ use Rattle.std.specs.Prelude.{◌≡◌, ⊤, List, [], ◌∷◌, Option, Some,
 use Rattle.std.specs.List.{AllByRecursion}
 use Rattle.std.specs.String.{string_bytes}
 use Rattle.getopts.specs.Matches.{MatchedGroup, matched}
-use Rattle.getopts.specs.Names.{Text, Names, main_name}
+use Rattle.getopts.specs.Names.{Names, main_name}
 use Rattle.getopts.specs.Options.{Declared, Group, group_of, signatures_of, with_group}
 use Rattle.getopts.specs.Reading.{Occurrence, holds_equals}
 use Rattle.getopts_shell.specs.Program.{Answer, own_groups}

@@ -1,12 +1,12 @@
 -- The program: what it answers to words, and with which status.
 use Rattle.std.specs.Prelude.{◌≡◌, ◌≢◌, ◌≤◌, ◌&&◌, ◌||◌, ℕ, Bool, true, false, List, [], ◌∷◌, ◌++◌, Option}
-use Rattle.std.specs.Prelude.{Some, None, codes, decimal, map, if◌then◌else◌}
+use Rattle.std.specs.Prelude.{Some, None, codes, decimal, if◌then◌else◌, ◌⊎◌}
 use Rattle.std.specs.Io.KnownBytes.{Appends}
 use Rattle.std.specs.List.{AllByRecursion, list_any}
 use Rattle.std.specs.Option.{unwrap_or}
 use Rattle.std.specs.Str.{bytes_eq}
 use Rattle.getopts.specs.Accessors.{first_value, found_of, is_present}
-use Rattle.getopts.specs.Canon.{Content, HasCanonicalLine, canonical_word}
+use Rattle.getopts.specs.Canon.{HasCanonicalLine, canonical_word}
 use Rattle.getopts.specs.CanonAnswers.{IsWritten}
 use Rattle.getopts.specs.Fail.{Fault, fault_text}
 use Rattle.getopts.specs.Matches.{Matched}
@@ -17,7 +17,7 @@ use Rattle.getopts.specs.Parse.{HasReading, IsAccepted, IsRefused}
 use Rattle.getopts.specs.Reading.{stop_word}
 use Rattle.getopts.specs.Usage.{IsUsageText, short_usage_text}
 use Rattle.getopts.specs.declared.groups.HasArg.{HasArg}
-use Rattle.getopts.specs.declared.groups.HasArg.TheVariants.{Yes, No, Maybe}
+use Rattle.getopts.specs.declared.groups.HasArg.TheVariants.{Yes, No}
 use Rattle.getopts.specs.declared.groups.Occur.TheVariants.{Optional}
 use Rattle.getopts.specs.declared.groups.ParsingStyle.TheVariants.{FloatingFrees, StopAtFirstFree}
 use Rattle.getopts_shell.specs.Quote.{quoted, quoted_words, shell_words}
@@ -202,6 +202,21 @@ pub data IsAnswer (words : List Text) : Answer → Type 0 where
       → IsAnswer words (misused (fault_line (codes "getopts_shell") fault))
   accepted_own : (own : Matched) (answer : Answer) → IsAccepted own_options words own
       → AnswersOwn own answer → IsAnswer words answer
+
+-- The words ask for a completion script, and for no help.
+pub record AskCompletion (words : List Text) : Type 0 where
+  pub own : Matched
+  pub accepted : IsAccepted own_options words own
+  pub no_help : is_given own (codes "help") ≡ false
+  pub no_usage : is_given own (codes "usage") ≡ false
+  pub shell : Text
+  pub asked : value_given own (codes "complete") ≡ Some shell
+
+-- words have one status and one text, but for the text of a completion script that they ask for
+abbrev pub OneAnswer : Type 0
+OneAnswer = (words : List Text) (answer other : Answer) → IsAnswer words answer → IsAnswer words other
+    → (other.status ≡ answer.status)
+    × ((other.text ≡ answer.text) ⊎ ((answer.status ≡ 0) × AskCompletion words))
 
 -- ---- statuses
 

@@ -579,6 +579,45 @@ fn large_tables_are_read(rt: HostRuntime) -> Result<(), Fail> {
     Ok(())
 }
 
+/// A table of one line, which begins so and goes on with a million bytes, has this answer with this word, or with
+/// that line. The text that is written has these bytes too, between two others.
+fn long_line_is_read(
+    rt: &(impl Abort + AllocGlobal),
+    begin: &str,
+    word: Option<&str>,
+    text: (&str, &str),
+    status: u8,
+) -> Result<(), AllocError> {
+    let mut line = String::from_str(rt.alloc(), begin)?;
+    push_often(&mut line, "x", 1_000_000)?;
+    let line = line.as_str();
+    let mut wanted = String::from_str(rt.alloc(), text.0)?;
+    push_often(&mut wanted, "x", 1_000_000)?;
+    wanted.push_str(text.1)?;
+    is_written(
+        rt,
+        usize::MAX,
+        (
+            &["-bU", "x", line, word.unwrap_or(line)],
+            wanted.as_str(),
+            status,
+        ),
+    )
+}
+
+/// The line has a long description, a long name and a long hint, or is no option.
+#[test]
+fn long_lines_are_read(rt: HostRuntime) -> Result<(), Fail> {
+    let help = "printf %s 'U\n\nOptions:\n    -h, --help          ";
+    long_line_is_read(&rt, "-h|--help  ", Some("-h"), (help, "\n'; exit 0\n"), 0)?;
+    long_line_is_read(&rt, "--", None, ("set -- '--", "' '--'\n"), 0)?;
+    let usage = "x: Argument to option 'a' missing\nUsage: x -a ";
+    long_line_is_read(&rt, "-a ", Some("-a"), (usage, "\n"), 2)?;
+    let fault = "getopts_shell: line 1 of the options: -";
+    long_line_is_read(&rt, "-", None, (fault, "\n"), 5)?;
+    Ok(())
+}
+
 #[test]
 fn text_is_added_to_what_is_there(rt: HostRuntime) -> Result<(), Fail> {
     let mut out = Vec::from_slice(rt.alloc(), b"out\n")?;

@@ -1,5 +1,4 @@
-use Rattle.std.proofs.Common.{◌≡◌, ◌∷◌, ◌++◌, [], Some, None, lit<, refl, sym, ap, ◌∙◌}
-use Rattle.std.specs.Option.{option_copied}
+use Rattle.std.proofs.Common.{◌∷◌, Some, None, lit<, ap, ◌∙◌}
 use Rattle.std.proofs.lemmas.Str.Pattern.{strip_prefix_char, strip_suffix_char}
 use Rattle.getopts.specs.Names.{Text}
 use Rattle.getopts_shell.proofs.Items.{no_bracket, yes_hinted, maybe_hinted, no_hint}

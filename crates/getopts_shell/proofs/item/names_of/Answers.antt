@@ -1,6 +1,5 @@
-use Rattle.std.proofs.Common.{◌≡◌, ◌≢◌, ◌<◌, ℕ, length, get_or, lit<, arith, sym, ap, refl, drop, take, ◌∙◌}
+use Rattle.std.proofs.Common.{◌≡◌, ◌<◌, length, get_or, arith, ap, drop, take}
 use Rattle.std.proofs.lemmas.Str.{IsCharBoundary-after_ascii}
-use Rattle.std.proofs.lemmas.Grind.{common_steps}
 use Rattle.getopts.specs.Names.{Text}
 use Rattle.getopts_shell.proofs.Items.{only_both, Between, between_names, written_both, by_names}
 use Rattle.getopts_shell.proofs.item.names_of.Goals as goal

@@ -1,5 +1,4 @@
 use Rattle.std.proofs.Common.{◌≡◌, ◌<◌, true, length, get_or, refl, ◌∙◌, sym, arith}
-use Rattle.std.proofs.lemmas.Bool.Decides.{nat_tests}
 use Rattle.std.proofs.lemmas.Str.{IsCharBoundary-start, IsCharBoundary-after_ascii}
 use Rattle.getopts_shell.specs.Table.{is_blank}
 use Rattle.getopts_shell.proofs.Lines.{after_one_blank, blank_is_ascii}

@@ -1,7 +1,6 @@
-use Rattle.std.proofs.Common.{◌≡◌, ◌∷◌, [], Some, ap, sym, ◌∙◌}
+use Rattle.std.proofs.Common.{◌∷◌, [], Some, ap, sym, ◌∙◌}
 use Rattle.std.specs.Option.{option_copied}
 use Rattle.std.proofs.lemmas.List.{map-append}
-use Rattle.getopts.specs.Options.{Group}
 use Rattle.getopts_shell.specs.Held.{group_of_row, groups_of}
 use Rattle.getopts_shell.specs.Table.{name_again, twice}
 use Rattle.getopts_shell.proofs.Lines.{declares_group, faulty_line}

@@ -1,4 +1,4 @@
-use Rattle.std.proofs.Common.{◌≡◌, [], ◌∷◌, ◌++◌, map, lit<, ap, ◌∙◌, subst, sym, refl}
+use Rattle.std.proofs.Common.{[], ◌∷◌, map, lit<, ap, ◌∙◌, subst, sym}
 use Rattle.std.specs.Str.Iter.{split_text, split_has_more, split_pattern}
 use Rattle.std.proofs.lemmas.Iterator.Consumers.{YieldsList-end, YieldsList-turn, YieldsList-so_far}
 use Rattle.std.proofs.lemmas.Iterator.Splits.{YieldsList-from_str_split}
@@ -6,7 +6,7 @@ use Rattle.std.proofs.lemmas.List.{map-append, length-map}
 use Rattle.std.proofs.lemmas.Result.{err_from_is_err_and}
 use Rattle.getopts_shell.specs.Held.{groups_of}
 use Rattle.getopts_shell.specs.Table.{DeclareOptions}
-use Rattle.getopts_shell.proofs.Lines.{LinesSoFar, no_lines, next_line, table_fault, tells_weaker}
+use Rattle.getopts_shell.proofs.Lines.{LinesSoFar, next_line, table_fault, tells_weaker}
 use Rattle.getopts_shell.proofs.table.rows_of.Goals as goal
 
 pub loop-line-preserved : goal.loop-line-preserved
