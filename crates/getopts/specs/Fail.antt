@@ -6,7 +6,7 @@ use Rattle.getopts.specs.Names.{Text}
 use Rattle.getopts.specs.declared.fail.Fail.{Fail}
 use Rattle.getopts.specs.declared.fail.Fail.TheVariants as fail
 
--- a fault of a line, and the name that it tells
+-- a fault of a line, and its name
 pub data Fault : Type 0 where
   argument_missing : Text → Fault
   unrecognized_option : Text → Fault
@@ -14,7 +14,7 @@ pub data Fault : Type 0 where
   option_duplicated : Text → Fault
   unexpected_argument : Text → Fault
 
--- the fault that a refusal tells; want of memory tells none
+-- the fault of a refusal; out of memory has none
 abbrev pub fault_of : Fail → Option Fault
 fault_of (fail.ArgumentMissing name) = Some (argument_missing (string_bytes name))
 fault_of (fail.UnrecognizedOption name) = Some (unrecognized_option (string_bytes name))
@@ -32,10 +32,10 @@ fault_text (option_duplicated name) = codes "Option '" ++ (name ++ codes "' give
 fault_text (unexpected_argument name) =
     codes "Option '" ++ (name ++ codes "' does not take an argument")
 
--- the printed text of a refusal: that of the fault that it tells, or that memory was refused
+-- the printed text of a refusal: that of its fault, or that it is out of memory
 abbrev pub fail_text : Fail → Text
 fail_text fail = option_map_or fault_text (fault_of fail) (codes "Out of memory")
 
--- what a refusal tells meets this, unless it tells that memory was refused
+-- the fault of a refusal meets this, or it is out of memory
 abbrev pub Tells : Fail → (Fault → Type 0) → Type 0
 Tells fail P = MatchOption (fault_of fail) ⊤ P

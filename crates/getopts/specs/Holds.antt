@@ -17,14 +17,14 @@ use Rattle.getopts.specs.declared.groups.ParsingStyle.TheVariants.{StopAtFirstFr
 abbrev pub AreGroupsOf : Declared → List MatchedGroup → Type 0
 AreGroupsOf options groups = map (λ group. group.signature) groups ≡ signatures_of options.groups
 
--- the occurrences of each group have values as its kind wants
+-- the occurrences of each group have values that fit its kind
 abbrev pub HaveValuesByKind : List MatchedGroup → Type 0
 HaveValuesByKind groups =
     AllByRecursion (λ group. AllByRecursion (λ found. FitsKind group.signature.kind found.value)
     group.found) groups
 
 -- What matches hold of the declared options: their groups are those of the options, with occurrences that
--- stand in order and have values as their kinds want. Each declared name is defined, and each option that
+-- stand in order and have values that fit their kinds. Each declared name is defined, and each option that
 -- needs an argument and was given has a value.
 pub record HoldGiven (options : Declared) (groups : List MatchedGroup) : Type 0 where
   pub same_groups : AreGroupsOf options groups

@@ -12,7 +12,7 @@ pub mod Fail
 pub mod Reading
 -- the matches of a reading, and counts
 pub mod Matches
--- the answers of `parse`
+-- the results of `parse`
 pub mod Parse
 -- what holds of all readings
 pub mod ReadingLaws
@@ -20,9 +20,9 @@ pub mod ReadingLaws
 pub mod Accessors
 -- what accepted matches hold of declared names
 pub mod Holds
--- what canonical lines are, and what they tell
+-- canonical lines and their laws
 pub mod Canon
--- the answers of `canonical`
+-- the results of `canonical`
 pub mod CanonAnswers
 -- the main theorem
 pub mod Theorem

@@ -1,5 +1,5 @@
 -- What the first word of a line gives, with the words after it. The clauses of `scan` say that the
--- code finds this, and the lemmas on readings, that it is what the definitions of `Scan` say.
+-- code finds this, and the lemmas on readings, that it is what those of `Reading` say.
 use Rattle.std.specs.Prelude.{◌≡◌, ◌≢◌, ◌==◌, ℕ, List, [], ◌∷◌, ◌++◌, length, map, Option}
 use Rattle.std.specs.Prelude.{Some, None, Result, Ok, Err, if◌then◌else◌, encode_utf8}
 use Rattle.std.specs.Option.{option_map_or}

@@ -95,7 +95,7 @@ head long_only among_shorts group =
 abbrev pub next_row : Text
 next_row = codes "\n" ++ spaces 24
 
--- what stands between a head and its description: the spaces that its columns lack to 24, or else
+-- what stands between a head and its description: spaces up to 24 columns, or else
 -- the next row
 abbrev pub padding : Text → Text
 padding head = if nat_lt (width_of head) 24 then spaces (24 - width_of head) else next_row

@@ -41,7 +41,7 @@ impl Matches {
     ///
     /// `opt_place` returns the place of a name. There are none where the option wasn't given, nor past
     /// the last group. After `-v -o x` by `optopt("o",..)` and `optflag("v",..)` those at 0 are one of
-    /// position 1 and value `x`. The Rust has no such call.
+    /// position 1 and value `x`. The Rust crate has no such call.
     pub fn occurrences_at(&self, place: usize) -> Occurrences<'_>
         ensures { result ≡ Spec.found_in self.now.groups place }
     {
@@ -65,7 +65,7 @@ impl Matches {
     /// Whether a name resolves to a group.
     ///
     /// This is the test for the condition of the calls that ask for one option. Such a call panics in
-    /// the Rust where the name is undefined; here the caller shows that it is defined. A name is given
+    /// the Rust crate where the name is undefined; here the caller shows that it is defined. A name is given
     /// without dashes: `opt_defined("verbose")`. Two names of one group get the same result from each
     /// call.
     pub fn opt_defined(&self, name: &str) -> bool
@@ -103,7 +103,7 @@ impl Matches {
     /// of `v` are 0, 3 and 3. There are none where the option wasn't given. The name has to be defined,
     /// which `opt_defined` tests. An error comes only where memory was refused.
     ///
-    /// The Rust counts items: there a separate argument adds nothing.
+    /// The Rust crate counts items: there a separate argument adds nothing.
     pub fn opt_positions(&self, alloc: Global, name: &str) -> Result<Vec<usize>, AllocError>
         requires { Spec.IsDefined self.now.groups name.now }
         ensures positions { IfOk result (λ positions. positions.items
@@ -183,7 +183,7 @@ impl Matches {
     ///
     /// The result is `Ok(None)` where there is no such value, as where the option wasn't given, and the
     /// error is the one that reading gives. The name has to be defined, which `opt_defined` tests. The
-    /// text is lent to the reading, where the Rust copies it first.
+    /// text is lent to the reading, where the Rust crate copies it first.
     pub fn opt_get<T: FromStr>(&self, name: &str) -> Result<Option<T>, T::Err>
         requires { Spec.IsDefined self.now.groups name.now }
         ensures { Spec.IsReadAs T.from_str_gives
@@ -198,8 +198,8 @@ impl Matches {
     /// The value of an option's first occurrence, read as a `T`, or `def` where there is no such value.
     ///
     /// The result is `def` where the option wasn't given. The error is the one that reading gives: a text
-    /// that can't be read isn't answered with `def`. The name has to be defined, which `opt_defined`
-    /// tests. The text is lent to the reading, where the Rust copies it first.
+    /// that can't be read isn't replaced by `def`. The name has to be defined, which `opt_defined`
+    /// tests. The text is lent to the reading, where the Rust crate copies it first.
     pub fn opt_get_default<T: FromStr + Drop>(&self, name: &str, def: T) -> Result<T, T::Err>
         requires { Spec.IsDefined self.now.groups name.now }
         ensures { MatchOption (Spec.first_value (Spec.found_of self.now.groups name.now))
@@ -234,7 +234,7 @@ impl Matches {
 
     /// Whether the option of some name in the list was given, where all names are defined.
     ///
-    /// `opt_defined` tests a name. The result is false where none of the options was given. The Rust takes
+    /// `opt_defined` tests a name. The result is false where none of the options was given. The Rust crate takes
     /// any list of texts, and doesn't look at the names after the first that was given.
     pub fn opts_present_any(&self, names: &[&str]) -> bool
         requires { Spec.AreDefined self.now.groups (texts names.now) }
@@ -258,7 +258,7 @@ impl Matches {
 
     /// The value for the first name in the list whose option's first occurrence has a value.
     ///
-    /// All names have to be defined, which `opt_defined` tests of each, where the Rust doesn't look at the
+    /// All names have to be defined, which `opt_defined` tests of each, where the Rust crate doesn't look at the
     /// names after that one. The result is `None` where no option of them has a value in its first
     /// occurrence, also where a later one has. An error comes only where memory was refused.
     pub fn opts_str(&self, alloc: Global, names: &[String]) -> Result<Option<String>, AllocError>
@@ -273,7 +273,7 @@ impl Matches {
     /// `opts_str` gives it.
     ///
     /// All names have to be defined, which `opt_defined` tests of each. The result is `None` where no option
-    /// of them has a value in its first occurrence, also where a later one has. The Rust takes any list of
+    /// of them has a value in its first occurrence, also where a later one has. The Rust crate takes any list of
     /// texts. An error comes only where memory was refused.
     pub fn opts_str_first(
         &self,

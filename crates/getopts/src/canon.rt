@@ -109,7 +109,7 @@ impl Options {
     ///
     /// Errors come where `parse` gives them, and are the same. `Fail::OutOfMemory` comes where memory was
     /// refused, in place of any other result. As in `parse`, the iterator has to end, all its items are
-    /// taken before any result but that one, and the options stay as they are. The Rust has no such call.
+    /// taken before any result but that one, and the options stay as they are. The Rust crate has no such call.
     pub fn canonical<'a, I: Iterator<Item = &'a str> + Drop>(
         &self,
         alloc: Global,
@@ -131,7 +131,7 @@ impl Options {
 
     /// Writes an accepted line again, as `canonical` does, from a list of words that is lent.
     ///
-    /// No list of words is made for it, and its clauses are over the list itself. The Rust has no such
+    /// No list of words is made for it, and its clauses are over the list itself. The Rust crate has no such
     /// call.
     pub fn canonical_words(
         &self,

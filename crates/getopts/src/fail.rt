@@ -18,17 +18,17 @@ use std::fmt;
 /// `OptionDuplicated`, with the main name.
 #[derive(Debug, Drop)]
 pub enum Fail {
-    /// The option needs an argument, and the line ends. Tells the name as typed.
+    /// The option needs an argument, and the line ends. Holds the name as typed.
     ArgumentMissing(String),
-    /// No option has this name. Tells the name as typed; in a cluster, the character.
+    /// No option has this name. Holds the name as typed; in a cluster, the character.
     UnrecognizedOption(String),
-    /// A required option isn't there. Tells its main name.
+    /// A required option isn't there. Holds its main name.
     OptionMissing(String),
-    /// An option that may come once came again. Tells its main name.
+    /// An option that may come once came again. Holds its main name.
     OptionDuplicated(String),
-    /// The option takes no argument, and one was attached. Tells the name as typed.
+    /// The option takes no argument, and one was attached. Holds the name as typed.
     UnexpectedArgument(String),
-    /// Memory was refused. The Rust ends the process there, and has no such variant.
+    /// Memory was refused. The Rust crate ends the process there, and has no such variant.
     OutOfMemory,
 }
 

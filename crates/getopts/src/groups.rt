@@ -17,7 +17,7 @@ use crate::names::{Names, is_of_bytes};
 use std::alloc::{AllocError, Global};
 use std::marker::Model;
 
-/// The groups that there is room for once the first was added: so few grow nothing again.
+/// The capacity once a first group is added: so many groups need no second request.
 const FIRST_GROUPS: usize = 8;
 
 /// The bytes of their texts, likewise.

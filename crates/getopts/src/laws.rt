@@ -41,7 +41,7 @@ pub fn one_reading_one_canonical_line(options: &Options)
     ensures holds_same { OneContentHoldsSame options.now }
 
     // Canonical lines are equal exactly if they say the same: those of contents, and those that are
-    // answered. Each of either reads back in both styles and both modes, says nothing else, is its own, and
+    // returned. Each reads back in both styles and both modes, says nothing else, is its own, and
     // is that of no other content.
     ensures one_line_one_content { OneLineOneContent options.now }
     ensures canonical_lines { (words : List Text) (content : Content)
@@ -52,15 +52,15 @@ pub fn one_reading_one_canonical_line(options: &Options)
     // Other spellings of a line, lines one after the other, and where free words and occurrences stand.
     ensures reading_laws { KeepsReadingLaws (grammar_of options.now) }
 
-    // Each option that a line mentions is what its own main name stands for.
+    // Each option that a line mentions is what its main name resolves to.
     ensures sound { (words : List Text) (content : Content)
         → Says options.now words content → IsSound options.now.groups content }
 {
     let _groups = options.groups();
 }
 
-/// The laws of readings and of answered lines, and that words which say the same hold the same, of any
-/// options that may be declared, where none need be there: a law to cite, which does nothing.
+/// The laws of readings and of canonical lines, and that words of one content have equal matches but for
+/// positions, for all options that may be declared: a law to cite, which does nothing.
 pub fn declared_options_keep_laws()
     ensures reading_laws { (options : Declared) → MayBeDeclared options.groups
         → KeepsReadingLaws (grammar_of options) }

@@ -8,7 +8,7 @@ ghost use Rattle.getopts.specs.Held.Pieces.{IsOfBytes};
 ///
 /// The short name has at most one byte, the long name has none or at least two, and one of them is
 /// there. Lengths are bytes, so a long name may be one character of several bytes. This is the test
-/// for the condition of the calls that add a group. The Rust has no such call: it panics where a
+/// for the condition of the calls that add a group. The Rust crate has no such call: it panics where a
 /// name is too long or too short, and in `parse` where both are empty.
 ///
 /// `names_lawful("o", "output")` is true, `names_lawful("", "o")` is false.

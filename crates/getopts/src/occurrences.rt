@@ -75,10 +75,9 @@ fn packed(end: usize, has_value: bool) -> usize
     if has_value { 2 * end + 1 } else { 2 * end }
 }
 
-/// The bytes that there is room for with each option, once one has a value: so few values grow nothing
-/// again.
+/// The bytes reserved for each option once one has a value, so that short values need no second request.
 const VALUE_BYTES: usize = 8;
-/// The bytes that there is room for with all options, at most.
+/// The most bytes that `VALUE_BYTES` reserves.
 const MOST_BYTES: usize = 8192;
 
 /// Adds a value, the first with room for so many.

@@ -67,9 +67,9 @@ impl Options {
     ///
     /// `options.add_group("o", "output", "write to FILE", "FILE", HasArg::Yes, Occur::Multi)?` does what
     /// `opt` does. It is for whoever goes on after an error: its contract says that the options are then
-    /// as they were, and options may be added to in a loop. The calls named as in the Rust stand on it;
+    /// as they were, and options may be added to in a loop. The calls named as in the Rust crate call it;
     /// they return the options for a chain, and so can't say what an error leaves. The names have to be
-    /// lawful, which `names_lawful` tests. An error comes only where memory was refused. The Rust has no
+    /// lawful, which `names_lawful` tests. An error comes only where memory was refused. The Rust crate has no
     /// such call.
     pub fn add_group(
         &mut self,
@@ -127,7 +127,7 @@ impl Options {
     /// and `color`, `HasArg::Maybe` and `Occur::Multi`, a line may have `-c` and `--color=auto` any number
     /// of times.
     ///
-    /// What differs from the Rust: the names have to be lawful, which `names_lawful` tests. The Rust
+    /// What differs from the Rust crate: the names have to be lawful, which `names_lawful` tests. The Rust crate
     /// panics in this call where one is too long or too short, and takes two empty names, on which
     /// `parse` then panics. The result is a `Result`, so calls are chained with `?`: in it is a reference
     /// to the same options. An error comes only where memory was refused, and leaves the options as they

@@ -38,7 +38,7 @@ impl Options {
     /// With an option `o`/`output` that needs an argument, `["-ofile", "x"]`, `["-o", "file", "x"]` and
     /// `["--output=file", "x"]` all give `output` the value `file`, and the free word `x`.
     ///
-    /// The Rust has no such call: its `parse` takes an iterator.
+    /// The Rust crate has no such call: its `parse` takes an iterator.
     pub fn parse_words(&self, alloc: Global, words: &[&str]) -> crate::Result
         ensures accepted { IfOk result (IsAccepted self.now (texts words.now)) }
         ensures refused { IfErr result (λ fail. Tells fail
@@ -65,7 +65,7 @@ impl Options {
     /// first, prints its help where the help option was given, and then calls `parse_words`. The result is
     /// `Ok` exactly where the words have a reading. Then the matches are what that reading gives, though a
     /// required option may be missing and an option that may come once may have come again. The faults of
-    /// the words themselves come as from `parse_words`. The Rust has no such call.
+    /// the words themselves come as from `parse_words`. The Rust crate has no such call.
     pub fn parse_ignoring_counts(&self, alloc: Global, words: &[&str]) -> crate::Result
         ensures read { IfOk result (HasReading self.now (texts words.now)) }
         ensures refused { IfErr result (λ fail. Tells fail
@@ -79,7 +79,7 @@ impl Options {
     /// Reads the words of a line, as `parse_words` does, over the items of an iterator.
     ///
     /// The iterator has to end; `words.iter().copied()` of a list of words does. All its items are taken
-    /// before any result but `Fail::OutOfMemory`. The Rust takes words that may be no UTF-8, and refuses
+    /// before any result but `Fail::OutOfMemory`. The Rust crate takes words that may be no UTF-8, and refuses
     /// those.
     pub fn parse<'a, I: Iterator<Item = &'a str> + Drop>(
         &self,

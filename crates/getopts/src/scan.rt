@@ -17,8 +17,8 @@ use crate::options::Options;
 use crate::table::Table;
 use std::alloc::{AllocError, Global};
 
-/// So many words are few. More than that an iterator isn't trusted to give before they have come, and more than
-/// that are looked at before there is room for what they give.
+/// Up to this many words get room unseen, and up to this number an iterator's size hint is believed. More words
+/// are counted first, by `first_rooms`.
 pub(crate) const FIRST_ROOM: usize = 1024;
 
 /// A `&str` is a text.
@@ -139,9 +139,9 @@ fn is_dashed(word: &str) -> bool
     }
 }
 
-/// How many options and how many free words there is room for before the first word is read. Few words aren't
-/// looked at: there is room for as many of each. Of many there is room for those that are dashed, up to where all
-/// others are free, and for the others.
+/// The first capacities of the lists of options and of free words. Up to `FIRST_ROOM` words, both are the number
+/// of words. Of more, the first is the number of dashed words before the rest is free, the second that of the
+/// others.
 fn first_rooms(words: &[&str], stops: bool) -> (usize, usize) {
     if words.len() <= FIRST_ROOM {
         return (words.len(), words.len());

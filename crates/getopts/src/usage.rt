@@ -25,11 +25,11 @@ const OPTION_ROOM: usize = 16;
 
 /// The rows of a usage text, one for each option group, in order of definition.
 ///
-/// `Options::usage_with_format` hands them to its closure. All of them are made by then, so `next`
+/// `Options::usage_with_format` passes them to its closure. All of them are made by then, so `next`
 /// takes no memory. A row has no line end after it; inside it has one before each row of the
 /// description that begins a line of its own.
 ///
-/// In Rust the closure is handed a `&mut dyn Iterator`, which makes each row as it is asked for.
+/// In the Rust crate the closure gets a `&mut dyn Iterator`, which makes each row as it is asked for.
 #[derive(Debug, Drop)]
 pub struct UsageRows {
     rows: vec::IntoIter<String>,
@@ -70,7 +70,7 @@ impl Options {
     /// // "Usage: fruits -b VAL [-k]"
     /// ```
     ///
-    /// The only error is `AllocError`, where memory was refused. In Rust this call cannot fail.
+    /// The only error is `AllocError`, where memory was refused. In the Rust crate this call cannot fail.
     pub fn short_usage(&self, alloc: Global, program_name: &str) -> Result<String, AllocError>
         ensures text { IfOk result (λ text.
             string_bytes text ≡ short_usage_text self.now program_name.now) }
@@ -105,7 +105,7 @@ impl Options {
     ///
     /// The only error is `AllocError`, where memory was refused.
     ///
-    /// In Rust this call cannot fail. There a short name that takes no column is left out, and one
+    /// In the Rust crate this call cannot fail. There a short name that takes no column is left out, and one
     /// that takes more than one panics. Here a short name is written wherever it is not empty.
     pub fn usage(&self, alloc: Global, brief: &str) -> Result<String, AllocError>
         // This is the usage text, byte for byte, and no other text is.
@@ -135,7 +135,7 @@ impl Options {
     ///
     /// The error is `AllocError`: that of the closure, or one for the rows.
     ///
-    /// In Rust the closure takes a `&mut dyn Iterator`, and neither it nor this call can fail.
+    /// In the Rust crate the closure takes a `&mut dyn Iterator`, and neither it nor this call can fail.
     pub fn usage_with_format<F: FnMut(UsageRows) -> Result<String, AllocError> + Drop>(
         &self,
         alloc: Global,
@@ -143,7 +143,7 @@ impl Options {
     ) -> Result<String, AllocError>
         requires { F.IsAlwaysCallable formatter }
 
-        // The closure, as it was handed in, gives this result for the usage rows. No other list of
+        // The closure, as it was passed, returns this for the usage rows. No other list of
         // texts is the usage rows.
         ensures called { OnOk result ((rows : List Text) ×
             IsTheOnly (AreUsageRows self.now) rows × F.post formatter rows result) }
@@ -152,8 +152,8 @@ impl Options {
         formatter(UsageRows { rows })
     }
 
-    /// The rows of the usage text, each in a text of its own, as `usage_with_format` hands them to its
-    /// closure. The Rust has no such call. The only error is `AllocError`, where memory was refused.
+    /// The rows of the usage text, each in a text of its own, as `usage_with_format` passes them to its
+    /// closure. The Rust crate has no such call. The only error is `AllocError`, where memory was refused.
     pub fn usage_rows(&self, alloc: Global) -> Result<Vec<String>, AllocError>
         ensures { IfOk result (λ rows.
             IsTheOnly (AreUsageRows self.now) (map string_bytes rows.items)) }

@@ -26,7 +26,7 @@ use unicode_width::UnicodeWidthStr;
 ///
 /// The only error is `AllocError`, where memory for the rows was refused.
 ///
-/// In Rust this function is private, cannot fail, and measures the row so far as one text. Here it
+/// In the Rust crate this function is private, cannot fail, and measures the row so far as one text. Here it
 /// is public and measures word by word, and nothing is said of the width of a row as one text.
 pub fn each_split_within(alloc: Global, desc: &str, lim: usize) -> Result<Vec<String>, AllocError>
     // These are the description's rows, byte for byte, and no other list is: in each line every row

@@ -71,7 +71,7 @@ struct Script<'s> {
 /// - 2: why the script's words are refused, and its short usage
 /// - 3: out of memory, with nothing written
 /// - 4: a write or a flush failed
-/// - 5: why the program can't be called so: its own words, a table that isn't there, or a line of the table
+/// - 5: what is wrong with the call: its own words, an unknown shell, a missing table, or a line of it
 pub fn answer<W: Write, E: Write>(alloc: Global, words: &[&str], out: &mut W, err: &mut E) -> u8
     ensures status { IsStatus result }
     ensures shown { result ≡ 0
@@ -163,7 +163,7 @@ fn add_own_options(options: &mut Options) -> Result<(), AllocError>
     Ok(())
 }
 
-/// The line of the fault that a refusal tells, after a name.
+/// The line of a refusal's fault, after a name.
 fn fault_line(alloc: Global, name: &str, fail: &Fail) -> Result<String, AllocError>
     ensures { IfOk result (λ text. (fault : Fault) × (fault_of fail.now ≡ Some fault)
         × (string_bytes text ≡ fault_line name.now fault)) }

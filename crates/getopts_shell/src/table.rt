@@ -18,9 +18,9 @@ use std::alloc::{AllocError, Global};
 /// Why a table is refused.
 #[derive(Drop)]
 pub(crate) enum TableError<'t> {
-    /// The line with this number is no option. Tells its item.
+    /// The line with this number is no option. Holds its item.
     NoOption(usize, &'t str),
-    /// The line with this number has a name that stands there already. Tells the name.
+    /// The line with this number has a name that stands there already. Holds the name.
     NameTwice(usize, &'t str),
     /// Memory was refused.
     OutOfMemory,

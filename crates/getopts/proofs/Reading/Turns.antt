@@ -1,5 +1,5 @@
 -- A tool of the proofs: reading word by word, by what each word gives. The definitions in
--- `specs/Scan.antt` don't rest on it.
+-- `specs/Reading.antt` don't use it.
 use Rattle.std.proofs.Common.{◌≡◌, ◌==◌, ◌⊎◌, ℕ, ◌<◌, List, [], ◌∷◌, ◌++◌, None, Result, Ok, Err}
 use Rattle.std.specs.Prelude.{if◌then◌else◌}
 use Rattle.getopts.specs.Names.{Text}
