@@ -1,6 +1,7 @@
 -- Items: what they are made of, in one way each.
 use Rattle.std.proofs.Common.{◌≡◌, ◌≢◌, ℕ, ◌<◌, Bool, true, false, [], ◌∷◌, ◌++◌, length, get_or}
-use Rattle.std.proofs.Common.{Bor, MatchOption, cond, drop, take, Option, Some, None, inl, inr, refl, sym, ap, subst, ◌∙◌, arith, append_assoc}
+use Rattle.std.proofs.Common.{Bor, MatchOption, cond, drop, take, Option, Some, None, inl, inr, refl, sym, ap, subst}
+use Rattle.std.proofs.Common.{◌∙◌, arith, append_assoc}
 use Rattle.std.specs.Prelude.{slice_index, ◌&&◌, not}
 use Rattle.std.specs.List.{AllByRecursion, last_or, list_all}
 use Rattle.std.specs.Option.{option_map_or}
@@ -404,7 +405,8 @@ maybe_hinted None text inside opens none = by_kind
   where
     by_kind : (kind : HasArg) (hint : Text) → ¬ (IsArgument kind hint (Some text))
     by_kind No hint is = is
-    by_kind Yes hint is = hint_open (inside ++ (93 ∷ [])) (subst (λ (t : Text). is_hint t ≡ true) (sym is.1 ∙ opens) is.0)
+    by_kind Yes hint is = hint_open (inside ++ (93 ∷ []))
+        (subst (λ (t : Text). is_hint t ≡ true) (sym is.1 ∙ opens) is.0)
     by_kind Maybe hint is =
         let same : 91 ∷ (hint ++ (93 ∷ [])) ≡ 91 ∷ (inside ++ (93 ∷ [])) = sym is.1 ∙ opens in
         let hint_is = append_cancel_right hint inside (93 ∷ []) cc in

@@ -1,5 +1,6 @@
 -- Lines of a table.
-use Rattle.std.proofs.Common.{◌≡◌, ℕ, ◌<◌, ◌+◌, Bool, true, false, cond, List, [], ◌∷◌, ◌++◌, length, take, drop, get_or}
+use Rattle.std.proofs.Common.{◌≡◌, ℕ, ◌<◌, ◌+◌, Bool, true, false, cond, List, [], ◌∷◌, ◌++◌, length, take, drop}
+use Rattle.std.proofs.Common.{get_or}
 use Rattle.std.proofs.Common.{map, refl, sym, ap, ◌∙◌, arith, suc, zero}
 use Rattle.std.specs.Prelude.{◌||◌, ◌==◌, Option, Some, None, slice_index, min, ◌-◌, ◌^◌}
 use Rattle.std.specs.List.{AllZip, filter_map, list_all, list_any}

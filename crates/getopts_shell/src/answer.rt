@@ -1,6 +1,7 @@
 //! What the program answers to words.
 
-ghost use Rattle.std.specs.Prelude.{◌≡◌, ◌≢◌, ◌≤◌, ◌⊎◌, ◌++◌, ◌↔◌, ◌&&◌, codes, map, true, false, IsTrue, List, Option, IfOk, OnOk, Some};
+ghost use Rattle.std.specs.Prelude.{◌≡◌, ◌≢◌, ◌≤◌, ◌⊎◌, ◌++◌, ◌↔◌, ◌&&◌, codes, map, true, false, IsTrue, List};
+ghost use Rattle.std.specs.Prelude.{Option, IfOk, OnOk, Some};
 ghost use Rattle.std.specs.Io.KnownBytes.{Appends};
 ghost use Rattle.std.specs.List.{list_any};
 ghost use Rattle.std.specs.Str.{bytes_eq};
@@ -11,9 +12,12 @@ ghost use Rattle.getopts.specs.Matches.{Matched};
 ghost use Rattle.getopts.specs.Names.{Text, texts};
 ghost use Rattle.getopts.specs.Options.{with_group};
 ghost use Rattle.getopts.specs.Parse.{IsAccepted, IsRefused};
-ghost use Rattle.getopts_shell.specs.Held.{group_of_row, groups_of, fault_told, answer_of, HasOwnGroups, ArePlainlyNamed};
-ghost use Rattle.getopts_shell.specs.Program.{own_groups, own_options, script_options, done, misused, table_fault_line, fault_line, refused_text};
-ghost use Rattle.getopts_shell.specs.Program.{IsHelp, help_code, AskHelp, is_no, offers_help, line_code, AnswersLine, AnswersWords, AnswersScript};
+ghost use Rattle.getopts_shell.specs.Held.{group_of_row, groups_of, fault_told, answer_of, HasOwnGroups};
+ghost use Rattle.getopts_shell.specs.Held.{ArePlainlyNamed};
+ghost use Rattle.getopts_shell.specs.Program.{own_groups, own_options, script_options, done, misused};
+ghost use Rattle.getopts_shell.specs.Program.{table_fault_line, fault_line, refused_text};
+ghost use Rattle.getopts_shell.specs.Program.{IsHelp, help_code, AskHelp, is_no, offers_help, line_code, AnswersLine};
+ghost use Rattle.getopts_shell.specs.Program.{AnswersWords, AnswersScript};
 ghost use Rattle.getopts_shell.specs.Program.{AnswersTable, AnswersFree, AnswersOwn, IsAnswer, IsStatus, ShowsAnswer};
 ghost use Rattle.getopts_shell.specs.Program.{AnswersCompletion, no_completion};
 ghost use Rattle.getopts_shell.specs.Table.{TableFault, no_option, name_twice};
@@ -143,23 +147,22 @@ fn own_options(alloc: Global) -> Result<Options, AllocError>
 fn add_own_options(options: &mut Options) -> Result<(), AllocError>
     ensures { OnOk result (options.new ≡ with_groups options.old own_groups) }
 {
-    options
-        .optopt("b", "brief", "begin the help with TEXT", "TEXT")?
-        .optflag(
-            "s",
-            "stop",
-            "leave all words from the first free one on free",
-        )?
-        .optflag("l", "long-only", "let long names follow one dash too")?
-        .optflag("w", "words", "write the words alone, without 'set --'")?
-        .optflag("u", "usage", "write the help of TABLE")?
-        .optopt(
-            "c",
-            "complete",
-            "write a completion script for bash, zsh or fish",
-            "SHELL",
-        )?
-        .optflag("h", "help", "print this help")?;
+    options.optopt("b", "brief", "begin the help with TEXT", "TEXT")?;
+    options.optflag(
+        "s",
+        "stop",
+        "leave all words from the first free one on free",
+    )?;
+    options.optflag("l", "long-only", "let long names follow one dash too")?;
+    options.optflag("w", "words", "write the words alone, without 'set --'")?;
+    options.optflag("u", "usage", "write the help of TABLE")?;
+    options.optopt(
+        "c",
+        "complete",
+        "write a completion script for bash, zsh or fish",
+        "SHELL",
+    )?;
+    options.optflag("h", "help", "print this help")?;
     Ok(())
 }
 
@@ -448,10 +451,7 @@ fn any_is_help(rows: &[Row<'_>]) -> bool
 fn takes_none(kind: HasArg) -> bool
     ensures { result ≡ is_no kind }
 {
-    match kind {
-        HasArg::No => true,
-        _ => false,
-    }
+    matches!(kind, HasArg::No)
 }
 
 /// The code that prints the help of a script, and ends it.
