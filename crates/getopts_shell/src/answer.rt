@@ -235,28 +235,14 @@ fn table_refusal(alloc: Global, error: TableError<'_>) -> Result<String, AllocEr
         × (string_bytes text ≡ table_fault_line fault)) }
 {
     match error {
-        TableError::NoOption(number, item) => no_option_line(alloc, number, item),
-        TableError::NameTwice(number, name) => name_twice_line(alloc, number, name),
+        TableError::NoOption(number, item) => {
+            format!(in alloc; "getopts_shell: line {number} of the options: {item}\n")
+        }
+        TableError::NameTwice(number, name) => format!(in alloc;
+            "getopts_shell: line {number} of the options: the name '{name}' stands there already\n"
+        ),
         TableError::OutOfMemory => Err(AllocError),
     }
-}
-
-/// The line of a fault: the line with this number is no option, and this is its item.
-fn no_option_line(alloc: Global, number: usize, item: &str) -> Result<String, AllocError>
-    ensures { IfOk result (λ text. string_bytes text
-        ≡ table_fault_line (no_option number item.now)) }
-{
-    format!(in alloc; "getopts_shell: line {number} of the options: {item}\n")
-}
-
-/// The line of a fault: the line with this number has a name that stands there already.
-fn name_twice_line(alloc: Global, number: usize, name: &str) -> Result<String, AllocError>
-    ensures { IfOk result (λ text. string_bytes text
-        ≡ table_fault_line (name_twice number name.now)) }
-{
-    format!(in alloc;
-        "getopts_shell: line {number} of the options: the name '{name}' stands there already\n"
-    )
 }
 
 /// The answer to words by the options of a table.
@@ -361,17 +347,10 @@ fn completion_answer(alloc: Global, shell: &str, script: Script<'_>) -> Result<O
     match completion(alloc, shell, script.name, script.rows)? {
         Some(text) => Ok(Outcome { text, status: DONE }),
         None => Ok(Outcome {
-            text: no_completion_line(alloc, shell)?,
+            text: format!(in alloc; "getopts_shell: no completion for '{shell}'\n")?,
             status: MISUSED,
         }),
     }
-}
-
-/// The line of a fault: there is no completion for this shell.
-fn no_completion_line(alloc: Global, shell: &str) -> Result<String, AllocError>
-    ensures { IfOk result (λ text. string_bytes text ≡ no_completion shell.now) }
-{
-    format!(in alloc; "getopts_shell: no completion for '{shell}'\n")
 }
 
 /// The answer to the words of a script.
