@@ -177,23 +177,6 @@ shape_of (byte ∷ other ∷ short) long text may is = absurd (omega (arith, may
 shape : (names : Names) (text : Text) → AreNames names text → Shape names.short names.long text
 shape names text are = shape_of names.short names.long text are.may_be are.written
 
--- what a text with these names is made of
-pub too_short : (names : Names) (text : Text) → AreNames names text → length text < 2 → ⊥
-too_short names text are short = by_shape (shape names text are)
-  where
-    by_shape : Shape names.short names.long text → ⊥
-    by_shape (long_one none is) = absurd (omega (arith, ap length is))
-    by_shape (short_one byte plain one none is) = absurd (omega (arith, ap length is))
-    by_shape (both byte plain one some is) = absurd (omega (arith, ap length is))
-
-pub dash_first : (names : Names) (text : Text) → AreNames names text → get_or text 0 0 ≡ 45
-dash_first names text are = by_shape (shape names text are)
-  where
-    by_shape : Shape names.short names.long text → get_or text 0 0 ≡ 45
-    by_shape (long_one none is) = ap (λ (t : Text). get_or t 0 0) is
-    by_shape (short_one byte plain one none is) = ap (λ (t : Text). get_or t 0 0) is
-    by_shape (both byte plain one some is) = ap (λ (t : Text). get_or t 0 0) is
-
 pub only_long : (text : Text) → get_or text 1 0 ≡ 45 → (names : Names) → AreNames names text
     → (names.short ≡ []) × (names.long ≡ drop 2 text)
 only_long text dash names are = by_shape (shape names text are)
@@ -246,20 +229,6 @@ between_names text no_dash more names are = by_shape (shape names text are)
       first_dash = ap (λ (t : Text). get_or t 3 0) is;
       second_dash = ap (λ (t : Text). get_or t 4 0) is;
     }
-
--- the three ways, by their bytes
-pub written_long : (text : Text) → 1 < length text → get_or text 0 0 ≡ 45 → get_or text 1 0 ≡ 45
-    → text ≡ names_text (record { short = []; long = drop 2 text })
-written_long [] more dash second = absurd (omega arith)
-written_long (byte ∷ []) more dash second = absurd (omega arith)
-written_long (byte ∷ other ∷ text) more dash second = cc
-
-pub written_short : (text : Text) → length text ≡ 2 → get_or text 0 0 ≡ 45
-    → text ≡ names_text (record { short = drop 1 text; long = [] })
-written_short [] two dash = absurd (omega arith)
-written_short (byte ∷ []) two dash = absurd (omega arith)
-written_short (byte ∷ other ∷ []) two dash = ap (λ (b : ℕ). b ∷ other ∷ []) dash
-written_short (byte ∷ other ∷ third ∷ text) two dash = absurd (omega arith)
 
 pub written_both : (text : Text) → get_or text 0 0 ≡ 45 → Between text
     → text ≡ names_text (record { short = take 1 (drop 1 text); long = drop 5 text })
@@ -352,11 +321,6 @@ one_argument Maybe Yes hint other (Some text) is also =
     absurd (hint_open (hint ++ (93 ∷ [])) (subst (λ (t : Text). is_hint t ≡ true) (sym also.1 ∙ is.1) also.0))
 
 -- ---- items
-
--- an item of which one part is none is none
-pub no_brackets_none : (text : Text) → ((occurrence : Occur) (inside : Text) → ¬ (IsBracketed occurrence inside text))
-    → (known : Signature) (hint : Text) → ¬ (IsItem text known hint)
-no_brackets_none text none known hint is = none known.occurrence is.inside is.brackets
 
 pub no_names_none : (text inside names : Text) (occurrence : Occur) (argument : Option Text)
     → IsBracketed occurrence inside text → HasParts inside names argument

@@ -132,9 +132,6 @@ pub record LinesSoFar (lines : List Text) (number : ℕ) (groups : List Group) :
   pub number_is : number ≡ min (length lines) (2 ^ 64 - 1)
   pub declared : DeclareOptions lines groups
 
-pub no_lines : LinesSoFar [] 0 []
-no_lines = record { number_is = omega arith; declared = record { declared = ([], tt, refl); once = tt } }
-
 pub next_line : (lines : List Text) (line : Text) (number next : ℕ) (groups : List Group) (more : List Group)
     (declared : Option Group) → LinesSoFar lines number groups → next ≡ min (number + 1) (2 ^ 64 - 1)
     → Declares line declared → more ≡ groups ++ option_to_list declared
