@@ -20,7 +20,8 @@ use Rattle.getopts_shell.specs.Table.{is_name, is_name_byte, names_text, MayBeNa
 use Rattle.getopts_shell.specs.Table.{IsBracketed, IsItem, is_blank, after_blanks, before_blanks, trimmed}
 use Rattle.getopts_shell.specs.Table.{begins_gap, before_gap, from_gap, DeclaresGroup, DeclareGroups}
 use Rattle.getopts_shell.specs.TableText.{item_text, after_item, line_text, table_text}
-use Rattle.getopts_shell.specs.TableText.{is_dense_byte, IsWrittenHint, IsWrittenDescription, CanBeWritten, WrittenIsDeclared}
+use Rattle.getopts_shell.specs.TableText.{is_dense_byte, IsWrittenHint, IsWrittenDescription, CanBeWritten}
+use Rattle.getopts_shell.specs.TableText.{WrittenIsDeclared}
 use Rattle.getopts_shell.proofs.Items.{is_empty-cons}
 
 -- bytes that pass a test pass each weaker one
@@ -135,7 +136,8 @@ from_spaced text tail (parted front first back is also text_is) all =
     ap (λ (t : Text). from_gap (t ++ tail)) text_is
     ∙ ap from_gap (append_assoc front (32 ∷ first ∷ back) tail)
     ∙ from_gap_dense front (32 ∷ first ∷ (back ++ tail)) is
-    ∙ ap (λ (b : Bool). cond b (32 ∷ first ∷ (back ++ tail)) (from_gap (first ∷ (back ++ tail)))) (no_space first head.0)
+    ∙ ap (λ (b : Bool). cond b (32 ∷ first ∷ (back ++ tail)) (from_gap (first ∷ (back ++ tail))))
+    (no_space first head.0)
     ∙ from_gap_dense (first ∷ back) tail also ∙ all
 
 spaced_ends : (text : Text) → IsSpaced text → before_blanks text ≡ text
@@ -188,10 +190,12 @@ spaced_parts : (before after : Text) (names : Names) (kind : HasArg) (hint : Tex
     → IsSpaced (before ++ ((names_text names ++ option_argument kind hint) ++ after))
 spaced_parts before after names No hint is also may written =
     plain (dense-append before ((names_text names ++ []) ++ after) is
-    (dense-append (names_text names ++ []) after (dense-append (names_text names) [] (names_dense names may) refl) also))
+    (dense-append (names_text names ++ []) after
+    (dense-append (names_text names) [] (names_dense names may) refl) also))
 spaced_parts before after names Yes [] is also may written = let bad : false ≡ true = written.0 in cc
 spaced_parts before after names Yes (first ∷ hint) is also may written =
-    parted (before ++ names_text names) first (hint ++ after) (dense-append before (names_text names) is (names_dense names may))
+    parted (before ++ names_text names) first (hint ++ after)
+    (dense-append before (names_text names) is (names_dense names may))
     (dense-append (first ∷ hint) after written.1 also)
     (ap (λ (t : Text). before ++ t) (append_assoc (names_text names) (32 ∷ first ∷ hint) after)
     ∙ sym (append_assoc before (names_text names) (32 ∷ first ∷ (hint ++ after))))
@@ -206,19 +210,23 @@ item_spaced : (group : Group) → CanBeWritten group → IsSpaced (item_text gro
 item_spaced group is = by_occurrence group.signature.occurrence
   where
     by_occurrence : (occurrence : Occur)
-        → IsSpaced (bracketed occurrence (names_text group.signature.names ++ option_argument group.signature.kind group.hint))
+        → IsSpaced
+        (bracketed occurrence (names_text group.signature.names ++ option_argument group.signature.kind group.hint))
     by_occurrence Req = subst IsSpaced (append-nil _)
         (spaced_parts [] [] group.signature.names group.signature.kind group.hint refl refl is.names is.hint)
     by_occurrence Optional =
-        spaced_parts (91 ∷ []) (93 ∷ []) group.signature.names group.signature.kind group.hint refl refl is.names is.hint
+        spaced_parts (91 ∷ []) (93 ∷ [])
+        group.signature.names group.signature.kind group.hint refl refl is.names is.hint
     by_occurrence Multi =
-        spaced_parts (91 ∷ []) (93 ∷ 46 ∷ 46 ∷ []) group.signature.names group.signature.kind group.hint refl refl is.names is.hint
+        spaced_parts (91 ∷ []) (93 ∷ 46 ∷ 46 ∷ [])
+        group.signature.names group.signature.kind group.hint refl refl is.names is.hint
 
 item_begins : (group : Group) → Begins (item_text group)
 item_begins group = by_occurrence group.signature.occurrence
   where
     by_occurrence : (occurrence : Occur)
-        → Begins (bracketed occurrence (names_text group.signature.names ++ option_argument group.signature.kind group.hint))
+        → Begins (bracketed occurrence
+        (names_text group.signature.names ++ option_argument group.signature.kind group.hint))
     by_occurrence Req =
         let head = names_begin group.signature.names in
         begins 45 (head.0 ++ option_argument group.signature.kind group.hint)
@@ -276,7 +284,8 @@ item_is group is = record {
     by_occurrence Req = (
       refl,
       let head = names_begin group.signature.names in
-          λ opens. apart 45 91 refl refl (sym (ap (λ (t : Text). slice_index (t ++ option_argument group.signature.kind group.hint) 0) head.1) ∙ opens),
+          λ opens. apart 45 91 refl refl
+          (sym (ap (λ (t : Text). slice_index (t ++ option_argument group.signature.kind group.hint) 0) head.1) ∙ opens),
     )
     by_occurrence Optional = refl
     by_occurrence Multi = inl refl
@@ -322,7 +331,8 @@ all_after (byte ∷ rest) = refl
 
 line_declares : (group : Group) → CanBeWritten group → DeclaresGroup (line_text group) group
 line_declares group is = record {
-  there = ap (λ (t : Text). is_empty t || (slice_index t 0 == 35)) (line_trimmed group is) ∙ by_begin (item_begins group);
+  there = ap (λ (t : Text). is_empty t || (slice_index t 0 == 35)) (line_trimmed group is)
+      ∙ by_begin (item_begins group);
   item = subst (λ (t : Text). IsItem t group.signature group.hint)
       (sym (ap before_gap (line_trimmed group is)
       ∙ before_spaced (item_text group) (after_item group.description) (item_spaced group is)
@@ -334,9 +344,11 @@ line_declares group is = record {
       (all_after group.description)));
 }
   where
-    by_begin : Begins (item_text group) → (is_empty (line_text group) || (slice_index (line_text group) 0 == 35)) ≡ false
+    by_begin : Begins (item_text group)
+        → (is_empty (line_text group) || (slice_index (line_text group) 0 == 35)) ≡ false
     by_begin (begins first rest item_is dense none) =
-        ap (λ (t : Text). is_empty (t ++ after_item group.description) || (slice_index (t ++ after_item group.description) 0 == 35)) item_is
+        ap (λ (t : Text). is_empty (t ++ after_item group.description)
+        || (slice_index (t ++ after_item group.description) 0 == 35)) item_is
         ∙ ap (λ (b : Bool). b || eqb first 35) (is_empty-cons first (rest ++ after_item group.description))
         ∙ none
 

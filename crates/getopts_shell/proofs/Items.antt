@@ -1,6 +1,7 @@
 -- Items: what they are made of, in one way each.
 use Rattle.std.proofs.Common.{◌≡◌, ◌≢◌, ℕ, ◌<◌, Bool, true, false, [], ◌∷◌, ◌++◌, length, get_or}
-use Rattle.std.proofs.Common.{Bor, MatchOption, cond, drop, take, Option, Some, None, inl, inr, refl, sym, ap, subst, ◌∙◌, arith, append_assoc}
+use Rattle.std.proofs.Common.{Bor, MatchOption, cond, drop, take, Option, Some, None, inl, inr, refl, sym, ap, subst}
+use Rattle.std.proofs.Common.{◌∙◌, arith, append_assoc}
 use Rattle.std.specs.Prelude.{slice_index, ◌&&◌, not}
 use Rattle.std.specs.List.{AllByRecursion, last_or, list_all}
 use Rattle.std.specs.Option.{option_map_or}
@@ -176,23 +177,6 @@ shape_of (byte ∷ other ∷ short) long text may is = absurd (omega (arith, may
 shape : (names : Names) (text : Text) → AreNames names text → Shape names.short names.long text
 shape names text are = shape_of names.short names.long text are.may_be are.written
 
--- what a text with these names is made of
-pub too_short : (names : Names) (text : Text) → AreNames names text → length text < 2 → ⊥
-too_short names text are short = by_shape (shape names text are)
-  where
-    by_shape : Shape names.short names.long text → ⊥
-    by_shape (long_one none is) = absurd (omega (arith, ap length is))
-    by_shape (short_one byte plain one none is) = absurd (omega (arith, ap length is))
-    by_shape (both byte plain one some is) = absurd (omega (arith, ap length is))
-
-pub dash_first : (names : Names) (text : Text) → AreNames names text → get_or text 0 0 ≡ 45
-dash_first names text are = by_shape (shape names text are)
-  where
-    by_shape : Shape names.short names.long text → get_or text 0 0 ≡ 45
-    by_shape (long_one none is) = ap (λ (t : Text). get_or t 0 0) is
-    by_shape (short_one byte plain one none is) = ap (λ (t : Text). get_or t 0 0) is
-    by_shape (both byte plain one some is) = ap (λ (t : Text). get_or t 0 0) is
-
 pub only_long : (text : Text) → get_or text 1 0 ≡ 45 → (names : Names) → AreNames names text
     → (names.short ≡ []) × (names.long ≡ drop 2 text)
 only_long text dash names are = by_shape (shape names text are)
@@ -245,20 +229,6 @@ between_names text no_dash more names are = by_shape (shape names text are)
       first_dash = ap (λ (t : Text). get_or t 3 0) is;
       second_dash = ap (λ (t : Text). get_or t 4 0) is;
     }
-
--- the three ways, by their bytes
-pub written_long : (text : Text) → 1 < length text → get_or text 0 0 ≡ 45 → get_or text 1 0 ≡ 45
-    → text ≡ names_text (record { short = []; long = drop 2 text })
-written_long [] more dash second = absurd (omega arith)
-written_long (byte ∷ []) more dash second = absurd (omega arith)
-written_long (byte ∷ other ∷ text) more dash second = cc
-
-pub written_short : (text : Text) → length text ≡ 2 → get_or text 0 0 ≡ 45
-    → text ≡ names_text (record { short = drop 1 text; long = [] })
-written_short [] two dash = absurd (omega arith)
-written_short (byte ∷ []) two dash = absurd (omega arith)
-written_short (byte ∷ other ∷ []) two dash = ap (λ (b : ℕ). b ∷ other ∷ []) dash
-written_short (byte ∷ other ∷ third ∷ text) two dash = absurd (omega arith)
 
 pub written_both : (text : Text) → get_or text 0 0 ≡ 45 → Between text
     → text ≡ names_text (record { short = take 1 (drop 1 text); long = drop 5 text })
@@ -352,11 +322,6 @@ one_argument Maybe Yes hint other (Some text) is also =
 
 -- ---- items
 
--- an item of which one part is none is none
-pub no_brackets_none : (text : Text) → ((occurrence : Occur) (inside : Text) → ¬ (IsBracketed occurrence inside text))
-    → (known : Signature) (hint : Text) → ¬ (IsItem text known hint)
-no_brackets_none text none known hint is = none known.occurrence is.inside is.brackets
-
 pub no_names_none : (text inside names : Text) (occurrence : Occur) (argument : Option Text)
     → IsBracketed occurrence inside text → HasParts inside names argument
     → ((are : Names) → ¬ (AreNames are names))
@@ -404,7 +369,8 @@ maybe_hinted None text inside opens none = by_kind
   where
     by_kind : (kind : HasArg) (hint : Text) → ¬ (IsArgument kind hint (Some text))
     by_kind No hint is = is
-    by_kind Yes hint is = hint_open (inside ++ (93 ∷ [])) (subst (λ (t : Text). is_hint t ≡ true) (sym is.1 ∙ opens) is.0)
+    by_kind Yes hint is = hint_open (inside ++ (93 ∷ []))
+        (subst (λ (t : Text). is_hint t ≡ true) (sym is.1 ∙ opens) is.0)
     by_kind Maybe hint is =
         let same : 91 ∷ (hint ++ (93 ∷ [])) ≡ 91 ∷ (inside ++ (93 ∷ [])) = sym is.1 ∙ opens in
         let hint_is = append_cancel_right hint inside (93 ∷ []) cc in

@@ -1,5 +1,6 @@
 -- Lines of a table.
-use Rattle.std.proofs.Common.{◌≡◌, ℕ, ◌<◌, ◌+◌, Bool, true, false, cond, List, [], ◌∷◌, ◌++◌, length, take, drop, get_or}
+use Rattle.std.proofs.Common.{◌≡◌, ℕ, ◌<◌, ◌+◌, Bool, true, false, cond, List, [], ◌∷◌, ◌++◌, length, take, drop}
+use Rattle.std.proofs.Common.{get_or}
 use Rattle.std.proofs.Common.{map, refl, sym, ap, ◌∙◌, arith, suc, zero}
 use Rattle.std.specs.Prelude.{◌||◌, ◌==◌, Option, Some, None, slice_index, min, ◌-◌, ◌^◌}
 use Rattle.std.specs.List.{AllZip, filter_map, list_all, list_any}
@@ -130,9 +131,6 @@ one_more_line lines line groups declared so_far is new = record {
 pub record LinesSoFar (lines : List Text) (number : ℕ) (groups : List Group) : Type 0 where
   pub number_is : number ≡ min (length lines) (2 ^ 64 - 1)
   pub declared : DeclareOptions lines groups
-
-pub no_lines : LinesSoFar [] 0 []
-no_lines = record { number_is = omega arith; declared = record { declared = ([], tt, refl); once = tt } }
 
 pub next_line : (lines : List Text) (line : Text) (number next : ℕ) (groups : List Group) (more : List Group)
     (declared : Option Group) → LinesSoFar lines number groups → next ≡ min (number + 1) (2 ^ 64 - 1)

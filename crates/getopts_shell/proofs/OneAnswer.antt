@@ -48,9 +48,11 @@ module _ (parse : (options : Declared) (words : List Text) → AtMostOne (IsPars
       let same_line : another ≡ text = cc in
       ap (λ (l : List Text). done (line_code own l)) same_line
   one_line own name options words (accepted text tells) (refused fault is) =
-      let same : Ok (Some text) ≡ Err fault = canonical options words (Ok (Some text)) (Err fault) tells.written is in cc
+      let same : Ok (Some text) ≡ Err fault = canonical options words (Ok (Some text))
+      (Err fault) tells.written is in cc
   one_line own name options words (refused fault is) (accepted text tells) =
-      let same : Ok (Some text) ≡ Err fault = canonical options words (Ok (Some text)) (Err fault) tells.written is in cc
+      let same : Ok (Some text) ≡ Err fault = canonical options words (Ok (Some text))
+      (Err fault) tells.written is in cc
   one_line own name options words (refused fault is) (refused another also) =
       let same : Err another ≡ Err fault = parse options words (Err another) (Err fault) also is in
       let same_fault : another ≡ fault = cc in
@@ -84,11 +86,13 @@ module _ (parse : (options : Declared) (words : List Text) → AtMostOne (IsPars
       let both : Some another ≡ Some shell = sym another_is ∙ shell_is in
       let same : another ≡ shell = cc in
       one_completion shell (asks shell none shell_is) is (subst (λ (s : Text). AnswersCompletion s other) same also)
-  one_script own name options words asks (completion shell answer none shell_is is) (of_words other never no_shell also) =
+  one_script own name options words asks (completion shell answer none shell_is is)
+      (of_words other never no_shell also) =
       let both : Some shell ≡ None = sym shell_is ∙ no_shell in absurd cc
   one_script own name options words asks (of_words answer none no_shell is) (usage text given also) =
       absurd (false≢true (sym none ∙ given))
-  one_script own name options words asks (of_words answer none no_shell is) (completion shell other never shell_is also) =
+  one_script own name options words asks (of_words answer none no_shell is)
+      (completion shell other never shell_is also) =
       let both : Some shell ≡ None = sym shell_is ∙ no_shell in absurd cc
   one_script own name options words asks (of_words answer none no_shell is) (of_words other never none_again also) =
       agree (one_words own name options words is also)

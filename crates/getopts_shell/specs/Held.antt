@@ -3,7 +3,7 @@ use Rattle.std.specs.Prelude.{◌≡◌, ⊤, List, [], ◌∷◌, Option, Some,
 use Rattle.std.specs.List.{AllByRecursion}
 use Rattle.std.specs.String.{string_bytes}
 use Rattle.getopts.specs.Matches.{MatchedGroup, matched}
-use Rattle.getopts.specs.Names.{Names, main_name}
+use Rattle.getopts.specs.Names.{main_name}
 use Rattle.getopts.specs.Options.{Declared, Group, group_of, signatures_of, with_group}
 use Rattle.getopts.specs.Reading.{Occurrence, holds_equals}
 use Rattle.getopts_shell.specs.Program.{Answer, own_groups}
@@ -17,10 +17,6 @@ use Rattle.getopts_shell.specs.declared.table.TableError.TheVariants as error
 abbrev pub group_of_row : Row → Group
 group_of_row row = group_of row.short.now row.long.now row.description.now row.hint.now
     row.kind row.occurrence
-
--- the names of a row
-abbrev pub names_of_row : Row → Names
-names_of_row row = record { short = row.short.now; long = row.long.now }
 
 -- the groups of rows
 abbrev pub groups_of : List Row → List Group

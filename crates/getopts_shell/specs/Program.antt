@@ -32,7 +32,8 @@ own_groups =
     ∷ group_of (codes "l") (codes "long-only") (codes "let long names follow one dash too") [] No Optional
     ∷ group_of (codes "w") (codes "words") (codes "write the words alone, without 'set --'") [] No Optional
     ∷ group_of (codes "u") (codes "usage") (codes "write the help of TABLE") [] No Optional
-    ∷ group_of (codes "c") (codes "complete") (codes "write a completion script for bash, zsh or fish") (codes "SHELL") Yes Optional
+    ∷ group_of (codes "c") (codes "complete") (codes "write a completion script for bash, zsh or fish")
+    (codes "SHELL") Yes Optional
     ∷ group_of (codes "h") (codes "help") (codes "print this help") [] No Optional
     ∷ []
 

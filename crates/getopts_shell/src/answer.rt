@@ -1,6 +1,7 @@
 //! What the program answers to words.
 
-ghost use Rattle.std.specs.Prelude.{◌≡◌, ◌≢◌, ◌≤◌, ◌⊎◌, ◌++◌, ◌↔◌, ◌&&◌, codes, map, true, false, IsTrue, List, Option, IfOk, OnOk, Some};
+ghost use Rattle.std.specs.Prelude.{◌≡◌, ◌≢◌, ◌≤◌, ◌⊎◌, ◌++◌, ◌↔◌, ◌&&◌, codes, map, true, false, IsTrue, List};
+ghost use Rattle.std.specs.Prelude.{Option, IfOk, OnOk, Some};
 ghost use Rattle.std.specs.Io.KnownBytes.{Appends};
 ghost use Rattle.std.specs.List.{list_any};
 ghost use Rattle.std.specs.Str.{bytes_eq};
@@ -11,9 +12,12 @@ ghost use Rattle.getopts.specs.Matches.{Matched};
 ghost use Rattle.getopts.specs.Names.{Text, texts};
 ghost use Rattle.getopts.specs.Options.{with_group};
 ghost use Rattle.getopts.specs.Parse.{IsAccepted, IsRefused};
-ghost use Rattle.getopts_shell.specs.Held.{group_of_row, groups_of, fault_told, answer_of, HasOwnGroups, ArePlainlyNamed};
-ghost use Rattle.getopts_shell.specs.Program.{own_groups, own_options, script_options, done, misused, table_fault_line, fault_line, refused_text};
-ghost use Rattle.getopts_shell.specs.Program.{IsHelp, help_code, AskHelp, is_no, offers_help, line_code, AnswersLine, AnswersWords, AnswersScript};
+ghost use Rattle.getopts_shell.specs.Held.{group_of_row, groups_of, fault_told, answer_of, HasOwnGroups};
+ghost use Rattle.getopts_shell.specs.Held.{ArePlainlyNamed};
+ghost use Rattle.getopts_shell.specs.Program.{own_groups, own_options, script_options, done, misused};
+ghost use Rattle.getopts_shell.specs.Program.{table_fault_line, fault_line, refused_text};
+ghost use Rattle.getopts_shell.specs.Program.{IsHelp, help_code, AskHelp, is_no, offers_help, line_code, AnswersLine};
+ghost use Rattle.getopts_shell.specs.Program.{AnswersWords, AnswersScript};
 ghost use Rattle.getopts_shell.specs.Program.{AnswersTable, AnswersFree, AnswersOwn, IsAnswer, IsStatus, ShowsAnswer};
 ghost use Rattle.getopts_shell.specs.Program.{AnswersCompletion, no_completion};
 ghost use Rattle.getopts_shell.specs.Table.{TableFault, no_option, name_twice};
@@ -143,23 +147,22 @@ fn own_options(alloc: Global) -> Result<Options, AllocError>
 fn add_own_options(options: &mut Options) -> Result<(), AllocError>
     ensures { OnOk result (options.new ≡ with_groups options.old own_groups) }
 {
-    options
-        .optopt("b", "brief", "begin the help with TEXT", "TEXT")?
-        .optflag(
-            "s",
-            "stop",
-            "leave all words from the first free one on free",
-        )?
-        .optflag("l", "long-only", "let long names follow one dash too")?
-        .optflag("w", "words", "write the words alone, without 'set --'")?
-        .optflag("u", "usage", "write the help of TABLE")?
-        .optopt(
-            "c",
-            "complete",
-            "write a completion script for bash, zsh or fish",
-            "SHELL",
-        )?
-        .optflag("h", "help", "print this help")?;
+    options.optopt("b", "brief", "begin the help with TEXT", "TEXT")?;
+    options.optflag(
+        "s",
+        "stop",
+        "leave all words from the first free one on free",
+    )?;
+    options.optflag("l", "long-only", "let long names follow one dash too")?;
+    options.optflag("w", "words", "write the words alone, without 'set --'")?;
+    options.optflag("u", "usage", "write the help of TABLE")?;
+    options.optopt(
+        "c",
+        "complete",
+        "write a completion script for bash, zsh or fish",
+        "SHELL",
+    )?;
+    options.optflag("h", "help", "print this help")?;
     Ok(())
 }
 
@@ -232,28 +235,14 @@ fn table_refusal(alloc: Global, error: TableError<'_>) -> Result<String, AllocEr
         × (string_bytes text ≡ table_fault_line fault)) }
 {
     match error {
-        TableError::NoOption(number, item) => no_option_line(alloc, number, item),
-        TableError::NameTwice(number, name) => name_twice_line(alloc, number, name),
+        TableError::NoOption(number, item) => {
+            format!(in alloc; "getopts_shell: line {number} of the options: {item}\n")
+        }
+        TableError::NameTwice(number, name) => format!(in alloc;
+            "getopts_shell: line {number} of the options: the name '{name}' stands there already\n"
+        ),
         TableError::OutOfMemory => Err(AllocError),
     }
-}
-
-/// The line of a fault: the line with this number is no option, and this is its item.
-fn no_option_line(alloc: Global, number: usize, item: &str) -> Result<String, AllocError>
-    ensures { IfOk result (λ text. string_bytes text
-        ≡ table_fault_line (no_option number item.now)) }
-{
-    format!(in alloc; "getopts_shell: line {number} of the options: {item}\n")
-}
-
-/// The line of a fault: the line with this number has a name that stands there already.
-fn name_twice_line(alloc: Global, number: usize, name: &str) -> Result<String, AllocError>
-    ensures { IfOk result (λ text. string_bytes text
-        ≡ table_fault_line (name_twice number name.now)) }
-{
-    format!(in alloc;
-        "getopts_shell: line {number} of the options: the name '{name}' stands there already\n"
-    )
 }
 
 /// The answer to words by the options of a table.
@@ -358,17 +347,10 @@ fn completion_answer(alloc: Global, shell: &str, script: Script<'_>) -> Result<O
     match completion(alloc, shell, script.name, script.rows)? {
         Some(text) => Ok(Outcome { text, status: DONE }),
         None => Ok(Outcome {
-            text: no_completion_line(alloc, shell)?,
+            text: format!(in alloc; "getopts_shell: no completion for '{shell}'\n")?,
             status: MISUSED,
         }),
     }
-}
-
-/// The line of a fault: there is no completion for this shell.
-fn no_completion_line(alloc: Global, shell: &str) -> Result<String, AllocError>
-    ensures { IfOk result (λ text. string_bytes text ≡ no_completion shell.now) }
-{
-    format!(in alloc; "getopts_shell: no completion for '{shell}'\n")
 }
 
 /// The answer to the words of a script.
@@ -448,10 +430,7 @@ fn any_is_help(rows: &[Row<'_>]) -> bool
 fn takes_none(kind: HasArg) -> bool
     ensures { result ≡ is_no kind }
 {
-    match kind {
-        HasArg::No => true,
-        _ => false,
-    }
+    matches!(kind, HasArg::No)
 }
 
 /// The code that prints the help of a script, and ends it.

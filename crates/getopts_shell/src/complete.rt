@@ -249,8 +249,6 @@ fn push_fish_quoted(text: &mut String, word: &str) -> Result<(), AllocError> {
 /// Adds a part of a word that holds no backslash in quotes, after a backslash where another part stands before
 /// it.
 fn push_fish_part(text: &mut String, begun: bool, part: &str) -> Result<(), AllocError> {
-    if begun {
-        text.push_str("\\\\")?;
-    }
+    text.push_str(if begun { "\\\\" } else { "" })?;
     push_quoted(text, part)
 }

@@ -120,7 +120,7 @@ fn are_name_bytes(bytes: &[u8]) -> bool
 fn is_name_byte(byte: u8) -> bool
     ensures { result ≡ is_name_byte byte }
 {
-    byte > b' ' && byte != 127 && byte != b'|' && byte != b'[' && byte != b']' && byte != b'='
+    byte > b' ' && !matches!(byte, 127 | b'|' | b'[' | b']' | b'=')
 }
 
 /// The kind and the hint of an argument, which may not be there.
@@ -171,5 +171,5 @@ fn are_hint_bytes(bytes: &[u8]) -> bool
 fn is_hint_byte(byte: u8) -> bool
     ensures { result ≡ is_hint_byte byte }
 {
-    byte != b' ' && byte != b'\t' && byte != b'[' && byte != b']'
+    !matches!(byte, b' ' | b'\t' | b'[' | b']')
 }

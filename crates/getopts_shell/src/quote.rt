@@ -35,9 +35,7 @@ fn push_part(text: &mut String, begun: bool, part: &str) -> Result<(), AllocErro
     ensures { OnOk result (string_bytes text.new
         ≡ string_bytes text.old ++ (parting begun (codes "'\\''") ++ part.now)) }
 {
-    if begun {
-        text.push_str("'\\''")?;
-    }
+    text.push_str(if begun { "'\\''" } else { "" })?;
     text.push_str(part)
 }
 

@@ -1,6 +1,7 @@
 //! Tables of options: their lines, and the options that these declare.
 
-ghost use Rattle.std.specs.Prelude.{◌≡◌, ◌++◌, ◌∷◌, [], List, Option, ◌||◌, ◌==◌, slice_index, MatchResult, IfErr, OnOk, Some, None, map};
+ghost use Rattle.std.specs.Prelude.{◌≡◌, ◌++◌, ◌∷◌, [], List, Option, ◌||◌, ◌==◌, slice_index, MatchResult, IfErr};
+ghost use Rattle.std.specs.Prelude.{OnOk, Some, None, map};
 ghost use Rattle.std.specs.List.{list_any};
 ghost use Rattle.std.specs.Option.{option_copied, option_to_list};
 ghost use Rattle.std.specs.Str.{bytes_eq};
@@ -119,7 +120,7 @@ fn trimmed(text: &str) -> &str
 fn is_blank(byte: u8) -> bool
     ensures { result ≡ is_blank byte }
 {
-    byte == b' ' || byte == b'\t' || byte == b'\r'
+    matches!(byte, b' ' | b'\t' | b'\r')
 }
 
 /// A text without the blanks that it begins with.

@@ -8,11 +8,13 @@ use Rattle.getopts_shell.proofs.answer.asks_help.Goals as goal
 pub returns-in-Ok : goal.returns-in-Ok
 returns-in-Ok c =
     asked_is c.args.script.options.now (texts c.args.words.now) _ c.has_help.result c.in-Ok.ensures.read
-    (ap (λ groups. offers_help groups) c.requires ∙ sym c.offers_help-offered.ensures ∙ c.if-not-offered.false) c.has_help.ensures
+    (ap (λ groups. offers_help groups) c.requires ∙ sym c.offers_help-offered.ensures ∙ c.if-not-offered.false)
+    c.has_help.ensures
 
 pub returns-in-Err : goal.returns-in-Err
 returns-in-Err c =
     IfOk-weaker c.not_asked.result _ _
-    (λ asked is. subst (λ (b : Bool). (b ≡ true) ↔ AskHelp c.args.script.options.now (texts c.args.words.now)) (sym is.0)
+    (λ asked is. subst (λ (b : Bool). (b ≡ true) ↔ AskHelp c.args.script.options.now (texts c.args.words.now))
+    (sym is.0)
     (never_asked c.args.script.options.now (texts c.args.words.now) is.1 (rw is.2 at c.in-Err.ensures.refused)))
     c.not_asked.ensures

@@ -11,7 +11,8 @@ unreachable-requires c =
 
 pub returns-in_ok-line_code-in-Ok-Some : goal.returns-in_ok-line_code-in-Ok-Some
 returns-in_ok-line_code-in-Ok-Some c =
-    let tells = tells_words c.args.script.options.now (texts c.args.words.now) (map string_bytes c.in-Ok-Some.line.items)
+    let tells = tells_words c.args.script.options.now (texts c.args.words.now)
+    (map string_bytes c.in-Ok-Some.line.items)
     c.names_resolve.ensures.empty c.in-Ok-Some.ensures.laws
     (rw c.in-Ok-Some.field-0-is at c.in-Ok-Some.ensures.written) in
     subst (λ (t : Text). AnswersLine c.args.own.now c.args.script.name.now c.args.script.options.now

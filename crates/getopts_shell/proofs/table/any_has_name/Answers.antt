@@ -9,7 +9,8 @@ use Rattle.getopts_shell.proofs.table.any_has_name.Goals as goal
 
 pub returns-then-not-is_empty : goal.returns-then-not-is_empty
 returns-then-not-is_empty c =
-    let called = λ (group : Group). bytes_eq group.signature.names.short c.args.name.now || bytes_eq group.signature.names.long c.args.name.now in
+    let called = λ (group : Group).
+    bytes_eq group.signature.names.short c.args.name.now || bytes_eq group.signature.names.long c.args.name.now in
     c.any_is_called.ensures ∙ sym (list_any-map called group_of_row c.args.rows.now)
     ∙ ap (λ (b : Bool). not b && list_any called (groups_of c.args.rows.now))
     (sym (sym c.is_empty.ensures ∙ c.if-not-is_empty.true))

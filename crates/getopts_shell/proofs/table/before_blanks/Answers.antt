@@ -1,4 +1,5 @@
-use Rattle.std.proofs.Common.{◌≡◌, ◌<◌, ◌-◌, ◌+◌, ℕ, suc, true, false, length, get_or, drop, take, subst, sym, ◌∙◌, arith}
+use Rattle.std.proofs.Common.{◌≡◌, ◌<◌, ◌-◌, ◌+◌, ℕ, suc, true, false, length, get_or, drop, take, subst, sym, ◌∙◌}
+use Rattle.std.proofs.Common.{arith}
 use Rattle.std.specs.List.{list_all, slice_range}
 use Rattle.std.proofs.lemmas.Grind.{common_steps}
 use Rattle.getopts_shell.specs.Table.{is_blank}
@@ -14,5 +15,6 @@ returns-then-not-is_blank c =
     let below : c.loop-at.at - 1 < length text = omega (arith, c.loop-at.invariant.0.0) in
     let ends = ends_before_blanks text (c.loop-at.at - 1) below plain
     (subst (λ (k : ℕ). list_all is_blank (drop k text) ≡ true) (sym at) c.loop-at.invariant.1) in
-    let cut : slice_range text 0 (c.loop-at.at - 1 + 1) ≡ take (suc (c.loop-at.at - 1)) text = grind (arith, common_steps) in
+    let cut : slice_range text 0 (c.loop-at.at - 1 + 1) ≡ take (suc (c.loop-at.at - 1)) text = grind
+    (arith, common_steps) in
     c.range.ensures.value ∙ cut ∙ sym ends

@@ -9,14 +9,16 @@ use Rattle.getopts_shell.proofs.table.push_line.Goals as goal
 pub returns-in_default-clause-fault : goal.returns-in_default-clause-fault
 returns-in_default-clause-fault c =
     faulty_line c.args.line.now c.trimmed-line.result.now _ c.args.number _ c.trimmed-line.ensures
-    (sym c.declares_nothing.ensures ∙ c.if-declares_nothing.false) c.cut_at_gap.ensures.before c.in_default.ensures.option
+    (sym c.declares_nothing.ensures ∙ c.if-declares_nothing.false)
+    c.cut_at_gap.ensures.before c.in_default.ensures.option
 
 pub returns-in-Some-name_again-clause-fault : goal.returns-in-Some-name_again-clause-fault
 returns-in-Some-name_again-clause-fault c =
     twice (group_of_row c.in-Some.row) c.in-Some-name_again.name.now
     (declares_group c.args.line.now c.trimmed-line.result.now c.cut_at_gap.result.0.now c.cut_at_gap.result.1.now
     c.trimmed.result.now (group_of_row c.in-Some.row) c.trimmed-line.ensures
-    (sym c.declares_nothing.ensures ∙ c.if-declares_nothing.false) c.cut_at_gap.ensures.before c.cut_at_gap.ensures.after
+    (sym c.declares_nothing.ensures ∙ c.if-declares_nothing.false)
+    c.cut_at_gap.ensures.before c.cut_at_gap.ensures.after
     c.trimmed.ensures c.in-Some.ensures.description c.in-Some.ensures.option)
     (ap (λ rows. name_again (groups_of rows) (group_of_row c.in-Some.row)) (sym c.deref.ensures.value)
     ∙ sym c.name_again.ensures ∙ ap option_copied c.in-Some-name_again.is)
@@ -26,7 +28,8 @@ returns-in-Ok-clause-declared c = (
   Some (group_of_row c.in-Some.row),
   declares_group c.args.line.now c.trimmed-line.result.now c.cut_at_gap.result.0.now c.cut_at_gap.result.1.now
       c.trimmed.result.now (group_of_row c.in-Some.row) c.trimmed-line.ensures
-      (sym c.declares_nothing.ensures ∙ c.if-declares_nothing.false) c.cut_at_gap.ensures.before c.cut_at_gap.ensures.after
+      (sym c.declares_nothing.ensures ∙ c.if-declares_nothing.false)
+      c.cut_at_gap.ensures.before c.cut_at_gap.ensures.after
       c.trimmed.ensures c.in-Some.ensures.description c.in-Some.ensures.option,
   ap groups_of c.in-Ok.ensures.items ∙ map-append group_of_row c.args.rows.now.items (c.in-Some.row ∷ []),
   (
