@@ -160,8 +160,8 @@ def table_figures(page, text):
                 if column in COLUMNS and job[1] == "memory":
                     yield at, cell_text, megabytes(COLUMNS[column])
                 elif column in COLUMNS and (INSTRUCTIONS, job[1]) in tables():
-                    wanted = cell(INSTRUCTIONS, job[1], COLUMNS[column])
-                    yield at, cell_text, f"{int(wanted):,}" if wanted.isdigit() else wanted
+                    wanted = tables()[INSTRUCTIONS, job[1]].get(COLUMNS[column], "0")
+                    yield at, cell_text, re.sub(r"^\d+", lambda it: f"{int(it[0]):,}", wanted)
 
 
 def figures_of(page, text):
