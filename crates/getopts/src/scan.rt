@@ -47,18 +47,38 @@ impl Line {
     ghost use Rattle.getopts.specs.Held.Line.{IsEmptyLine};
 
     /// A line that gives nothing, with room for so many options and so many free words.
-    pub(crate) fn with_capacity(
-        alloc: Global,
-        found: usize,
-        free: usize,
-    ) -> Result<Line, AllocError>
+    pub(crate) fn with_capacity(alloc: Global, room: usize) -> Result<Line, AllocError>
         ensures { IfOk result IsEmptyLine }
     {
         Ok(Line {
-            found: LineOccurrences::with_capacity(alloc, found)?,
-            free: Vec::with_capacity(alloc, free)?,
+            found: LineOccurrences::with_capacity(alloc, room)?,
+            free: Vec::with_capacity(alloc, room)?,
             trailing_start: None,
         })
+    }
+
+    /// Makes room for what words give, where they aren't few.
+    #[inline(always)]
+    fn reserve(&mut self, words: &[&str], stops: bool) -> Result<(), AllocError>
+        requires { IsEmptyLine self.old }
+        ensures { OnOk result (IsEmptyLine self.new) }
+    {
+        if words.len() <= FIRST_ROOM {
+            return Ok(());
+        }
+        self.reserve_many(words, stops)
+    }
+
+    /// Makes room for as many options as words are dashed, and for as many free words as there are others.
+    // As a part of reading words it would make that longer.
+    #[inline(never)]
+    fn reserve_many(&mut self, words: &[&str], stops: bool) -> Result<(), AllocError>
+        requires { IsEmptyLine self.old }
+        ensures { OnOk result (IsEmptyLine self.new) }
+    {
+        let dashed = dashed_words(words, stops);
+        self.found.reserve(dashed)?;
+        self.free.reserve_exact(words.len().saturating_sub(dashed))
     }
 }
 
@@ -139,13 +159,8 @@ fn is_dashed(word: &str) -> bool
     }
 }
 
-/// How many options and how many free words there is room for before the first word is read. Few words aren't
-/// looked at: there is room for as many of each. Of many there is room for those that are dashed, up to where all
-/// others are free, and for the others.
-fn first_rooms(words: &[&str], stops: bool) -> (usize, usize) {
-    if words.len() <= FIRST_ROOM {
-        return (words.len(), words.len());
-    }
+/// How many words are dashed, up to where all others are free.
+fn dashed_words(words: &[&str], stops: bool) -> usize {
     let mut dashed: usize = 0;
     'words: for word in words {
         match word.as_bytes() {
@@ -155,7 +170,7 @@ fn first_rooms(words: &[&str], stops: bool) -> (usize, usize) {
             _ => {}
         }
     }
-    (dashed, words.len().saturating_sub(dashed))
+    dashed
 }
 
 /// The first character of a text, as a text.
@@ -342,8 +357,8 @@ impl<'o> Scanner<'o> {
             (Spec.IsScanFault (scanner_grammar self.now) (texts words.now))) }
     {
         let stops = self.options.style() == ParsingStyle::StopAtFirstFree;
-        let (found, free) = first_rooms(words, stops);
-        let mut line = Line::with_capacity(alloc, found, free)?;
+        let mut line = Line::with_capacity(alloc, words.len().min(FIRST_ROOM))?;
+        line.reserve(words, stops)?;
         let mut at = 0;
         'items: while at < words.len() {
             let after = &words[at + 1..];
