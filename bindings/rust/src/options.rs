@@ -620,3 +620,31 @@ impl Options {
         formatter(&mut rows.into_iter())
     }
 }
+
+#[cfg(test)]
+mod tests {
+    use super::{archive, Options};
+    use std::cell::Cell;
+
+    /// However many options a word joins, many words are answered in the room that is made for them.
+    #[test]
+    fn many_words_are_read_once() {
+        const ROUNDS: usize = 2000;
+        let mut options = Options::new();
+        options
+            .optflagmulti("v", "verbose", "")
+            .optmulti("L", "", "", "DIR");
+        let line = ["-vvvv", "-vLa", "-L", "b", "--verbose", "x"];
+        let words = line.iter().cycle().take(line.len() * ROUNDS);
+        let asked = Cell::new(0);
+        let matches = options.read(words, |request, words, room| {
+            asked.set(asked.get() + 1);
+            archive::parse(request, words, room)
+        });
+        let matches = matches.unwrap();
+        assert_eq!(matches.opt_count("v"), 6 * ROUNDS);
+        assert_eq!(matches.opt_strs("L"), ["a", "b"].repeat(ROUNDS));
+        assert_eq!(matches.free, ["x"].repeat(ROUNDS));
+        assert_eq!(asked.get(), 1);
+    }
+}

@@ -136,6 +136,13 @@ impl LineOccurrences {
         })
     }
 
+    /// Makes room for so many options more.
+    pub(crate) fn reserve(&mut self, room: usize) -> Result<(), AllocError>
+        ensures { self.new ≡ self.old }
+    {
+        self.records.reserve_exact(room)
+    }
+
     pub(crate) fn len(&self) -> usize
         ensures { result ≡ length self.now }
     {

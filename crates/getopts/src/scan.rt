@@ -18,7 +18,7 @@ use crate::table::Table;
 use std::alloc::{AllocError, Global};
 
 /// Up to this many words get room unseen, and up to this number an iterator's size hint is believed. More words
-/// are counted first, by `first_rooms`.
+/// are counted before the first is read.
 pub(crate) const FIRST_ROOM: usize = 1024;
 
 /// A `&str` is a text.
@@ -47,18 +47,38 @@ impl Line {
     ghost use Rattle.getopts.specs.Held.Line.{IsEmptyLine};
 
     /// A line that gives nothing, with room for so many options and so many free words.
-    pub(crate) fn with_capacity(
-        alloc: Global,
-        found: usize,
-        free: usize,
-    ) -> Result<Line, AllocError>
+    pub(crate) fn with_capacity(alloc: Global, room: usize) -> Result<Line, AllocError>
         ensures { IfOk result IsEmptyLine }
     {
         Ok(Line {
-            found: LineOccurrences::with_capacity(alloc, found)?,
-            free: Vec::with_capacity(alloc, free)?,
+            found: LineOccurrences::with_capacity(alloc, room)?,
+            free: Vec::with_capacity(alloc, room)?,
             trailing_start: None,
         })
+    }
+
+    /// Reserves for what many words give. Few words fit in what is there.
+    #[inline(always)]
+    fn reserve(&mut self, words: &[&str], stops: bool) -> Result<(), AllocError>
+        requires { IsEmptyLine self.old }
+        ensures { OnOk result (IsEmptyLine self.new) }
+    {
+        if words.len() <= FIRST_ROOM {
+            return Ok(());
+        }
+        self.reserve_many(words, stops)
+    }
+
+    /// Reserves for as many options as there are dashed words, and for as many free words as there are others.
+    // Inlined it would make the scan slower.
+    #[inline(never)]
+    fn reserve_many(&mut self, words: &[&str], stops: bool) -> Result<(), AllocError>
+        requires { IsEmptyLine self.old }
+        ensures { OnOk result (IsEmptyLine self.new) }
+    {
+        let dashed = dashed_words(words, stops);
+        self.found.reserve(dashed)?;
+        self.free.reserve_exact(words.len().saturating_sub(dashed))
     }
 }
 
@@ -139,13 +159,8 @@ fn is_dashed(word: &str) -> bool
     }
 }
 
-/// The first capacities of the lists of options and of free words. Up to `FIRST_ROOM` words, both are the number
-/// of words. Of more, the first is the number of dashed words before the rest is free, the second that of the
-/// others.
-fn first_rooms(words: &[&str], stops: bool) -> (usize, usize) {
-    if words.len() <= FIRST_ROOM {
-        return (words.len(), words.len());
-    }
+/// How many words are dashed, up to where the rest is free.
+fn dashed_words(words: &[&str], stops: bool) -> usize {
     let mut dashed: usize = 0;
     'words: for word in words {
         match word.as_bytes() {
@@ -155,7 +170,7 @@ fn first_rooms(words: &[&str], stops: bool) -> (usize, usize) {
             _ => {}
         }
     }
-    (dashed, words.len().saturating_sub(dashed))
+    dashed
 }
 
 /// The first character of a text, as a text.
@@ -343,8 +358,8 @@ impl<'o> Scanner<'o> {
             (Spec.IsScanFault (scanner_grammar self.now) (texts words.now))) }
     {
         let stops = self.options.style() == ParsingStyle::StopAtFirstFree;
-        let (found, free) = first_rooms(words, stops);
-        let mut line = Line::with_capacity(alloc, found, free)?;
+        let mut line = Line::with_capacity(alloc, words.len().min(FIRST_ROOM))?;
+        line.reserve(words, stops)?;
         let mut at = 0;
         'items: while at < words.len() {
             let after = &words[at + 1..];

@@ -24,7 +24,7 @@ named scanner lawful = named_grammar scanner.options.now lawful.declared
 
 pub items-init : goal.items-init
 items-init c =
-    let empty = c.in_ok-line.ensures in
+    let empty = c.in_ok-reserve.ensures in
     record {
       read = rw (empty.found, empty.free) (ReadSoFar-none (scanner_grammar c.args.self.now) (texts c.args.words.now));
       trailing = empty.trailing;
