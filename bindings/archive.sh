@@ -1,5 +1,5 @@
 #!/usr/bin/env bash
-# Makes the archive from the proved source, and puts it where cargo finds it, with its SHA-256.
+# Makes the archive from the proved source, and puts it where cargo finds it, with its SHA-256 and its size.
 #
 #     bindings/archive.sh [check]
 #
@@ -21,6 +21,7 @@ case ${1:-} in
     mkdir -p "$(dirname "$here")"
     cp "$made" "$here"
     (cd "$(dirname "$here")" && sha256sum libgetopts_c.a >libgetopts_c.a.sha256)
+    sed -i "s/^const SIZE: u64 = .*/const SIZE: u64 = $(stat -c %s "$here");/" bindings/rust/build.rs
     cat "$here.sha256"
     ;;
 check)
