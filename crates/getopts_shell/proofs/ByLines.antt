@@ -171,6 +171,10 @@ spaced_line text (parted front first back is also text_is) =
 
 -- ---- the parts of an item
 
+-- what stands in the brackets of an item
+abbrev inside_text : Group → Text
+inside_text group = names_text group.signature.names ++ option_argument group.signature.kind group.hint
+
 -- what an item begins with
 data Begins (text : Text) : Type 0 where
   begins : (first : ℕ) (rest : Text) → text ≡ first ∷ rest → is_dense_byte first ≡ true
@@ -209,24 +213,19 @@ spaced_parts before after names Maybe hint is also may written =
 item_spaced : (group : Group) → CanBeWritten group → IsSpaced (item_text group)
 item_spaced group is = by_occurrence group.signature.occurrence
   where
-    by_occurrence : (occurrence : Occur)
-        → IsSpaced
-        (bracketed occurrence (names_text group.signature.names ++ option_argument group.signature.kind group.hint))
-    by_occurrence Req = subst IsSpaced (append-nil _)
-        (spaced_parts [] [] group.signature.names group.signature.kind group.hint refl refl is.names is.hint)
-    by_occurrence Optional =
-        spaced_parts (91 ∷ []) (93 ∷ [])
-        group.signature.names group.signature.kind group.hint refl refl is.names is.hint
-    by_occurrence Multi =
-        spaced_parts (91 ∷ []) (93 ∷ 46 ∷ 46 ∷ [])
-        group.signature.names group.signature.kind group.hint refl refl is.names is.hint
+    parts : (before after : Text) → IsDense before → IsDense after → IsSpaced (before ++ (inside_text group ++ after))
+    parts before after one other =
+        spaced_parts before after group.signature.names group.signature.kind group.hint one other is.names is.hint
+
+    by_occurrence : (occurrence : Occur) → IsSpaced (bracketed occurrence (inside_text group))
+    by_occurrence Req = subst IsSpaced (append-nil _) (parts [] [] refl refl)
+    by_occurrence Optional = parts (91 ∷ []) (93 ∷ []) refl refl
+    by_occurrence Multi = parts (91 ∷ []) (93 ∷ 46 ∷ 46 ∷ []) refl refl
 
 item_begins : (group : Group) → Begins (item_text group)
 item_begins group = by_occurrence group.signature.occurrence
   where
-    by_occurrence : (occurrence : Occur)
-        → Begins (bracketed occurrence
-        (names_text group.signature.names ++ option_argument group.signature.kind group.hint))
+    by_occurrence : (occurrence : Occur) → Begins (bracketed occurrence (inside_text group))
     by_occurrence Req =
         let head = names_begin group.signature.names in
         begins 45 (head.0 ++ option_argument group.signature.kind group.hint)
@@ -255,7 +254,7 @@ apart dash bracket is also same = absurd (omega arith)
 item_is : (group : Group) → CanBeWritten group → IsItem (item_text group) group.signature group.hint
 unfolding argument_of
 item_is group is = record {
-  inside = names_text group.signature.names ++ option_argument group.signature.kind group.hint;
+  inside = inside_text group;
   brackets = by_occurrence group.signature.occurrence;
   names = names_text group.signature.names;
   argument = argument_of group.signature.kind group.hint;
@@ -278,14 +277,12 @@ item_is group is = record {
     by_hint Yes hint written = (written.0, refl)
     by_hint Maybe hint written = (written.0, refl)
 
-    by_occurrence : (occurrence : Occur) → IsBracketed occurrence
-        (names_text group.signature.names ++ option_argument group.signature.kind group.hint)
-        (bracketed occurrence (names_text group.signature.names ++ option_argument group.signature.kind group.hint))
+    by_occurrence : (occurrence : Occur)
+        → IsBracketed occurrence (inside_text group) (bracketed occurrence (inside_text group))
     by_occurrence Req = (
       refl,
-      let head = names_begin group.signature.names in
-          λ opens. apart 45 91 refl refl
-          (sym (ap (λ (t : Text). slice_index (t ++ option_argument group.signature.kind group.hint) 0) head.1) ∙ opens),
+      λ opens. apart 45 91 refl refl (sym (ap (λ (t : Text). slice_index
+          (t ++ option_argument group.signature.kind group.hint) 0) (names_begin group.signature.names).1) ∙ opens),
     )
     by_occurrence Optional = refl
     by_occurrence Multi = inl refl

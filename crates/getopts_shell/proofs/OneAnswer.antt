@@ -26,6 +26,11 @@ Agree Asked answer other = (other.status ≡ answer.status)
 agree : {Asked : Type 0} {answer other : Answer} → other ≡ answer → Agree Asked answer other
 agree same = (ap (λ (a : Answer). a.status) same, inl (ap (λ (a : Answer). a.text) same))
 
+-- with these matches a completion script may be asked for
+abbrev MayAsk : Type 0 → Matched → Type 0
+MayAsk Asked own = (shell : Text) → is_given own (codes "usage") ≡ false
+    → value_given own (codes "complete") ≡ Some shell → Asked
+
 -- two values that are the only one are one
 one_only : {X : Type 0} (Fact : X → Type 0) (value other : X) → IsTheOnly Fact value → IsTheOnly Fact other
     → other ≡ value
@@ -69,10 +74,8 @@ module _ (parse : (options : Declared) (words : List Text) → AtMostOne (IsPars
       one_line own name options words is also
 
   one_script : {Asked : Type 0} (own : Matched) (name : Text) (options : Declared) (words : List Text)
-      {answer other : Answer} → ((shell : Text) → is_given own (codes "usage") ≡ false
-      → value_given own (codes "complete") ≡ Some shell → Asked)
-      → AnswersScript own name options words answer → AnswersScript own name options words other
-      → Agree Asked answer other
+      {answer other : Answer} → MayAsk Asked own → AnswersScript own name options words answer
+      → AnswersScript own name options words other → Agree Asked answer other
   one_script own name options words asks (usage text given is) (usage another again also) =
       agree (ap done (one_only (IsUsageText options (brief_of own name options)) text another is also))
   one_script own name options words asks (usage text given is) (completion shell other none shell_is also) =
@@ -97,9 +100,7 @@ module _ (parse : (options : Declared) (words : List Text) → AtMostOne (IsPars
   one_script own name options words asks (of_words answer none no_shell is) (of_words other never none_again also) =
       agree (one_words own name options words is also)
 
-  one_free : {Asked : Type 0} (own : Matched) (words : List Text) {answer other : Answer}
-      → ((shell : Text) → is_given own (codes "usage") ≡ false
-      → value_given own (codes "complete") ≡ Some shell → Asked)
+  one_free : {Asked : Type 0} (own : Matched) (words : List Text) {answer other : Answer} → MayAsk Asked own
       → AnswersFree own words answer → AnswersFree own words other → Agree Asked answer other
   one_free own [] asks is also = agree (also ∙ sym is)
   one_free own (name ∷ []) asks is also = agree (also ∙ sym is)
@@ -114,9 +115,8 @@ module _ (parse : (options : Declared) (words : List Text) → AtMostOne (IsPars
       (subst (λ (gs : List Group). AnswersScript own name (script_options own gs) words other)
       (one_table table groups others are also_are) also)
 
-  one_own : {Asked : Type 0} (own : Matched) {answer other : Answer} → ((shell : Text)
-      → is_given own (codes "help") ≡ false → is_given own (codes "usage") ≡ false
-      → value_given own (codes "complete") ≡ Some shell → Asked)
+  one_own : {Asked : Type 0} (own : Matched) {answer other : Answer}
+      → (is_given own (codes "help") ≡ false → MayAsk Asked own)
       → AnswersOwn own answer → AnswersOwn own other → Agree Asked answer other
   one_own own asks (own_help text given is) (own_help another again also) =
       agree (ap done (one_only (IsUsageText own_options (codes "Usage: getopts_shell [options] NAME TABLE [WORD].."))
@@ -124,7 +124,7 @@ module _ (parse : (options : Declared) (words : List Text) → AtMostOne (IsPars
   one_own own asks (own_help text given is) (of_free other none also) = absurd (false≢true (sym none ∙ given))
   one_own own asks (of_free answer none is) (own_help text given also) = absurd (false≢true (sym none ∙ given))
   one_own own asks (of_free answer none is) (of_free other never also) =
-      one_free own own.free (λ shell. asks shell none) is also
+      one_free own own.free (asks none) is also
 
   -- words have one answer
   pub one_answer : OneAnswer
@@ -139,7 +139,7 @@ module _ (parse : (options : Declared) (words : List Text) → AtMostOne (IsPars
   one_answer words answer other (accepted_own own of_own is tells) (accepted_own again of_again also tell) =
       let same : Ok again ≡ Ok own = parse own_options words (Ok again) (Ok own) also is in
       let same_own : again ≡ own = cc in
-      one_own own (λ shell no_help no_usage asked. record {
+      one_own own (λ no_help shell no_usage asked. record {
         own = own;
         accepted = is;
         no_help = no_help;

@@ -84,6 +84,7 @@ pub fn answer<W: Write, E: Write>(alloc: Global, words: &[&str], out: &mut W, er
     ensures refused { (result ≡ 2) ⊎ (result ≡ 5)
         → ShowsAnswer (E.contents err.old) (E.contents err.new) (texts words.now) result }
     ensures refused_only { (result ≡ 2) ⊎ (result ≡ 5) → out.new ≡ out.old }
+    ensures one_stream { (out.new ≡ out.old) ⊎ (err.new ≡ err.old) }
     ensures nothing_written { result ≡ 3 → (out.new ≡ out.old) × (err.new ≡ err.old) }
 {
     match answer_to(alloc, words) {
@@ -147,22 +148,23 @@ fn own_options(alloc: Global) -> Result<Options, AllocError>
 fn add_own_options(options: &mut Options) -> Result<(), AllocError>
     ensures { OnOk result (options.new ≡ with_groups options.old own_groups) }
 {
-    options.optopt("b", "brief", "begin the help with TEXT", "TEXT")?;
-    options.optflag(
-        "s",
-        "stop",
-        "leave all words from the first free one on free",
-    )?;
-    options.optflag("l", "long-only", "let long names follow one dash too")?;
-    options.optflag("w", "words", "write the words alone, without 'set --'")?;
-    options.optflag("u", "usage", "write the help of TABLE")?;
-    options.optopt(
-        "c",
-        "complete",
-        "write a completion script for bash, zsh or fish",
-        "SHELL",
-    )?;
-    options.optflag("h", "help", "print this help")?;
+    options
+        .optopt("b", "brief", "begin the help with TEXT", "TEXT")?
+        .optflag(
+            "s",
+            "stop",
+            "leave all words from the first free one on free",
+        )?
+        .optflag("l", "long-only", "let long names follow one dash too")?
+        .optflag("w", "words", "write the words alone, without 'set --'")?
+        .optflag("u", "usage", "write the help of TABLE")?
+        .optopt(
+            "c",
+            "complete",
+            "write a completion script for bash, zsh or fish",
+            "SHELL",
+        )?
+        .optflag("h", "help", "print this help")?;
     Ok(())
 }
 

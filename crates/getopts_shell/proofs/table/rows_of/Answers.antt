@@ -25,8 +25,8 @@ returns-in_err-push_line c =
     let all = YieldsList-from_str_split 10 c.args.table.now (lit< tt) (ap split_text start ∙ split.text)
     (ap split_has_more start ∙ split.has_more) (ap split_pattern start ∙ split.pattern) in
     let so_far = YieldsList-so_far all c.loop-line.yielded _ c.loop-line.yielded_by in
-    let turn =
-    YieldsList-turn all c.loop-line.yielded _ c.loop-line.yielded_by _ _ c.in-Some.line c.in-Some.is c.next.ensures.steps in
+    let turn = YieldsList-turn all c.loop-line.yielded _ c.loop-line.yielded_by _ _ c.in-Some.line c.in-Some.is
+    c.next.ensures.steps in
     let count = length-map c.loop-line.yielded (λ line. line.now) in
     let error = err_from_is_err_and c.from_residual.result c.from_residual.ensures.1 in
     rw (error.1, error.2) (tells_weaker c.in_err-push_line.field-0.0 _ _ c.in_err-push_line.ensures.fault
