@@ -17,8 +17,8 @@ use crate::options::Options;
 use crate::table::Table;
 use std::alloc::{AllocError, Global};
 
-/// So many words are few. More than that an iterator isn't trusted to give before they have come, and more than
-/// that are looked at before there is room for what they give.
+/// The words that there is room for before the first has come, at most: an iterator may give fewer
+/// than it promises. Where a line has more, they are looked at before there is room for what they give.
 pub(crate) const FIRST_ROOM: usize = 1024;
 
 /// A `&str` is a text.
