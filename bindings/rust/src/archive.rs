@@ -32,8 +32,8 @@ pub struct Request<'r> {
     pub long_only: bool,
 }
 
-/// How many words stand in front of a room: their lengths are its first numbers, and they are its first bytes,
-/// so many.
+/// How many words stand in front of a room, and how many bytes they have together: its first numbers are their
+/// lengths, and its first bytes are the words, one after the other.
 #[derive(Clone, Copy)]
 pub struct Words {
     pub count: usize,

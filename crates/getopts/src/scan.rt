@@ -17,8 +17,8 @@ use crate::options::Options;
 use crate::table::Table;
 use std::alloc::{AllocError, Global};
 
-/// Up to this many words get room unseen, and up to this number an iterator's size hint is believed. More words
-/// are counted before the first is read.
+/// The first capacity of a list of words, and of what words give, at most: an iterator may give fewer than it
+/// promises. More words than that are counted before the first is read.
 pub(crate) const FIRST_ROOM: usize = 1024;
 
 /// A `&str` is a text.

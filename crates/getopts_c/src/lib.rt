@@ -27,7 +27,8 @@ use std::alloc::Global;
 
 /// Reads words by options, and writes what they give over them.
 ///
-/// So many words are there: their lengths are the first of `numbers`, and they are the first bytes, so many.
+/// The words stand in front: the first `words` numbers are their lengths, and the first `words_len` bytes are the
+/// words, one after the other. Where fewer are there, all are meant.
 ///
 /// Options are `texts`, cut by `lens`: of each group the short name, the long name, the hint and
 /// the description. `kinds` has a byte for each group: the number of its kind of argument (none 0,
