@@ -8,3 +8,5 @@ mod Plain
 mod Help
 mod Line
 mod Status
+-- words in quotes, as each shell reads them
+mod Stubs

@@ -6,6 +6,8 @@ pub mod Quote
 pub mod Table
 -- a table that is written for options, line by line
 pub mod TableText
+-- what completes a script's words
+pub mod Completion
 -- what the program answers
 pub mod Program
 -- Cited by private clauses alone.

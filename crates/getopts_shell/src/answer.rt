@@ -23,9 +23,9 @@ ghost use Rattle.getopts_shell.specs.Program.{AnswersCompletion, no_completion};
 ghost use Rattle.getopts_shell.specs.Table.{TableFault, no_option, name_twice};
 ghost use Rattle.getopts_shell.specs.Held.{with_groups};
 
-use crate::complete::completion;
 use crate::quote::{push_quoted, push_quoted_words};
 use crate::row::Row;
+use crate::scripts::completion;
 use crate::table::{TableError, rows_of};
 use crate::words::texts_of;
 use getopts::{Fail, HasArg, Matches, Options, ParsingStyle, names_resolve};

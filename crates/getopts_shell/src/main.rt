@@ -10,6 +10,7 @@ mod item;
 mod laws;
 mod quote;
 mod row;
+mod scripts;
 mod table;
 #[cfg(test)]
 mod tests;
