@@ -10,3 +10,5 @@ mod Line
 mod Status
 -- words in quotes, as each shell reads them
 mod Stubs
+-- one thing is offered at a word
+mod Offers

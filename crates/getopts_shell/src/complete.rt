@@ -1,7 +1,7 @@
 //! What completes a script's words: the code for bash, zsh and fish, and what it is answered.
 
 ghost use Rattle.std.specs.Prelude.{◌≡◌, ◌++◌, ◌∷◌, [], Option, Some, IfOk, OnOk, MatchOption, codes, map};
-ghost use Rattle.std.specs.Prelude.{if◌then◌else◌, nat_eq};
+ghost use Rattle.std.specs.Prelude.{if◌then◌else◌, nat_eq, length, take, ℕ, ◌≤◌};
 ghost use Rattle.getopts.specs.Wrap.{parting};
 ghost use Rattle.getopts_shell.specs.Quote.{quoted};
 ghost use Rattle.std.specs.List.{flat_map, starts_with};
@@ -207,8 +207,38 @@ fn fish_stub(alloc: Global, mark: &str, call: &str, name: &str) -> Result<String
     )
 }
 
+/// The place that a word writes, if it is at most this.
+pub(crate) fn place_of(word: &str, most: usize) -> Option<usize>
+    ensures { MatchOption result ((place : ℕ) → Spec.WritesNumber word.now place → ¬ (place ≤ most))
+        (λ place. Spec.WritesNumber word.now place × (place ≤ most)) }
+{
+    match word.parse::<usize>() {
+        Ok(place) if place <= most => Some(place),
+        _ => None,
+    }
+}
+
+/// What is offered at a place of words by a script with these options.
+pub(crate) fn offers_at(
+    alloc: Global,
+    options: &Options,
+    long_only: bool,
+    rows: &[Row<'_>],
+    words: &[&str],
+    place: usize,
+) -> Result<String, AllocError>
+    requires rows { options.now.groups ≡ groups_of rows.now }
+    requires mode { options.now.long_only ≡ long_only }
+    requires place { place ≤ length words.now }
+    ensures { IfOk result (λ text. Spec.IsOffer options.now (take place (texts words.now))
+        (Spec.word_at (texts words.now) place) (string_bytes text)) }
+{
+    let word = words.get(place).copied().unwrap_or("");
+    offers(alloc, options, long_only, rows, &words[..place], word)
+}
+
 /// What is offered at a word of a script with these options, after the words before it: options, or files.
-pub(crate) fn offers(
+fn offers(
     alloc: Global,
     options: &Options,
     long_only: bool,
