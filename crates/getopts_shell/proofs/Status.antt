@@ -1,12 +1,13 @@
 -- The statuses of answers.
-use Rattle.std.proofs.Common.{◌≢◌, ◌≤◌, ℕ, List, [], ◌∷◌, sym, subst, arith}
-use Rattle.getopts.specs.Matches.{Matched}
+use Rattle.std.proofs.Common.{◌≢◌, ◌≤◌, ℕ, List, [], ◌∷◌, Option, Some, None, sym, subst, arith}
+use Rattle.std.specs.Option.{option_map_or}
 use Rattle.getopts.specs.Names.{Text}
 use Rattle.getopts.specs.Options.{Declared}
-use Rattle.getopts_shell.specs.Program.{Answer, AnswersCompletion, script, no_script, AnswersLine, accepted, refused}
-use Rattle.getopts_shell.specs.Program.{AnswersWords, help, line, AnswersScript, usage, completion, of_words}
-use Rattle.getopts_shell.specs.Program.{faulty, declared, AnswersFree, own_help, of_free}
-use Rattle.getopts_shell.specs.Program.{IsAnswer, refused_own, accepted_own, IsStatus}
+use Rattle.getopts_shell.specs.Completion.{stub}
+use Rattle.getopts_shell.specs.Program.{Answer, Asked, done, misused, no_completion, AnswersPlace, AnswersNumbered, AnswersOffer, at_place, no_shell, offered, no_place}
+use Rattle.getopts_shell.specs.Program.{AnswersScript, usage, offers, help, accepted, refused}
+use Rattle.getopts_shell.specs.Program.{faulty, completion, declared, AnswersFree, IsStatus}
+use Rattle.getopts_shell.specs.Program.{IsAnswer, refused_own, own_help, accepted_own}
 
 -- the status of an answer: 0, 2 or 5
 pub record AnswersBy (status : ℕ) : Type 0 where
@@ -25,35 +26,44 @@ is_refused = by_status 2 (omega arith) (λ is. absurd (omega arith)) (λ is. abs
 is_misused : AnswersBy 5
 is_misused = by_status 5 (omega arith) (λ is. absurd (omega arith)) (λ is. absurd (omega arith))
 
-of_completion : {shell : Text} {answer : Answer} → AnswersCompletion shell answer → AnswersBy answer.status
-of_completion (script text has) = is_done
-of_completion (no_script none) = is_misused
+of_completion : (fault : Text) (code : Option Text) → AnswersBy (option_map_or done code (misused fault)).status
+of_completion fault (Some text) = is_done
+of_completion fault None = is_misused
 
-of_line : {own : Matched} {name : Text} {options : Declared} {words : List Text} {answer : Answer}
-    → AnswersLine own name options words answer → AnswersBy answer.status
-of_line (accepted text tells) = is_done
-of_line (refused fault is) = is_refused
+of_place : {options : Declared} {number : Text} {words : List Text} {answer : Answer}
+    → AnswersPlace options number words answer → AnswersBy answer.status
+of_place (offered place text writes within is) = is_done
+of_place (no_place none) = is_misused
 
-of_script_words : {own : Matched} {name : Text} {options : Declared} {words : List Text} {answer : Answer}
-    → AnswersWords own name options words answer → AnswersBy answer.status
-of_script_words (help text asks is) = is_done
-of_script_words (line answer none is) = of_line is
+of_numbered : (options : Declared) (words : List Text) {answer : Answer}
+    → AnswersNumbered options words answer → AnswersBy answer.status
+of_numbered options [] is = of_place is
+of_numbered options (number ∷ words) is = of_place is
 
-of_script : {own : Matched} {name : Text} {options : Declared} {words : List Text} {answer : Answer}
-    → AnswersScript own name options words answer → AnswersBy answer.status
+of_offer : {shell : Text} {options : Declared} {words : List Text} {answer : Answer}
+    → AnswersOffer shell options words answer → AnswersBy answer.status
+of_offer {options = options} {words = words} (at_place answer has is) = of_numbered options words is
+of_offer (no_shell none) = is_misused
+
+of_script : {asked : Asked} {name : Text} {options : Declared} {words : List Text} {answer : Answer}
+    → AnswersScript asked name options words answer → AnswersBy answer.status
 of_script (usage text given is) = is_done
-of_script (completion shell answer none given is) = of_completion is
-of_script (of_words answer none given is) = of_script_words is
+of_script (offers shell answer none given is) = of_offer is
+of_script (help text reads asks is) = is_done
+of_script (accepted line reads none is) = is_done
+of_script (refused fault reads none is) = is_refused
 
-of_frees : (own : Matched) (words : List Text) (answer : Answer) → AnswersFree own words answer
+of_free : (asked : Asked) (words : List Text) (answer : Answer) → AnswersFree asked words answer
     → AnswersBy answer.status
-of_frees own [] answer is = subst (λ (a : Answer). AnswersBy a.status) (sym is) is_misused
-of_frees own (name ∷ []) answer is = subst (λ (a : Answer). AnswersBy a.status) (sym is) is_misused
-of_frees own (name ∷ table ∷ words) answer (faulty fault is) = is_misused
-of_frees own (name ∷ table ∷ words) answer (declared groups other are is) = of_script is
+of_free asked [] answer is = subst (λ (a : Answer). AnswersBy a.status) (sym is) is_misused
+of_free asked (name ∷ []) answer is = subst (λ (a : Answer). AnswersBy a.status) (sym is) is_misused
+of_free asked (name ∷ table ∷ words) answer (faulty fault is) = is_misused
+of_free asked (name ∷ table ∷ words) answer (completion groups shell are given) =
+    of_completion (no_completion shell) (stub shell asked.stop asked.long_only name table)
+of_free asked (name ∷ table ∷ words) answer (declared groups other are none is) = of_script is
 
 -- each answer has one of these
 pub answers_by : (words : List Text) (answer : Answer) → IsAnswer words answer → AnswersBy answer.status
 answers_by words answer (refused_own fault is) = is_misused
-answers_by words answer (accepted_own own other is (own_help text given helps)) = is_done
-answers_by words answer (accepted_own own other is (of_free of none answers)) = of_frees own own.free of answers
+answers_by words answer (own_help own text is given helps) = is_done
+answers_by words answer (accepted_own own other is none answers) = of_free _ own.free other answers

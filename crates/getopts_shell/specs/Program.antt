@@ -1,9 +1,9 @@
 -- The program: what it answers to words, and with which status.
 use Rattle.std.specs.Prelude.{◌≡◌, ◌≢◌, ◌≤◌, ◌&&◌, ◌||◌, ℕ, Bool, true, false, List, [], ◌∷◌, ◌++◌, Option}
-use Rattle.std.specs.Prelude.{Some, None, codes, decimal, if◌then◌else◌, ◌⊎◌}
+use Rattle.std.specs.Prelude.{Some, None, codes, decimal, if◌then◌else◌, length, take}
 use Rattle.std.specs.Io.KnownBytes.{Appends}
 use Rattle.std.specs.List.{AllByRecursion, list_any}
-use Rattle.std.specs.Option.{unwrap_or}
+use Rattle.std.specs.Option.{unwrap_or, option_map_or}
 use Rattle.std.specs.Str.{bytes_eq}
 use Rattle.getopts.specs.Accessors.{first_value, found_of, is_present}
 use Rattle.getopts.specs.Canon.{HasCanonicalLine, canonical_word}
@@ -20,6 +20,7 @@ use Rattle.getopts.specs.declared.groups.HasArg.{HasArg}
 use Rattle.getopts.specs.declared.groups.HasArg.TheVariants.{Yes, No}
 use Rattle.getopts.specs.declared.groups.Occur.TheVariants.{Optional}
 use Rattle.getopts.specs.declared.groups.ParsingStyle.TheVariants.{FloatingFrees, StopAtFirstFree}
+use Rattle.getopts_shell.specs.Completion.{IsOffer, WritesNumber, stub, word_at}
 use Rattle.getopts_shell.specs.Quote.{quoted, quoted_words, shell_words}
 use Rattle.getopts_shell.specs.Table.{DeclaresOptions, IsTableFault, TableFault, no_option, name_twice}
 
@@ -33,6 +34,8 @@ own_groups =
     ∷ group_of (codes "w") (codes "words") (codes "write the words alone, without 'set --'") [] No Optional
     ∷ group_of (codes "u") (codes "usage") (codes "write the help of TABLE") [] No Optional
     ∷ group_of (codes "c") (codes "complete") (codes "write a completion script for bash, zsh or fish")
+    (codes "SHELL") Yes Optional
+    ∷ group_of [] (codes "complete-words") (codes "write what may come at word N, where the WORDs are N and words")
     (codes "SHELL") Yes Optional
     ∷ group_of (codes "h") (codes "help") (codes "print this help") [] No Optional
     ∷ []
@@ -48,6 +51,32 @@ is_given own name = is_present own.groups name
 -- the value that an option of this name has, if it has one
 abbrev pub value_given : Matched → Text → Option Text
 value_given own name = first_value (found_of own.groups name)
+
+-- what the program's own words ask for
+pub record Asked : Type 0 where
+  pub brief : Option Text
+  pub stop : Bool
+  pub long_only : Bool
+  pub words : Bool
+  pub usage : Bool
+  pub complete : Option Text
+  pub complete_words : Option Text
+
+-- what words with these matches ask for
+abbrev pub asked_by : Matched → Asked
+asked_by own = record {
+  brief = value_given own (codes "brief");
+  stop = is_given own (codes "stop");
+  long_only = is_given own (codes "long-only");
+  words = is_given own (codes "words");
+  usage = is_given own (codes "usage");
+  complete = value_given own (codes "complete");
+  complete_words = value_given own (codes "complete-words");
+}
+
+-- a script's words are read: neither its help nor what may come is asked for
+abbrev pub ReadsWords : Asked → Type 0
+ReadsWords asked = (asked.usage ≡ false) × (asked.complete_words ≡ None)
 
 -- ---- answers
 
@@ -83,21 +112,18 @@ table_fault_line (name_twice number name) = codes "getopts_shell: line "
 
 -- ---- a script
 
--- the options of a script, in the style and the mode that the program's own words ask for
-abbrev pub script_options : Matched → List Group → Declared
-script_options own groups = record {
+-- the options of a script, in the style and the mode that are asked for
+abbrev pub script_options : Asked → List Group → Declared
+script_options asked groups = record {
   groups = groups;
-  style = if is_given own (codes "stop") then StopAtFirstFree else FloatingFrees;
-  long_only = is_given own (codes "long-only");
+  style = if asked.stop then StopAtFirstFree else FloatingFrees;
+  long_only = asked.long_only;
 }
 
--- what the help of a script begins with: the text that was given, or the short usage
-abbrev pub brief_of : Matched → Text → Declared → Text
-brief_of own name options = unwrap_or (value_given own (codes "brief")) (short_usage_text options name)
-
--- the help of a script
-abbrev pub IsHelp : Matched → Text → Declared → Text → Type 0
-IsHelp own name options help = IsTheOnly (IsUsageText options (brief_of own name options)) help
+-- the help of a script: it begins with the text that was given, or else with the short usage
+abbrev pub IsHelp : Asked → Text → Declared → Text → Type 0
+IsHelp asked name options help =
+    IsTheOnly (IsUsageText options (unwrap_or asked.brief (short_usage_text options name))) help
 
 -- the code that prints a help, and ends the script
 abbrev pub help_code : Text → Text
@@ -119,9 +145,9 @@ AskHelp options words = (matches : Matched) × HasReading options words matches
     × (offers_help options.groups ≡ true) × (is_present matches.groups (codes "help") ≡ true)
 
 -- the code that sets a script's words to those of a line, or the words alone
-abbrev pub line_code : Matched → List Text → Text
-line_code own line =
-    (if is_given own (codes "words") then [] else codes "set -- ") ++ (quoted_words line ++ codes "\n")
+abbrev pub line_code : Asked → List Text → Text
+line_code asked line =
+    (if asked.words then [] else codes "set -- ") ++ (quoted_words line ++ codes "\n")
 
 -- What a canonical line tells: a shell makes of it, as it is written, the same words; it is accepted in
 -- both styles and both modes with the content of the words, and says nothing else; and of its words the
@@ -132,92 +158,94 @@ pub record TellsWords (options : Declared) (words line : List Text) : Type 0 whe
   pub reads_back : HasCanonicalLine options written.content
   pub stop_is_first : AllByRecursion (λ m. canonical_word options.groups m ≢ stop_word) written.content.mentions
 
--- the answer to words that don't ask for help: the canonical line of accepted words, or the first fault
-pub data AnswersLine (own : Matched) (name : Text) (options : Declared) (words : List Text)
-    : Answer → Type 0 where
-  accepted : (line : List Text) → TellsWords options words line
-      → AnswersLine own name options words (done (line_code own line))
-  refused : (fault : Fault) → IsRefused options words fault
-      → AnswersLine own name options words (record { text = refused_text options name fault; status = 2 })
-
--- whether there are completion scripts for a shell
+-- whether there is completion in a shell
 abbrev pub has_completion : Text → Bool
 has_completion shell = bytes_eq shell (codes "bash") || bytes_eq shell (codes "zsh")
     || bytes_eq shell (codes "fish")
 
--- what is said where there are none
+-- what is said where there is none
 abbrev pub no_completion : Text → Text
 no_completion shell = codes "getopts_shell: no completion for '" ++ (shell ++ codes "'\n")
 
--- the answer of a completion script, of whose text nothing is said, or that there is none for this shell
-pub data AnswersCompletion (shell : Text) : Answer → Type 0 where
-  script : (text : Text) → has_completion shell ≡ true → AnswersCompletion shell (done text)
-  no_script : has_completion shell ≡ false → AnswersCompletion shell (misused (no_completion shell))
+-- the code that completes a script's words in a shell, or that there is none for it
+abbrev pub completion_answer : Asked → Text → Text → Text → Answer
+completion_answer asked shell name table =
+    option_map_or done (stub shell asked.stop asked.long_only name table) (misused (no_completion shell))
 
--- the answer to the words of a script: the code that prints its help where they ask for it, or else
--- what they are
-pub data AnswersWords (own : Matched) (name : Text) (options : Declared) (words : List Text)
+-- what is said of a number that no word has
+abbrev pub no_word : Text → Text
+no_word number = codes "getopts_shell: no word has the number '" ++ (number ++ codes "'\n")
+
+-- What may come at the word with this number, of which 0 is the first and the highest stands after the last.
+pub data AnswersPlace (options : Declared) (number : Text) (words : List Text) : Answer → Type 0 where
+  offered : (place : ℕ) (text : Text) → WritesNumber number place → place ≤ length words
+      → IsOffer options (take place words) (word_at words place) text
+      → AnswersPlace options number words (done text)
+  no_place : ((place : ℕ) → WritesNumber number place → ¬ (place ≤ length words))
+      → AnswersPlace options number words (misused (no_word number))
+
+-- the same, where the number stands before the words; a number that isn't there is no number
+abbrev pub AnswersNumbered : Declared → List Text → Answer → Type 0
+AnswersNumbered options (number ∷ words) answer = AnswersPlace options number words answer
+AnswersNumbered options [] answer = AnswersPlace options [] [] answer
+
+-- the answer to a shell that asks what may come at a word, if there is completion in it
+pub data AnswersOffer (shell : Text) (options : Declared) (words : List Text) : Answer → Type 0 where
+  at_place : (answer : Answer) → has_completion shell ≡ true → AnswersNumbered options words answer
+      → AnswersOffer shell options words answer
+  no_shell : has_completion shell ≡ false → AnswersOffer shell options words (misused (no_completion shell))
+
+-- The answer for a script with these options: its help, what may come at a word, or what its words are. That
+-- is the code that prints its help where they ask for it, and else their canonical line or the first fault.
+pub data AnswersScript (asked : Asked) (name : Text) (options : Declared) (words : List Text)
     : Answer → Type 0 where
-  help : (help : Text) → AskHelp options words → IsHelp own name options help
-      → AnswersWords own name options words (done (help_code help))
-  line : (answer : Answer) → ¬ (AskHelp options words) → AnswersLine own name options words answer
-      → AnswersWords own name options words answer
+  usage : (help : Text) → asked.usage ≡ true → IsHelp asked name options help
+      → AnswersScript asked name options words (done help)
+  offers : (shell : Text) (answer : Answer) → asked.usage ≡ false → asked.complete_words ≡ Some shell
+      → AnswersOffer shell options words answer → AnswersScript asked name options words answer
+  help : (help : Text) → ReadsWords asked → AskHelp options words → IsHelp asked name options help
+      → AnswersScript asked name options words (done (help_code help))
+  accepted : (line : List Text) → ReadsWords asked → ¬ (AskHelp options words)
+      → TellsWords options words line
+      → AnswersScript asked name options words (done (line_code asked line))
+  refused : (fault : Fault) → ReadsWords asked → ¬ (AskHelp options words)
+      → IsRefused options words fault → AnswersScript asked name options words
+      (record { text = refused_text options name fault; status = 2 })
 
--- the answer for a script with these options: its help, its completion script, or that to its words
-pub data AnswersScript (own : Matched) (name : Text) (options : Declared) (words : List Text)
-    : Answer → Type 0 where
-  usage : (help : Text) → is_given own (codes "usage") ≡ true → IsHelp own name options help
-      → AnswersScript own name options words (done help)
-  completion : (shell : Text) (answer : Answer) → is_given own (codes "usage") ≡ false
-      → value_given own (codes "complete") ≡ Some shell → AnswersCompletion shell answer
-      → AnswersScript own name options words answer
-  of_words : (answer : Answer) → is_given own (codes "usage") ≡ false
-      → value_given own (codes "complete") ≡ None
-      → AnswersWords own name options words answer → AnswersScript own name options words answer
-
--- the answer to a script's name, its table and its words: the fault of the table, or that for its options
-pub data AnswersTable (own : Matched) (name table : Text) (words : List Text) : Answer → Type 0 where
+-- The answer to a script's name, its table and its words: the fault of the table, the code that completes the
+-- words, or the answer for the table's options.
+pub data AnswersTable (asked : Asked) (name table : Text) (words : List Text) : Answer → Type 0 where
   faulty : (fault : TableFault) → IsTableFault table fault
-      → AnswersTable own name table words (misused (table_fault_line fault))
-  declared : (groups : List Group) (answer : Answer) → DeclaresOptions table groups
-      → AnswersScript own name (script_options own groups) words answer
-      → AnswersTable own name table words answer
+      → AnswersTable asked name table words (misused (table_fault_line fault))
+  completion : (groups : List Group) (shell : Text) → DeclaresOptions table groups
+      → asked.complete ≡ Some shell
+      → AnswersTable asked name table words (completion_answer asked shell name table)
+  declared : (groups : List Group) (answer : Answer) → DeclaresOptions table groups → asked.complete ≡ None
+      → AnswersScript asked name (script_options asked groups) words answer
+      → AnswersTable asked name table words answer
 
 -- the answer to the free words of the program's own
-abbrev pub AnswersFree : Matched → List Text → Answer → Type 0
-AnswersFree own (name ∷ table ∷ words) answer = AnswersTable own name table words answer
-AnswersFree own words answer = answer ≡ misused (codes "getopts_shell: a name and a table of options are needed\n")
+abbrev pub AnswersFree : Asked → List Text → Answer → Type 0
+AnswersFree asked (name ∷ table ∷ words) answer = AnswersTable asked name table words answer
+AnswersFree asked words answer =
+    answer ≡ misused (codes "getopts_shell: a name and a table of options are needed\n")
 
--- the answer to the program's own words, where they are accepted with these matches: its help, or the
--- answer to its free words
-pub data AnswersOwn (own : Matched) : Answer → Type 0 where
-  own_help : (help : Text) → is_given own (codes "help") ≡ true
-      → IsTheOnly (IsUsageText own_options (codes "Usage: getopts_shell [options] NAME TABLE [WORD].."))
-      help → AnswersOwn own (done help)
-  of_free : (answer : Answer) → is_given own (codes "help") ≡ false
-      → AnswersFree own own.free answer → AnswersOwn own answer
-
--- The answer to words: the fault of the program's own words, or the answer to these.
+-- The answer to words: the fault of the program's own words, its help, or what these ask for.
 pub data IsAnswer (words : List Text) : Answer → Type 0 where
   refused_own : (fault : Fault) → IsRefused own_options words fault
       → IsAnswer words (misused (fault_line (codes "getopts_shell") fault))
+  own_help : (own : Matched) (help : Text) → IsAccepted own_options words own
+      → is_given own (codes "help") ≡ true
+      → IsTheOnly (IsUsageText own_options (codes "Usage: getopts_shell [options] NAME TABLE [WORD].."))
+      help → IsAnswer words (done help)
   accepted_own : (own : Matched) (answer : Answer) → IsAccepted own_options words own
-      → AnswersOwn own answer → IsAnswer words answer
+      → is_given own (codes "help") ≡ false → AnswersFree (asked_by own) own.free answer
+      → IsAnswer words answer
 
--- The words ask for a completion script, and for no help.
-pub record AskCompletion (words : List Text) : Type 0 where
-  pub own : Matched
-  pub accepted : IsAccepted own_options words own
-  pub no_help : is_given own (codes "help") ≡ false
-  pub no_usage : is_given own (codes "usage") ≡ false
-  pub shell : Text
-  pub asked : value_given own (codes "complete") ≡ Some shell
-
--- words have one status and one text, but for the text of a completion script that they ask for
+-- words have one answer: one status and one text
 abbrev pub OneAnswer : Type 0
 OneAnswer = (words : List Text) (answer other : Answer) → IsAnswer words answer → IsAnswer words other
-    → (other.status ≡ answer.status)
-    × ((other.text ≡ answer.text) ⊎ ((answer.status ≡ 0) × AskCompletion words))
+    → other ≡ answer
 
 -- ---- statuses
 

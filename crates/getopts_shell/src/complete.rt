@@ -233,8 +233,25 @@ pub(crate) fn offers_at(
     ensures { IfOk result (λ text. Spec.IsOffer options.now (take place (texts words.now))
         (Spec.word_at (texts words.now) place) (string_bytes text)) }
 {
-    let word = words.get(place).copied().unwrap_or("");
-    offers(alloc, options, long_only, rows, &words[..place], word)
+    offers(
+        alloc,
+        options,
+        long_only,
+        rows,
+        &words[..place],
+        word_at(words, place),
+    )
+}
+
+/// The word at a place, or an empty one after the last.
+fn word_at<'w>(words: &[&'w str], place: usize) -> &'w str
+    ensures { result.now ≡ Spec.word_at (texts words.now) place }
+{
+    if place < words.len() {
+        words[place]
+    } else {
+        ""
+    }
 }
 
 /// What is offered at a word of a script with these options, after the words before it: options, or files.
@@ -379,7 +396,7 @@ fn main_name<'t>(row: &Row<'t>) -> &'t str
 }
 
 /// Whether matches have an option of this name.
-fn is_given(matches: &Matches, name: &str) -> bool
+pub(crate) fn is_given(matches: &Matches, name: &str) -> bool
     ensures { result ≡ is_present matches.now.groups name.now }
 {
     matches.opt_defined(name) && matches.opt_present(name)

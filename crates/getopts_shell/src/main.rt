@@ -10,7 +10,6 @@ mod item;
 mod laws;
 mod quote;
 mod row;
-mod scripts;
 mod table;
 #[cfg(test)]
 mod tests;
