@@ -8,3 +8,4 @@ mod Plain
 mod Help
 mod Line
 mod Status
+mod Shell
