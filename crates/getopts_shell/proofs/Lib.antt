@@ -9,3 +9,4 @@ mod Help
 mod Line
 mod Status
 mod Shell
+mod Assignments

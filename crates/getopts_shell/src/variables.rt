@@ -235,8 +235,8 @@ fn text_at<'m>(given: &Occurrences<'m>, nth: usize) -> &'m str
     ensures { result.now ≡ get_or (Spec.texts_found given.now) nth [] }
 {
     match given.get(nth) {
-        Some((_, Some(value))) => value,
-        _ => "",
+        Some((_, value)) => value.unwrap_or(""),
+        None => "",
     }
 }
 
@@ -282,7 +282,7 @@ pub(crate) fn variable_error<'t>(
         if !makes_variable(prefix, name) {
             return Some(VariableError::NoVariable(option_line(table, place), name));
         }
-        if any_has_variable(&rows[..place], prefix, name) {
+        if any_has_variable(&rows[..place], name) {
             return Some(VariableError::VariableTwice(option_line(table, place), name));
         }
     }
@@ -324,9 +324,10 @@ fn is_variable_byte(byte: u8) -> bool
 }
 
 /// Whether one of the rows makes the variable that a main name makes.
-fn any_has_variable(rows: &[Row<'_>], prefix: &str, name: &str) -> bool
-    ensures { result ≡ list_any (λ row. bytes_eq (Spec.variable prefix.now (main_name (group_of_row row).signature.names))
-        (Spec.variable prefix.now name.now)) rows.now }
+fn any_has_variable(rows: &[Row<'_>], name: &str) -> bool
+    ensures { result ≡ list_any (λ row. bytes_eq
+        (map Spec.variable_byte (main_name (group_of_row row).signature.names))
+        (map Spec.variable_byte name.now)) rows.now }
 {
     rows.iter().any(|row| same_variable(main_name(*row), name))
 }
@@ -335,12 +336,13 @@ fn any_has_variable(rows: &[Row<'_>], prefix: &str, name: &str) -> bool
 fn same_variable(name: &str, other: &str) -> bool
     ensures { result ≡ bytes_eq (map Spec.variable_byte name.now) (map Spec.variable_byte other.now) }
 {
-    let (name, other) = (name.as_bytes(), other.as_bytes());
-    if name.len() != other.len() {
+    let bytes = name.as_bytes();
+    let others = other.as_bytes();
+    if bytes.len() != others.len() {
         return false;
     }
-    for at in 0..name.len() {
-        if variable_byte(name[at]) != variable_byte(other[at]) {
+    for at in 0..bytes.len() {
+        if variable_byte(bytes[at]) != variable_byte(others[at]) {
             return false;
         }
     }
