@@ -1,25 +1,30 @@
--- The text that sets variables, as it is written.
+-- The text that sets variables, as it is written, and the faults of their names.
 use Rattle.std.proofs.Common.{◌≡◌, ◌≢◌, ℕ, Bool, true, false, cond, eqb, List, [], ◌∷◌, ◌++◌, Option, Some, None}
 use Rattle.std.proofs.Common.{refl, sym, ap, subst, ◌∙◌, suc, zero, length, take, drop, map, append_assoc, append-nil}
-use Rattle.std.proofs.Common.{add-one, min, ◌-◌, ◌^◌, arith, ◌+◌, ◌<◌, ◌≤◌, get_or}
-use Rattle.std.specs.Prelude.{nat_lt, slice_get}
-use Rattle.std.specs.List.{flat_map, onto_first, slice_split}
+use Rattle.std.proofs.Common.{add-one, add-zero, arith, min, get_or, ◌+◌, ◌-◌, ◌^◌, ◌<◌, ◌≤◌}
+use Rattle.std.specs.Prelude.{nat_lt, slice_get, ◌&&◌, ◌||◌}
 use Rattle.std.specs.Borrow.{Bor}
+use Rattle.std.specs.List.{flat_map, list_all, list_any, onto_first, slice_split}
 use Rattle.std.specs.Option.{option_copied, unwrap_or}
 use Rattle.std.specs.Str.{bytes_eq}
-use Rattle.std.proofs.lemmas.Bool.{eqb-true}
+use Rattle.std.proofs.lemmas.Bool.{eq-eqb}
 use Rattle.std.proofs.lemmas.Bool.Decides.{nat_tests}
-use Rattle.std.proofs.lemmas.List.{length-map, take_more}
+use Rattle.std.proofs.lemmas.List.{at_drop_more, get_or-append-add, get_or_past, length-append, length-map}
+use Rattle.std.proofs.lemmas.List.{length-take-le, take-append-drop, take_more}
 use Rattle.std.proofs.lemmas.List.Concat.{flat_map-append}
+use Rattle.std.proofs.lemmas.List.Folds.{list_all-append, list_all-map}
 use Rattle.std.proofs.lemmas.List.Splits.{length-slice_split}
 use Rattle.getopts.specs.Accessors.{each_value, found_in}
 use Rattle.getopts.specs.Matches.{Found, MatchedGroup}
-use Rattle.getopts.specs.Names.{Text}
-use Rattle.getopts.specs.Options.{Signature, signatures_of}
-use Rattle.getopts.specs.Wrap.{parting}
+use Rattle.getopts.specs.Names.{Text, Names, main_name}
+use Rattle.getopts.specs.Options.{Group, Signature, names_of, signatures_of}
+use Rattle.getopts.specs.Wrap.{lines_of, parting}
 use Rattle.getopts_shell.specs.Held.{group_of_row, groups_of, held_signatures}
 use Rattle.getopts_shell.specs.Quote.{quoted, quoted_words, spaced}
-use Rattle.getopts_shell.specs.Variables.{option_lines, texts_found, variable_byte}
+use Rattle.getopts_shell.specs.Table.{is_passed, line_number}
+use Rattle.getopts_shell.specs.Variables.{all_values, any_has_variable, HaveOwnVariables, is_prefix, is_variable}
+use Rattle.getopts_shell.specs.Variables.{is_variable_byte, IsFaultAt, IsVariableFault, of_name, option_lines, setting}
+use Rattle.getopts_shell.specs.Variables.{texts_found, variable, variable_byte, VariableFault, variable_of}
 use Rattle.getopts_shell.specs.declared.row.Row.{Row}
 
 some_lt : (n : ℕ) → true ≡ nat_lt 0 (suc n)
@@ -51,12 +56,12 @@ parts_of_name (byte ∷ name) = by_test (parts_of_name name) (eqb byte 45) refl
     by_test : name_of_parts (slice_split (λ b. eqb b 45) name) ≡ map variable_byte name
         → (test : Bool) → eqb byte 45 ≡ test
         → name_of_parts (slice_split (λ b. eqb b 45) (byte ∷ name)) ≡ map variable_byte (byte ∷ name)
-    by_test of_name true is =
+    by_test rest true is =
         simp is (after_dash (slice_split (λ b. eqb b 45) name)
         (omega (arith, length-slice_split (λ b. eqb b 45) name))
-        ∙ ap (λ (text : Text). 95 ∷ text) of_name)
-    by_test of_name false is =
-        simp is (onto_name byte (slice_split (λ b. eqb b 45) name) ∙ ap (λ (text : Text). byte ∷ text) of_name)
+        ∙ ap (λ (text : Text). 95 ∷ text) rest)
+    by_test rest false is =
+        simp is (onto_name byte (slice_split (λ b. eqb b 45) name) ∙ ap (λ (text : Text). byte ∷ text) rest)
 
 -- The text has grown by the parts so far, and the flag tells whether there is any.
 pub record NameSoFar (parts : List Text) (begun : Bool) (old text : Text) : Type 0 where
@@ -180,3 +185,187 @@ pub record LinesPassed (lines : List Text) (number before place : ℕ) : Type 0 
   pub number_is : number ≡ min (length lines) (2 ^ 64 - 1)
   pub before_is : before ≡ length (option_lines 0 lines)
   pub below : before ≤ place
+
+option_lines-append : (before : ℕ) (lines others : List Text)
+    → option_lines before (lines ++ others)
+    ≡ option_lines before lines ++ option_lines (before + length lines) others
+option_lines-append before [] others = ap (λ (n : ℕ). option_lines n others) (sym (add-zero before))
+option_lines-append before (line ∷ lines) others =
+    by_test (is_passed line) (option_lines-append (before + 1) lines others
+    ∙ ap (λ (n : ℕ). option_lines (before + 1) lines ++ option_lines n others) next)
+  where
+    next : (before + 1) + length lines ≡ before + length (line ∷ lines)
+    next = omega arith
+
+    by_test : (test : Bool)
+        → option_lines (before + 1) (lines ++ others)
+        ≡ option_lines (before + 1) lines ++ option_lines (before + length (line ∷ lines)) others
+        → cond test (option_lines (before + 1) (lines ++ others))
+        (line_number before ∷ option_lines (before + 1) (lines ++ others))
+        ≡ cond test (option_lines (before + 1) lines) (line_number before ∷ option_lines (before + 1) lines)
+        ++ option_lines (before + length (line ∷ lines)) others
+    by_test true more = more
+    by_test false more = ap (λ (numbers : List ℕ). line_number before ∷ numbers) more
+
+in_parts : (all : List Text) (n : ℕ) (x : Text) → n < length all → x ≡ get_or all n x
+    → all ≡ take n all ++ x ∷ drop (n + 1) all
+in_parts all n x below is =
+    sym (take-append-drop n all)
+    ∙ ap (λ (t : List Text). take n all ++ t) (at_drop_more (λ (t : List Text). t) all n x below
+    ∙ ap (λ (y : Text). y ∷ drop (n + 1) all) (sym is))
+
+pub none_passed : (place : ℕ) → LinesPassed [] 0 0 place
+none_passed place = record { number_is = refl; before_is = refl; below = omega arith }
+
+-- a line more that declares nothing
+pub one_passed : (lines : List Text) (line : Text) (number next before place : ℕ)
+    → LinesPassed lines number before place → next ≡ min (number + 1) (2 ^ 64 - 1) → is_passed line ≡ true
+    → LinesPassed (lines ++ line ∷ []) next before place
+one_passed lines line number next before place so_far next_is passed = record {
+  number_is = omega (arith, so_far.number_is, length-append lines (line ∷ []));
+  before_is = so_far.before_is ∙ ap length (sym (option_lines-append 0 lines (line ∷ []) ∙ rw passed (append-nil _)));
+  below = so_far.below;
+}
+
+-- a line more that declares an option, which isn't the one
+pub option_passed : (lines : List Text) (line : Text) (number next before after place : ℕ) → place < 2 ^ 64
+    → LinesPassed lines number before place → next ≡ min (number + 1) (2 ^ 64 - 1) → is_passed line ≡ false
+    → after ≡ min (before + 1) (2 ^ 64 - 1) → before ≢ place
+    → LinesPassed (lines ++ line ∷ []) next after place
+option_passed lines line number next before after place fits so_far next_is there after_is other = record {
+  number_is = omega (arith, so_far.number_is, length-append lines (line ∷ []));
+  before_is =
+      let numbers = option_lines 0 lines in
+      let last : List ℕ = line_number (0 + length lines) ∷ [] in
+      let all : option_lines 0 (lines ++ line ∷ []) ≡ numbers ++ last =
+      option_lines-append 0 lines (line ∷ []) ∙ rw there refl in
+      omega (arith, so_far.before_is, so_far.below, length-append numbers last, ap length all);
+  below = omega (arith, so_far.below);
+}
+
+-- the line of the option
+pub line_found : (table : Text) (lines : List Text) (line : Text) (number next before place : ℕ)
+    → lines ≡ take (length lines) (lines_of table) → length lines < length (lines_of table)
+    → line ≡ get_or (lines_of table) (length lines) line
+    → LinesPassed lines number before place → next ≡ min (number + 1) (2 ^ 64 - 1) → is_passed line ≡ false
+    → before ≡ place → next ≡ get_or (option_lines 0 (lines_of table)) place 0
+line_found table lines line number next before place lines_are below line_is so_far next_is there here =
+    let others = drop (length lines + 1) (lines_of table) in
+    let numbers = option_lines 0 lines in
+    let more = option_lines ((0 + length lines) + 1) others in
+    let number_at : next ≡ line_number (0 + length lines) = omega (arith, so_far.number_is) in
+    let all : lines_of table ≡ lines ++ line ∷ others =
+    in_parts (lines_of table) (length lines) line below line_is
+    ∙ ap (λ (t : List Text). t ++ line ∷ others) (sym lines_are) in
+    let numbers_are : option_lines 0 (lines_of table) ≡ numbers ++ line_number (0 + length lines) ∷ more =
+    ap (option_lines 0) all ∙ option_lines-append 0 lines (line ∷ others) ∙ rw there refl in
+    let place_is : place ≡ length numbers + 0 = omega (arith, so_far.before_is) in
+    number_at
+    ∙ sym (get_or-append-add numbers (line_number (0 + length lines) ∷ more) 0 0)
+    ∙ ap (λ (n : ℕ). get_or (numbers ++ line_number (0 + length lines) ∷ more) n 0) (sym place_is)
+    ∙ ap (λ (all : List ℕ). get_or all place 0) (sym numbers_are)
+
+-- past the last option
+pub no_line_found : (table : Text) (lines : List Text) (number before place : ℕ) → lines ≡ lines_of table
+    → LinesPassed lines number before place → 0 ≡ get_or (option_lines 0 (lines_of table)) place 0
+no_line_found table lines number before place all so_far =
+    let past : length (option_lines 0 (lines_of table)) ≤ place =
+    omega (arith, so_far.before_is, so_far.below, ap (λ (t : List Text). length (option_lines 0 t)) all) in
+    sym (get_or_past (option_lines 0 (lines_of table)) place 0 past)
+
+-- ---- variables
+
+pub variable_bytes : (prefix name : Text) → list_all is_variable_byte (variable prefix name)
+    ≡ (list_all is_variable_byte prefix && list_all (λ byte. is_variable_byte (variable_byte byte)) name)
+variable_bytes prefix name =
+    list_all-append is_variable_byte prefix (map variable_byte name)
+    ∙ ap (λ (b : Bool). list_all is_variable_byte prefix && b) (list_all-map is_variable_byte variable_byte name)
+
+-- the text for an array of values
+pub array_setting : (name : Text) (arrays : Bool) (founds : List Found) → arrays ≡ true → founds ≢ []
+    → setting name (Some (all_values arrays founds))
+    ≡ name ++ (61 ∷ 40 ∷ (quoted_words (texts_found founds) ++ 41 ∷ []))
+array_setting name arrays [] is some = absurd (some refl)
+array_setting name arrays (found ∷ founds) is some =
+    ap (λ (arrays : Bool). setting name (Some (all_values arrays (found ∷ founds)))) is
+
+same_front : (front name other : Text) → bytes_eq (front ++ name) (front ++ other) ≡ bytes_eq name other
+same_front [] name other = refl
+same_front (byte ∷ front) name other =
+    rw (eq-eqb byte byte refl) (same_front front name other)
+
+-- whether a row makes the variable of names
+pub any_variable : (prefix : Text) (rows : List Row) (names : Names)
+    → any_has_variable prefix (names_of (groups_of rows)) names
+    ≡ list_any (λ row. bytes_eq (map variable_byte (main_name (group_of_row row).signature.names))
+    (map variable_byte (main_name names))) rows
+any_variable prefix [] names = refl
+any_variable prefix (row ∷ rows) names =
+    let part = map variable_byte (main_name (group_of_row row).signature.names) in
+    let own = map variable_byte (main_name names) in
+    ap (λ (test : Bool). test || any_has_variable prefix (names_of (groups_of rows)) names)
+    (same_front prefix part own)
+    ∙ ap (λ (test : Bool). bytes_eq part own || test) (any_variable prefix rows names)
+
+-- one option more makes its own variable
+pub own_more : (prefix : Text) (before front : List Names) (names : Names)
+    → HaveOwnVariables prefix before front → is_variable (variable_of prefix names) ≡ true
+    → any_has_variable prefix (before ++ front) names ≡ false
+    → HaveOwnVariables prefix before (front ++ names ∷ [])
+own_more prefix before [] names own is new =
+    (is, subst (λ (before : List Names). any_has_variable prefix before names ≡ false) (append-nil before) new, tt)
+own_more prefix before (first ∷ front) names own is new = (
+  own.0,
+  own.1,
+  own_more prefix (before ++ first ∷ []) front names own.2 is
+      (subst (λ (before : List Names). any_has_variable prefix before names ≡ false)
+      (sym (append_assoc before (first ∷ []) front)) new),
+)
+
+names_of_rows-append : (front back : List Row)
+    → names_of (groups_of (front ++ back)) ≡ names_of (groups_of front) ++ names_of (groups_of back)
+names_of_rows-append [] back = refl
+names_of_rows-append (row ∷ front) back =
+    ap (λ (names : List Names). (group_of_row row).signature.names ∷ names) (names_of_rows-append front back)
+
+pub own_rows_more : (prefix : Text) (rows : List Row) (place : ℕ) (row : Row) → place < length rows
+    → row ≡ get_or rows place row → HaveOwnVariables prefix [] (names_of (groups_of (take place rows)))
+    → is_variable (variable_of prefix (group_of_row row).signature.names) ≡ true
+    → any_has_variable prefix (names_of (groups_of (take place rows))) (group_of_row row).signature.names ≡ false
+    → HaveOwnVariables prefix [] (names_of (groups_of (take (place + 1) rows)))
+own_rows_more prefix rows place row below row_is own is new =
+    let more : take (place + 1) rows ≡ take place rows ++ row ∷ [] =
+    take_more rows place row below ∙ ap (λ (r : Row). take place rows ++ r ∷ []) (sym row_is) in
+    subst (HaveOwnVariables prefix [])
+    (sym (ap (λ (rows : List Row). names_of (groups_of rows)) more ∙ names_of_rows-append (take place rows) (row ∷ [])))
+    (own_more prefix [] (names_of (groups_of (take place rows))) (group_of_row row).signature.names own is new)
+
+row_parts : (rows : List Row) (place : ℕ) (row : Row) → place < length rows → row ≡ get_or rows place row
+    → rows ≡ take place rows ++ row ∷ drop (place + 1) rows
+row_parts rows place row below is =
+    sym (take-append-drop place rows)
+    ∙ ap (λ (t : List Row). take place rows ++ t) (at_drop_more (λ (t : List Row). t) rows place row below
+    ∙ ap (λ (r : Row). r ∷ drop (place + 1) rows) (sym is))
+
+-- the fault of a row is that of the prefix and the table
+pub name_fault : (prefix table : Text) (rows : List Row) (place : ℕ) (row : Row) (fault : VariableFault)
+    → is_prefix prefix ≡ true → place < length rows → row ≡ get_or rows place row
+    → HaveOwnVariables prefix [] (names_of (groups_of (take place rows)))
+    → IsFaultAt prefix (names_of (groups_of (take place rows))) (group_of_row row).signature.names
+    (get_or (option_lines 0 (lines_of table)) place 0) fault
+    → IsVariableFault prefix table (names_of (groups_of rows)) fault
+name_fault prefix table rows place row fault begins below row_is own at =
+    let before = names_of (groups_of (take place rows)) in
+    let count : length before ≡ place =
+    length-map (groups_of (take place rows)) (λ (group : Group). group.signature.names)
+    ∙ length-map (take place rows) group_of_row ∙ length-take-le place rows (omega arith) in
+    of_name fault begins (record {
+      before = before;
+      faulty = (group_of_row row).signature.names;
+      after = names_of (groups_of (drop (place + 1) rows));
+      names_are = ap (λ (rows : List Row). names_of (groups_of rows)) (row_parts rows place row below row_is)
+          ∙ names_of_rows-append (take place rows) (row ∷ drop (place + 1) rows);
+      own = own;
+      fault_at = subst (λ (n : ℕ). IsFaultAt prefix before (group_of_row row).signature.names
+          (get_or (option_lines 0 (lines_of table)) n 0) fault) (sym count) at;
+    })

@@ -1,7 +1,7 @@
 -- A shell that runs the text for matches holds what they do.
 use Rattle.std.proofs.Common.{◌≡◌, ◌≢◌, ℕ, Bool, true, false, cond, eqb, List, [], ◌∷◌, ◌++◌, Option, Some, None}
-use Rattle.std.proofs.Common.{refl, sym, ap, subst, ◌∙◌, suc, zero, length, take, drop, map, append_assoc, append-nil}
-use Rattle.std.proofs.Common.{arith, ◌+◌, ◌-◌, ◌/◌, ◌%◌, ◌<◌}
+use Rattle.std.proofs.Common.{refl, sym, ap, subst, ◌∙◌, suc, zero, length, append_assoc, append-nil}
+use Rattle.std.proofs.Common.{arith, ◌/◌, ◌%◌}
 use Rattle.std.specs.Prelude.{not, ◌&&◌, decimal, fold}
 use Rattle.std.specs.Char.{is_ascii_digit}
 use Rattle.std.specs.Fmt.{digits, digits_onto, digit_glyph}
@@ -18,17 +18,16 @@ use Rattle.getopts.specs.Accessors.{held_names}
 use Rattle.getopts.specs.Matches.{Found, Matched, MatchedGroup}
 use Rattle.getopts.specs.Names.{Text, Names}
 use Rattle.getopts.specs.Reading.{holds_equals}
-use Rattle.getopts.specs.Turn.{cut_at_equals}
 use Rattle.getopts.specs.declared.groups.HasArg.{HasArg}
 use Rattle.getopts.specs.declared.groups.HasArg.TheVariants.{Yes, No, Maybe}
 use Rattle.getopts.specs.declared.groups.Occur.{Occur}
 use Rattle.getopts_shell.specs.Quote.{outside, quoted, quoted_byte, quoted_words, read_byte, shell_words, spaced, words_read}
-use Rattle.getopts_shell.specs.Variables.{plain, in_quotes, escaped, commands, Value, one, many, Shell, with_variable}
+use Rattle.getopts_shell.specs.Variables.{plain, in_quotes, commands, Value, one, many, Shell, with_variable}
 use Rattle.getopts_shell.specs.Variables.{is_variable_byte, begins_variable, is_variable, only_word, array_of_words}
 use Rattle.getopts_shell.specs.Variables.{in_brackets, value_of_code, after_assignment, after_builtin, after_command}
 use Rattle.getopts_shell.specs.Variables.{after_commands, shell_after, variable_of, held_value, group_variable}
 use Rattle.getopts_shell.specs.Variables.{group_value, HoldsOptions, setting, option_setting, variable_line}
-use Rattle.getopts_shell.specs.Variables.{variables_code, any_has_variable, HaveOwnVariables}
+use Rattle.getopts_shell.specs.Variables.{variables_code, HaveOwnVariables}
 use Rattle.getopts_shell.proofs.Quoting.{words_same}
 
 -- ---- the commands of a text
@@ -360,10 +359,10 @@ apart_from prefix names front back (group ∷ groups) own =
     (sym (list_any-append same front (names ∷ back)) ∙ none) in
     let differs = (or_parts (same names) (list_any same back) parts.1).0 in (
       λ is. absurd (true_is_false
-      (sym ((bytes_eq-Decides (variable_of prefix names) (group_variable prefix group)).1 (sym is)) ∙ differs)),
+          (sym ((bytes_eq-Decides (variable_of prefix names) (group_variable prefix group)).1 (sym is)) ∙ differs)),
       apart_from prefix names front (back ++ group.signature.names ∷ []) groups
-      (subst (λ (before : List Names). HaveOwnVariables prefix before (held_names groups))
-      (append_assoc front (names ∷ back) (group.signature.names ∷ [])) own.2),
+          (subst (λ (before : List Names). HaveOwnVariables prefix before (held_names groups))
+          (append_assoc front (names ∷ back) (group.signature.names ∷ [])) own.2),
     )
   where
     true_is_false : true ≡ false → ⊥
@@ -378,8 +377,8 @@ options_held prefix arrays before shell (group ∷ groups) own =
     let variable = group_variable prefix group in
     let next = with_variable shell variable (group_value arrays group) in (
       others_kept prefix arrays next variable groups
-      (apart_from prefix group.signature.names before [] groups own.2)
-      ∙ rw (same_text variable) refl,
+          (apart_from prefix group.signature.names before [] groups own.2)
+          ∙ rw (same_text variable) refl,
       options_held prefix arrays (before ++ group.signature.names ∷ []) next groups own.2,
     )
 
@@ -394,9 +393,9 @@ code_sets prefix arrays matches before own =
     let after : Shell = record held { words = matches.free } in (
       after,
       after_lines prefix arrays [] before matches.groups (set ++ (quoted_words matches.free ++ 10 ∷ [])) own
-      ∙ after_line held after (set ++ quoted_words matches.free) []
-      (front_append set (quoted_words matches.free) front_set (front_words matches.free))
-      (after_set held matches.free),
+          ∙ after_line held after (set ++ quoted_words matches.free) []
+          (front_append set (quoted_words matches.free) front_set (front_words matches.free))
+          (after_set held matches.free),
       record {
         options = options_held prefix arrays [] before matches.groups own;
         others = λ name apart. others_kept prefix arrays before name matches.groups apart;

@@ -57,7 +57,13 @@ pub(crate) fn variables_code(
 {
     let mut text = String::new(alloc);
     for (place, row) in rows.iter().enumerate() {
-        push_line(alloc, &mut text, variables, *row, &matches.occurrences_at(place))?;
+        push_line(
+            alloc,
+            &mut text,
+            variables,
+            *row,
+            &matches.occurrences_at(place),
+        )?;
     }
     text.push_str("\\set -- ")?;
     push_quoted_words(&mut text, &matches.free)?;
@@ -176,11 +182,7 @@ fn push_values(
 }
 
 /// Adds all values as words in quotes, which are quoted once more.
-fn push_words(
-    alloc: Global,
-    text: &mut String,
-    given: &Occurrences<'_>,
-) -> Result<(), AllocError>
+fn push_words(alloc: Global, text: &mut String, given: &Occurrences<'_>) -> Result<(), AllocError>
     ensures { OnOk result (string_bytes text.new ≡ string_bytes text.old
         ++ (codes "=" ++ quoted (quoted_words (Spec.texts_found given.now)))) }
 {
@@ -297,12 +299,26 @@ fn is_prefix(prefix: &str) -> bool
 }
 
 /// Whether a prefix and a main name make a variable.
+#[tactic(auto, using(crate::proofs::Assignments::variable_bytes))]
 fn makes_variable(prefix: &str, name: &str) -> bool
     ensures { result ≡ Spec.is_variable (Spec.variable prefix.now name.now) }
 {
-    begins_variable(prefix, name)
-        && prefix.bytes().all(is_variable_byte)
-        && name.bytes().all(|byte| is_variable_byte(variable_byte(byte)))
+    begins_variable(prefix, name) && are_variable_bytes(prefix) && make_variable_bytes(name)
+}
+
+/// Whether a variable may hold each byte of a text.
+fn are_variable_bytes(text: &str) -> bool
+    ensures { result ≡ list_all Spec.is_variable_byte text.now }
+{
+    text.bytes().all(is_variable_byte)
+}
+
+/// Whether a variable may hold each byte of a main name, with `_` for each `-`.
+fn make_variable_bytes(name: &str) -> bool
+    ensures { result ≡ list_all (λ byte. Spec.is_variable_byte (Spec.variable_byte byte)) name.now }
+{
+    name.bytes()
+        .all(|byte| is_variable_byte(variable_byte(byte)))
 }
 
 /// Whether a prefix and a main name begin with no digit, and not both are empty.

@@ -1,4 +1,4 @@
-use Rattle.std.proofs.Common.{◌≡◌, ◌++◌, ◌<◌, [], ◌∷◌, ap, ◌∙◌, sym, arith, length, string_bytes, take, append_assoc, get_or}
+use Rattle.std.proofs.Common.{◌++◌, ◌<◌, [], ◌∷◌, ap, ◌∙◌, sym, arith, length, string_bytes, take, append_assoc, get_or}
 use Rattle.std.specs.Prelude.{nat_lt}
 use Rattle.getopts.specs.Names.{Text}
 use Rattle.getopts.specs.Wrap.{parting}

@@ -1,7 +1,6 @@
-use Rattle.std.proofs.Common.{◌≡◌, true, [], ◌∷◌, ◌++◌, map, string_bytes, lit<, ap, ◌∙◌, subst, sym, refl, arith}
+use Rattle.std.proofs.Common.{true, [], ◌∷◌, ◌++◌, map, string_bytes, lit<, ap, ◌∙◌, subst, sym, refl}
 use Rattle.std.proofs.Common.{append-nil, append_assoc}
 use Rattle.std.specs.Str.Iter.{split_text, split_has_more, split_pattern}
-use Rattle.std.proofs.lemmas.Grind.{common_steps}
 use Rattle.std.proofs.lemmas.Iterator.Consumers.{YieldsList-end}
 use Rattle.std.proofs.lemmas.Iterator.Splits.{YieldsList-from_str_split}
 use Rattle.std.proofs.lemmas.List.{map-append}

@@ -1,4 +1,4 @@
-use Rattle.std.proofs.Common.{◌≡◌, drop, length, map}
+use Rattle.std.proofs.Common.{◌≡◌, drop, map}
 use Rattle.std.specs.Str.{bytes_eq}
 use Rattle.getopts_shell.specs.Variables.{variable_byte}
 use Rattle.getopts_shell.proofs.variables.same_variable.Given as goal
