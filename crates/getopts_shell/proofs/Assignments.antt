@@ -5,7 +5,7 @@ use Rattle.std.proofs.Common.{add-one, add-zero, arith, min, get_or, ◌+◌, �
 use Rattle.std.specs.Prelude.{nat_lt, slice_get, ◌&&◌, ◌||◌}
 use Rattle.std.specs.Borrow.{Bor}
 use Rattle.std.specs.List.{flat_map, list_all, list_any, onto_first, slice_split}
-use Rattle.std.specs.Option.{option_copied, unwrap_or}
+use Rattle.std.specs.Option.{option_copied, option_or, unwrap_or}
 use Rattle.std.specs.Str.{bytes_eq}
 use Rattle.std.proofs.lemmas.Bool.{eq-eqb}
 use Rattle.std.proofs.lemmas.Bool.Decides.{nat_tests}
@@ -22,8 +22,8 @@ use Rattle.getopts.specs.Wrap.{lines_of, parting}
 use Rattle.getopts_shell.specs.Held.{group_of_row, groups_of, held_signatures}
 use Rattle.getopts_shell.specs.Quote.{quoted, quoted_words, spaced}
 use Rattle.getopts_shell.specs.Table.{is_passed, line_number}
-use Rattle.getopts_shell.specs.Variables.{all_values, any_has_variable, HaveOwnVariables, is_prefix, is_variable}
-use Rattle.getopts_shell.specs.Variables.{is_variable_byte, IsFaultAt, IsVariableFault, of_name, option_lines, setting}
+use Rattle.getopts_shell.specs.Variables.{all_values, any_has_variable, first_fault, HaveOwnVariables, is_variable}
+use Rattle.getopts_shell.specs.Variables.{is_variable_byte, name_fault, option_lines, setting}
 use Rattle.getopts_shell.specs.Variables.{texts_found, variable, variable_byte, VariableFault, variable_of}
 use Rattle.getopts_shell.specs.declared.row.Row.{Row}
 
@@ -307,65 +307,51 @@ any_variable prefix (row ∷ rows) names =
     (same_front prefix part own)
     ∙ ap (λ (test : Bool). bytes_eq part own || test) (any_variable prefix rows names)
 
--- one option more makes its own variable
-pub own_more : (prefix : Text) (before front : List Names) (names : Names)
-    → HaveOwnVariables prefix before front → is_variable (variable_of prefix names) ≡ true
-    → any_has_variable prefix (before ++ front) names ≡ false
-    → HaveOwnVariables prefix before (front ++ names ∷ [])
-own_more prefix before [] names own is new =
-    (is, subst (λ (before : List Names). any_has_variable prefix before names ≡ false) (append-nil before) new, tt)
-own_more prefix before (first ∷ front) names own is new = (
-  own.0,
-  own.1,
-  own_more prefix (before ++ first ∷ []) front names own.2 is
-      (subst (λ (before : List Names). any_has_variable prefix before names ≡ false)
-      (sym (append_assoc before (first ∷ []) front)) new),
-)
-
 names_of_rows-append : (front back : List Row)
     → names_of (groups_of (front ++ back)) ≡ names_of (groups_of front) ++ names_of (groups_of back)
 names_of_rows-append [] back = refl
 names_of_rows-append (row ∷ front) back =
     ap (λ (names : List Names). (group_of_row row).signature.names ∷ names) (names_of_rows-append front back)
 
-pub own_rows_more : (prefix : Text) (rows : List Row) (place : ℕ) (row : Row) → place < length rows
-    → row ≡ get_or rows place row → HaveOwnVariables prefix [] (names_of (groups_of (take place rows)))
-    → is_variable (variable_of prefix (group_of_row row).signature.names) ≡ true
-    → any_has_variable prefix (names_of (groups_of (take place rows))) (group_of_row row).signature.names ≡ false
-    → HaveOwnVariables prefix [] (names_of (groups_of (take (place + 1) rows)))
-own_rows_more prefix rows place row below row_is own is new =
-    let more : take (place + 1) rows ≡ take place rows ++ row ∷ [] =
-    take_more rows place row below ∙ ap (λ (r : Row). take place rows ++ r ∷ []) (sym row_is) in
-    subst (HaveOwnVariables prefix [])
-    (sym (ap (λ (rows : List Row). names_of (groups_of rows)) more ∙ names_of_rows-append (take place rows) (row ∷ [])))
-    (own_more prefix [] (names_of (groups_of (take place rows))) (group_of_row row).signature.names own is new)
-
-row_parts : (rows : List Row) (place : ℕ) (row : Row) → place < length rows → row ≡ get_or rows place row
-    → rows ≡ take place rows ++ row ∷ drop (place + 1) rows
-row_parts rows place row below is =
-    sym (take-append-drop place rows)
-    ∙ ap (λ (t : List Row). take place rows ++ t) (at_drop_more (λ (t : List Row). t) rows place row below
-    ∙ ap (λ (r : Row). r ∷ drop (place + 1) rows) (sym is))
-
--- the fault of a row is that of the prefix and the table
-pub name_fault : (prefix table : Text) (rows : List Row) (place : ℕ) (row : Row) (fault : VariableFault)
-    → is_prefix prefix ≡ true → place < length rows → row ≡ get_or rows place row
-    → HaveOwnVariables prefix [] (names_of (groups_of (take place rows)))
-    → IsFaultAt prefix (names_of (groups_of (take place rows))) (group_of_row row).signature.names
-    (get_or (option_lines 0 (lines_of table)) place 0) fault
-    → IsVariableFault prefix table (names_of (groups_of rows)) fault
-name_fault prefix table rows place row fault begins below row_is own at =
+-- the fault from a row on: its own, or else that from the next one on
+pub fault_from : (prefix : Text) (lines : List ℕ) (rows : List Row) (place : ℕ) (row : Row) → place < length rows
+    → row ≡ get_or rows place row
+    → first_fault prefix lines (names_of (groups_of (take place rows))) (names_of (groups_of (drop place rows)))
+    ≡ option_or (name_fault prefix (names_of (groups_of (take place rows))) (group_of_row row).signature.names
+    (get_or lines place 0))
+    (first_fault prefix lines (names_of (groups_of (take (place + 1) rows)))
+    (names_of (groups_of (drop (place + 1) rows))))
+fault_from prefix lines rows place row below row_is =
     let before = names_of (groups_of (take place rows)) in
+    let names = (group_of_row row).signature.names in
+    let others = names_of (groups_of (drop (place + 1) rows)) in
     let count : length before ≡ place =
     length-map (groups_of (take place rows)) (λ (group : Group). group.signature.names)
     ∙ length-map (take place rows) group_of_row ∙ length-take-le place rows (omega arith) in
-    of_name fault begins (record {
-      before = before;
-      faulty = (group_of_row row).signature.names;
-      after = names_of (groups_of (drop (place + 1) rows));
-      names_are = ap (λ (rows : List Row). names_of (groups_of rows)) (row_parts rows place row below row_is)
-          ∙ names_of_rows-append (take place rows) (row ∷ drop (place + 1) rows);
-      own = own;
-      fault_at = subst (λ (n : ℕ). IsFaultAt prefix before (group_of_row row).signature.names
-          (get_or (option_lines 0 (lines_of table)) n 0) fault) (sym count) at;
-    })
+    let rest : drop place rows ≡ row ∷ drop (place + 1) rows =
+    at_drop_more (λ (t : List Row). t) rows place row below
+    ∙ ap (λ (r : Row). r ∷ drop (place + 1) rows) (sym row_is) in
+    let more : before ++ names ∷ [] ≡ names_of (groups_of (take (place + 1) rows)) =
+    sym (names_of_rows-append (take place rows) (row ∷ []))
+    ∙ ap (λ (rows : List Row). names_of (groups_of rows))
+    (ap (λ (r : Row). take place rows ++ r ∷ []) row_is ∙ sym (take_more rows place row below)) in
+    ap (λ (rows : List Row). first_fault prefix lines before (names_of (groups_of rows))) rest
+    ∙ ap (λ (n : ℕ). option_or (name_fault prefix before names (get_or lines n 0))
+    (first_fault prefix lines (before ++ names ∷ []) others)) count
+    ∙ ap (λ (front : List Names). option_or (name_fault prefix before names (get_or lines place 0))
+    (first_fault prefix lines front others)) more
+
+-- names without a fault make their own variables
+no_fault : (made again : Bool) (one two : VariableFault) (rest : Option VariableFault)
+    → option_or (cond made (cond again (Some two) None) (Some one)) rest ≡ None
+    → (made ≡ true) × (again ≡ false) × (rest ≡ None)
+no_fault false again one two rest is = absurd cc
+no_fault true true one two rest is = absurd cc
+no_fault true false one two rest is = (refl, refl, is)
+
+pub own_variables : (prefix : Text) (lines : List ℕ) (before names : List Names)
+    → first_fault prefix lines before names ≡ None → HaveOwnVariables prefix before names
+own_variables prefix lines before [] is = tt
+own_variables prefix lines before (names ∷ more) is =
+    let parts = no_fault (is_variable (variable_of prefix names)) (any_has_variable prefix before names) _ _ _ is in
+    (parts.0, parts.1, own_variables prefix lines (before ++ names ∷ []) more parts.2)

@@ -28,6 +28,7 @@ use Rattle.getopts_shell.specs.Variables.{in_brackets, value_of_code, after_assi
 use Rattle.getopts_shell.specs.Variables.{after_commands, shell_after, variable_of, held_value, group_variable}
 use Rattle.getopts_shell.specs.Variables.{group_value, HoldsOptions, setting, option_setting, variable_line}
 use Rattle.getopts_shell.specs.Variables.{variables_code, HaveOwnVariables}
+use Rattle.getopts_shell.specs.Variables.{SetsVariables, texts_found}
 use Rattle.getopts_shell.proofs.Quoting.{words_same}
 
 -- ---- the commands of a text
@@ -382,23 +383,32 @@ options_held prefix arrays before shell (group ∷ groups) own =
       options_held prefix arrays (before ++ group.signature.names ∷ []) next groups own.2,
     )
 
+-- the values that a text of words gives
+once_more : (groups : List MatchedGroup)
+    → AllByRecursion (λ group. shell_words (quoted_words (texts_found group.found)) ≡ Some (texts_found group.found))
+    groups
+once_more [] = tt
+once_more (group ∷ groups) = (words_same (texts_found group.found), once_more groups)
+
 -- the shell holds what the matches do
-pub code_sets : (prefix : Text) (arrays : Bool) (matches : Matched) (before : Shell)
-    → HaveOwnVariables prefix [] (held_names matches.groups)
-    → (after : Shell) × (shell_after before (variables_code prefix arrays matches) ≡ Some after)
-    × HoldsOptions prefix arrays matches before after
-code_sets prefix arrays matches before own =
-    let held = after_groups prefix arrays before matches.groups in
-    let set : Text = 92 ∷ 115 ∷ 101 ∷ 116 ∷ 32 ∷ 45 ∷ 45 ∷ 32 ∷ [] in
-    let after : Shell = record held { words = matches.free } in (
-      after,
-      after_lines prefix arrays [] before matches.groups (set ++ (quoted_words matches.free ++ 10 ∷ [])) own
-          ∙ after_line held after (set ++ quoted_words matches.free) []
-          (front_append set (quoted_words matches.free) front_set (front_words matches.free))
-          (after_set held matches.free),
-      record {
-        options = options_held prefix arrays [] before matches.groups own;
-        others = λ name apart. others_kept prefix arrays before name matches.groups apart;
-        words = refl;
-      },
-    )
+pub code_sets : (prefix : Text) (arrays : Bool) (matches : Matched)
+    → HaveOwnVariables prefix [] (held_names matches.groups) → SetsVariables prefix arrays matches
+code_sets prefix arrays matches own = record {
+  own = own;
+  shell = λ before.
+      let held = after_groups prefix arrays before matches.groups in
+      let set : Text = 92 ∷ 115 ∷ 101 ∷ 116 ∷ 32 ∷ 45 ∷ 45 ∷ 32 ∷ [] in
+      let after : Shell = record held { words = matches.free } in (
+        after,
+        after_lines prefix arrays [] before matches.groups (set ++ (quoted_words matches.free ++ 10 ∷ [])) own
+            ∙ after_line held after (set ++ quoted_words matches.free) []
+            (front_append set (quoted_words matches.free) front_set (front_words matches.free))
+            (after_set held matches.free),
+        record {
+          options = options_held prefix arrays [] before matches.groups own;
+          others = λ name apart. others_kept prefix arrays before name matches.groups apart;
+          words = refl;
+        },
+      );
+  once_more = once_more matches.groups;
+}

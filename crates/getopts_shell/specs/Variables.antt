@@ -3,7 +3,7 @@ use Rattle.std.specs.Prelude.{◌≡◌, ◌≢◌, ◌==◌, ◌||◌, ◌&&◌
 use Rattle.std.specs.Prelude.{◌++◌, Option, Some, None, codes, decimal, fold, if◌then◌else◌, length, map, slice_index, take}
 use Rattle.std.specs.Char.{is_ascii_alphanumeric, is_ascii_digit}
 use Rattle.std.specs.List.{AllByRecursion, flat_map, list_all, list_any, starts_with}
-use Rattle.std.specs.Option.{option_and_then, option_map, unwrap_or}
+use Rattle.std.specs.Option.{option_and_then, option_map, option_or, unwrap_or}
 use Rattle.std.specs.Prelude.{drop}
 use Rattle.std.specs.Str.{bytes_eq}
 use Rattle.getopts.specs.Accessors.{each_value, first_value_or, held_names}
@@ -146,6 +146,18 @@ variable prefix name = prefix ++ map variable_byte name
 abbrev pub variable_of : Text → Names → Text
 variable_of prefix names = variable prefix (main_name names)
 
+-- whether one of these names makes the variable that others make
+abbrev pub any_has_variable : Text → List Names → Names → Bool
+any_has_variable prefix before names =
+    list_any (λ other. bytes_eq (variable_of prefix other) (variable_of prefix names)) before
+
+-- each of these names makes a variable, and no two make the same; these stand before the first
+abbrev pub HaveOwnVariables : Text → List Names → List Names → Type 0
+HaveOwnVariables prefix before [] = ⊤
+HaveOwnVariables prefix before (names ∷ more) = (is_variable (variable_of prefix names) ≡ true)
+    × (any_has_variable prefix before names ≡ false)
+    × HaveOwnVariables prefix (before ++ names ∷ []) more
+
 -- the values of occurrences, with the empty text for one that has none
 abbrev pub texts_found : List Found → List Text
 texts_found founds = map (λ value. unwrap_or value []) (each_value founds)
@@ -202,10 +214,27 @@ abbrev pub variables_code : Text → Bool → Matched → Text
 variables_code prefix arrays matches = flat_map (variable_line prefix arrays) matches.groups
     ++ (codes "\\set -- " ++ (quoted_words matches.free ++ codes "\n"))
 
+-- a shell that runs the text for matches holds what they do, and the words of a text of values are these
+-- values
+pub record SetsVariables (prefix : Text) (arrays : Bool) (matches : Matched) : Type 0 where
+  pub own : HaveOwnVariables prefix [] (held_names matches.groups)
+  pub shell : (before : Shell) → (after : Shell)
+      × (shell_after before (variables_code prefix arrays matches) ≡ Some after)
+      × HoldsOptions prefix arrays matches before after
+  pub once_more : AllByRecursion (λ group. shell_words (quoted_words (texts_found group.found))
+      ≡ Some (texts_found group.found)) matches.groups
+
+-- the text for matches sets variables, where each option makes one, and no two the same
+abbrev pub CodeSetsVariables : Type 0
+CodeSetsVariables = (prefix : Text) (arrays : Bool) (matches : Matched)
+    → HaveOwnVariables prefix [] (held_names matches.groups) → SetsVariables prefix arrays matches
+
 -- ---- faults
 
--- a fault of a prefix and a table: of the prefix, or of a name in the line with this number
+-- a fault of variables: they are asked for with the words alone, or that of the prefix, or of a name in the
+-- line with this number
 pub data VariableFault : Type 0 where
+  with_words : VariableFault
   no_prefix : Text → VariableFault
   no_variable : ℕ → Text → VariableFault
   variable_twice : ℕ → Text → VariableFault
@@ -214,21 +243,19 @@ pub data VariableFault : Type 0 where
 abbrev pub is_prefix : Text → Bool
 is_prefix prefix = is_empty prefix || is_variable prefix
 
--- whether one of these names makes the variable that others make
-abbrev pub any_has_variable : Text → List Names → Names → Bool
-any_has_variable prefix before names =
-    list_any (λ other. bytes_eq (variable_of prefix other) (variable_of prefix names)) before
+-- the fault of names after others, in the line with this number, if they have one
+abbrev pub name_fault : Text → List Names → Names → ℕ → Option VariableFault
+name_fault prefix before names number =
+    if is_variable (variable_of prefix names) then
+    (if any_has_variable prefix before names then Some (variable_twice number (main_name names)) else None)
+    else Some (no_variable number (main_name names))
 
--- each of these names makes a variable, and no two make the same; these stand before the first
-abbrev pub HaveOwnVariables : Text → List Names → List Names → Type 0
-HaveOwnVariables prefix before [] = ⊤
-HaveOwnVariables prefix before (names ∷ more) = (is_variable (variable_of prefix names) ≡ true)
-    × (any_has_variable prefix before names ≡ false)
-    × HaveOwnVariables prefix (before ++ names ∷ []) more
-
--- a prefix and names that make variables
-abbrev pub MakeVariables : Text → List Names → Type 0
-MakeVariables prefix names = (is_prefix prefix ≡ true) × HaveOwnVariables prefix [] names
+-- the first fault of names after others, where the lines of all are these
+abbrev pub first_fault : Text → List ℕ → List Names → List Names → Option VariableFault
+first_fault prefix lines before [] = None
+first_fault prefix lines before (names ∷ more) =
+    option_or (name_fault prefix before names (slice_index lines (length before)))
+    (first_fault prefix lines (before ++ names ∷ []) more)
 
 -- the numbers of the lines that declare options, where so many stand before the first
 abbrev pub option_lines : ℕ → List Text → List ℕ
@@ -236,33 +263,8 @@ option_lines before [] = []
 option_lines before (line ∷ lines) = if is_passed line then option_lines (before + 1) lines
     else line_number before ∷ option_lines (before + 1) lines
 
--- the fault of names after others, in the line with this number
-pub data IsFaultAt (prefix : Text) (before : List Names) (names : Names) (number : ℕ) : VariableFault → Type 0 where
-  none : is_variable (variable_of prefix names) ≡ false
-      → IsFaultAt prefix before names number (no_variable number (main_name names))
-  twice : is_variable (variable_of prefix names) ≡ true → any_has_variable prefix before names ≡ true
-      → IsFaultAt prefix before names number (variable_twice number (main_name names))
-
--- the fault of the first of these names that has one, where the lines of the options are these
-pub record IsNameFault (prefix : Text) (names : List Names) (lines : List ℕ) (fault : VariableFault) : Type 0 where
-  pub before : List Names
-  pub faulty : Names
-  pub after : List Names
-  pub names_are : names ≡ before ++ faulty ∷ after
-  pub own : HaveOwnVariables prefix [] before
-  pub fault_at : IsFaultAt prefix before faulty (slice_index lines (length before)) fault
-
 -- the fault of a prefix with the names of a table's options
-pub data IsVariableFault (prefix table : Text) (names : List Names) : VariableFault → Type 0 where
-  of_prefix : is_prefix prefix ≡ false → IsVariableFault prefix table names (no_prefix prefix)
-  of_name : (fault : VariableFault) → is_prefix prefix ≡ true
-      → IsNameFault prefix names (option_lines 0 (lines_of table)) fault
-      → IsVariableFault prefix table names fault
-
--- a shell that runs the text for matches holds what they do, where no two of their options have one
--- variable
-abbrev pub CodeSetsVariables : Type 0
-CodeSetsVariables = (prefix : Text) (arrays : Bool) (matches : Matched) (before : Shell)
-    → HaveOwnVariables prefix [] (held_names matches.groups)
-    → (after : Shell) × (shell_after before (variables_code prefix arrays matches) ≡ Some after)
-    × HoldsOptions prefix arrays matches before after
+abbrev pub prefix_fault : Text → Text → List Names → Option VariableFault
+prefix_fault prefix table names =
+    if is_prefix prefix then first_fault prefix (option_lines 0 (lines_of table)) [] names
+    else Some (no_prefix prefix)

@@ -28,9 +28,11 @@ pub(crate) struct Variables<'p> {
     pub arrays: bool,
 }
 
-/// Why a prefix and a table make no variables.
+/// Why there are no variables.
 #[derive(Clone, Copy)]
 pub(crate) enum VariableError<'t> {
+    /// The words alone are asked for too.
+    WithWords,
     /// The prefix begins no name of a variable.
     NoPrefix(&'t str),
     /// The option in the line with this number makes no variable. Holds its main name.
@@ -271,10 +273,8 @@ pub(crate) fn variable_error<'t>(
     table: &'t str,
     rows: &[Row<'t>],
 ) -> Option<VariableError<'t>>
-    ensures { MatchOption result
-        (Spec.MakeVariables prefix.now (names_of (groups_of rows.now)))
-        (λ error. Spec.IsVariableFault prefix.now table.now (names_of (groups_of rows.now))
-        (variable_fault_told error)) }
+    ensures { option_map variable_fault_told result
+        ≡ Spec.prefix_fault prefix.now table.now (names_of (groups_of rows.now)) }
 {
     if !is_prefix(prefix) {
         return Some(VariableError::NoPrefix(prefix));
