@@ -23,22 +23,22 @@ kit() {
     dirname "$(dirname "$(realpath "$(command -v rt)")")"
 }
 
-# over RLIB COMMAND CRATE WORD..: checks or builds a crate over the proved library.
+# over RLIB COMMAND CRATE WORD..: checks or builds a crate over its libraries as they were proved. Those of this
+# repository lie as RLIB does.
 over() {
-    local rlib=$1 command=$2 crate=$3 kit root
-    [ -d "$rlib" ] || stop "$rlib isn't there: run 'rt ci', or 'rt lib' in crates/getopts"
-    kit=$(kit) rlib=$(realpath "$rlib")
-    if [ -f "crates/$crate/src/main.rt" ]; then
-        root=(src/main.rt)
-    else
-        root=(src/lib.rt --crate-type staticlib)
-    fi
+    local rlib=$1 command=$2 crate=$3 kit root=(src/main.rt) library at words=()
+    kit=$(kit)
+    [ -f "crates/$crate/src/main.rt" ] || root=(src/lib.rt --crate-type staticlib)
+    for library in std $(sed -n "s/^$crate\b[^:]*://p" crates.txt); do
+        at=$kit/rlibs/$library.rlib
+        [ ! -d "crates/$library" ] || at=$(realpath -m "$rlib/../../../../$library/out/rlib/$library.rlib")
+        [ -d "$at" ] || stop "$at isn't there: run 'rt ci', or 'rt lib' in crates/$library"
+        words+=(--extern "$library=$at" -L "dependency=$(dirname "$at")")
+    done
     mkdir -p "crates/$crate/out"
     (cd "crates/$crate" && "$kit/bin/rattle" "$command" --crate-name "$crate" "${root[@]}" --links "$crate=" \
-        --jobs "${JOBS:-1}" --extern "std=$kit/rlibs/std.rlib" --extern "getopts=$rlib" \
-        -L "dependency=$kit/rlibs" -L "dependency=$(dirname "$rlib")" \
-        --antt-project "$kit/rattle/logic/antt-project.json" --logic-built "$kit/logic_built" \
-        --incremental out/incremental "${@:4}")
+        --jobs "${JOBS:-1}" "${words[@]}" --antt-project "$kit/rattle/logic/antt-project.json" \
+        --logic-built "$kit/logic_built" --incremental out/incremental "${@:4}")
 }
 
 # build CRATE PROCESSOR FILE: builds a static library, or a program's object, for each processor of that kind.
