@@ -38,13 +38,6 @@ def stated(name, pattern):
     return f"{int(re.search(pattern, read(name))[1]):,}"
 
 
-def glibc(program):
-    """The least version of glibc that a program runs with."""
-    with open(program, "rb") as file:
-        needed = re.findall(rb"GLIBC_(\d+)\.(\d+)", file.read())
-    return "{}.{}".format(*max((int(one), int(other)) for one, other in needed))
-
-
 # ---- what is recorded ----
 
 
@@ -130,7 +123,6 @@ FIGURES = [
      lambda: [stated("tests/differential/record.sh", r"choose 1 (\d+)")]),
     ("bindings/rust/README.md", r"Rust ([\d.]+) or later",
      lambda: re.findall(r'rust-version = "(.*)"', read("bindings/rust/Cargo.toml"))),
-    ("bindings/shell/README.md", r"glibc ([\d.]+) or later", lambda: [glibc("bindings/shell/getopts_shell")]),
     ("bench/README.md", r"holds is ([\d.]+) MB here, ([\d.]+) MB in the Rust\s+crate and ([\d.]+) MB",
      lambda: [megabytes("this library"), megabytes("Rust crate"), megabytes("bindings/rust")]),
 ]
