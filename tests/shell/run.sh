@@ -1,7 +1,7 @@
 #!/usr/bin/env bash
 # Tests the programs for shell scripts that bindings/shell has: that they are those of the proved source; this machine's
 # in the shells that are installed, beside getopt(1), and in a root that has nothing but busybox; aarch64's by
-# qemu-aarch64; and their installation.
+# qemu-aarch64; start.c by itself; and their installation.
 #
 # It needs nothing that was built. What this machine doesn't have is skipped with a line that says so. The last line is
 # 'N passed, M failed, K skipped'.
@@ -57,6 +57,23 @@ elif has qemu-aarch64; then
 else
     skip 'the program for aarch64 by qemu: there is no qemu-aarch64'
 fi
+
+# as_declared COMPILER FLAG..: whether start.c, as it is built so, does what is declared of it. By qemu where `by` says so.
+by=()
+as_declared() {
+    "$@" -std=c11 -Wall -Wextra -Wpedantic -Wshadow -Wconversion -Wno-sign-conversion -Werror -Wl,--wrap=main \
+        "$top/tests/system/start.c" "$here/start.c" -o "$room/start" && "${by[@]}" "$room/start" "" three
+}
+for compiler in gcc clang musl-gcc aarch64-linux-gnu-gcc; do
+    flags=(-static -O2) by=()
+    [[ $compiler = *-gcc ]] || flags=(-fsanitize=undefined -fno-sanitize-recover=all -g)
+    [[ $compiler != aarch64-* || $(uname -m) = aarch64 ]] || by=(qemu-aarch64)
+    if ! has "$compiler" "${by[@]}"; then
+        skip "start.c by $compiler: there is no $compiler ${by[*]}"
+    else
+        check "start.c by $compiler" as_declared "$compiler" "${flags[@]}"
+    fi
+done
 
 # in_busybox: in a root that has nothing but busybox, the program and a script, the script does what it does here.
 in_busybox() {
