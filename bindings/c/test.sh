@@ -347,6 +347,7 @@ fi
 
 # What the page quotes.
 quoted() {
+    # shellcheck disable=SC2016
     sed -n '/^```c$/,/^```$/{/^```/!p}' "$here/README.md" | cmp - "$here/head.c"
 }
 check "README.md quotes the example" quoted
