@@ -241,20 +241,23 @@ head_answers() {
 plus_answers() {
     [ "$("$room/plus" --verbose -ox --verbose a --verbose)" = "2 x a --verbose" ]
 }
-# for_each_target: what install.sh puts there serves a program of each compiler, and where there is no archive it says so.
+# for_each_target: what install.sh puts there serves a program of each compiler, static and shared, and where there is no
+# archive it says so.
 for_each_target() {
-    local cc to=$room/target runs build said
+    local cc to=$room/target runs with said
     for cc in "${compilers[@]}" musl-gcc aarch64-linux-gnu-gcc; do
-        if ! has "$cc" || ! "$cc" "$room/empty.c" -o "$room/empty" 2>/dev/null; then
+        if ! has "$cc" || ! "$cc" -static "$room/empty.c" -o "$room/empty" 2>/dev/null; then
             echo "without $cc"
             continue
         fi
         runs=()
-        [[ $cc != aarch64-* || $(uname -m) = aarch64 ]] || runs=(qemu-aarch64)
+        [[ $cc != aarch64-* || $(uname -m) = aarch64 ]] || runs=(qemu-aarch64 -L /usr/aarch64-linux-gnu)
         CC=$cc "$here/install.sh" "$to" || return 1
-        [ "$("$cc" -dumpmachine)" != aarch64-linux-gnu ] || readelf -h "$to/lib/libgetopts.so" | grep -q AArch64 || return 1
-        build=("$cc" -static -isystem "$to/include" "$here/show.c" "$to/lib/libgetopts.a" -o "$to/show")
-        "${build[@]}" && [ "$("${runs[@]}" "$to/show" -vv x)" = "$("$room/show" -vv x)" ] || return 1
+        for with in "-static $to/lib/libgetopts.a" "-L$to/lib -Wl,-rpath,$to/lib -lgetopts"; do
+            # shellcheck disable=SC2086
+            "$cc" -isystem "$to/include" "$here/show.c" $with -o "$to/show" &&
+                [ "$(LD_LIBRARY_PATH='' "${runs[@]}" "$to/show" -vv x)" = "$("$room/show" -vv x)" ] || return 1
+        done
         echo "$cc answers"
     done
     printf '#!/bin/sh\necho riscv64-linux-gnu\n' >"$room/elsewhere"
