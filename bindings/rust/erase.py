@@ -54,8 +54,8 @@ CRATES = {
         "imports": "use crate::fallible::*;",
         "paths": {
             "crate::": "super::",
-            "std::alloc": "crate::fallible::alloc",
-            "std::convert": "crate::fallible::convert",
+            "std::alloc": "crate::alloc",
+            "std::convert": "crate::convert",
             "unicode_width": "crate::width",
         },
     },

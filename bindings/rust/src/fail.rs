@@ -1,5 +1,6 @@
 //! Refusals.
 
+use crate::alloc::AllocError;
 use crate::{Matches, proved};
 use std::alloc::{Layout, handle_alloc_error};
 use std::error::Error;
@@ -64,7 +65,7 @@ fn out_of_memory() -> ! {
 
 /// What a call gives that memory was granted to.
 #[inline]
-pub(crate) fn granted<T>(result: std::result::Result<T, crate::fallible::AllocError>) -> T {
+pub(crate) fn granted<T>(result: std::result::Result<T, AllocError>) -> T {
     match result {
         Ok(given) => given,
         Err(_) => out_of_memory(),

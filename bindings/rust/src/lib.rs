@@ -23,30 +23,27 @@
 #![forbid(unsafe_code)]
 #![warn(missing_docs)]
 
+mod convert;
 mod debug;
 mod fail;
 mod matches;
 mod options;
 mod width;
 
+/// Declares the modules that the feature `proved` makes public.
+macro_rules! modules {
+    ($seen:vis) => {
+        $seen mod alloc;
+        $seen mod fallible;
+        // The source has laws, which do nothing, parts that this crate doesn't use, and Rattle's forms.
+        #[allow(unused_variables, unused_labels, unused_imports, dead_code, missing_docs, clippy::all)]
+        $seen mod proved;
+    };
+}
 #[cfg(feature = "proved")]
-pub mod fallible;
+modules!(pub);
 #[cfg(not(feature = "proved"))]
-mod fallible;
-
-// The source has parts that are used with the feature alone, laws that do nothing, and Rattle's forms.
-#[cfg(feature = "proved")]
-#[allow(unused_variables, unused_labels, dead_code, clippy::all, missing_docs)]
-pub mod proved;
-#[cfg(not(feature = "proved"))]
-#[allow(
-    unused_variables,
-    unused_labels,
-    unused_imports,
-    dead_code,
-    clippy::all
-)]
-mod proved;
+modules!(pub(crate));
 
 pub use fail::{Fail, Result};
 pub use matches::Matches;

@@ -1,8 +1,9 @@
 //! What an accepted line gave.
 
+use crate::alloc::Global;
 use crate::debug;
 use crate::fail::granted;
-use crate::fallible::{Global, TryClone};
+use crate::fallible::TryClone;
 use crate::proved;
 use std::fmt;
 use std::result::Result;

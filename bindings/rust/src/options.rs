@@ -1,8 +1,9 @@
 //! Options: what a program declares.
 
+use crate::alloc::Global;
 use crate::debug::{Group, groups_of};
 use crate::fail::granted;
-use crate::fallible::{Global, TryClone};
+use crate::fallible::TryClone;
 use crate::{Fail, HasArg, Matches, Occur, ParsingStyle, Result, proved};
 use std::ffi::OsStr;
 use std::fmt;
@@ -140,8 +141,8 @@ impl Options {
     /// options.optflag("q", "quiet", "say less");
     /// assert!(options.parse(["--quiet"]).unwrap().opt_present("q"));
     /// ```
-    pub fn optflag(&mut self, short_name: &str, long_name: &str, desc: &str) -> &mut Options {
-        self.opt(short_name, long_name, desc, "", HasArg::No, Occur::Optional)
+    pub fn optflag(&mut self, short: &str, long: &str, desc: &str) -> &mut Options {
+        self.opt(short, long, desc, "", HasArg::No, Occur::Optional)
     }
 
     /// Adds an option that takes no argument and may come any number of times.
@@ -151,8 +152,8 @@ impl Options {
     /// options.optflagmulti("v", "verbose", "say more");
     /// assert_eq!(options.parse(["-vv", "--verbose"]).unwrap().opt_count("v"), 3);
     /// ```
-    pub fn optflagmulti(&mut self, short_name: &str, long_name: &str, desc: &str) -> &mut Options {
-        self.opt(short_name, long_name, desc, "", HasArg::No, Occur::Multi)
+    pub fn optflagmulti(&mut self, short: &str, long: &str, desc: &str) -> &mut Options {
+        self.opt(short, long, desc, "", HasArg::No, Occur::Multi)
     }
 
     /// Adds an option that may have an argument and may come once.
@@ -162,21 +163,8 @@ impl Options {
     /// options.optflagopt("c", "color", "colour the output", "WHEN");
     /// assert_eq!(options.parse(["--color"]).unwrap().opt_default("c", "auto").unwrap(), "auto");
     /// ```
-    pub fn optflagopt(
-        &mut self,
-        short_name: &str,
-        long_name: &str,
-        desc: &str,
-        hint: &str,
-    ) -> &mut Options {
-        self.opt(
-            short_name,
-            long_name,
-            desc,
-            hint,
-            HasArg::Maybe,
-            Occur::Optional,
-        )
+    pub fn optflagopt(&mut self, short: &str, long: &str, desc: &str, hint: &str) -> &mut Options {
+        self.opt(short, long, desc, hint, HasArg::Maybe, Occur::Optional)
     }
 
     /// Adds an option that needs an argument and may come any number of times.
@@ -186,14 +174,8 @@ impl Options {
     /// options.optmulti("L", "", "add a folder", "DIR");
     /// assert_eq!(options.parse(["-La", "-L", "b"]).unwrap().opt_strs("L"), ["a", "b"]);
     /// ```
-    pub fn optmulti(
-        &mut self,
-        short_name: &str,
-        long_name: &str,
-        desc: &str,
-        hint: &str,
-    ) -> &mut Options {
-        self.opt(short_name, long_name, desc, hint, HasArg::Yes, Occur::Multi)
+    pub fn optmulti(&mut self, short: &str, long: &str, desc: &str, hint: &str) -> &mut Options {
+        self.opt(short, long, desc, hint, HasArg::Yes, Occur::Multi)
     }
 
     /// Adds an option that needs an argument and may come once.
@@ -203,21 +185,8 @@ impl Options {
     /// options.optopt("o", "output", "set the output file", "NAME");
     /// assert_eq!(options.parse(["--output=a"]).unwrap().opt_str("o").unwrap(), "a");
     /// ```
-    pub fn optopt(
-        &mut self,
-        short_name: &str,
-        long_name: &str,
-        desc: &str,
-        hint: &str,
-    ) -> &mut Options {
-        self.opt(
-            short_name,
-            long_name,
-            desc,
-            hint,
-            HasArg::Yes,
-            Occur::Optional,
-        )
+    pub fn optopt(&mut self, short: &str, long: &str, desc: &str, hint: &str) -> &mut Options {
+        self.opt(short, long, desc, hint, HasArg::Yes, Occur::Optional)
     }
 
     /// Adds an option that needs an argument and comes exactly once.
@@ -227,14 +196,8 @@ impl Options {
     /// options.reqopt("i", "input", "read this file", "NAME");
     /// assert!(options.parse(["free"]).is_err());
     /// ```
-    pub fn reqopt(
-        &mut self,
-        short_name: &str,
-        long_name: &str,
-        desc: &str,
-        hint: &str,
-    ) -> &mut Options {
-        self.opt(short_name, long_name, desc, hint, HasArg::Yes, Occur::Req)
+    pub fn reqopt(&mut self, short: &str, long: &str, desc: &str, hint: &str) -> &mut Options {
+        self.opt(short, long, desc, hint, HasArg::Yes, Occur::Req)
     }
 
     #[cold]

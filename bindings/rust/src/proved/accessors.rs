@@ -5,8 +5,8 @@ use crate::fallible::*;
 
 use super::matches::Matches;
 use super::occurrences::Occurrences;
-use crate::fallible::alloc::{AllocError, Global};
-use crate::fallible::convert::AsStr;
+use crate::alloc::{AllocError, Global};
+use crate::convert::AsStr;
 use std::str::FromStr;
 
 /// A copy of a text, if there is one.

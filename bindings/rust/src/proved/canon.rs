@@ -9,7 +9,7 @@ use super::matches::ReadLine;
 use super::options::Options;
 use super::parse::words_from;
 use super::scan::Line;
-use crate::fallible::alloc::{AllocError, Global};
+use crate::alloc::{AllocError, Global};
 
 /// Whether a text holds `=`.
 fn holds_equals(text: &str) -> bool {

@@ -3,7 +3,7 @@
 
 use crate::fallible::*;
 
-use crate::fallible::alloc::{AllocError, AllocFailed, Global};
+use crate::alloc::{AllocError, AllocFailed, Global};
 use std::error::Error;
 use std::fmt;
 

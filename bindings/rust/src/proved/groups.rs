@@ -4,7 +4,7 @@
 use crate::fallible::*;
 
 use super::names::{Names, is_of_bytes};
-use crate::fallible::alloc::{AllocError, Global};
+use crate::alloc::{AllocError, Global};
 
 /// The capacity once a first group is added: so many groups need no second request.
 const FIRST_GROUPS: usize = 8;

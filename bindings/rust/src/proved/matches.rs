@@ -8,7 +8,7 @@ use super::index::Index;
 use super::occurrences::{LineOccurrences, Occurrences};
 use super::scan::Line;
 use super::table::Table;
-use crate::fallible::alloc::AllocError;
+use crate::alloc::AllocError;
 
 /// A line that was read, with the table of the names that it was read by, and where its options stand.
 pub(crate) struct ReadLine {

@@ -3,7 +3,7 @@
 
 use crate::fallible::*;
 
-use crate::fallible::alloc::{AllocError, Global};
+use crate::alloc::{AllocError, Global};
 
 /// One option that the words give: the place of its group, the index of its item's first word, and its
 /// value.

@@ -4,7 +4,7 @@
 use crate::fallible::*;
 
 use super::groups::{Group, Groups, HasArg, Kinds, Occur, ParsingStyle};
-use crate::fallible::alloc::{AllocError, Global};
+use crate::alloc::{AllocError, Global};
 
 /// A list of option groups, a parsing style and a mode.
 #[derive(Debug)]

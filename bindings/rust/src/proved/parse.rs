@@ -10,7 +10,7 @@ use super::matches::{Matches, ReadLine};
 use super::options::Options;
 use super::scan::{FIRST_ROOM, Scanner, are_texts};
 use super::table::Table;
-use crate::fallible::alloc::{AllocError, Global};
+use crate::alloc::{AllocError, Global};
 
 impl Options {
     /// Reads the words of a line, without the program's own name.

@@ -6,7 +6,7 @@ use crate::fallible::*;
 use super::groups::{Group, HasArg, Signature};
 use super::names::Names;
 use super::wrap::push_description;
-use crate::fallible::alloc::AllocError;
+use crate::alloc::AllocError;
 use crate::width::UnicodeWidthStr;
 
 /// The columns before a description.

@@ -8,7 +8,7 @@ use super::groups::{HasArg, ParsingStyle};
 use super::occurrences::{LineOccurrences, Occurrence};
 use super::options::Options;
 use super::table::Table;
-use crate::fallible::alloc::{AllocError, Global};
+use crate::alloc::{AllocError, Global};
 
 /// The first capacity of a list of words, and of what words give, at most: an iterator may give fewer than it
 /// promises. More words than that are counted before the first is read.

@@ -8,7 +8,7 @@ use super::names::Names;
 use super::options::Options;
 use super::row::{Layout, push_argument, push_row};
 use super::wrap::push_parting;
-use crate::fallible::alloc::{AllocError, Global};
+use crate::alloc::{AllocError, Global};
 use std::vec;
 
 /// The bytes that most rows take.

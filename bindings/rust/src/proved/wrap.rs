@@ -3,7 +3,7 @@
 
 use crate::fallible::*;
 
-use crate::fallible::alloc::{AllocError, Global};
+use crate::alloc::{AllocError, Global};
 use crate::width::UnicodeWidthStr;
 
 /// The rows in which a description is printed where `lim` columns are free.

@@ -50,8 +50,8 @@ returns-in-No-Some-clause-err c = λ dashes.
     (Some No) (rw c.in-No-Some.is-0 at c.in-Some.ensures.1) c.unexpected_argument.result
     (unexpected_argument name) refl c.unexpected_argument.ensures
 
-pub returns-in-Yes-None-clause-err : goal.returns-in-Yes-None-clause-err
-returns-in-Yes-None-clause-err c = λ dashes.
+pub returns-in-None-first-clause-err : goal.returns-in-None-first-clause-err
+returns-in-None-first-clause-err c = λ dashes.
     let name = c.name_and_argument.result.0.now in
     let cut = c.name_and_argument.ensures in
     Tells-long (scanner_grammar c.args.self.now) dashes c.args.text.now name None
