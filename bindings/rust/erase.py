@@ -78,7 +78,7 @@ TOKEN = re.compile(
 SIGNATURE = re.compile(r"^( *)((?:pub(?:\(crate\))? )?fn [^\n]*\()\n((?:\1    [^\n]*,\n)+)\1(\)[^\n]*\{)$", re.M)
 CHAIN = re.compile(r"^( *)(self\.\w+)(\.try_\w+\([^\n]*\))(;?)$", re.M)
 SIGNS = set("{}()[]<>;:,.=+-*/%&|^!?#@$")
-CLOSING = {"{": "}", "(": ")", "[": "]"}
+BRACKETS = {"{": "}", "(": ")", "[": "]"}
 
 
 class NotRust(Exception):
@@ -135,9 +135,9 @@ class Eraser:
         open_brackets = []
         for place in range(at, len(self.tokens)):
             text = self.text(place)
-            if text in CLOSING:
-                open_brackets.append(CLOSING[text])
-            elif text in CLOSING.values():
+            if text in BRACKETS:
+                open_brackets.append(BRACKETS[text])
+            elif text in BRACKETS.values():
                 if not open_brackets or text != open_brackets.pop():
                     self.stop(place, "it closes nothing")
                 if not open_brackets:
@@ -147,9 +147,9 @@ class Eraser:
     def after(self, at, end):
         """The place after the next sign like this that stands in no brackets."""
         while self.text(at) not in end:
-            if at >= len(self.tokens) or self.text(at) in CLOSING.values():
+            if at >= len(self.tokens) or self.text(at) in BRACKETS.values():
                 self.stop(at, f"no '{end[0]}' stands before it")
-            at = self.close(at) if self.text(at) in CLOSING else at + 1
+            at = self.close(at) if self.text(at) in BRACKETS else at + 1
         return at + 1
 
     def generics(self, at):
@@ -285,6 +285,9 @@ class Eraser:
 
     def check(self):
         """Stops at what is left and isn't Rust."""
+        at = 0
+        while at < len(self.tokens):
+            at = self.close(at) if self.text(at) in BRACKETS else at + 1
         for at, token in enumerate(self.tokens):
             if token.text in NOT_RUST or token.kind == "other" or token.kind == "sign" and token.text not in SIGNS:
                 self.stop(at, "it isn't Rust")

@@ -6,14 +6,8 @@ pub trait AsStr {
     fn as_str(&self) -> &str;
 }
 
-impl AsStr for String {
+impl<T: AsRef<str>> AsStr for T {
     fn as_str(&self) -> &str {
-        self
-    }
-}
-
-impl AsStr for &str {
-    fn as_str(&self) -> &str {
-        self
+        self.as_ref()
     }
 }

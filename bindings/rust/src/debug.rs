@@ -58,21 +58,16 @@ pub struct Opt<'a>(pub Group<'a>);
 
 impl Debug for Opt<'_> {
     fn fmt(&self, f: &mut Formatter<'_>) -> Result {
-        let Group {
-            names,
-            hasarg,
-            occur,
-            ..
-        } = self.0;
+        let (group, names) = (&self.0, self.0.names);
         let alias = Opt(Group {
             names: [names[0], ""],
-            ..self.0
+            ..*group
         });
         let has_alias = names.iter().all(|name| !name.is_empty());
         f.debug_struct("Opt")
             .field("name", &Name(names))
-            .field("hasarg", &hasarg)
-            .field("occur", &occur)
+            .field("hasarg", &group.hasarg)
+            .field("occur", &group.occur)
             .field("aliases", &if has_alias { vec![alias] } else { vec![] })
             .finish()
     }

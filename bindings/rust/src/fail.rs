@@ -37,9 +37,7 @@ impl fmt::Display for Fail {
             Fail::UnrecognizedOption(name) => write!(f, "Unrecognized option: '{name}'"),
             Fail::OptionMissing(name) => write!(f, "Required option '{name}' missing"),
             Fail::OptionDuplicated(name) => write!(f, "Option '{name}' given more than once"),
-            Fail::UnexpectedArgument(name) => {
-                write!(f, "Option '{name}' does not take an argument")
-            }
+            Fail::UnexpectedArgument(of) => write!(f, "Option '{of}' does not take an argument"),
         }
     }
 }

@@ -12,17 +12,9 @@ use std::fmt;
 #[derive(PartialEq, Eq)]
 pub struct Options {
     proved: proved::Options,
-    /// The options with two empty names, which the proved ones can't have, each with its place among all.
-    nameless: Vec<(usize, Nameless)>,
-}
-
-/// An option with two empty names: its hint, its description and its kinds.
-#[derive(Clone, PartialEq, Eq)]
-struct Nameless {
-    hint: String,
-    desc: String,
-    hasarg: HasArg,
-    occur: Occur,
+    /// The options with two empty names, which the proved ones can't have: of each its place among all, its hint, its
+    /// description and its kinds.
+    nameless: Vec<(usize, [String; 2], HasArg, Occur)>,
 }
 
 impl Default for Options {
@@ -43,8 +35,18 @@ impl Clone for Options {
 impl fmt::Debug for Options {
     fn fmt(&self, f: &mut fmt::Formatter<'_>) -> fmt::Result {
         let mut shown = groups_of(&self.proved);
-        for (place, option) in &self.nameless {
-            shown.insert(*place, option.group());
+        for &(place, [ref hint, ref desc], hasarg, occur) in &self.nameless {
+            let names = ["", ""];
+            shown.insert(
+                place,
+                Group {
+                    names,
+                    hint,
+                    desc,
+                    hasarg,
+                    occur,
+                },
+            );
         }
         f.debug_struct("Options")
             .field("grps", &shown)
@@ -203,13 +205,8 @@ impl Options {
     #[cold]
     fn push_nameless(&mut self, desc: &str, hint: &str, hasarg: HasArg, occur: Occur) {
         let place = self.proved.groups().len() + self.nameless.len();
-        let option = Nameless {
-            hint: hint.to_string(),
-            desc: desc.to_string(),
-            hasarg,
-            occur,
-        };
-        self.nameless.push((place, option));
+        let texts = [hint, desc].map(String::from);
+        self.nameless.push((place, texts, hasarg, occur));
     }
 
     /// The proved options. Panics where an option has two empty names, which no line can be read by.
@@ -363,17 +360,5 @@ impl Options {
     ) -> String {
         let rows = granted(self.named().usage_rows(Global));
         formatter(&mut rows.into_iter())
-    }
-}
-
-impl Nameless {
-    fn group(&self) -> Group<'_> {
-        Group {
-            names: ["", ""],
-            hint: &self.hint,
-            desc: &self.desc,
-            hasarg: self.hasarg,
-            occur: self.occur,
-        }
     }
 }
