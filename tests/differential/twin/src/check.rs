@@ -31,8 +31,9 @@ pub fn check(rows: &str, words: &[String]) -> bool {
     let mut session = Session::new();
     let (mut cases, mut same, mut differ, mut passed) = (0, 0, 0, 0);
     while let Some(line) = lines.next() {
-        let Some(asked) = Line::read(line) else {
-            continue;
+        let asked = match Line::read(line) {
+            Some(asked) => asked,
+            None => continue,
         };
         let wanted = answer_beside(&mut lines);
         if NOT_HAD.contains(&asked.word()) || words.iter().any(|word| word == asked.word()) {
