@@ -15,11 +15,10 @@ use Rattle.getopts.specs.Reading.{separate, Dashes, one, two, End, flags, ends_i
 use Rattle.getopts.specs.Reading.{cluster, long_word, attached_argument, argument_words, item_words}
 use Rattle.getopts.specs.Reading.{end_text, end_words, MayStandBefore, FitsLong, FitsEnd, IsFlag}
 use Rattle.getopts.specs.Reading.{IsLawfulEnd, IsLawfulCluster, IsLawfulItem, is_bare, EndsOrIsDashed}
-use Rattle.getopts.specs.Reading.{stop, tail_words, IsLawfulTail, IsLongForm, IsShortForm, dash_text}
-use Rattle.getopts.specs.Reading.{HasAfterFlags}
+use Rattle.getopts.specs.Reading.{stop, tail_words, IsLawfulTail, IsLongForm, HasAfterFlags, dash_text}
 use Rattle.getopts.specs.Reading.{IsFaultAt, unknown_name, unknown_character, unwanted_argument}
 use Rattle.getopts.specs.Reading.{long_unfinished, short_unfinished}
-use Rattle.getopts.specs.Turn.{with_equals, Turn, ends, takes, faults, IsInLongForm}
+use Rattle.getopts.specs.Turn.{with_equals, Turn, ends, takes, faults, IsInLongForm, IsShortForm}
 use Rattle.getopts.specs.Turn.{chosen_long, chosen_end, chosen_turn, named_turn, cut_at_equals}
 use Rattle.getopts.specs.Turn.{long_turn, first_char, byte_turn, cluster_turn}
 use Rattle.getopts.specs.declared.groups.HasArg.{HasArg}
