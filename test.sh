@@ -35,11 +35,11 @@ verdict() {
     fi
 }
 
-# part WHAT COMMAND..: does a part.
+# part WHAT COMMAND..: does a part. What it says is kept for the end too.
 part() {
     local start=$SECONDS status=0
     echo "== $1"
-    "${@:2}" || status=$?
+    "${@:2}" 2>&1 | tee -a "$room/said" || status=$?
     verdict "$1" $status $((SECONDS - start))
 }
 
@@ -66,6 +66,26 @@ ended() {
         tail -n 40 "$room/said.$at"
         verdict "${begun[at]}" $status "$(cat "$room/said.$at.time")"
     done
+}
+
+# What tests can use, each with the package of Debian 12 that has it.
+PACKAGES='C compiler:gcc cc:gcc g++:g++ clang:clang ar:binutils nm:binutils objcopy:binutils readelf:binutils
+pkg-config:pkg-config musl-gcc:musl-tools aarch64-linux-gnu-gcc:gcc-aarch64-linux-gnu qemu-aarch64:qemu-user
+valgrind:valgrind shellcheck:shellcheck man:man-db groff:groff mandoc:mandoc dash:dash zsh:zsh ksh93:ksh93u+m mksh:mksh
+yash:yash busybox:busybox-static fish:fish pexpect:python3-pexpect unicode-width:librust-unicode-width-dev'
+
+# skipped: each test that was skipped, once, and the packages that have what it says is lacking.
+skipped() {
+    local pair tools packages=
+    grep -h '^skipped: ' "$room"/said* | sort -u >"$room/skipped"
+    [ -s "$room/skipped" ] || return 0
+    echo "== skipped"
+    sed 's/^skipped: //' "$room/skipped"
+    sed 's/.*: //' "$room/skipped" >"$room/lacking"
+    while IFS=: read -r tools pair; do
+        grep -qwF -- "$tools" "$room/lacking" && packages="$packages $pair"
+    done < <(tr '\n' ' ' <<<"$PACKAGES" | sed 's/C compiler/C@compiler/' | tr ' @' '\n ')
+    [ -z "$packages" ] || echo "these would run with: apt-get install$(tr ' ' '\n' <<<"$packages" | sort -u | tr '\n' ' ')"
 }
 
 # proofs: the gate of the toolchain. What it says is kept, so that others begin once it has proved a crate.
@@ -142,6 +162,7 @@ else
 fi
 part "pages and modules" python3 docs/check.py
 ended
+skipped
 if [ -n "$failed" ]; then
     echo "failed: ${failed#; }"
     exit 1
