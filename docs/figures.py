@@ -133,7 +133,7 @@ FIGURES = [
 OTHERS = re.compile(r"""
     \bU\+\w+ | \b0\.2\.24\b | Apache-2\.0 | x86-64(-v2)?
     | 1,000\ words | 100,000\ words | 200\ options | 400\ words | 4,000\ names | 1,000\ options\ each
-    | 54\ columns | 24\ (spaces|columns) | stop\ at\ 255 | 24\ bytes | C\+\+11 | Debian\ 12 | 80\ words | 200,000\ cases | about\ 2009
+    | (32|64)\ bits | 54\ columns | 24\ (spaces|columns) | stop\ at\ 255 | 24\ bytes | C\+\+11 | Debian\ 12 | 80\ words | 200,000\ cases | about\ 2009
     # experiments that were done once
     | 564\ lines | 9,305\ instructions | 393\ small\ changes | detected\ 375 | 585\ small\ changes | detected\ 492 | 54\ of\ the\ other\ 93 | 39\ are
 """, re.X)
