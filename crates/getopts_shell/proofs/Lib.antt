@@ -4,7 +4,6 @@ mod Items
 mod Lines
 mod Only
 mod OneAnswer
-mod ByLines
 mod Plain
 mod Help
 mod Line
