@@ -51,6 +51,19 @@ build() {
     }
 }
 
+# musl PROCESSOR: where the C library of the static programs is.
+musl() { echo "/usr/lib/$1-linux-musl"; }
+
+# link PROCESSOR TO WORD..: links a static program of start.c, musl and what the words name.
+link() {
+    local musl tools
+    musl=$(musl "$1") tools=$(kit)/toolchain/bin
+    "$tools/clang" --target="$1-linux-musl" -std=c11 -O2 -Wall -Wextra -Wpedantic -Wshadow -Wconversion -Werror -fno-pic \
+        -nostdinc -isystem "/usr/include/$1-linux-musl" -c bindings/shell/start.c -o "$2.start.o"
+    "$tools/ld.lld" -static -s --gc-sections --wrap=main "$musl"/crt{1,i}.o "$2.start.o" "${@:3}" "$musl"/{libc.a,crtn.o} \
+        -o "$2"
+}
+
 # put MADE PLACE: puts a file in its place, with its SHA-256 beside it.
 put() {
     install -D -m "${mode:-644}" "$1" "$2"
