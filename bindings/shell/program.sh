@@ -4,8 +4,8 @@
 #     bindings/shell/program.sh [check | check-again]
 #
 # A program is the proved object, start.c and musl's C library, in one static file. Made are both kinds from one proof of
-# crates/getopts_shell over the library as `rt ci` left it. proved.sha256 has the sum of the object that `rt ci` built of
-# the same source, and that of start.c.
+# crates/getopts_shell over its libraries as `rt ci` left them. proved.sha256 has the sum of the object that `rt ci`
+# builds of the same source, and that of start.c.
 #
 # With check nothing is changed or proved: it says whether the object that `rt ci` left now and start.c are still those,
 # and whether each program has its SHA-256. With check-again it proves and builds both programs once more, and compares
@@ -35,10 +35,8 @@ each() {
 }
 
 make_program() {
-    [ -f "$(musl "$1")/libc.a" ] || stop "there is no $(musl "$1")/libc.a to link with"
-    link "$1" "$room/getopts_shell" "$room/getopts_shell.o"
-    mode=755 put "$room/getopts_shell" "$2/getopts_shell"
-    made_of "$1" >"$2/made_of.sha256"
+    link "$1" "$room/getopts_shell" "$room/getopts_shell.o" && mode=755 put "$room/getopts_shell" "$2/getopts_shell" &&
+        made_of "$1" >"$2/made_of.sha256"
 }
 
 compare_program() {
@@ -69,9 +67,12 @@ as_proved() {
 
 case ${1:-} in
 '')
-    [ -f $proved ] || stop "there is no $proved: run 'rt ci', or 'rt run -- -h' in crates/getopts_shell"
+    for processor in "${processors[@]}"; do
+        [ -f "$(musl "$processor")/libc.a" ] || stop "there is no $(musl "$processor")/libc.a to link with"
+    done
     each make_program
-    sha256sum $proved $here/start.c >$here/proved.sha256
+    build getopts_shell x86_64 "$room/proved.o" x86-64-v2
+    { sha256sum <"$room/proved.o" | sed "s|-\$|$proved|"; sha256sum $here/start.c; } >$here/proved.sha256
     ;;
 check)
     for processor in "${processors[@]}"; do whole "$here/$processor/getopts_shell"; done
