@@ -1,9 +1,9 @@
 mod Quoting
+mod QuotedBytes
 mod Items
 mod Lines
 mod Only
 mod OneAnswer
-mod ByLines
 mod Plain
 mod Help
 mod Line

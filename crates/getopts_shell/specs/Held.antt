@@ -1,13 +1,15 @@
 -- What the code holds, as the definitions see it.
 use Rattle.std.specs.Prelude.{◌≡◌, ⊤, List, [], ◌∷◌, Option, Some, None, map, MatchOption, false}
 use Rattle.std.specs.List.{AllByRecursion}
+use Rattle.std.specs.Option.{option_map}
 use Rattle.std.specs.String.{string_bytes}
 use Rattle.getopts.specs.Matches.{MatchedGroup, matched}
 use Rattle.getopts.specs.Names.{main_name}
 use Rattle.getopts.specs.Options.{Declared, Group, group_of, signatures_of, with_group}
 use Rattle.getopts.specs.Reading.{Occurrence, holds_equals}
-use Rattle.getopts_shell.specs.Program.{Answer, own_groups}
+use Rattle.getopts_shell.specs.Program.{Answer, Asked, own_groups}
 use Rattle.getopts_shell.specs.Table.{TableFault, no_option, name_twice}
+use Rattle.getopts_shell.specs.declared.answer.Asked.{Asked as AskedHeld}
 use Rattle.getopts_shell.specs.declared.answer.Outcome.{Outcome}
 use Rattle.getopts_shell.specs.declared.row.Row.{Row}
 use Rattle.getopts_shell.specs.declared.table.TableError.{TableError}
@@ -35,6 +37,17 @@ TellsFault error P = MatchOption (fault_told error) ⊤ P
 -- the answer that the code holds
 abbrev pub answer_of : Outcome → Answer
 answer_of outcome = record { text = string_bytes outcome.text; status = outcome.status }
+
+-- what is asked for, as the code holds it
+abbrev pub asked_of : AskedHeld → Asked
+asked_of asked = record {
+  brief = option_map string_bytes asked.brief;
+  stop = asked.stop;
+  long_only = asked.long_only;
+  words = asked.words;
+  usage = asked.usage;
+  complete = option_map string_bytes asked.complete;
+}
 
 -- the groups are the program's own, each with its share of some occurrences
 abbrev pub HasOwnGroups : List MatchedGroup → Type 0

@@ -4,8 +4,6 @@
 pub mod Quote
 -- the table of options
 pub mod Table
--- a table that is written for options, line by line
-pub mod TableText
 -- what the program answers
 pub mod Program
 -- Cited by private clauses alone.

@@ -20,6 +20,7 @@ use Rattle.getopts.specs.declared.groups.HasArg.{HasArg}
 use Rattle.getopts.specs.declared.groups.HasArg.TheVariants.{Yes, No}
 use Rattle.getopts.specs.declared.groups.Occur.TheVariants.{Optional}
 use Rattle.getopts.specs.declared.groups.ParsingStyle.TheVariants.{FloatingFrees, StopAtFirstFree}
+use Rattle.getopts_bytes.specs.Marks.{bytes_of}
 use Rattle.getopts_shell.specs.Quote.{quoted, quoted_words, shell_words}
 use Rattle.getopts_shell.specs.Table.{DeclaresOptions, IsTableFault, TableFault, no_option, name_twice}
 
@@ -48,6 +49,30 @@ is_given own name = is_present own.groups name
 -- the value that an option of this name has, if it has one
 abbrev pub value_given : Matched → Text → Option Text
 value_given own name = first_value (found_of own.groups name)
+
+-- what the program's own words ask for
+pub record Asked : Type 0 where
+  pub brief : Option Text
+  pub stop : Bool
+  pub long_only : Bool
+  pub words : Bool
+  pub usage : Bool
+  pub complete : Option Text
+
+-- what words with these matches ask for
+abbrev pub asked_by : Matched → Asked
+asked_by own = record {
+  brief = value_given own (codes "brief");
+  stop = is_given own (codes "stop");
+  long_only = is_given own (codes "long-only");
+  words = is_given own (codes "words");
+  usage = is_given own (codes "usage");
+  complete = value_given own (codes "complete");
+}
+
+-- a script's words are read: neither its help nor its completion is asked for
+abbrev pub ReadsWords : Asked → Type 0
+ReadsWords asked = (asked.usage ≡ false) × (asked.complete ≡ None)
 
 -- ---- answers
 
@@ -83,21 +108,18 @@ table_fault_line (name_twice number name) = codes "getopts_shell: line "
 
 -- ---- a script
 
--- the options of a script, in the style and the mode that the program's own words ask for
-abbrev pub script_options : Matched → List Group → Declared
-script_options own groups = record {
+-- the options of a script, in the style and the mode that are asked for
+abbrev pub script_options : Asked → List Group → Declared
+script_options asked groups = record {
   groups = groups;
-  style = if is_given own (codes "stop") then StopAtFirstFree else FloatingFrees;
-  long_only = is_given own (codes "long-only");
+  style = if asked.stop then StopAtFirstFree else FloatingFrees;
+  long_only = asked.long_only;
 }
 
--- what the help of a script begins with: the text that was given, or the short usage
-abbrev pub brief_of : Matched → Text → Declared → Text
-brief_of own name options = unwrap_or (value_given own (codes "brief")) (short_usage_text options name)
-
--- the help of a script
-abbrev pub IsHelp : Matched → Text → Declared → Text → Type 0
-IsHelp own name options help = IsTheOnly (IsUsageText options (brief_of own name options)) help
+-- the help of a script: it begins with the text that was given, or else with the short usage
+abbrev pub IsHelp : Asked → Text → Declared → Text → Type 0
+IsHelp asked name options help =
+    IsTheOnly (IsUsageText options (unwrap_or asked.brief (short_usage_text options name))) help
 
 -- the code that prints a help, and ends the script
 abbrev pub help_code : Text → Text
@@ -119,9 +141,9 @@ AskHelp options words = (matches : Matched) × HasReading options words matches
     × (offers_help options.groups ≡ true) × (is_present matches.groups (codes "help") ≡ true)
 
 -- the code that sets a script's words to those of a line, or the words alone
-abbrev pub line_code : Matched → List Text → Text
-line_code own line =
-    (if is_given own (codes "words") then [] else codes "set -- ") ++ (quoted_words line ++ codes "\n")
+abbrev pub line_code : Asked → List Text → Text
+line_code asked line =
+    (if asked.words then [] else codes "set -- ") ++ (quoted_words line ++ codes "\n")
 
 -- What a canonical line tells: a shell makes of it, as it is written, the same words; it is accepted in
 -- both styles and both modes with the content of the words, and says nothing else; and of its words the
@@ -131,14 +153,6 @@ pub record TellsWords (options : Declared) (words line : List Text) : Type 0 whe
   pub written : IsWritten options words line
   pub reads_back : HasCanonicalLine options written.content
   pub stop_is_first : AllByRecursion (λ m. canonical_word options.groups m ≢ stop_word) written.content.mentions
-
--- the answer to words that don't ask for help: the canonical line of accepted words, or the first fault
-pub data AnswersLine (own : Matched) (name : Text) (options : Declared) (words : List Text)
-    : Answer → Type 0 where
-  accepted : (line : List Text) → TellsWords options words line
-      → AnswersLine own name options words (done (line_code own line))
-  refused : (fault : Fault) → IsRefused options words fault
-      → AnswersLine own name options words (record { text = refused_text options name fault; status = 2 })
 
 -- whether there are completion scripts for a shell
 abbrev pub has_completion : Text → Bool
@@ -154,64 +168,57 @@ pub data AnswersCompletion (shell : Text) : Answer → Type 0 where
   script : (text : Text) → has_completion shell ≡ true → AnswersCompletion shell (done text)
   no_script : has_completion shell ≡ false → AnswersCompletion shell (misused (no_completion shell))
 
--- the answer to the words of a script: the code that prints its help where they ask for it, or else
--- what they are
-pub data AnswersWords (own : Matched) (name : Text) (options : Declared) (words : List Text)
+-- The answer for a script with these options: its help, its completion script, or what its words are. That
+-- is the code that prints its help where they ask for it, and else their canonical line or the first fault.
+pub data AnswersScript (asked : Asked) (name : Text) (options : Declared) (words : List Text)
     : Answer → Type 0 where
-  help : (help : Text) → AskHelp options words → IsHelp own name options help
-      → AnswersWords own name options words (done (help_code help))
-  line : (answer : Answer) → ¬ (AskHelp options words) → AnswersLine own name options words answer
-      → AnswersWords own name options words answer
+  usage : (help : Text) → asked.usage ≡ true → IsHelp asked name options help
+      → AnswersScript asked name options words (done help)
+  completion : (shell : Text) (answer : Answer) → asked.usage ≡ false → asked.complete ≡ Some shell
+      → AnswersCompletion shell answer → AnswersScript asked name options words answer
+  help : (help : Text) → ReadsWords asked → AskHelp options words → IsHelp asked name options help
+      → AnswersScript asked name options words (done (help_code help))
+  accepted : (line : List Text) → ReadsWords asked → ¬ (AskHelp options words)
+      → TellsWords options words line
+      → AnswersScript asked name options words (done (line_code asked line))
+  refused : (fault : Fault) → ReadsWords asked → ¬ (AskHelp options words)
+      → IsRefused options words fault → AnswersScript asked name options words
+      (record { text = refused_text options name fault; status = 2 })
 
--- the answer for a script with these options: its help, its completion script, or that to its words
-pub data AnswersScript (own : Matched) (name : Text) (options : Declared) (words : List Text)
-    : Answer → Type 0 where
-  usage : (help : Text) → is_given own (codes "usage") ≡ true → IsHelp own name options help
-      → AnswersScript own name options words (done help)
-  completion : (shell : Text) (answer : Answer) → is_given own (codes "usage") ≡ false
-      → value_given own (codes "complete") ≡ Some shell → AnswersCompletion shell answer
-      → AnswersScript own name options words answer
-  of_words : (answer : Answer) → is_given own (codes "usage") ≡ false
-      → value_given own (codes "complete") ≡ None
-      → AnswersWords own name options words answer → AnswersScript own name options words answer
-
--- the answer to a script's name, its table and its words: the fault of the table, or that for its options
-pub data AnswersTable (own : Matched) (name table : Text) (words : List Text) : Answer → Type 0 where
+-- The answer to a script's name, its table and its words: the fault of the table, or that for its options.
+pub data AnswersTable (asked : Asked) (name table : Text) (words : List Text) : Answer → Type 0 where
   faulty : (fault : TableFault) → IsTableFault table fault
-      → AnswersTable own name table words (misused (table_fault_line fault))
+      → AnswersTable asked name table words (misused (table_fault_line fault))
   declared : (groups : List Group) (answer : Answer) → DeclaresOptions table groups
-      → AnswersScript own name (script_options own groups) words answer
-      → AnswersTable own name table words answer
+      → AnswersScript asked name (script_options asked groups) words answer
+      → AnswersTable asked name table words answer
 
 -- the answer to the free words of the program's own
-abbrev pub AnswersFree : Matched → List Text → Answer → Type 0
-AnswersFree own (name ∷ table ∷ words) answer = AnswersTable own name table words answer
-AnswersFree own words answer = answer ≡ misused (codes "getopts_shell: a name and a table of options are needed\n")
+abbrev pub AnswersFree : Asked → List Text → Answer → Type 0
+AnswersFree asked (name ∷ table ∷ words) answer = AnswersTable asked name table words answer
+AnswersFree asked words answer =
+    answer ≡ misused (codes "getopts_shell: a name and a table of options are needed\n")
 
--- the answer to the program's own words, where they are accepted with these matches: its help, or the
--- answer to its free words
-pub data AnswersOwn (own : Matched) : Answer → Type 0 where
-  own_help : (help : Text) → is_given own (codes "help") ≡ true
-      → IsTheOnly (IsUsageText own_options (codes "Usage: getopts_shell [options] NAME TABLE [WORD].."))
-      help → AnswersOwn own (done help)
-  of_free : (answer : Answer) → is_given own (codes "help") ≡ false
-      → AnswersFree own own.free answer → AnswersOwn own answer
-
--- The answer to words: the fault of the program's own words, or the answer to these.
+-- The answer to words: the fault of the program's own words, its help, or what these ask for.
 pub data IsAnswer (words : List Text) : Answer → Type 0 where
   refused_own : (fault : Fault) → IsRefused own_options words fault
       → IsAnswer words (misused (fault_line (codes "getopts_shell") fault))
+  own_help : (own : Matched) (help : Text) → IsAccepted own_options words own
+      → is_given own (codes "help") ≡ true
+      → IsTheOnly (IsUsageText own_options (codes "Usage: getopts_shell [options] NAME TABLE [WORD].."))
+      help → IsAnswer words (done help)
   accepted_own : (own : Matched) (answer : Answer) → IsAccepted own_options words own
-      → AnswersOwn own answer → IsAnswer words answer
+      → is_given own (codes "help") ≡ false → AnswersFree (asked_by own) own.free answer
+      → IsAnswer words answer
 
 -- The words ask for a completion script, and for no help.
 pub record AskCompletion (words : List Text) : Type 0 where
   pub own : Matched
   pub accepted : IsAccepted own_options words own
   pub no_help : is_given own (codes "help") ≡ false
-  pub no_usage : is_given own (codes "usage") ≡ false
+  pub no_usage : (asked_by own).usage ≡ false
   pub shell : Text
-  pub asked : value_given own (codes "complete") ≡ Some shell
+  pub asked : (asked_by own).complete ≡ Some shell
 
 -- words have one status and one text, but for the text of a completion script that they ask for
 abbrev pub OneAnswer : Type 0
@@ -226,7 +233,12 @@ OneAnswer = (words : List Text) (answer other : Answer) → IsAnswer words answe
 abbrev pub IsStatus : ℕ → Type 0
 IsStatus status = (status ≤ 5) × (status ≢ 1)
 
--- what a writer holds has grown by the text of the answer to these words, which has this status
+-- the bytes are those of the text of the answer to these words, which has this status
+abbrev pub IsOutput : List Text → List ℕ → ℕ → Type 0
+IsOutput words bytes status = (text : Text)
+    × IsAnswer words (record { text = text; status = status }) × (bytes ≡ bytes_of text)
+
+-- what a writer holds has grown by the bytes of the text of the answer to these words, which has this status
 abbrev pub ShowsAnswer : Option (List ℕ) → Option (List ℕ) → List Text → ℕ → Type 0
-ShowsAnswer old new words status = (text : Text)
-    × IsAnswer words (record { text = text; status = status }) × Appends old new text
+ShowsAnswer old new words status = (bytes : List ℕ)
+    × IsOutput words bytes status × Appends old new bytes

@@ -13,12 +13,12 @@ ghost use Rattle.getopts.specs.Names.{Text, texts};
 ghost use Rattle.getopts.specs.Options.{with_group};
 ghost use Rattle.getopts.specs.Parse.{IsAccepted, IsRefused};
 ghost use Rattle.getopts_shell.specs.Held.{group_of_row, groups_of, fault_told, answer_of, HasOwnGroups};
-ghost use Rattle.getopts_shell.specs.Held.{ArePlainlyNamed};
+ghost use Rattle.getopts_shell.specs.Held.{ArePlainlyNamed, asked_of};
 ghost use Rattle.getopts_shell.specs.Program.{own_groups, own_options, script_options, done, misused};
 ghost use Rattle.getopts_shell.specs.Program.{table_fault_line, fault_line, refused_text};
-ghost use Rattle.getopts_shell.specs.Program.{IsHelp, help_code, AskHelp, is_no, offers_help, line_code, AnswersLine};
-ghost use Rattle.getopts_shell.specs.Program.{AnswersWords, AnswersScript};
-ghost use Rattle.getopts_shell.specs.Program.{AnswersTable, AnswersFree, AnswersOwn, IsAnswer, IsStatus, ShowsAnswer};
+ghost use Rattle.getopts_shell.specs.Program.{IsHelp, help_code, AskHelp, is_no, offers_help, line_code};
+ghost use Rattle.getopts_shell.specs.Program.{Asked, asked_by, ReadsWords, AnswersScript};
+ghost use Rattle.getopts_shell.specs.Program.{AnswersTable, AnswersFree, IsAnswer, IsOutput, IsStatus, ShowsAnswer};
 ghost use Rattle.getopts_shell.specs.Program.{AnswersCompletion, no_completion};
 ghost use Rattle.getopts_shell.specs.Table.{TableFault, no_option, name_twice};
 ghost use Rattle.getopts_shell.specs.Held.{with_groups};
@@ -29,6 +29,7 @@ use crate::row::Row;
 use crate::table::{TableError, rows_of};
 use crate::words::texts_of;
 use getopts::{Fail, HasArg, Matches, Options, ParsingStyle, names_resolve};
+use getopts_bytes::push_bytes;
 use std::alloc::{AllocError, Global};
 use std::io;
 use std::io::Write;
@@ -57,9 +58,28 @@ struct Outcome {
     status: u8,
 }
 
-/// A script: its name, and its options, as the rows of its table declare them.
+/// The bytes that the program writes, and the status that it ends with.
+#[derive(Drop)]
+struct Output {
+    bytes: Vec<u8>,
+    status: u8,
+}
+
+/// What the program's own words ask for.
+#[derive(Drop)]
+struct Asked {
+    brief: Option<String>,
+    stop: bool,
+    long_only: bool,
+    words: bool,
+    usage: bool,
+    complete: Option<String>,
+}
+
+/// A script: what is asked for it, its name, and its options, as the rows of its table declare them.
 #[derive(Clone, Copy)]
 struct Script<'s> {
+    asked: &'s Asked,
     name: &'s str,
     rows: &'s [Row<'s>],
     options: &'s Options,
@@ -87,37 +107,50 @@ pub fn answer<W: Write, E: Write>(alloc: Global, words: &[&str], out: &mut W, er
     ensures one_stream { (out.new ≡ out.old) ⊎ (err.new ≡ err.old) }
     ensures nothing_written { result ≡ 3 → (out.new ≡ out.old) × (err.new ≡ err.old) }
 {
-    match answer_to(alloc, words) {
-        Ok(outcome) => match write_answer(&outcome, out, err) {
-            Ok(()) => outcome.status,
+    match output_to(alloc, words) {
+        Ok(output) => match write_output(&output, out, err) {
+            Ok(()) => output.status,
             Err(_) => NOT_WRITTEN,
         },
         Err(_) => NO_MEMORY,
     }
 }
 
-/// Writes the text of an answer: on `out` where the status is 0, and else on `err`.
-fn write_answer<W: Write, E: Write>(outcome: &Outcome, out: &mut W, err: &mut E) -> io::Result<()>
-    ensures out { OnOk result (outcome.now.status ≡ 0
-        → Appends (W.contents out.old) (W.contents out.new) (string_bytes outcome.now.text)) }
-    ensures out_only { outcome.now.status ≡ 0 → err.new ≡ err.old }
-    ensures err { OnOk result (outcome.now.status ≢ 0
-        → Appends (E.contents err.old) (E.contents err.new) (string_bytes outcome.now.text)) }
-    ensures err_only { outcome.now.status ≢ 0 → out.new ≡ out.old }
+/// Writes an output: on `out` where the status is 0, and else on `err`.
+fn write_output<W: Write, E: Write>(output: &Output, out: &mut W, err: &mut E) -> io::Result<()>
+    ensures out { OnOk result (output.now.status ≡ 0
+        → Appends (W.contents out.old) (W.contents out.new) output.now.bytes.items) }
+    ensures out_only { output.now.status ≡ 0 → err.new ≡ err.old }
+    ensures err { OnOk result (output.now.status ≢ 0
+        → Appends (E.contents err.old) (E.contents err.new) output.now.bytes.items) }
+    ensures err_only { output.now.status ≢ 0 → out.new ≡ out.old }
 {
-    if outcome.status == DONE {
-        print(out, outcome.text.as_str())
+    if output.status == DONE {
+        print(out, &output.bytes)
     } else {
-        print(err, outcome.text.as_str())
+        print(err, &output.bytes)
     }
 }
 
-/// Writes a text, and flushes it.
-fn print<W: Write>(out: &mut W, text: &str) -> io::Result<()>
-    ensures { OnOk result (Appends (W.contents out.old) (W.contents out.new) text.now) }
+/// Writes bytes, and flushes them.
+fn print<W: Write>(out: &mut W, bytes: &[u8]) -> io::Result<()>
+    ensures { OnOk result (Appends (W.contents out.old) (W.contents out.new) bytes.now) }
 {
-    out.write_all(text.as_bytes())?;
+    out.write_all(bytes)?;
     out.flush()
+}
+
+/// What the program writes for words: the bytes of its answer's text.
+fn output_to(alloc: Global, words: &[&str]) -> Result<Output, AllocError>
+    ensures { IfOk result (λ output. IsOutput (texts words.now) output.bytes.items output.status) }
+{
+    let outcome = answer_to(alloc, words)?;
+    let mut bytes = Vec::with_capacity(alloc, outcome.text.len())?;
+    push_bytes(&mut bytes, outcome.text.as_str())?;
+    Ok(Output {
+        bytes,
+        status: outcome.status,
+    })
 }
 
 /// What the program says to words.
@@ -183,26 +216,41 @@ fn fault_line(alloc: Global, name: &str, fail: &Fail) -> Result<String, AllocErr
 fn own_answer(alloc: Global, options: &Options, own: &Matches) -> Result<Outcome, AllocError>
     requires options { options.now ≡ own_options }
     requires own { HasOwnGroups own.now.groups }
-    ensures { IfOk result (λ outcome. AnswersOwn own.now (answer_of outcome)) }
+    ensures { IfOk result (λ outcome. (words : List Text) → IsAccepted own_options words own.now
+        → IsAnswer words (answer_of outcome)) }
 {
     if own.opt_present("help") {
-        Ok(Outcome {
+        return Ok(Outcome {
             text: options.usage(alloc, BRIEF)?,
             status: DONE,
-        })
-    } else {
-        let words = texts_of(alloc, &own.free)?;
-        free_answer(alloc, own, &words)
+        });
     }
+    let asked = asked_by(alloc, own)?;
+    let words = texts_of(alloc, &own.free)?;
+    free_answer(alloc, &asked, &words)
+}
+
+/// What the program's own words ask for, where they are accepted with these matches.
+fn asked_by(alloc: Global, own: &Matches) -> Result<Asked, AllocError>
+    requires { HasOwnGroups own.now.groups }
+    ensures { IfOk result (λ asked. asked_of asked ≡ asked_by own.now) }
+{
+    Ok(Asked {
+        brief: own.opt_str(alloc, "brief")?,
+        stop: own.opt_present("stop"),
+        long_only: own.opt_present("long-only"),
+        words: own.opt_present("words"),
+        usage: own.opt_present("usage"),
+        complete: own.opt_str(alloc, "complete")?,
+    })
 }
 
 /// The answer to the free words of the program's own.
-fn free_answer(alloc: Global, own: &Matches, words: &[&str]) -> Result<Outcome, AllocError>
-    requires own { HasOwnGroups own.now.groups }
-    ensures { IfOk result (λ outcome. AnswersFree own.now (texts words.now) (answer_of outcome)) }
+fn free_answer(alloc: Global, asked: &Asked, words: &[&str]) -> Result<Outcome, AllocError>
+    ensures { IfOk result (λ outcome. AnswersFree (asked_of asked.now) (texts words.now) (answer_of outcome)) }
 {
     match words {
-        [name, table, words @ ..] => table_answer(alloc, own, name, table, words),
+        [name, table, words @ ..] => table_answer(alloc, asked, name, table, words),
         _ => Ok(Outcome {
             text: String::from_str(alloc, NEEDED)?,
             status: MISUSED,
@@ -213,17 +261,16 @@ fn free_answer(alloc: Global, own: &Matches, words: &[&str]) -> Result<Outcome, 
 /// The answer to a script's name, its table and its words.
 fn table_answer(
     alloc: Global,
-    own: &Matches,
+    asked: &Asked,
     name: &str,
     table: &str,
     words: &[&str],
 ) -> Result<Outcome, AllocError>
-    requires own { HasOwnGroups own.now.groups }
     ensures { IfOk result (λ outcome.
-        AnswersTable own.now name.now table.now (texts words.now) (answer_of outcome)) }
+        AnswersTable (asked_of asked.now) name.now table.now (texts words.now) (answer_of outcome)) }
 {
     match rows_of(alloc, table) {
-        Ok(rows) => rows_answer(alloc, own, name, &rows, words),
+        Ok(rows) => rows_answer(alloc, asked, name, &rows, words),
         Err(error) => Ok(Outcome {
             text: table_refusal(alloc, error)?,
             status: MISUSED,
@@ -250,35 +297,34 @@ fn table_refusal(alloc: Global, error: TableError<'_>) -> Result<String, AllocEr
 /// The answer to words by the options of a table.
 fn rows_answer(
     alloc: Global,
-    own: &Matches,
+    asked: &Asked,
     name: &str,
     rows: &[Row<'_>],
     words: &[&str],
 ) -> Result<Outcome, AllocError>
-    requires own { HasOwnGroups own.now.groups }
     requires plain { ArePlainlyNamed (groups_of rows.now) }
-    ensures { IfOk result (λ outcome. AnswersScript own.now name.now
-        (script_options own.now (groups_of rows.now)) (texts words.now) (answer_of outcome)) }
+    ensures { IfOk result (λ outcome. AnswersScript (asked_of asked.now) name.now
+        (script_options (asked_of asked.now) (groups_of rows.now)) (texts words.now) (answer_of outcome)) }
 {
-    let options = options_of(alloc, own, rows)?;
+    let options = options_of(alloc, asked, rows)?;
     let script = Script {
+        asked,
         name,
         rows,
         options: &options,
     };
-    script_answer(alloc, own, script, words)
+    script_answer(alloc, script, words)
 }
 
-/// The options of a table, in the style and the mode that the program's own words ask for.
-fn options_of(alloc: Global, own: &Matches, rows: &[Row<'_>]) -> Result<Options, AllocError>
-    requires own { HasOwnGroups own.now.groups }
-    ensures { IfOk result (λ options. options ≡ script_options own.now (groups_of rows.now)) }
+/// The options of a table, in the style and the mode that are asked for.
+fn options_of(alloc: Global, asked: &Asked, rows: &[Row<'_>]) -> Result<Options, AllocError>
+    ensures { IfOk result (λ options. options ≡ script_options (asked_of asked.now) (groups_of rows.now)) }
 {
     let mut options = Options::new(alloc);
-    if own.opt_present("stop") {
+    if asked.stop {
         options.parsing_style(ParsingStyle::StopAtFirstFree);
     }
-    options.long_only(own.opt_present("long-only"));
+    options.long_only(asked.long_only);
     add_rows(&mut options, rows)?;
     Ok(options)
 }
@@ -301,39 +347,30 @@ fn add_rows(options: &mut Options, rows: &[Row<'_>]) -> Result<(), AllocError>
 }
 
 /// The answer for a script and its words.
-fn script_answer(
-    alloc: Global,
-    own: &Matches,
-    script: Script<'_>,
-    words: &[&str],
-) -> Result<Outcome, AllocError>
-    requires own { HasOwnGroups own.now.groups }
+fn script_answer(alloc: Global, script: Script<'_>, words: &[&str]) -> Result<Outcome, AllocError>
     requires rows { script.options.now.groups ≡ groups_of script.rows.now }
     requires plain { ArePlainlyNamed (groups_of script.rows.now) }
-    ensures { IfOk result (λ outcome. AnswersScript own.now script.entry.name.now
+    ensures { IfOk result (λ outcome. AnswersScript (asked_of script.entry.asked.now) script.entry.name.now
         script.entry.options.now (texts words.now) (answer_of outcome)) }
 {
-    if own.opt_present("usage") {
-        Ok(Outcome {
-            text: help_of(alloc, own, script)?,
+    if script.asked.usage {
+        return Ok(Outcome {
+            text: help_of(alloc, script)?,
             status: DONE,
-        })
-    } else {
-        let shell = own.opt_str(alloc, "complete")?;
-        match shell {
-            Some(shell) => completion_answer(alloc, shell.as_str(), script),
-            None => words_answer(alloc, own, script, words),
-        }
+        });
+    }
+    match &script.asked.complete {
+        Some(shell) => completion_answer(alloc, shell.as_str(), script),
+        None => words_answer(alloc, script, words),
     }
 }
 
 /// The help of a script.
-fn help_of(alloc: Global, own: &Matches, script: Script<'_>) -> Result<String, AllocError>
-    requires { HasOwnGroups own.now.groups }
-    ensures { IfOk result (λ text.
-        IsHelp own.now script.entry.name.now script.entry.options.now (string_bytes text)) }
+fn help_of(alloc: Global, script: Script<'_>) -> Result<String, AllocError>
+    ensures { IfOk result (λ text. IsHelp (asked_of script.entry.asked.now) script.entry.name.now
+        script.entry.options.now (string_bytes text)) }
 {
-    match own.opt_str(alloc, "brief")? {
+    match &script.asked.brief {
         Some(brief) => script.options.usage(alloc, brief.as_str()),
         None => {
             let brief = script.options.short_usage(alloc, script.name)?;
@@ -355,27 +392,23 @@ fn completion_answer(alloc: Global, shell: &str, script: Script<'_>) -> Result<O
     }
 }
 
-/// The answer to the words of a script.
-fn words_answer(
-    alloc: Global,
-    own: &Matches,
-    script: Script<'_>,
-    words: &[&str],
-) -> Result<Outcome, AllocError>
-    requires own { HasOwnGroups own.now.groups }
+/// The answer to the words of a script: the code that prints its help where they ask for it, and else what
+/// they are.
+fn words_answer(alloc: Global, script: Script<'_>, words: &[&str]) -> Result<Outcome, AllocError>
+    requires asked { ReadsWords (asked_of script.asked.now) }
     requires rows { script.options.now.groups ≡ groups_of script.rows.now }
     requires plain { ArePlainlyNamed (groups_of script.rows.now) }
-    ensures { IfOk result (λ outcome. AnswersWords own.now script.entry.name.now
+    ensures { IfOk result (λ outcome. AnswersScript (asked_of script.entry.asked.now) script.entry.name.now
         script.entry.options.now (texts words.now) (answer_of outcome)) }
 {
     let asked = asks_help(alloc, script, words)?;
     if asked {
         Ok(Outcome {
-            text: help_code(alloc, own, script)?,
+            text: help_code(alloc, script)?,
             status: DONE,
         })
     } else {
-        line_answer(alloc, own, script, words)
+        line_answer(alloc, script, words)
     }
 }
 
@@ -413,36 +446,21 @@ fn has_help(matches: &Matches) -> bool
     matches.opt_defined("help") && matches.opt_present("help")
 }
 
-/// Whether one of the options is called `help`, and takes no argument.
-fn offers_help(rows: &[Row<'_>]) -> bool
-    ensures { result ≡ offers_help (groups_of rows.now) }
-{
-    any_is_help(rows)
-}
-
 /// Whether one of the rows is called `help`, and takes no argument.
-fn any_is_help(rows: &[Row<'_>]) -> bool
+fn offers_help(rows: &[Row<'_>]) -> bool
     ensures { result ≡ list_any (λ row. bytes_eq row.long.now (codes "help") && is_no row.kind) rows.now }
 {
     rows.iter()
-        .any(|row| row.long == "help" && takes_none(row.kind))
-}
-
-/// Whether a kind takes no argument.
-fn takes_none(kind: HasArg) -> bool
-    ensures { result ≡ is_no kind }
-{
-    matches!(kind, HasArg::No)
+        .any(|row| row.long == "help" && matches!(row.kind, HasArg::No))
 }
 
 /// The code that prints the help of a script, and ends it.
-fn help_code(alloc: Global, own: &Matches, script: Script<'_>) -> Result<String, AllocError>
-    requires { HasOwnGroups own.now.groups }
+fn help_code(alloc: Global, script: Script<'_>) -> Result<String, AllocError>
     ensures { IfOk result (λ text. (help : Text)
-        × IsHelp own.now script.entry.name.now script.entry.options.now help
+        × IsHelp (asked_of script.entry.asked.now) script.entry.name.now script.entry.options.now help
         × (string_bytes text ≡ help_code help)) }
 {
-    let help = help_of(alloc, own, script)?;
+    let help = help_of(alloc, script)?;
     let mut text = String::from_str(alloc, "printf %s ")?;
     push_quoted(&mut text, help.as_str())?;
     text.push_str("; exit 0\n")?;
@@ -450,21 +468,17 @@ fn help_code(alloc: Global, own: &Matches, script: Script<'_>) -> Result<String,
 }
 
 /// The answer to words that don't ask for help: the canonical line of accepted words, or the first fault.
-fn line_answer(
-    alloc: Global,
-    own: &Matches,
-    script: Script<'_>,
-    words: &[&str],
-) -> Result<Outcome, AllocError>
-    requires own { HasOwnGroups own.now.groups }
+fn line_answer(alloc: Global, script: Script<'_>, words: &[&str]) -> Result<Outcome, AllocError>
+    requires asked { ReadsWords (asked_of script.asked.now) }
+    requires no_help { ¬ (AskHelp script.options.now (texts words.now)) }
     requires plain { ArePlainlyNamed script.options.now.groups }
-    ensures { IfOk result (λ outcome. AnswersLine own.now script.entry.name.now
+    ensures { IfOk result (λ outcome. AnswersScript (asked_of script.entry.asked.now) script.entry.name.now
         script.entry.options.now (texts words.now) (answer_of outcome)) }
 {
     names_resolve(script.options);
     match script.options.canonical_words(alloc, words) {
         Ok(Some(line)) => Ok(Outcome {
-            text: line_code(alloc, own, &line)?,
+            text: line_code(alloc, script.asked, &line)?,
             status: DONE,
         }),
         Ok(None) => unreachable!(),
@@ -476,12 +490,12 @@ fn line_answer(
 }
 
 /// The code that sets a script's words to those of a line, or the words alone.
-fn line_code(alloc: Global, own: &Matches, line: &[String]) -> Result<String, AllocError>
-    requires { HasOwnGroups own.now.groups }
-    ensures { IfOk result (λ text. string_bytes text ≡ line_code own.now (map string_bytes line.now)) }
+fn line_code(alloc: Global, asked: &Asked, line: &[String]) -> Result<String, AllocError>
+    ensures { IfOk result (λ text. string_bytes text
+        ≡ line_code (asked_of asked.now) (map string_bytes line.now)) }
 {
     let mut text = String::new(alloc);
-    if !own.opt_present("words") {
+    if !asked.words {
         text.push_str("set -- ")?;
     }
     push_quoted_words(&mut text, line)?;
