@@ -1,4 +1,5 @@
 mod Quoting
+mod QuotedBytes
 mod Items
 mod Lines
 mod Only

@@ -20,6 +20,7 @@ use Rattle.getopts.specs.declared.groups.HasArg.{HasArg}
 use Rattle.getopts.specs.declared.groups.HasArg.TheVariants.{Yes, No}
 use Rattle.getopts.specs.declared.groups.Occur.TheVariants.{Optional}
 use Rattle.getopts.specs.declared.groups.ParsingStyle.TheVariants.{FloatingFrees, StopAtFirstFree}
+use Rattle.getopts_bytes.specs.Marks.{bytes_of}
 use Rattle.getopts_shell.specs.Quote.{quoted, quoted_words, shell_words}
 use Rattle.getopts_shell.specs.Table.{DeclaresOptions, IsTableFault, TableFault, no_option, name_twice}
 use Rattle.getopts_shell.specs.Variables.{SetsVariables, VariableFault, no_prefix, no_variable, prefix_fault}
@@ -265,7 +266,12 @@ OneAnswer = (words : List Text) (answer other : Answer) → IsAnswer words answe
 abbrev pub IsStatus : ℕ → Type 0
 IsStatus status = (status ≤ 5) × (status ≢ 1)
 
--- what a writer holds has grown by the text of the answer to these words, which has this status
+-- the bytes are those of the text of the answer to these words, which has this status
+abbrev pub IsOutput : List Text → List ℕ → ℕ → Type 0
+IsOutput words bytes status = (text : Text)
+    × IsAnswer words (record { text = text; status = status }) × (bytes ≡ bytes_of text)
+
+-- what a writer holds has grown by the bytes of the text of the answer to these words, which has this status
 abbrev pub ShowsAnswer : Option (List ℕ) → Option (List ℕ) → List Text → ℕ → Type 0
-ShowsAnswer old new words status = (text : Text)
-    × IsAnswer words (record { text = text; status = status }) × Appends old new text
+ShowsAnswer old new words status = (bytes : List ℕ)
+    × IsOutput words bytes status × Appends old new bytes

@@ -19,7 +19,7 @@ ghost use Rattle.getopts_shell.specs.Program.{own_groups, own_options, script_op
 ghost use Rattle.getopts_shell.specs.Program.{table_fault_line, fault_line, refused_text};
 ghost use Rattle.getopts_shell.specs.Program.{IsHelp, help_code, AskHelp, is_no, offers_help, line_code};
 ghost use Rattle.getopts_shell.specs.Program.{Asked, asked_by, ReadsWords, AnswersScript};
-ghost use Rattle.getopts_shell.specs.Program.{AnswersTable, AnswersFree, IsAnswer, IsStatus, ShowsAnswer};
+ghost use Rattle.getopts_shell.specs.Program.{AnswersTable, AnswersFree, IsAnswer, IsOutput, IsStatus, ShowsAnswer};
 ghost use Rattle.getopts_shell.specs.Program.{AnswersCompletion, no_completion};
 ghost use Rattle.getopts_shell.specs.Program.{asked_fault, variable_fault_line};
 ghost use Rattle.getopts_shell.specs.Table.{DeclaresOptions, TableFault, no_option, name_twice};
@@ -32,6 +32,7 @@ use crate::table::{TableError, rows_of};
 use crate::variables::{VariableError, Variables, variable_error, variables_code};
 use crate::words::texts_of;
 use getopts::{Fail, HasArg, Matches, Options, ParsingStyle, names_resolve};
+use getopts_bytes::push_bytes;
 use std::alloc::{AllocError, Global};
 use std::io;
 use std::io::Write;
@@ -57,6 +58,13 @@ const NEEDED: &str = "getopts_shell: a name and a table of options are needed\n"
 #[derive(Drop)]
 struct Outcome {
     text: String,
+    status: u8,
+}
+
+/// The bytes that the program writes, and the status that it ends with.
+#[derive(Drop)]
+struct Output {
+    bytes: Vec<u8>,
     status: u8,
 }
 
@@ -106,37 +114,50 @@ pub fn answer<W: Write, E: Write>(alloc: Global, words: &[&str], out: &mut W, er
     ensures one_stream { (out.new ≡ out.old) ⊎ (err.new ≡ err.old) }
     ensures nothing_written { result ≡ 3 → (out.new ≡ out.old) × (err.new ≡ err.old) }
 {
-    match answer_to(alloc, words) {
-        Ok(outcome) => match write_answer(&outcome, out, err) {
-            Ok(()) => outcome.status,
+    match output_to(alloc, words) {
+        Ok(output) => match write_output(&output, out, err) {
+            Ok(()) => output.status,
             Err(_) => NOT_WRITTEN,
         },
         Err(_) => NO_MEMORY,
     }
 }
 
-/// Writes the text of an answer: on `out` where the status is 0, and else on `err`.
-fn write_answer<W: Write, E: Write>(outcome: &Outcome, out: &mut W, err: &mut E) -> io::Result<()>
-    ensures out { OnOk result (outcome.now.status ≡ 0
-        → Appends (W.contents out.old) (W.contents out.new) (string_bytes outcome.now.text)) }
-    ensures out_only { outcome.now.status ≡ 0 → err.new ≡ err.old }
-    ensures err { OnOk result (outcome.now.status ≢ 0
-        → Appends (E.contents err.old) (E.contents err.new) (string_bytes outcome.now.text)) }
-    ensures err_only { outcome.now.status ≢ 0 → out.new ≡ out.old }
+/// Writes an output: on `out` where the status is 0, and else on `err`.
+fn write_output<W: Write, E: Write>(output: &Output, out: &mut W, err: &mut E) -> io::Result<()>
+    ensures out { OnOk result (output.now.status ≡ 0
+        → Appends (W.contents out.old) (W.contents out.new) output.now.bytes.items) }
+    ensures out_only { output.now.status ≡ 0 → err.new ≡ err.old }
+    ensures err { OnOk result (output.now.status ≢ 0
+        → Appends (E.contents err.old) (E.contents err.new) output.now.bytes.items) }
+    ensures err_only { output.now.status ≢ 0 → out.new ≡ out.old }
 {
-    if outcome.status == DONE {
-        print(out, outcome.text.as_str())
+    if output.status == DONE {
+        print(out, &output.bytes)
     } else {
-        print(err, outcome.text.as_str())
+        print(err, &output.bytes)
     }
 }
 
-/// Writes a text, and flushes it.
-fn print<W: Write>(out: &mut W, text: &str) -> io::Result<()>
-    ensures { OnOk result (Appends (W.contents out.old) (W.contents out.new) text.now) }
+/// Writes bytes, and flushes them.
+fn print<W: Write>(out: &mut W, bytes: &[u8]) -> io::Result<()>
+    ensures { OnOk result (Appends (W.contents out.old) (W.contents out.new) bytes.now) }
 {
-    out.write_all(text.as_bytes())?;
+    out.write_all(bytes)?;
     out.flush()
+}
+
+/// What the program writes for words: the bytes of its answer's text.
+fn output_to(alloc: Global, words: &[&str]) -> Result<Output, AllocError>
+    ensures { IfOk result (λ output. IsOutput (texts words.now) output.bytes.items output.status) }
+{
+    let outcome = answer_to(alloc, words)?;
+    let mut bytes = Vec::with_capacity(alloc, outcome.text.len())?;
+    push_bytes(&mut bytes, outcome.text.as_str())?;
+    Ok(Output {
+        bytes,
+        status: outcome.status,
+    })
 }
 
 /// What the program says to words.
