@@ -177,18 +177,15 @@ LINES = {
 NAMES = ["file.txt", "spa ce"]
 
 
-def words_after(typed, modes):
+def words_after(shell, typed, modes):
     """The words of a typed line once its last is completed, if that is sure: at most one thing fits."""
     words = shlex.split(typed)
     before, word = words[:-1], words[-1]
     offered = offers(before, word, **modes)
     if offered in (FILES, ["value"]):
-        front, _, name = word.rpartition("=") if offered == ["value"] or "=" in word else ("", "", word)
-        if offered == ["value"]:
-            front, _, name = word.partition("=")
-            front += "="
-        else:
-            front, name = "", word
+        # (bash itself completes files after the last `=` of a word)
+        place = word.rfind("=") if shell == "bash" else word.find("=") if offered == ["value"] else -1
+        front, name = word[:place + 1], word[place + 1:]
         fits = [file for file in NAMES if file.startswith(name)]
         return before + [front + fits[0] if len(fits) == 1 else word]
     forms = [line.split("\t")[0] for line in offered]
@@ -225,7 +222,7 @@ def in_terminal(shell, program, room):
     terminal.type("backup ready\r")
     for name, lines in LINES.items():
         for typed in lines:
-            wanted = words_after(typed, modes[name])
+            wanted = words_after(shell, typed, modes[name])
             got, shown = terminal.type(f"{name} {typed}\t\r")
             if got != wanted:
                 fail(f"{shell}: {name} {typed}: {got}, and not {wanted}: {shown!r}")

@@ -1,4 +1,5 @@
 mod Quoting
+mod QuotedBytes
 mod Items
 mod Lines
 mod Only
@@ -11,3 +12,6 @@ mod Status
 mod Stubs
 -- one thing is offered at a word
 mod Offers
+mod Shell
+mod Assignments
+mod Asked

@@ -13,9 +13,11 @@ use Rattle.getopts_shell.specs.Completion.{IsOffer, word_at}
 use Rattle.getopts_shell.specs.Program.{Answer, Asked, asked_by, done, misused, own_options, is_given, help_code}
 use Rattle.getopts_shell.specs.Program.{fault_line, refused_text, table_fault_line, script_options, line_code}
 use Rattle.getopts_shell.specs.Program.{AnswersPlace, offered, no_place, AnswersNumbered, AnswersOffer, at_place, no_shell, completion_answer}
-use Rattle.getopts_shell.specs.Program.{AnswersScript, usage, offers, help, accepted, refused, ReadsWords}
-use Rattle.getopts_shell.specs.Program.{faulty, completion, declared, AnswersFree, refused_own, own_help, accepted_own, OneAnswer}
+use Rattle.getopts_shell.specs.Program.{AnswersScript, usage, offers, help, accepted, variables, refused, ReadsWords}
+use Rattle.getopts_shell.specs.Program.{faulty, completion, no_variables, declared, AnswersFree, asked_fault, variable_fault_line}
+use Rattle.getopts_shell.specs.Program.{refused_own, own_help, accepted_own, OneAnswer}
 use Rattle.getopts_shell.specs.Table.{TableFault}
+use Rattle.getopts_shell.specs.Variables.{VariableFault, variables_code}
 use Rattle.getopts_shell.proofs.Offers.{one_offer, one_number}
 use Rattle.getopts_shell.proofs.Only.{one_table, one_fault, no_fault}
 
@@ -57,6 +59,12 @@ no_place_asked : {X : Type 0} (asked : Asked) (shell : Text) → asked.complete_
     → X
 no_place_asked asked shell given reads = let both : Some shell ≡ None = sym given ∙ reads.1 in absurd cc
 
+no_code : {X : Type 0} (asked : Asked) (shell : Text) → asked.complete ≡ Some shell → asked.complete ≡ None → X
+no_code asked shell given none = let both : Some shell ≡ None = sym given ∙ none in absurd cc
+
+no_prefix : {X : Type 0} (asked : Asked) (prefix : Text) → asked.variables ≡ Some prefix → asked.variables ≡ None → X
+no_prefix asked prefix given none = let both : Some prefix ≡ None = sym given ∙ none in absurd cc
+
 module _ (parse : (options : Declared) (words : List Text) → AtMostOne (IsParseAnswer options words))
     (canonical : (options : Declared) (words : List Text) → AtMostOne (IsCanonicalAnswer options words)) where
   one_script : (asked : Asked) (name : Text) (options : Declared) (words : List Text)
@@ -68,7 +76,7 @@ module _ (parse : (options : Declared) (words : List Text) → AtMostOne (IsPars
       no_usage asked given none
   one_script asked name options words (usage text given is) (help other reads ask also) =
       no_usage asked given reads.0
-  one_script asked name options words (usage text given is) (accepted line reads none also) =
+  one_script asked name options words (usage text given is) (accepted line reads none plain also) =
       no_usage asked given reads.0
   one_script asked name options words (usage text given is) (refused fault reads none also) =
       no_usage asked given reads.0
@@ -82,7 +90,7 @@ module _ (parse : (options : Declared) (words : List Text) → AtMostOne (IsPars
   one_script asked name options words (offers shell answer none shell_is is) (help other reads ask also) =
       no_place_asked asked shell shell_is reads
   one_script asked name options words (offers shell answer none shell_is is)
-      (accepted line reads no_help also) = no_place_asked asked shell shell_is reads
+      (accepted line reads no_help plain also) = no_place_asked asked shell shell_is reads
   one_script asked name options words (offers shell answer none shell_is is)
       (refused fault reads no_help also) = no_place_asked asked shell shell_is reads
   one_script asked name options words (help text reads ask is) (usage another given also) =
@@ -91,19 +99,19 @@ module _ (parse : (options : Declared) (words : List Text) → AtMostOne (IsPars
       no_place_asked asked shell shell_is reads
   one_script asked name options words (help text reads ask is) (help another again also_ask also) =
       ap (λ (t : Text). done (help_code t)) (one_only _ text another is also)
-  one_script asked name options words (help text reads ask is) (accepted line again none also) = absurd (none ask)
+  one_script asked name options words (help text reads ask is) (accepted line again none plain also) = absurd (none ask)
   one_script asked name options words (help text reads ask is) (refused fault again none also) = absurd (none ask)
-  one_script asked name options words (accepted line reads no_help is) (usage text given also) =
+  one_script asked name options words (accepted line reads no_help plain is) (usage text given also) =
       no_usage asked given reads.0
-  one_script asked name options words (accepted line reads no_help is)
+  one_script asked name options words (accepted line reads no_help plain is)
       (offers shell other none shell_is also) = no_place_asked asked shell shell_is reads
-  one_script asked name options words (accepted line reads none is) (help text again ask also) = absurd (none ask)
-  one_script asked name options words (accepted line reads none is) (accepted another again never also) =
+  one_script asked name options words (accepted line reads none plain is) (help text again ask also) = absurd (none ask)
+  one_script asked name options words (accepted line reads none plain is) (accepted another again never simple also) =
       let same : Ok (Some another) ≡ Ok (Some line) =
       canonical options words (Ok (Some another)) (Ok (Some line)) also.written is.written in
       let same_line : another ≡ line = cc in
       ap (λ (l : List Text). done (line_code asked l)) same_line
-  one_script asked name options words (accepted line reads none is) (refused fault again never also) =
+  one_script asked name options words (accepted line reads none plain is) (refused fault again never also) =
       let same : Ok (Some line) ≡ Err fault = canonical options words (Ok (Some line)) (Err fault) is.written also in
       absurd cc
   one_script asked name options words (refused fault reads no_help is) (usage text given also) =
@@ -111,13 +119,43 @@ module _ (parse : (options : Declared) (words : List Text) → AtMostOne (IsPars
   one_script asked name options words (refused fault reads no_help is)
       (offers shell other none shell_is also) = no_place_asked asked shell shell_is reads
   one_script asked name options words (refused fault reads none is) (help text again ask also) = absurd (none ask)
-  one_script asked name options words (refused fault reads none is) (accepted line again never also) =
+  one_script asked name options words (refused fault reads none is) (accepted line again never plain also) =
       let same : Ok (Some line) ≡ Err fault = canonical options words (Ok (Some line)) (Err fault) also.written is in
       absurd cc
   one_script asked name options words (refused fault reads none is) (refused another again never also) =
       let same : Err another ≡ Err fault = parse options words (Err another) (Err fault) also is in
       let same_fault : another ≡ fault = cc in
       ap (λ (f : Fault). record { text = refused_text options name f; status = 2 }) same_fault
+  one_script asked name options words (usage text given is) (variables prefix matches reads none by also sets) =
+      no_usage asked given reads.0
+  one_script asked name options words (offers shell answer none shell_is is)
+      (variables prefix matches reads no_help by also sets) = no_place_asked asked shell shell_is reads
+  one_script asked name options words (help text reads ask is)
+      (variables prefix matches again none by also sets) = absurd (none ask)
+  one_script asked name options words (accepted line reads no_help plain is)
+      (variables prefix matches again none by also sets) = no_prefix asked prefix by plain
+  one_script asked name options words (refused fault reads no_help is)
+      (variables prefix matches again none by also sets) =
+      let same : Ok matches ≡ Err fault = parse options words (Ok matches) (Err fault) also is in absurd cc
+  one_script asked name options words (variables prefix matches reads none by is sets) (usage text given also) =
+      no_usage asked given reads.0
+  one_script asked name options words (variables prefix matches reads no_help by is sets)
+      (offers shell other none shell_is also) = no_place_asked asked shell shell_is reads
+  one_script asked name options words (variables prefix matches reads none by is sets)
+      (help text again ask also) = absurd (none ask)
+  one_script asked name options words (variables prefix matches reads no_help by is sets)
+      (accepted line again none plain also) = no_prefix asked prefix by plain
+  one_script asked name options words (variables prefix matches reads no_help by is sets)
+      (refused fault again none also) =
+      let same : Ok matches ≡ Err fault = parse options words (Ok matches) (Err fault) is also in absurd cc
+  one_script asked name options words (variables prefix matches reads none by is sets)
+      (variables other others again never also_by also also_sets) =
+      let both : Some other ≡ Some prefix = sym also_by ∙ by in
+      let same_prefix : other ≡ prefix = cc in
+      let same : Ok others ≡ Ok matches = parse options words (Ok others) (Ok matches) also is in
+      let same_matches : others ≡ matches = cc in
+      ap (λ (p : Text). done (variables_code p asked.arrays others)) same_prefix
+      ∙ ap (λ (m : Matched). done (variables_code prefix asked.arrays m)) same_matches
 
   one_free : (asked : Asked) (words : List Text) {answer other : Answer}
       → AnswersFree asked words answer → AnswersFree asked words other → other ≡ answer
@@ -133,15 +171,40 @@ module _ (parse : (options : Declared) (words : List Text) → AtMostOne (IsPars
       let both : Some another ≡ Some shell = sym again ∙ given in
       let same : another ≡ shell = cc in
       ap (λ (s : Text). completion_answer asked s name table) same
-  one_free asked (name ∷ table ∷ words) (completion groups shell are given) (declared others other also none is) =
-      let both : Some shell ≡ None = sym given ∙ none in absurd cc
-  one_free asked (name ∷ table ∷ words) (declared groups answer are none is) (completion others shell also given) =
-      let both : Some shell ≡ None = sym given ∙ none in absurd cc
-  one_free asked (name ∷ table ∷ words) (faulty fault is) (declared groups other are none also) =
+  one_free asked (name ∷ table ∷ words) (completion groups shell are given) (declared others other also none fits is) =
+      no_code asked shell given none
+  one_free asked (name ∷ table ∷ words) (declared groups answer are none fits is) (completion others shell also given) =
+      no_code asked shell given none
+  one_free asked (name ∷ table ∷ words) (completion groups shell are given) (no_variables others fault also none is) =
+      no_code asked shell given none
+  one_free asked (name ∷ table ∷ words) (no_variables groups fault are none is) (completion others shell also given) =
+      no_code asked shell given none
+  one_free asked (name ∷ table ∷ words) (faulty fault is) (declared groups other are none fits also) =
       absurd (no_fault table groups fault are is)
-  one_free asked (name ∷ table ∷ words) (declared groups answer are none is) (faulty fault also) =
+  one_free asked (name ∷ table ∷ words) (faulty fault is) (no_variables groups another are none also) =
+      absurd (no_fault table groups fault are is)
+  one_free asked (name ∷ table ∷ words) (no_variables groups another are none is) (faulty fault also) =
       absurd (no_fault table groups fault are also)
-  one_free asked (name ∷ table ∷ words) (declared groups answer are none is) (declared others other also_are never also) =
+  one_free asked (name ∷ table ∷ words) (no_variables groups fault are none is)
+      (no_variables others another also_are never also) =
+      let both : Some another ≡ Some fault = sym also
+      ∙ ap (asked_fault asked table) (one_table table groups others are also_are) ∙ is in
+      let same : another ≡ fault = cc in
+      ap (λ (f : VariableFault). misused (variable_fault_line f)) same
+  one_free asked (name ∷ table ∷ words) (no_variables groups fault are none is)
+      (declared others other also_are never fits also) =
+      let both : Some fault ≡ None = sym is
+      ∙ sym (ap (asked_fault asked table) (one_table table groups others are also_are)) ∙ fits in
+      absurd cc
+  one_free asked (name ∷ table ∷ words) (declared groups answer are none fits is)
+      (no_variables others fault also_are never also) =
+      let both : Some fault ≡ None = sym also
+      ∙ ap (asked_fault asked table) (one_table table groups others are also_are) ∙ fits in
+      absurd cc
+  one_free asked (name ∷ table ∷ words) (declared groups answer are none fits is) (faulty fault also) =
+      absurd (no_fault table groups fault are also)
+  one_free asked (name ∷ table ∷ words) (declared groups answer are none fits is)
+      (declared others other also_are never also_fits also) =
       one_script asked name (script_options asked groups) words is
       (subst (λ (gs : List Group). AnswersScript asked name (script_options asked gs) words other)
       (one_table table groups others are also_are) also)

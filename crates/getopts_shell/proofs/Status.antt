@@ -5,8 +5,8 @@ use Rattle.getopts.specs.Names.{Text}
 use Rattle.getopts.specs.Options.{Declared}
 use Rattle.getopts_shell.specs.Completion.{stub}
 use Rattle.getopts_shell.specs.Program.{Answer, Asked, done, misused, no_completion, AnswersPlace, AnswersNumbered, AnswersOffer, at_place, no_shell, offered, no_place}
-use Rattle.getopts_shell.specs.Program.{AnswersScript, usage, offers, help, accepted, refused}
-use Rattle.getopts_shell.specs.Program.{faulty, completion, declared, AnswersFree, IsStatus}
+use Rattle.getopts_shell.specs.Program.{AnswersScript, usage, offers, help, accepted, variables, refused}
+use Rattle.getopts_shell.specs.Program.{faulty, completion, no_variables, declared, AnswersFree, IsStatus}
 use Rattle.getopts_shell.specs.Program.{IsAnswer, refused_own, own_help, accepted_own}
 
 -- the status of an answer: 0, 2 or 5
@@ -35,14 +35,14 @@ of_place : {options : Declared} {number : Text} {words : List Text} {answer : An
 of_place (offered place text writes within is) = is_done
 of_place (no_place none) = is_misused
 
-of_numbered : (options : Declared) (words : List Text) {answer : Answer}
+of_numbered : (options : Declared) (words : List Text) (answer : Answer)
     → AnswersNumbered options words answer → AnswersBy answer.status
-of_numbered options [] is = of_place is
-of_numbered options (number ∷ words) is = of_place is
+of_numbered options [] answer is = of_place is
+of_numbered options (number ∷ words) answer is = of_place is
 
 of_offer : {shell : Text} {options : Declared} {words : List Text} {answer : Answer}
     → AnswersOffer shell options words answer → AnswersBy answer.status
-of_offer {options = options} {words = words} (at_place answer has is) = of_numbered options words is
+of_offer {options = options} {words = words} (at_place answer has is) = of_numbered options words answer is
 of_offer (no_shell none) = is_misused
 
 of_script : {asked : Asked} {name : Text} {options : Declared} {words : List Text} {answer : Answer}
@@ -50,7 +50,8 @@ of_script : {asked : Asked} {name : Text} {options : Declared} {words : List Tex
 of_script (usage text given is) = is_done
 of_script (offers shell answer none given is) = of_offer is
 of_script (help text reads asks is) = is_done
-of_script (accepted line reads none is) = is_done
+of_script (accepted line reads none plain is) = is_done
+of_script (variables prefix matches reads none by is sets) = is_done
 of_script (refused fault reads none is) = is_refused
 
 of_free : (asked : Asked) (words : List Text) (answer : Answer) → AnswersFree asked words answer
@@ -60,7 +61,8 @@ of_free asked (name ∷ []) answer is = subst (λ (a : Answer). AnswersBy a.stat
 of_free asked (name ∷ table ∷ words) answer (faulty fault is) = is_misused
 of_free asked (name ∷ table ∷ words) answer (completion groups shell are given) =
     of_completion (no_completion shell) (stub shell asked.stop asked.long_only name table)
-of_free asked (name ∷ table ∷ words) answer (declared groups other are none is) = of_script is
+of_free asked (name ∷ table ∷ words) answer (no_variables groups fault are none is) = is_misused
+of_free asked (name ∷ table ∷ words) answer (declared groups other are none fits is) = of_script is
 
 -- each answer has one of these
 pub answers_by : (words : List Text) (answer : Answer) → IsAnswer words answer → AnswersBy answer.status

@@ -6,6 +6,8 @@ pub mod Quote
 pub mod Table
 -- what completes a script's words
 pub mod Completion
+-- options as variables: what a shell does with commands, and the text that sets them
+pub mod Variables
 -- what the program answers
 pub mod Program
 -- Cited by private clauses alone.

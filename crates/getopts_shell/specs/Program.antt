@@ -3,7 +3,7 @@ use Rattle.std.specs.Prelude.{◌≡◌, ◌≢◌, ◌≤◌, ◌&&◌, ◌||�
 use Rattle.std.specs.Prelude.{Some, None, codes, decimal, if◌then◌else◌, length, take}
 use Rattle.std.specs.Io.KnownBytes.{Appends}
 use Rattle.std.specs.List.{AllByRecursion, list_any}
-use Rattle.std.specs.Option.{unwrap_or, option_map_or}
+use Rattle.std.specs.Option.{option_and_then, option_map_or, unwrap_or}
 use Rattle.std.specs.Str.{bytes_eq}
 use Rattle.getopts.specs.Accessors.{first_value, found_of, is_present}
 use Rattle.getopts.specs.Canon.{HasCanonicalLine, canonical_word}
@@ -12,7 +12,7 @@ use Rattle.getopts.specs.Fail.{Fault, fault_text}
 use Rattle.getopts.specs.Matches.{Matched}
 use Rattle.getopts.specs.Names.{Text}
 use Rattle.getopts.specs.Only.{IsTheOnly}
-use Rattle.getopts.specs.Options.{Group, Declared, group_of}
+use Rattle.getopts.specs.Options.{Group, Declared, group_of, names_of}
 use Rattle.getopts.specs.Parse.{HasReading, IsAccepted, IsRefused}
 use Rattle.getopts.specs.Reading.{stop_word}
 use Rattle.getopts.specs.Usage.{IsUsageText, short_usage_text}
@@ -21,8 +21,11 @@ use Rattle.getopts.specs.declared.groups.HasArg.TheVariants.{Yes, No}
 use Rattle.getopts.specs.declared.groups.Occur.TheVariants.{Optional}
 use Rattle.getopts.specs.declared.groups.ParsingStyle.TheVariants.{FloatingFrees, StopAtFirstFree}
 use Rattle.getopts_shell.specs.Completion.{IsOffer, WritesNumber, stub, word_at}
+use Rattle.getopts_bytes.specs.Marks.{bytes_of}
 use Rattle.getopts_shell.specs.Quote.{quoted, quoted_words, shell_words}
 use Rattle.getopts_shell.specs.Table.{DeclaresOptions, IsTableFault, TableFault, no_option, name_twice}
+use Rattle.getopts_shell.specs.Variables.{SetsVariables, VariableFault, no_prefix, no_variable, prefix_fault}
+use Rattle.getopts_shell.specs.Variables.{variable_twice, variables_code, with_words}
 
 -- ---- the program's own options
 
@@ -32,6 +35,9 @@ own_groups =
     ∷ group_of (codes "s") (codes "stop") (codes "leave all words from the first free one on free") [] No Optional
     ∷ group_of (codes "l") (codes "long-only") (codes "let long names follow one dash too") [] No Optional
     ∷ group_of (codes "w") (codes "words") (codes "write the words alone, without 'set --'") [] No Optional
+    ∷ group_of (codes "V") (codes "variables") (codes "set a variable for each option, named PREFIX and its name")
+    (codes "PREFIX") Yes Optional
+    ∷ group_of (codes "A") (codes "arrays") (codes "with --variables, make an array of values") [] No Optional
     ∷ group_of (codes "u") (codes "usage") (codes "write the help of TABLE") [] No Optional
     ∷ group_of (codes "c") (codes "complete") (codes "write a completion script for bash, zsh or fish")
     (codes "SHELL") Yes Optional
@@ -61,6 +67,8 @@ pub record Asked : Type 0 where
   pub usage : Bool
   pub complete : Option Text
   pub complete_words : Option Text
+  pub variables : Option Text
+  pub arrays : Bool
 
 -- what words with these matches ask for
 abbrev pub asked_by : Matched → Asked
@@ -72,6 +80,8 @@ asked_by own = record {
   usage = is_given own (codes "usage");
   complete = value_given own (codes "complete");
   complete_words = value_given own (codes "complete-words");
+  variables = value_given own (codes "variables");
+  arrays = is_given own (codes "arrays");
 }
 
 -- a script's words are read: neither its help nor what may come is asked for
@@ -144,6 +154,20 @@ abbrev pub AskHelp : Declared → List Text → Type 0
 AskHelp options words = (matches : Matched) × HasReading options words matches
     × (offers_help options.groups ≡ true) × (is_present matches.groups (codes "help") ≡ true)
 
+-- the line of a fault of variables
+abbrev pub variable_fault_line : VariableFault → Text
+variable_fault_line with_words = codes "getopts_shell: --words and --variables don't go together\n"
+variable_fault_line (no_prefix prefix) = codes "getopts_shell: '" ++ (prefix ++ codes "' makes no variable\n")
+variable_fault_line (no_variable number name) = codes "getopts_shell: line "
+    ++ (decimal number ++ (codes " of the options: '" ++ (name ++ codes "' makes no variable\n")))
+variable_fault_line (variable_twice number name) = codes "getopts_shell: line "
+    ++ (decimal number ++ (codes " of the options: '" ++ (name ++ codes "' makes the variable of another option\n")))
+
+-- the fault of the variables that are asked for, with a table of these options
+abbrev pub asked_fault : Asked → Text → List Group → Option VariableFault
+asked_fault asked table groups = option_and_then
+    (λ prefix. if asked.words then Some with_words else prefix_fault prefix table (names_of groups)) asked.variables
+
 -- the code that sets a script's words to those of a line, or the words alone
 abbrev pub line_code : Asked → List Text → Text
 line_code asked line =
@@ -196,7 +220,8 @@ pub data AnswersOffer (shell : Text) (options : Declared) (words : List Text) : 
   no_shell : has_completion shell ≡ false → AnswersOffer shell options words (misused (no_completion shell))
 
 -- The answer for a script with these options: its help, what may come at a word, or what its words are. That
--- is the code that prints its help where they ask for it, and else their canonical line or the first fault.
+-- is the code that prints its help where they ask for it, and else their canonical line, the code that sets
+-- variables, or the first fault.
 pub data AnswersScript (asked : Asked) (name : Text) (options : Declared) (words : List Text)
     : Answer → Type 0 where
   usage : (help : Text) → asked.usage ≡ true → IsHelp asked name options help
@@ -206,21 +231,29 @@ pub data AnswersScript (asked : Asked) (name : Text) (options : Declared) (words
   help : (help : Text) → ReadsWords asked → AskHelp options words → IsHelp asked name options help
       → AnswersScript asked name options words (done (help_code help))
   accepted : (line : List Text) → ReadsWords asked → ¬ (AskHelp options words)
-      → TellsWords options words line
+      → asked.variables ≡ None → TellsWords options words line
       → AnswersScript asked name options words (done (line_code asked line))
+  variables : (prefix : Text) (matches : Matched) → ReadsWords asked → ¬ (AskHelp options words)
+      → asked.variables ≡ Some prefix → IsAccepted options words matches
+      → SetsVariables prefix asked.arrays matches
+      → AnswersScript asked name options words (done (variables_code prefix asked.arrays matches))
   refused : (fault : Fault) → ReadsWords asked → ¬ (AskHelp options words)
       → IsRefused options words fault → AnswersScript asked name options words
       (record { text = refused_text options name fault; status = 2 })
 
 -- The answer to a script's name, its table and its words: the fault of the table, the code that completes the
--- words, or the answer for the table's options.
+-- words, the fault of the table's variables, or the answer for the table's options.
 pub data AnswersTable (asked : Asked) (name table : Text) (words : List Text) : Answer → Type 0 where
   faulty : (fault : TableFault) → IsTableFault table fault
       → AnswersTable asked name table words (misused (table_fault_line fault))
   completion : (groups : List Group) (shell : Text) → DeclaresOptions table groups
       → asked.complete ≡ Some shell
       → AnswersTable asked name table words (completion_answer asked shell name table)
+  no_variables : (groups : List Group) (fault : VariableFault) → DeclaresOptions table groups
+      → asked.complete ≡ None → asked_fault asked table groups ≡ Some fault
+      → AnswersTable asked name table words (misused (variable_fault_line fault))
   declared : (groups : List Group) (answer : Answer) → DeclaresOptions table groups → asked.complete ≡ None
+      → asked_fault asked table groups ≡ None
       → AnswersScript asked name (script_options asked groups) words answer
       → AnswersTable asked name table words answer
 
@@ -254,7 +287,12 @@ OneAnswer = (words : List Text) (answer other : Answer) → IsAnswer words answe
 abbrev pub IsStatus : ℕ → Type 0
 IsStatus status = (status ≤ 5) × (status ≢ 1)
 
--- what a writer holds has grown by the text of the answer to these words, which has this status
+-- the bytes are those of the text of the answer to these words, which has this status
+abbrev pub IsOutput : List Text → List ℕ → ℕ → Type 0
+IsOutput words bytes status = (text : Text)
+    × IsAnswer words (record { text = text; status = status }) × (bytes ≡ bytes_of text)
+
+-- what a writer holds has grown by the bytes of the text of the answer to these words, which has this status
 abbrev pub ShowsAnswer : Option (List ℕ) → Option (List ℕ) → List Text → ℕ → Type 0
-ShowsAnswer old new words status = (text : Text)
-    × IsAnswer words (record { text = text; status = status }) × Appends old new text
+ShowsAnswer old new words status = (bytes : List ℕ)
+    × IsOutput words bytes status × Appends old new bytes

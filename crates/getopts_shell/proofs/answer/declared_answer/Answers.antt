@@ -1,23 +1,15 @@
-use Rattle.std.proofs.Common.{ap, string_bytes, subst, sym, Some, ◌∙◌}
-use Rattle.std.specs.Option.{option_map}
+use Rattle.std.proofs.Common.{sym}
 use Rattle.std.proofs.lemmas.Result.{IfOk-weaker}
-use Rattle.getopts.specs.Names.{texts}
-use Rattle.getopts_shell.specs.Held.{asked_of, groups_of}
-use Rattle.getopts_shell.specs.Program.{Answer, AnswersTable, completion, declared}
+use Rattle.getopts_shell.specs.Held.{groups_of}
+use Rattle.getopts_shell.specs.Program.{declared, no_variables}
 use Rattle.getopts_shell.proofs.answer.declared_answer.Goals as goal
 
-pub returns-in-Some : goal.returns-in-Some
-returns-in-Some c =
-    IfOk-weaker c.completion_answer.result _ _
-    (λ outcome is. subst (λ (a : Answer). AnswersTable (asked_of c.args.asked.now) c.args.name.now c.args.table.now
-    (texts c.args.words.now) a) (sym is)
-    (completion (groups_of c.args.rows.now) c.as_str.result.now c.requires.declared
-    (ap (option_map string_bytes) c.in-Some.is ∙ ap Some (sym c.as_str.ensures.value))))
-    c.completion_answer.ensures
+pub returns-in_ok-variable_refusal-in-Some : goal.returns-in_ok-variable_refusal-in-Some
+returns-in_ok-variable_refusal-in-Some c = λ are.
+    rw c.in_ok-variable_refusal-in-Some.ensures (no_variables (groups_of c.args.rows.now) _ are c.requires.no_code (sym c.in-Some.ensures))
 
 pub returns-in-None : goal.returns-in-None
 returns-in-None c =
     IfOk-weaker c.rows_answer.result _ _
-    (λ outcome is. declared (groups_of c.args.rows.now) _ c.requires.declared
-    (ap (option_map string_bytes) c.in-None.is) is)
+    (λ outcome is. λ are. declared (groups_of c.args.rows.now) _ are c.requires.no_code (sym c.in-None.ensures) is)
     c.rows_answer.ensures
