@@ -38,13 +38,6 @@ def stated(name, pattern):
     return f"{int(re.search(pattern, read(name))[1]):,}"
 
 
-def glibc(program):
-    """The least version of glibc that a program runs with."""
-    with open(program, "rb") as file:
-        needed = re.findall(rb"GLIBC_(\d+)\.(\d+)", file.read())
-    return "{}.{}".format(*max((int(one), int(other)) for one, other in needed))
-
-
 # ---- what is recorded ----
 
 
@@ -109,7 +102,7 @@ def counted_again():
         print("passed over: instructions, since there is no valgrind or no built getopts_bench")
         return
     for job, few, more in [("small", 100, 300), ("long", 5, 15), ("many", 5, 15), ("usage", 100, 300)]:
-        counted = output_of("bench/instructions.sh", str(few), str(more), program, job)
+        counted = output_of("bench/count.sh", "instructions", str(few), str(more), program, job)
         yield job, int(cell(INSTRUCTIONS, job, "this library")), int(counted)
 
 
@@ -125,12 +118,13 @@ FIGURES = [
     ("README.md", r"it takes (\d+) % and (\d+) %", lambda: [share("copied-small"), share("copied-long")]),
     ("README.md", r"drop-in takes (\d+) % .* and (\d+) %",
      lambda: [share("small", "bindings/rust"), share("long", "bindings/rust")]),
+    ("docs/DECISIONS.md", r"9,305 instructions in place of ([\d,]+)",
+     lambda: [f"{int(cell(INSTRUCTIONS, 'small', 'this library')):,}"]),
     ("CALLING.md", r"the library once, in ([^|]*?) of processor time", lambda: minutes("rt lib")[:1]),
     ("tests/differential/README.md", r"first ([\d,]+) of seed 1",
      lambda: [stated("tests/differential/record.sh", r"choose 1 (\d+)")]),
     ("bindings/rust/README.md", r"Rust ([\d.]+) or later",
      lambda: re.findall(r'rust-version = "(.*)"', read("bindings/rust/Cargo.toml"))),
-    ("bindings/shell/README.md", r"glibc ([\d.]+) or later", lambda: [glibc("bindings/shell/getopts_shell")]),
     ("bench/README.md", r"holds is ([\d.]+) MB here, ([\d.]+) MB in the Rust\s+crate and ([\d.]+) MB",
      lambda: [megabytes("this library"), megabytes("Rust crate"), megabytes("bindings/rust")]),
 ]
@@ -139,9 +133,9 @@ FIGURES = [
 OTHERS = re.compile(r"""
     \bU\+\w+ | \b0\.2\.24\b | Apache-2\.0 | x86-64(-v2)?
     | 1,000\ words | 100,000\ words | 200\ options | 400\ words | 4,000\ names | 1,000\ options\ each
-    | 54\ columns | 24\ (spaces|columns) | stop\ at\ 255 | 24\ bytes | C\+\+11 | 80\ words | 200,000\ cases | about\ 2009
+    | (32|64)\ bits | 54\ columns | 24\ (spaces|columns) | stop\ at\ 255 | 24\ bytes | C\+\+11 | Debian\ 12 | 80\ words | 200,000\ cases | about\ 2009
     # experiments that were done once
-    | 393\ small\ changes | detected\ 375 | 585\ small\ changes | detected\ 492 | 54\ of\ the\ other\ 93 | 39\ are
+    | 564\ lines | 9,305\ instructions | 393\ small\ changes | detected\ 375 | 585\ small\ changes | detected\ 492 | 54\ of\ the\ other\ 93 | 39\ are
 """, re.X)
 
 

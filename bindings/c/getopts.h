@@ -53,8 +53,9 @@ enum getopts_modes {
 /* Options, and what the last reading gave. */
 struct getopts;
 
-/* Makes options from a table. Returns NULL if out of memory. If a row of the table is wrong, getopts_message
- * says which and why, such as "table[2]: short name 'ab' has 2 bytes", and each reading returns GETOPTS_BAD. */
+/* Makes options from a table. Returns NULL if out of memory. If the table is NULL, or a row of it is wrong,
+ * getopts_message says which and why, such as "table[2]: short name 'ab' has 2 bytes", and each reading returns
+ * GETOPTS_BAD. */
 struct getopts *getopts_new(const struct getopts_option *table, enum getopts_modes modes);
 
 /* Reads words, such as argc - 1 and argv + 1. Returns GETOPTS_OK, or why it fails:
@@ -64,7 +65,7 @@ struct getopts *getopts_new(const struct getopts_option *table, enum getopts_mod
  * - GETOPTS_ARGUMENT_MISSING, GETOPTS_UNRECOGNIZED_OPTION, GETOPTS_UNEXPECTED_ARGUMENT: the words can't be read,
  *   and the calls below return nothing. A word that isn't UTF-8 is an unrecognized option.
  * - GETOPTS_NO_MEMORY: out of memory; what was read before stays.
- * - GETOPTS_BAD: a row of the table is wrong. */
+ * - GETOPTS_BAD: the table is wrong, or one of the words, which are `count`, is NULL; what was read before stays. */
 int getopts_read(struct getopts *options, int count, char *const *words);
 
 /* Why the last reading failed, such as "Unrecognized option: 'x'". Returns "" if it didn't fail, or if nothing

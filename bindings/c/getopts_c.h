@@ -10,8 +10,8 @@
  * - A pointer and its length are those of an array. With length 0 the pointer may be NULL.
  * - The buffers and the sizes overlap neither each other nor anything that is read. If they do, the answer may be
  *   wrong; in all tests nothing else was written. What is only read may overlap.
- * - A bool is 0 or 1, as C makes it. With other bytes, which a wrong declaration can pass, the answer may be wrong;
- *   in all tests the lowest bit counted.
+ * - A bool is 0 or 1, as C makes it. Other bytes, which a wrong declaration can pass, counted as one of the two in all
+ *   tests.
  *
  * A request stands for one set of options and one line at most, and an answer is read back in one way: its
  * numbers say where each part of it ends. */
@@ -69,17 +69,10 @@ enum getopts_kind {
     GETOPTS_MULTI = 8     /* it comes any number of times */
 };
 
-/* Reads words by options. The words stand at the front of the two buffers, and the answer is written over them:
- * with the last three statuses they are as they were. If a buffer has less than is said to stand there, all that
- * it has is meant.
- *
- * The numbers are, for each name of each group in order, the short one and the long one, 1 and the place
- * of the group that it names, from 0, or 0 where it names none. Then how many groups there are, and for
- * each of them how many occurrences it has, and of each of those its position and 1 and its value's
- * length, or 0 where it has no value. Then how many free words there are, and the length of each; then 1
- * and the number of free words before those after `--`, or 0. The bytes are the values and the free words
- * in that order. A position is the index of a word. */
-uint32_t getopts_c_parse(
+/* A call that reads words by options. The words stand at the front of the two buffers, and the answer is written over
+ * them: with the last three statuses they are as they were. If a buffer has less than is said to stand there, all that
+ * it has is meant. */
+typedef uint32_t getopts_c_reader(
     const uint8_t *texts,    /* of each group the short name, the long name, the hint, the description */
     size_t texts_len,        /* how many bytes they are together */
     const size_t *lens,      /* the length of each text */
@@ -97,49 +90,25 @@ uint32_t getopts_c_parse(
     struct getopts_sizes *sizes /* how much the answer has */
 );
 
+/* The numbers are, for each name of each group in order, the short one and the long one, 1 and the place
+ * of the group that it names, from 0, or 0 where it names none. Then how many groups there are, and for
+ * each of them how many occurrences it has, and of each of those its position and 1 and its value's
+ * length, or 0 where it has no value. Then how many free words there are, and the length of each; then 1
+ * and the number of free words before those after `--`, or 0. The bytes are the values and the free words
+ * in that order. A position is the index of a word. */
+getopts_c_reader getopts_c_parse;
+
 /* Reads words as getopts_c_parse does, but doesn't check how often options came: it never returns
  * GETOPTS_OPTION_MISSING or GETOPTS_OPTION_DUPLICATED. */
-uint32_t getopts_c_parse_ignoring_counts(
-    const uint8_t *texts,    /* as in getopts_c_parse */
-    size_t texts_len,
-    const size_t *lens,
-    size_t lens_len,
-    const uint8_t *kinds,
-    size_t kinds_len,
-    bool stop,
-    bool long_only,
-    size_t words,
-    size_t words_len,
-    size_t *numbers,
-    size_t numbers_len,
-    uint8_t *bytes,
-    size_t bytes_len,
-    struct getopts_sizes *sizes
-);
+getopts_c_reader getopts_c_parse_ignoring_counts;
 
 /* Writes the canonical line of words: how many words it has, the length of each, and the words. If they are
  * accepted and have none, because a main name holds `=`, there are no numbers. */
-uint32_t getopts_c_canonical(
-    const uint8_t *texts,    /* as in getopts_c_parse */
-    size_t texts_len,
-    const size_t *lens,
-    size_t lens_len,
-    const uint8_t *kinds,
-    size_t kinds_len,
-    bool stop,
-    bool long_only,
-    size_t words,
-    size_t words_len,
-    size_t *numbers,
-    size_t numbers_len,
-    uint8_t *bytes,
-    size_t bytes_len,
-    struct getopts_sizes *sizes
-);
+getopts_c_reader getopts_c_canonical;
 
 /* Writes the usage text: the brief, and each option with its description. */
 uint32_t getopts_c_usage(
-    const uint8_t *texts,    /* as in getopts_c_parse, down to long_only */
+    const uint8_t *texts,    /* as in getopts_c_reader, down to long_only */
     size_t texts_len,
     const size_t *lens,
     size_t lens_len,
@@ -155,7 +124,7 @@ uint32_t getopts_c_usage(
 
 /* Writes the line of all options. */
 uint32_t getopts_c_short_usage(
-    const uint8_t *texts,    /* as in getopts_c_parse */
+    const uint8_t *texts,    /* as in getopts_c_reader */
     size_t texts_len,
     const size_t *lens,
     size_t lens_len,
@@ -170,7 +139,7 @@ uint32_t getopts_c_short_usage(
 
 /* Writes the rows of the usage text: how many they are, the length of each, and the rows. */
 uint32_t getopts_c_usage_rows(
-    const uint8_t *texts,    /* as in getopts_c_parse, down to long_only */
+    const uint8_t *texts,    /* as in getopts_c_reader, down to long_only */
     size_t texts_len,
     const size_t *lens,
     size_t lens_len,
@@ -185,8 +154,8 @@ uint32_t getopts_c_usage_rows(
 );
 
 /* The memory of the archive, which heap.c takes from malloc. Every archive of the toolchain uses these names, so
- * all that are in one program share a heap. The names of heap.c are weak: another heap in the program, such as
- * that of the Rust crate, replaces them. The linker refuses two that aren't weak. */
+ * all that are in one program share a heap. The names of heap.c are weak: another heap in the program replaces them.
+ * The linker refuses two that aren't weak. */
 
 /* A block, or that there is none: then the pointer points to something too, and isn't null. */
 struct getopts_block {

@@ -64,6 +64,28 @@ static void modes_are_checked(void) {
     getopts_delete(options);
 }
 
+/* A table that is NULL is a wrong table, and words are read only if none of them is NULL. */
+static void null_is_bad(void) {
+    static const struct getopts_option table[] = { { "v", NULL, NULL, NULL, GETOPTS_NO }, { NULL, NULL, NULL, NULL, 0 } };
+    char *words[] = { "-v", NULL, "x", NULL }, **line, *usage;
+    struct getopts *none = getopts_new(NULL, GETOPTS_ORDINARY), *options = getopts_new(table, GETOPTS_ORDINARY);
+    expect(strcmp(getopts_message(none), "the table is NULL") == 0, "no table");
+    expect(getopts_read(none, 1, words) == GETOPTS_BAD, "a reading with no table");
+    expect(strcmp(getopts_message(none), "the table is NULL") == 0, "no table, after a reading");
+    expect((usage = getopts_usage(none, "brief")) == NULL && !getopts_defined(none, "v"), "a usage with no table");
+    expect(getopts_read(options, 1, words) == GETOPTS_OK, "words before one that is NULL");
+    expect(getopts_read(options, 3, words) == GETOPTS_BAD, "a word that is NULL");
+    expect(strcmp(getopts_message(options), "a word is NULL") == 0, "its message");
+    expect(getopts_count(options, "v") == 1 && getopts_position(options, "v", 0) == 0, "what was read before");
+    expect(getopts_canonical(options, 3, words, &line) == GETOPTS_BAD && line == NULL, "a line with a word that is NULL");
+    expect(getopts_read(options, 1, NULL) == GETOPTS_BAD, "words that are NULL");
+    expect(getopts_read(options, 0, NULL) == GETOPTS_OK && getopts_read(options, -1, NULL) == GETOPTS_OK, "no words");
+    expect(strcmp(getopts_message(options), "") == 0 && getopts_count(options, "v") == 0, "nothing after no words");
+    free(usage);
+    getopts_delete(none);
+    getopts_delete(options);
+}
+
 /* A kind that was left out is that of a plain flag. */
 static void no_kind_is_a_flag(void) {
     static const struct getopts_option table[] = {
@@ -166,6 +188,7 @@ int main(void) {
     enum { TABLES = 20000 };
     wrong_rows_are_named();
     modes_are_checked();
+    null_is_bad();
     no_kind_is_a_flag();
     counts_are_no_reason_to_forget();
     numbers_are_checked();

@@ -1,5 +1,5 @@
 /* Makes random requests of the exports, of which every second is broken, and writes those that are lawful
- * with their answers as rows: requests COUNT ROWS ZEROS. Rows with a zero byte in a text go to ZEROS.
+ * with their answers as rows: requests COUNT ROWS. Those with a zero byte in a text are answered, and not written.
  *
  * What is only read lies between pages that can't be touched, and can't be written. The rooms have one number or
  * one byte less than was told, and then as much, between such pages too; but never less than the words need that
@@ -589,7 +589,7 @@ static bool has_zero(const struct request *request) {
 
 /* Asks with no room but for the words, with the room told, and with one less, and tells whether the request was
  * lawful. */
-static bool answered(const struct request *request, FILE *rows, FILE *zeros) {
+static bool answered(const struct request *request, FILE *rows, FILE *nowhere) {
     size_t words = reads_words(request) ? request->words.count : 0;
     size_t words_len = reads_words(request) ? request->words.len : 0;
     struct room room = { .numbers_len = words, .bytes_len = words_len, .sizes = { 77, 78 } };
@@ -616,7 +616,7 @@ static bool answered(const struct request *request, FILE *rows, FILE *zeros) {
         demand(less == 0 || (status == GETOPTS_TOO_SMALL && untouched()), "answered in less room than told");
     }
     demand(status < GETOPTS_NO_MEMORY, "the room told doesn't suffice");
-    out = has_zero(request) ? zeros : rows;
+    out = has_zero(request) ? nowhere : rows;
     next_number = room.numbers;
     next_byte = room.bytes != NULL ? room.bytes : (const uint8_t *)"";
     numbers_left = told.numbers;
@@ -629,18 +629,18 @@ static bool answered(const struct request *request, FILE *rows, FILE *zeros) {
 
 int main(int argc, char **argv) {
     static struct request request;
-    if (argc != 4)
+    if (argc != 3)
         return 2;
     size_t count = strtoul(argv[1], NULL, 10), lawful = 0, broken_lawful = 0;
-    FILE *rows = fopen(argv[2], "w"), *zeros = fopen(argv[3], "w"), *nowhere = fopen("/dev/null", "w");
-    demand(rows != NULL && zeros != NULL && nowhere != NULL, "no file to write to");
+    FILE *rows = fopen(argv[2], "w"), *nowhere = fopen("/dev/null", "w");
+    demand(rows != NULL && nowhere != NULL, "no file to write to");
     guard();
     for (number_of_case = 0; number_of_case < count; number_of_case++) {
         bool breaks = number_of_case % 2 == 1;
         make(&request);
         if (breaks)
             broken(&request);
-        bool is = answered(&request, rows, zeros);
+        bool is = answered(&request, rows, nowhere);
         demand(is || breaks, "a request that wasn't broken is bad");
         if (is && request.export == PARSE) {
             request.export = IGNORING_COUNTS;
@@ -650,7 +650,6 @@ int main(int argc, char **argv) {
         broken_lawful += is && breaks;
     }
     fclose(rows);
-    fclose(zeros);
     fclose(nowhere);
     printf("%zu requests, %zu lawful, of which %zu were broken\n", count, lawful, broken_lawful);
     return 0;

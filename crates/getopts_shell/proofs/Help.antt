@@ -1,16 +1,22 @@
 -- Whether words ask for help.
 use Rattle.std.proofs.Common.{◌≡◌, ◌↔◌, ℕ, Bool, true, false, List, [], Option, Some, None, refl, sym, ap, ◌∙◌}
-use Rattle.std.specs.Prelude.{codes, length, nat_lt, IsSome}
+use Rattle.std.specs.Prelude.{codes, length, nat_lt, IsSome, ◌&&◌}
+use Rattle.std.specs.List.{list_any}
 use Rattle.std.specs.Option.{option_map_or}
+use Rattle.std.specs.Str.{bytes_eq}
+use Rattle.std.proofs.lemmas.Bool.{false≢true}
 use Rattle.getopts.specs.Accessors.{IsDefined, found_in, is_present, place_of}
 use Rattle.getopts.specs.Fail.{Fault, fault_of}
 use Rattle.getopts.specs.Matches.{Matched, MatchedGroup, matches_of}
 use Rattle.getopts.specs.Names.{Text}
-use Rattle.getopts.specs.Options.{Declared}
+use Rattle.getopts.specs.Options.{Declared, Group}
 use Rattle.getopts.specs.Parse.{HasReading, HasNoReading}
 use Rattle.getopts.specs.declared.fail.Fail.{Fail}
 use Rattle.getopts.specs.declared.fail.Fail.TheVariants as fail
-use Rattle.getopts_shell.specs.Program.{AskHelp, offers_help}
+use Rattle.getopts_shell.specs.Held.{group_of_row, groups_of}
+use Rattle.getopts_shell.specs.Program.{AskHelp, is_no, offers_help}
+use Rattle.getopts_shell.specs.declared.row.Row.{Row}
+use Rattle.getopts_shell.proofs.Lines.{list_any-map}
 
 -- an option that isn't defined isn't there
 pub undefined_absent : (groups : List MatchedGroup) (name : Text) → ¬ (IsDefined groups name)
@@ -21,6 +27,18 @@ undefined_absent groups name none = by_place (place_of groups name) none
         → nat_lt 0 (length (option_map_or (found_in groups) place [])) ≡ false
     by_place None none = refl
     by_place (Some place) none = absurd (none refl)
+
+-- rows offer help where their groups do
+pub offers_rows : (rows : List Row) → offers_help (groups_of rows)
+    ≡ list_any (λ (row : Row). bytes_eq row.long.now (codes "help") && is_no row.kind) rows
+offers_rows rows = list_any-map
+    (λ (group : Group). bytes_eq group.signature.names.long (codes "help") && is_no group.signature.kind)
+    group_of_row rows
+
+-- words don't ask for a help that isn't offered
+pub never_offered : (options : Declared) (words : List Text) → offers_help options.groups ≡ false
+    → (false ≡ true) ↔ AskHelp options words
+never_offered options words none = (λ bad. cc, λ asks. absurd (false≢true (sym none ∙ asks.2)))
 
 -- words have the matches of one reading
 one_reading : (options : Declared) (words : List Text) (matches others : Matched)

@@ -4,8 +4,9 @@ mod Items
 mod Lines
 mod Only
 mod OneAnswer
-mod ByLines
 mod Plain
 mod Help
 mod Line
 mod Status
+mod Shell
+mod Assignments

@@ -1,5 +1,5 @@
 -- Words have one status and one text, but for the text of a completion script that they ask for.
-use Rattle.std.proofs.Common.{◌≡◌, false, Ok, Err, List, [], ◌∷◌, Some, None, inl, inr, refl, sym, ap, subst, ◌∙◌}
+use Rattle.std.proofs.Common.{◌≡◌, false, true, Ok, Err, List, [], ◌∷◌, Some, None, inl, inr, refl, sym, ap, subst, ◌∙◌}
 use Rattle.std.specs.Prelude.{◌⊎◌, codes}
 use Rattle.std.proofs.lemmas.Bool.{false≢true}
 use Rattle.getopts.specs.CanonAnswers.{IsCanonicalAnswer, IsParseAnswer}
@@ -8,123 +8,140 @@ use Rattle.getopts.specs.Matches.{Matched}
 use Rattle.getopts.specs.Names.{Text}
 use Rattle.getopts.specs.Only.{AtMostOne, IsTheOnly}
 use Rattle.getopts.specs.Options.{Declared, Group}
-use Rattle.getopts.specs.Usage.{IsUsageText}
-use Rattle.getopts_shell.specs.Program.{Answer, done, misused, own_options, is_given, value_given, brief_of, help_code}
+use Rattle.getopts.specs.Parse.{IsAccepted, IsRefused}
+use Rattle.getopts_shell.specs.Program.{Answer, Asked, asked_by, done, misused, own_options, is_given, help_code}
 use Rattle.getopts_shell.specs.Program.{fault_line, refused_text, table_fault_line, script_options, line_code}
-use Rattle.getopts_shell.specs.Program.{AnswersCompletion, script, no_script, AnswersLine, accepted, refused}
-use Rattle.getopts_shell.specs.Program.{AnswersWords, help, line, AnswersScript, usage, completion, of_words}
-use Rattle.getopts_shell.specs.Program.{faulty, declared, AnswersFree, AnswersOwn, own_help, of_free}
-use Rattle.getopts_shell.specs.Program.{refused_own, accepted_own, OneAnswer}
+use Rattle.getopts_shell.specs.Program.{AnswersCompletion, script, no_script}
+use Rattle.getopts_shell.specs.Program.{AnswersScript, usage, completion, help, accepted, refused, ReadsWords}
+use Rattle.getopts_shell.specs.Program.{faulty, declared, AnswersFree, refused_own, own_help, accepted_own, OneAnswer}
 use Rattle.getopts_shell.specs.Table.{TableFault}
 use Rattle.getopts_shell.proofs.Only.{one_table, one_fault, no_fault}
 
 -- two answers are one, but for their texts where a completion script is asked for
 abbrev Agree : Type 0 → Answer → Answer → Type 0
-Agree Asked answer other = (other.status ≡ answer.status)
-    × ((other.text ≡ answer.text) ⊎ ((answer.status ≡ 0) × Asked))
+Agree Others answer other = (other.status ≡ answer.status)
+    × ((other.text ≡ answer.text) ⊎ ((answer.status ≡ 0) × Others))
 
-agree : {Asked : Type 0} {answer other : Answer} → other ≡ answer → Agree Asked answer other
+agree : {Others : Type 0} {answer other : Answer} → other ≡ answer → Agree Others answer other
 agree same = (ap (λ (a : Answer). a.status) same, inl (ap (λ (a : Answer). a.text) same))
 
--- with these matches a completion script may be asked for
-abbrev MayAsk : Type 0 → Matched → Type 0
-MayAsk Asked own = (shell : Text) → is_given own (codes "usage") ≡ false
-    → value_given own (codes "complete") ≡ Some shell → Asked
+-- a completion script may be asked for
+abbrev MayAsk : Type 0 → Asked → Type 0
+MayAsk Others asked = (shell : Text) → asked.usage ≡ false → asked.complete ≡ Some shell → Others
 
 -- two values that are the only one are one
 one_only : {X : Type 0} (Fact : X → Type 0) (value other : X) → IsTheOnly Fact value → IsTheOnly Fact other
     → other ≡ value
 one_only Fact value other is also = (is other).0 ((also other).1 refl)
 
-one_completion : {Asked : Type 0} (shell : Text) {answer other : Answer} → Asked
-    → AnswersCompletion shell answer → AnswersCompletion shell other → Agree Asked answer other
+one_completion : {Others : Type 0} (shell : Text) {answer other : Answer} → Others
+    → AnswersCompletion shell answer → AnswersCompletion shell other → Agree Others answer other
 one_completion shell asked (script text there) (script another also) = (refl, inr (refl, asked))
 one_completion shell asked (script text there) (no_script none) = absurd (false≢true (sym none ∙ there))
 one_completion shell asked (no_script none) (script text there) = absurd (false≢true (sym none ∙ there))
 one_completion shell asked (no_script none) (no_script also) = (refl, inl refl)
 
+-- what is asked for is one thing
+no_usage : {X : Type 0} (asked : Asked) → asked.usage ≡ true → asked.usage ≡ false → X
+no_usage asked given none = absurd (false≢true (sym none ∙ given))
+
+no_shell : {X : Type 0} (asked : Asked) (shell : Text) → asked.complete ≡ Some shell → ReadsWords asked → X
+no_shell asked shell given reads = let both : Some shell ≡ None = sym given ∙ reads.1 in absurd cc
+
 module _ (parse : (options : Declared) (words : List Text) → AtMostOne (IsParseAnswer options words))
     (canonical : (options : Declared) (words : List Text) → AtMostOne (IsCanonicalAnswer options words)) where
-  one_line : (own : Matched) (name : Text) (options : Declared) (words : List Text) {answer other : Answer}
-      → AnswersLine own name options words answer → AnswersLine own name options words other → other ≡ answer
-  one_line own name options words (accepted text tells) (accepted another also) =
-      let same : Ok (Some another) ≡ Ok (Some text) =
-      canonical options words (Ok (Some another)) (Ok (Some text)) also.written tells.written in
-      let same_line : another ≡ text = cc in
-      ap (λ (l : List Text). done (line_code own l)) same_line
-  one_line own name options words (accepted text tells) (refused fault is) =
-      let same : Ok (Some text) ≡ Err fault = canonical options words (Ok (Some text))
-      (Err fault) tells.written is in cc
-  one_line own name options words (refused fault is) (accepted text tells) =
-      let same : Ok (Some text) ≡ Err fault = canonical options words (Ok (Some text))
-      (Err fault) tells.written is in cc
-  one_line own name options words (refused fault is) (refused another also) =
-      let same : Err another ≡ Err fault = parse options words (Err another) (Err fault) also is in
-      let same_fault : another ≡ fault = cc in
-      ap (λ (f : Fault). record { text = refused_text options name f; status = 2 }) same_fault
-
-  one_words : (own : Matched) (name : Text) (options : Declared) (words : List Text) {answer other : Answer}
-      → AnswersWords own name options words answer → AnswersWords own name options words other → other ≡ answer
-  one_words own name options words (help text asks is) (help another ask also) =
-      ap (λ (t : Text). done (help_code t))
-      (one_only (IsUsageText options (brief_of own name options)) text another is also)
-  one_words own name options words (help text asks is) (line answer none also) = absurd (none asks)
-  one_words own name options words (line answer none is) (help text asks also) = absurd (none asks)
-  one_words own name options words (line answer none is) (line other never also) =
-      one_line own name options words is also
-
-  one_script : {Asked : Type 0} (own : Matched) (name : Text) (options : Declared) (words : List Text)
-      {answer other : Answer} → MayAsk Asked own → AnswersScript own name options words answer
-      → AnswersScript own name options words other → Agree Asked answer other
-  one_script own name options words asks (usage text given is) (usage another again also) =
-      agree (ap done (one_only (IsUsageText options (brief_of own name options)) text another is also))
-  one_script own name options words asks (usage text given is) (completion shell other none shell_is also) =
-      absurd (false≢true (sym none ∙ given))
-  one_script own name options words asks (usage text given is) (of_words other none no_shell also) =
-      absurd (false≢true (sym none ∙ given))
-  one_script own name options words asks (completion shell answer none shell_is is) (usage text given also) =
-      absurd (false≢true (sym none ∙ given))
-  one_script own name options words asks (completion shell answer none shell_is is)
+  one_script : {Others : Type 0} (asked : Asked) (name : Text) (options : Declared) (words : List Text)
+      {answer other : Answer} → MayAsk Others asked → AnswersScript asked name options words answer
+      → AnswersScript asked name options words other → Agree Others answer other
+  one_script asked name options words asks (usage text given is) (usage another also_given also) =
+      agree (ap done (one_only _ text another is also))
+  one_script asked name options words asks (usage text given is) (completion shell other none shell_is also) =
+      no_usage asked given none
+  one_script asked name options words asks (usage text given is) (help other reads ask also) =
+      no_usage asked given reads.0
+  one_script asked name options words asks (usage text given is) (accepted line reads none also) =
+      no_usage asked given reads.0
+  one_script asked name options words asks (usage text given is) (refused fault reads none also) =
+      no_usage asked given reads.0
+  one_script asked name options words asks (completion shell answer none shell_is is) (usage text given also) =
+      no_usage asked given none
+  one_script asked name options words asks (completion shell answer none shell_is is)
       (completion another other never another_is also) =
       let both : Some another ≡ Some shell = sym another_is ∙ shell_is in
       let same : another ≡ shell = cc in
       one_completion shell (asks shell none shell_is) is (subst (λ (s : Text). AnswersCompletion s other) same also)
-  one_script own name options words asks (completion shell answer none shell_is is)
-      (of_words other never no_shell also) =
-      let both : Some shell ≡ None = sym shell_is ∙ no_shell in absurd cc
-  one_script own name options words asks (of_words answer none no_shell is) (usage text given also) =
-      absurd (false≢true (sym none ∙ given))
-  one_script own name options words asks (of_words answer none no_shell is)
-      (completion shell other never shell_is also) =
-      let both : Some shell ≡ None = sym shell_is ∙ no_shell in absurd cc
-  one_script own name options words asks (of_words answer none no_shell is) (of_words other never none_again also) =
-      agree (one_words own name options words is also)
+  one_script asked name options words asks (completion shell answer none shell_is is) (help other reads ask also) =
+      no_shell asked shell shell_is reads
+  one_script asked name options words asks (completion shell answer none shell_is is)
+      (accepted line reads no_help also) = no_shell asked shell shell_is reads
+  one_script asked name options words asks (completion shell answer none shell_is is)
+      (refused fault reads no_help also) = no_shell asked shell shell_is reads
+  one_script asked name options words asks (help text reads ask is) (usage another given also) =
+      no_usage asked given reads.0
+  one_script asked name options words asks (help text reads ask is) (completion shell other none shell_is also) =
+      no_shell asked shell shell_is reads
+  one_script asked name options words asks (help text reads ask is) (help another again also_ask also) =
+      agree (ap (λ (t : Text). done (help_code t)) (one_only _ text another is also))
+  one_script asked name options words asks (help text reads ask is) (accepted line again none also) = absurd (none ask)
+  one_script asked name options words asks (help text reads ask is) (refused fault again none also) = absurd (none ask)
+  one_script asked name options words asks (accepted line reads no_help is) (usage text given also) =
+      no_usage asked given reads.0
+  one_script asked name options words asks (accepted line reads no_help is)
+      (completion shell other none shell_is also) = no_shell asked shell shell_is reads
+  one_script asked name options words asks (accepted line reads none is) (help text again ask also) = absurd (none ask)
+  one_script asked name options words asks (accepted line reads none is) (accepted another again never also) =
+      let same : Ok (Some another) ≡ Ok (Some line) =
+      canonical options words (Ok (Some another)) (Ok (Some line)) also.written is.written in
+      let same_line : another ≡ line = cc in
+      agree (ap (λ (l : List Text). done (line_code asked l)) same_line)
+  one_script asked name options words asks (accepted line reads none is) (refused fault again never also) =
+      let same : Ok (Some line) ≡ Err fault = canonical options words (Ok (Some line)) (Err fault) is.written also in
+      absurd cc
+  one_script asked name options words asks (refused fault reads no_help is) (usage text given also) =
+      no_usage asked given reads.0
+  one_script asked name options words asks (refused fault reads no_help is)
+      (completion shell other none shell_is also) = no_shell asked shell shell_is reads
+  one_script asked name options words asks (refused fault reads none is) (help text again ask also) = absurd (none ask)
+  one_script asked name options words asks (refused fault reads none is) (accepted line again never also) =
+      let same : Ok (Some line) ≡ Err fault = canonical options words (Ok (Some line)) (Err fault) also.written is in
+      absurd cc
+  one_script asked name options words asks (refused fault reads none is) (refused another again never also) =
+      let same : Err another ≡ Err fault = parse options words (Err another) (Err fault) also is in
+      let same_fault : another ≡ fault = cc in
+      agree (ap (λ (f : Fault). record { text = refused_text options name f; status = 2 }) same_fault)
 
-  one_free : {Asked : Type 0} (own : Matched) (words : List Text) {answer other : Answer} → MayAsk Asked own
-      → AnswersFree own words answer → AnswersFree own words other → Agree Asked answer other
-  one_free own [] asks is also = agree (also ∙ sym is)
-  one_free own (name ∷ []) asks is also = agree (also ∙ sym is)
-  one_free own (name ∷ table ∷ words) asks (faulty fault is) (faulty another also) =
+  one_free : {Others : Type 0} (asked : Asked) (words : List Text) {answer other : Answer} → MayAsk Others asked
+      → AnswersFree asked words answer → AnswersFree asked words other → Agree Others answer other
+  one_free asked [] asks is also = agree (also ∙ sym is)
+  one_free asked (name ∷ []) asks is also = agree (also ∙ sym is)
+  one_free asked (name ∷ table ∷ words) asks (faulty fault is) (faulty another also) =
       agree (ap (λ (f : TableFault). misused (table_fault_line f)) (one_fault table fault another is also))
-  one_free own (name ∷ table ∷ words) asks (faulty fault is) (declared groups other are also) =
+  one_free asked (name ∷ table ∷ words) asks (faulty fault is) (declared groups other are also) =
       absurd (no_fault table groups fault are is)
-  one_free own (name ∷ table ∷ words) asks (declared groups answer are is) (faulty fault also) =
+  one_free asked (name ∷ table ∷ words) asks (declared groups answer are is) (faulty fault also) =
       absurd (no_fault table groups fault are also)
-  one_free own (name ∷ table ∷ words) asks (declared groups answer are is) (declared others other also_are also) =
-      one_script own name (script_options own groups) words asks is
-      (subst (λ (gs : List Group). AnswersScript own name (script_options own gs) words other)
+  one_free asked (name ∷ table ∷ words) asks (declared groups answer are is) (declared others other also_are also) =
+      one_script asked name (script_options asked groups) words asks is
+      (subst (λ (gs : List Group). AnswersScript asked name (script_options asked gs) words other)
       (one_table table groups others are also_are) also)
 
-  one_own : {Asked : Type 0} (own : Matched) {answer other : Answer}
-      → (is_given own (codes "help") ≡ false → MayAsk Asked own)
-      → AnswersOwn own answer → AnswersOwn own other → Agree Asked answer other
-  one_own own asks (own_help text given is) (own_help another again also) =
-      agree (ap done (one_only (IsUsageText own_options (codes "Usage: getopts_shell [options] NAME TABLE [WORD].."))
-      text another is also))
-  one_own own asks (own_help text given is) (of_free other none also) = absurd (false≢true (sym none ∙ given))
-  one_own own asks (of_free answer none is) (own_help text given also) = absurd (false≢true (sym none ∙ given))
-  one_own own asks (of_free answer none is) (of_free other never also) =
-      one_free own own.free (asks none) is also
+  -- accepted words have one reading
+  one_own : (words : List Text) (own other : Matched) → IsAccepted own_options words own
+      → IsAccepted own_options words other → other ≡ own
+  one_own words own other is also =
+      let same : Ok other ≡ Ok own = parse own_options words (Ok other) (Ok own) also is in cc
+
+  never_both : {X : Type 0} (words : List Text) (own : Matched) (fault : Fault) → IsAccepted own_options words own
+      → IsRefused own_options words fault → X
+  never_both words own fault is also =
+      let both : Err fault ≡ Ok own = parse own_options words (Err fault) (Ok own) also is in absurd cc
+
+  help_or_not : {X : Type 0} (words : List Text) (own other : Matched) → IsAccepted own_options words own
+      → IsAccepted own_options words other → is_given own (codes "help") ≡ true
+      → is_given other (codes "help") ≡ false → X
+  help_or_not words own other is also given none =
+      absurd (false≢true (sym none ∙ ap (λ (m : Matched). is_given m (codes "help")) (one_own words own other is also)
+      ∙ given))
 
   -- words have one answer
   pub one_answer : OneAnswer
@@ -132,18 +149,27 @@ module _ (parse : (options : Declared) (words : List Text) → AtMostOne (IsPars
       let same : Err another ≡ Err fault = parse own_options words (Err another) (Err fault) also is in
       let same_fault : another ≡ fault = cc in
       agree (ap (λ (f : Fault). misused (fault_line (codes "getopts_shell") f)) same_fault)
-  one_answer words answer other (refused_own fault is) (accepted_own own also_other also tells) =
-      let both : Err fault ≡ Ok own = parse own_options words (Err fault) (Ok own) is also in absurd cc
-  one_answer words answer other (accepted_own own of_own is tells) (refused_own fault also) =
-      let both : Err fault ≡ Ok own = parse own_options words (Err fault) (Ok own) also is in absurd cc
-  one_answer words answer other (accepted_own own of_own is tells) (accepted_own again of_again also tell) =
-      let same : Ok again ≡ Ok own = parse own_options words (Ok again) (Ok own) also is in
-      let same_own : again ≡ own = cc in
-      one_own own (λ no_help shell no_usage asked. record {
+  one_answer words answer other (refused_own fault is) (own_help own text also given helps) =
+      never_both words own fault also is
+  one_answer words answer other (refused_own fault is) (accepted_own own free also none answers) =
+      never_both words own fault also is
+  one_answer words answer other (own_help own text is given helps) (refused_own fault also) =
+      never_both words own fault is also
+  one_answer words answer other (own_help own text is given helps) (own_help again another also again_given help_again) =
+      agree (ap done (one_only _ text another helps help_again))
+  one_answer words answer other (own_help own text is given helps) (accepted_own again free also none answers) =
+      help_or_not words own again is also given none
+  one_answer words answer other (accepted_own own free is none answers) (refused_own fault also) =
+      never_both words own fault is also
+  one_answer words answer other (accepted_own own free is none answers) (own_help again text also given helps) =
+      help_or_not words again own also is given none
+  one_answer words answer other (accepted_own own free is none answers) (accepted_own again of_again also never tell) =
+      one_free (asked_by own) own.free (λ shell no_usage asked. record {
         own = own;
         accepted = is;
-        no_help = no_help;
+        no_help = none;
         no_usage = no_usage;
         shell = shell;
         asked = asked;
-      }) tells (subst (λ (m : Matched). AnswersOwn m of_again) same_own tell)
+      }) answers (subst (λ (m : Matched). AnswersFree (asked_by m) m.free of_again) (one_own words own again is also)
+      tell)

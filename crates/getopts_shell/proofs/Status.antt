@@ -1,12 +1,11 @@
 -- The statuses of answers.
 use Rattle.std.proofs.Common.{◌≢◌, ◌≤◌, ℕ, List, [], ◌∷◌, sym, subst, arith}
-use Rattle.getopts.specs.Matches.{Matched}
 use Rattle.getopts.specs.Names.{Text}
 use Rattle.getopts.specs.Options.{Declared}
-use Rattle.getopts_shell.specs.Program.{Answer, AnswersCompletion, script, no_script, AnswersLine, accepted, refused}
-use Rattle.getopts_shell.specs.Program.{AnswersWords, help, line, AnswersScript, usage, completion, of_words}
-use Rattle.getopts_shell.specs.Program.{faulty, declared, AnswersFree, own_help, of_free}
-use Rattle.getopts_shell.specs.Program.{IsAnswer, refused_own, accepted_own, IsStatus}
+use Rattle.getopts_shell.specs.Program.{Answer, Asked, AnswersCompletion, script, no_script}
+use Rattle.getopts_shell.specs.Program.{AnswersScript, usage, completion, help, accepted, refused}
+use Rattle.getopts_shell.specs.Program.{faulty, declared, AnswersFree, IsStatus}
+use Rattle.getopts_shell.specs.Program.{IsAnswer, refused_own, own_help, accepted_own}
 
 -- the status of an answer: 0, 2 or 5
 pub record AnswersBy (status : ℕ) : Type 0 where
@@ -29,31 +28,23 @@ of_completion : {shell : Text} {answer : Answer} → AnswersCompletion shell ans
 of_completion (script text has) = is_done
 of_completion (no_script none) = is_misused
 
-of_line : {own : Matched} {name : Text} {options : Declared} {words : List Text} {answer : Answer}
-    → AnswersLine own name options words answer → AnswersBy answer.status
-of_line (accepted text tells) = is_done
-of_line (refused fault is) = is_refused
-
-of_script_words : {own : Matched} {name : Text} {options : Declared} {words : List Text} {answer : Answer}
-    → AnswersWords own name options words answer → AnswersBy answer.status
-of_script_words (help text asks is) = is_done
-of_script_words (line answer none is) = of_line is
-
-of_script : {own : Matched} {name : Text} {options : Declared} {words : List Text} {answer : Answer}
-    → AnswersScript own name options words answer → AnswersBy answer.status
+of_script : {asked : Asked} {name : Text} {options : Declared} {words : List Text} {answer : Answer}
+    → AnswersScript asked name options words answer → AnswersBy answer.status
 of_script (usage text given is) = is_done
 of_script (completion shell answer none given is) = of_completion is
-of_script (of_words answer none given is) = of_script_words is
+of_script (help text reads asks is) = is_done
+of_script (accepted line reads none is) = is_done
+of_script (refused fault reads none is) = is_refused
 
-of_frees : (own : Matched) (words : List Text) (answer : Answer) → AnswersFree own words answer
+of_free : (asked : Asked) (words : List Text) (answer : Answer) → AnswersFree asked words answer
     → AnswersBy answer.status
-of_frees own [] answer is = subst (λ (a : Answer). AnswersBy a.status) (sym is) is_misused
-of_frees own (name ∷ []) answer is = subst (λ (a : Answer). AnswersBy a.status) (sym is) is_misused
-of_frees own (name ∷ table ∷ words) answer (faulty fault is) = is_misused
-of_frees own (name ∷ table ∷ words) answer (declared groups other are is) = of_script is
+of_free asked [] answer is = subst (λ (a : Answer). AnswersBy a.status) (sym is) is_misused
+of_free asked (name ∷ []) answer is = subst (λ (a : Answer). AnswersBy a.status) (sym is) is_misused
+of_free asked (name ∷ table ∷ words) answer (faulty fault is) = is_misused
+of_free asked (name ∷ table ∷ words) answer (declared groups other are is) = of_script is
 
 -- each answer has one of these
 pub answers_by : (words : List Text) (answer : Answer) → IsAnswer words answer → AnswersBy answer.status
 answers_by words answer (refused_own fault is) = is_misused
-answers_by words answer (accepted_own own other is (own_help text given helps)) = is_done
-answers_by words answer (accepted_own own other is (of_free of none answers)) = of_frees own own.free of answers
+answers_by words answer (own_help own text is given helps) = is_done
+answers_by words answer (accepted_own own other is none answers) = of_free _ own.free other answers

@@ -3,7 +3,7 @@ use Rattle.std.specs.Prelude.{◌≡◌, ◌≢◌, ◌≤◌, ◌&&◌, ◌||�
 use Rattle.std.specs.Prelude.{Some, None, codes, decimal, if◌then◌else◌, ◌⊎◌}
 use Rattle.std.specs.Io.KnownBytes.{Appends}
 use Rattle.std.specs.List.{AllByRecursion, list_any}
-use Rattle.std.specs.Option.{unwrap_or}
+use Rattle.std.specs.Option.{option_and_then, unwrap_or}
 use Rattle.std.specs.Str.{bytes_eq}
 use Rattle.getopts.specs.Accessors.{first_value, found_of, is_present}
 use Rattle.getopts.specs.Canon.{HasCanonicalLine, canonical_word}
@@ -12,7 +12,7 @@ use Rattle.getopts.specs.Fail.{Fault, fault_text}
 use Rattle.getopts.specs.Matches.{Matched}
 use Rattle.getopts.specs.Names.{Text}
 use Rattle.getopts.specs.Only.{IsTheOnly}
-use Rattle.getopts.specs.Options.{Group, Declared, group_of}
+use Rattle.getopts.specs.Options.{Group, Declared, group_of, names_of}
 use Rattle.getopts.specs.Parse.{HasReading, IsAccepted, IsRefused}
 use Rattle.getopts.specs.Reading.{stop_word}
 use Rattle.getopts.specs.Usage.{IsUsageText, short_usage_text}
@@ -23,6 +23,8 @@ use Rattle.getopts.specs.declared.groups.ParsingStyle.TheVariants.{FloatingFrees
 use Rattle.getopts_bytes.specs.Marks.{bytes_of}
 use Rattle.getopts_shell.specs.Quote.{quoted, quoted_words, shell_words}
 use Rattle.getopts_shell.specs.Table.{DeclaresOptions, IsTableFault, TableFault, no_option, name_twice}
+use Rattle.getopts_shell.specs.Variables.{SetsVariables, VariableFault, no_prefix, no_variable, prefix_fault}
+use Rattle.getopts_shell.specs.Variables.{variable_twice, variables_code, with_words}
 
 -- ---- the program's own options
 
@@ -32,6 +34,9 @@ own_groups =
     ∷ group_of (codes "s") (codes "stop") (codes "leave all words from the first free one on free") [] No Optional
     ∷ group_of (codes "l") (codes "long-only") (codes "let long names follow one dash too") [] No Optional
     ∷ group_of (codes "w") (codes "words") (codes "write the words alone, without 'set --'") [] No Optional
+    ∷ group_of (codes "V") (codes "variables") (codes "set a variable for each option, named PREFIX and its name")
+    (codes "PREFIX") Yes Optional
+    ∷ group_of (codes "A") (codes "arrays") (codes "with --variables, make an array of values") [] No Optional
     ∷ group_of (codes "u") (codes "usage") (codes "write the help of TABLE") [] No Optional
     ∷ group_of (codes "c") (codes "complete") (codes "write a completion script for bash, zsh or fish")
     (codes "SHELL") Yes Optional
@@ -49,6 +54,34 @@ is_given own name = is_present own.groups name
 -- the value that an option of this name has, if it has one
 abbrev pub value_given : Matched → Text → Option Text
 value_given own name = first_value (found_of own.groups name)
+
+-- what the program's own words ask for
+pub record Asked : Type 0 where
+  pub brief : Option Text
+  pub stop : Bool
+  pub long_only : Bool
+  pub words : Bool
+  pub usage : Bool
+  pub complete : Option Text
+  pub variables : Option Text
+  pub arrays : Bool
+
+-- what words with these matches ask for
+abbrev pub asked_by : Matched → Asked
+asked_by own = record {
+  brief = value_given own (codes "brief");
+  stop = is_given own (codes "stop");
+  long_only = is_given own (codes "long-only");
+  words = is_given own (codes "words");
+  usage = is_given own (codes "usage");
+  complete = value_given own (codes "complete");
+  variables = value_given own (codes "variables");
+  arrays = is_given own (codes "arrays");
+}
+
+-- a script's words are read: neither its help nor its completion is asked for
+abbrev pub ReadsWords : Asked → Type 0
+ReadsWords asked = (asked.usage ≡ false) × (asked.complete ≡ None)
 
 -- ---- answers
 
@@ -84,21 +117,18 @@ table_fault_line (name_twice number name) = codes "getopts_shell: line "
 
 -- ---- a script
 
--- the options of a script, in the style and the mode that the program's own words ask for
-abbrev pub script_options : Matched → List Group → Declared
-script_options own groups = record {
+-- the options of a script, in the style and the mode that are asked for
+abbrev pub script_options : Asked → List Group → Declared
+script_options asked groups = record {
   groups = groups;
-  style = if is_given own (codes "stop") then StopAtFirstFree else FloatingFrees;
-  long_only = is_given own (codes "long-only");
+  style = if asked.stop then StopAtFirstFree else FloatingFrees;
+  long_only = asked.long_only;
 }
 
--- what the help of a script begins with: the text that was given, or the short usage
-abbrev pub brief_of : Matched → Text → Declared → Text
-brief_of own name options = unwrap_or (value_given own (codes "brief")) (short_usage_text options name)
-
--- the help of a script
-abbrev pub IsHelp : Matched → Text → Declared → Text → Type 0
-IsHelp own name options help = IsTheOnly (IsUsageText options (brief_of own name options)) help
+-- the help of a script: it begins with the text that was given, or else with the short usage
+abbrev pub IsHelp : Asked → Text → Declared → Text → Type 0
+IsHelp asked name options help =
+    IsTheOnly (IsUsageText options (unwrap_or asked.brief (short_usage_text options name))) help
 
 -- the code that prints a help, and ends the script
 abbrev pub help_code : Text → Text
@@ -119,10 +149,24 @@ abbrev pub AskHelp : Declared → List Text → Type 0
 AskHelp options words = (matches : Matched) × HasReading options words matches
     × (offers_help options.groups ≡ true) × (is_present matches.groups (codes "help") ≡ true)
 
+-- the line of a fault of variables
+abbrev pub variable_fault_line : VariableFault → Text
+variable_fault_line with_words = codes "getopts_shell: --words and --variables don't go together\n"
+variable_fault_line (no_prefix prefix) = codes "getopts_shell: '" ++ (prefix ++ codes "' makes no variable\n")
+variable_fault_line (no_variable number name) = codes "getopts_shell: line "
+    ++ (decimal number ++ (codes " of the options: '" ++ (name ++ codes "' makes no variable\n")))
+variable_fault_line (variable_twice number name) = codes "getopts_shell: line "
+    ++ (decimal number ++ (codes " of the options: '" ++ (name ++ codes "' makes the variable of another option\n")))
+
+-- the fault of the variables that are asked for, with a table of these options
+abbrev pub asked_fault : Asked → Text → List Group → Option VariableFault
+asked_fault asked table groups = option_and_then
+    (λ prefix. if asked.words then Some with_words else prefix_fault prefix table (names_of groups)) asked.variables
+
 -- the code that sets a script's words to those of a line, or the words alone
-abbrev pub line_code : Matched → List Text → Text
-line_code own line =
-    (if is_given own (codes "words") then [] else codes "set -- ") ++ (quoted_words line ++ codes "\n")
+abbrev pub line_code : Asked → List Text → Text
+line_code asked line =
+    (if asked.words then [] else codes "set -- ") ++ (quoted_words line ++ codes "\n")
 
 -- What a canonical line tells: a shell makes of it, as it is written, the same words; it is accepted in
 -- both styles and both modes with the content of the words, and says nothing else; and of its words the
@@ -132,14 +176,6 @@ pub record TellsWords (options : Declared) (words line : List Text) : Type 0 whe
   pub written : IsWritten options words line
   pub reads_back : HasCanonicalLine options written.content
   pub stop_is_first : AllByRecursion (λ m. canonical_word options.groups m ≢ stop_word) written.content.mentions
-
--- the answer to words that don't ask for help: the canonical line of accepted words, or the first fault
-pub data AnswersLine (own : Matched) (name : Text) (options : Declared) (words : List Text)
-    : Answer → Type 0 where
-  accepted : (line : List Text) → TellsWords options words line
-      → AnswersLine own name options words (done (line_code own line))
-  refused : (fault : Fault) → IsRefused options words fault
-      → AnswersLine own name options words (record { text = refused_text options name fault; status = 2 })
 
 -- whether there are completion scripts for a shell
 abbrev pub has_completion : Text → Bool
@@ -155,64 +191,67 @@ pub data AnswersCompletion (shell : Text) : Answer → Type 0 where
   script : (text : Text) → has_completion shell ≡ true → AnswersCompletion shell (done text)
   no_script : has_completion shell ≡ false → AnswersCompletion shell (misused (no_completion shell))
 
--- the answer to the words of a script: the code that prints its help where they ask for it, or else
--- what they are
-pub data AnswersWords (own : Matched) (name : Text) (options : Declared) (words : List Text)
+-- The answer for a script with these options: its help, its completion script, or what its words are. That
+-- is the code that prints its help where they ask for it, and else their canonical line, the code that sets
+-- variables, or the first fault.
+pub data AnswersScript (asked : Asked) (name : Text) (options : Declared) (words : List Text)
     : Answer → Type 0 where
-  help : (help : Text) → AskHelp options words → IsHelp own name options help
-      → AnswersWords own name options words (done (help_code help))
-  line : (answer : Answer) → ¬ (AskHelp options words) → AnswersLine own name options words answer
-      → AnswersWords own name options words answer
+  usage : (help : Text) → asked.usage ≡ true → IsHelp asked name options help
+      → AnswersScript asked name options words (done help)
+  completion : (shell : Text) (answer : Answer) → asked.usage ≡ false → asked.complete ≡ Some shell
+      → AnswersCompletion shell answer → AnswersScript asked name options words answer
+  help : (help : Text) → ReadsWords asked → AskHelp options words → IsHelp asked name options help
+      → AnswersScript asked name options words (done (help_code help))
+  accepted : (line : List Text) → ReadsWords asked → ¬ (AskHelp options words)
+      → asked.variables ≡ None → TellsWords options words line
+      → AnswersScript asked name options words (done (line_code asked line))
+  variables : (prefix : Text) (matches : Matched) → ReadsWords asked → ¬ (AskHelp options words)
+      → asked.variables ≡ Some prefix → IsAccepted options words matches
+      → SetsVariables prefix asked.arrays matches
+      → AnswersScript asked name options words (done (variables_code prefix asked.arrays matches))
+  refused : (fault : Fault) → ReadsWords asked → ¬ (AskHelp options words)
+      → IsRefused options words fault → AnswersScript asked name options words
+      (record { text = refused_text options name fault; status = 2 })
 
--- the answer for a script with these options: its help, its completion script, or that to its words
-pub data AnswersScript (own : Matched) (name : Text) (options : Declared) (words : List Text)
-    : Answer → Type 0 where
-  usage : (help : Text) → is_given own (codes "usage") ≡ true → IsHelp own name options help
-      → AnswersScript own name options words (done help)
-  completion : (shell : Text) (answer : Answer) → is_given own (codes "usage") ≡ false
-      → value_given own (codes "complete") ≡ Some shell → AnswersCompletion shell answer
-      → AnswersScript own name options words answer
-  of_words : (answer : Answer) → is_given own (codes "usage") ≡ false
-      → value_given own (codes "complete") ≡ None
-      → AnswersWords own name options words answer → AnswersScript own name options words answer
-
--- the answer to a script's name, its table and its words: the fault of the table, or that for its options
-pub data AnswersTable (own : Matched) (name table : Text) (words : List Text) : Answer → Type 0 where
+-- The answer to a script's name, its table and its words: the fault of the table or of its variables, or
+-- that for its options.
+pub data AnswersTable (asked : Asked) (name table : Text) (words : List Text) : Answer → Type 0 where
   faulty : (fault : TableFault) → IsTableFault table fault
-      → AnswersTable own name table words (misused (table_fault_line fault))
+      → AnswersTable asked name table words (misused (table_fault_line fault))
+  no_variables : (groups : List Group) (fault : VariableFault) → DeclaresOptions table groups
+      → asked_fault asked table groups ≡ Some fault
+      → AnswersTable asked name table words (misused (variable_fault_line fault))
   declared : (groups : List Group) (answer : Answer) → DeclaresOptions table groups
-      → AnswersScript own name (script_options own groups) words answer
-      → AnswersTable own name table words answer
+      → asked_fault asked table groups ≡ None
+      → AnswersScript asked name (script_options asked groups) words answer
+      → AnswersTable asked name table words answer
 
 -- the answer to the free words of the program's own
-abbrev pub AnswersFree : Matched → List Text → Answer → Type 0
-AnswersFree own (name ∷ table ∷ words) answer = AnswersTable own name table words answer
-AnswersFree own words answer = answer ≡ misused (codes "getopts_shell: a name and a table of options are needed\n")
+abbrev pub AnswersFree : Asked → List Text → Answer → Type 0
+AnswersFree asked (name ∷ table ∷ words) answer = AnswersTable asked name table words answer
+AnswersFree asked words answer =
+    answer ≡ misused (codes "getopts_shell: a name and a table of options are needed\n")
 
--- the answer to the program's own words, where they are accepted with these matches: its help, or the
--- answer to its free words
-pub data AnswersOwn (own : Matched) : Answer → Type 0 where
-  own_help : (help : Text) → is_given own (codes "help") ≡ true
-      → IsTheOnly (IsUsageText own_options (codes "Usage: getopts_shell [options] NAME TABLE [WORD].."))
-      help → AnswersOwn own (done help)
-  of_free : (answer : Answer) → is_given own (codes "help") ≡ false
-      → AnswersFree own own.free answer → AnswersOwn own answer
-
--- The answer to words: the fault of the program's own words, or the answer to these.
+-- The answer to words: the fault of the program's own words, its help, or what these ask for.
 pub data IsAnswer (words : List Text) : Answer → Type 0 where
   refused_own : (fault : Fault) → IsRefused own_options words fault
       → IsAnswer words (misused (fault_line (codes "getopts_shell") fault))
+  own_help : (own : Matched) (help : Text) → IsAccepted own_options words own
+      → is_given own (codes "help") ≡ true
+      → IsTheOnly (IsUsageText own_options (codes "Usage: getopts_shell [options] NAME TABLE [WORD].."))
+      help → IsAnswer words (done help)
   accepted_own : (own : Matched) (answer : Answer) → IsAccepted own_options words own
-      → AnswersOwn own answer → IsAnswer words answer
+      → is_given own (codes "help") ≡ false → AnswersFree (asked_by own) own.free answer
+      → IsAnswer words answer
 
 -- The words ask for a completion script, and for no help.
 pub record AskCompletion (words : List Text) : Type 0 where
   pub own : Matched
   pub accepted : IsAccepted own_options words own
   pub no_help : is_given own (codes "help") ≡ false
-  pub no_usage : is_given own (codes "usage") ≡ false
+  pub no_usage : (asked_by own).usage ≡ false
   pub shell : Text
-  pub asked : value_given own (codes "complete") ≡ Some shell
+  pub asked : (asked_by own).complete ≡ Some shell
 
 -- words have one status and one text, but for the text of a completion script that they ask for
 abbrev pub OneAnswer : Type 0

@@ -1,7 +1,8 @@
 //! What the program answers to words.
 
 ghost use Rattle.std.specs.Prelude.{◌≡◌, ◌≢◌, ◌≤◌, ◌⊎◌, ◌++◌, ◌↔◌, ◌&&◌, codes, map, true, false, IsTrue, List};
-ghost use Rattle.std.specs.Prelude.{Option, IfOk, OnOk, Some};
+ghost use Rattle.std.specs.Prelude.{Option, IfOk, OnOk, Some, None};
+ghost use Rattle.std.specs.Option.{option_map};
 ghost use Rattle.std.specs.Io.KnownBytes.{Appends};
 ghost use Rattle.std.specs.List.{list_any};
 ghost use Rattle.std.specs.Str.{bytes_eq};
@@ -13,20 +14,22 @@ ghost use Rattle.getopts.specs.Names.{Text, texts};
 ghost use Rattle.getopts.specs.Options.{with_group};
 ghost use Rattle.getopts.specs.Parse.{IsAccepted, IsRefused};
 ghost use Rattle.getopts_shell.specs.Held.{group_of_row, groups_of, fault_told, answer_of, HasOwnGroups};
-ghost use Rattle.getopts_shell.specs.Held.{ArePlainlyNamed};
+ghost use Rattle.getopts_shell.specs.Held.{ArePlainlyNamed, asked_of, variable_fault_told};
 ghost use Rattle.getopts_shell.specs.Program.{own_groups, own_options, script_options, done, misused};
 ghost use Rattle.getopts_shell.specs.Program.{table_fault_line, fault_line, refused_text};
-ghost use Rattle.getopts_shell.specs.Program.{IsHelp, help_code, AskHelp, is_no, offers_help, line_code, AnswersLine};
-ghost use Rattle.getopts_shell.specs.Program.{AnswersWords, AnswersScript};
-ghost use Rattle.getopts_shell.specs.Program.{AnswersTable, AnswersFree, AnswersOwn, IsAnswer, IsOutput, IsStatus, ShowsAnswer};
+ghost use Rattle.getopts_shell.specs.Program.{IsHelp, help_code, AskHelp, is_no, offers_help, line_code};
+ghost use Rattle.getopts_shell.specs.Program.{Asked, asked_by, ReadsWords, AnswersScript};
+ghost use Rattle.getopts_shell.specs.Program.{AnswersTable, AnswersFree, IsAnswer, IsOutput, IsStatus, ShowsAnswer};
 ghost use Rattle.getopts_shell.specs.Program.{AnswersCompletion, no_completion};
-ghost use Rattle.getopts_shell.specs.Table.{TableFault, no_option, name_twice};
+ghost use Rattle.getopts_shell.specs.Program.{asked_fault, variable_fault_line};
+ghost use Rattle.getopts_shell.specs.Table.{DeclaresOptions, TableFault, no_option, name_twice};
 ghost use Rattle.getopts_shell.specs.Held.{with_groups};
 
 use crate::complete::completion;
 use crate::quote::{push_quoted, push_quoted_words};
 use crate::row::Row;
 use crate::table::{TableError, rows_of};
+use crate::variables::{VariableError, Variables, variable_error, variables_code};
 use crate::words::texts_of;
 use getopts::{Fail, HasArg, Matches, Options, ParsingStyle, names_resolve};
 use getopts_bytes::push_bytes;
@@ -65,10 +68,26 @@ struct Output {
     status: u8,
 }
 
-/// A script: its name, and its options, as the rows of its table declare them.
+/// What the program's own words ask for.
+#[derive(Drop)]
+struct Asked {
+    brief: Option<String>,
+    stop: bool,
+    long_only: bool,
+    words: bool,
+    usage: bool,
+    complete: Option<String>,
+    variables: Option<String>,
+    arrays: bool,
+}
+
+/// A script: what is asked for it, its name, its table, and its options, as the rows of the table declare
+/// them.
 #[derive(Clone, Copy)]
 struct Script<'s> {
+    asked: &'s Asked,
     name: &'s str,
+    table: &'s str,
     rows: &'s [Row<'s>],
     options: &'s Options,
 }
@@ -78,8 +97,8 @@ struct Script<'s> {
 /// The words are the program's own options, the script's name, its table and its words. The text is made
 /// whole, then written once and flushed: on `out` where the status is 0, and on `err` where it is 2 or 5.
 ///
-/// - 0: code that sets the script's words to those of the canonical line, or that prints the script's help;
-///   with `--usage` the help itself, with `--complete` a completion script, with `--help` the program's help
+/// - 0: code that sets the script's words to those of the canonical line, or, with `--variables`, that sets
+///   variables, or that prints the script's help; with `--usage` the help itself, with `--complete` a completion script, with `--help` the program's help
 /// - 2: why the script's words are refused, and its short usage
 /// - 3: out of memory, with nothing written
 /// - 4: a write or a flush failed
@@ -178,6 +197,13 @@ fn add_own_options(options: &mut Options) -> Result<(), AllocError>
         )?
         .optflag("l", "long-only", "let long names follow one dash too")?
         .optflag("w", "words", "write the words alone, without 'set --'")?
+        .optopt(
+            "V",
+            "variables",
+            "set a variable for each option, named PREFIX and its name",
+            "PREFIX",
+        )?
+        .optflag("A", "arrays", "with --variables, make an array of values")?
         .optflag("u", "usage", "write the help of TABLE")?
         .optopt(
             "c",
@@ -204,26 +230,43 @@ fn fault_line(alloc: Global, name: &str, fail: &Fail) -> Result<String, AllocErr
 fn own_answer(alloc: Global, options: &Options, own: &Matches) -> Result<Outcome, AllocError>
     requires options { options.now ≡ own_options }
     requires own { HasOwnGroups own.now.groups }
-    ensures { IfOk result (λ outcome. AnswersOwn own.now (answer_of outcome)) }
+    ensures { IfOk result (λ outcome. (words : List Text) → IsAccepted own_options words own.now
+        → IsAnswer words (answer_of outcome)) }
 {
     if own.opt_present("help") {
-        Ok(Outcome {
+        return Ok(Outcome {
             text: options.usage(alloc, BRIEF)?,
             status: DONE,
-        })
-    } else {
-        let words = texts_of(alloc, &own.free)?;
-        free_answer(alloc, own, &words)
+        });
     }
+    let asked = asked_by(alloc, own)?;
+    let words = texts_of(alloc, &own.free)?;
+    free_answer(alloc, &asked, &words)
+}
+
+/// What the program's own words ask for, where they are accepted with these matches.
+fn asked_by(alloc: Global, own: &Matches) -> Result<Asked, AllocError>
+    requires { HasOwnGroups own.now.groups }
+    ensures { IfOk result (λ asked. asked_of asked ≡ asked_by own.now) }
+{
+    Ok(Asked {
+        brief: own.opt_str(alloc, "brief")?,
+        stop: own.opt_present("stop"),
+        long_only: own.opt_present("long-only"),
+        words: own.opt_present("words"),
+        usage: own.opt_present("usage"),
+        complete: own.opt_str(alloc, "complete")?,
+        variables: own.opt_str(alloc, "variables")?,
+        arrays: own.opt_present("arrays"),
+    })
 }
 
 /// The answer to the free words of the program's own.
-fn free_answer(alloc: Global, own: &Matches, words: &[&str]) -> Result<Outcome, AllocError>
-    requires own { HasOwnGroups own.now.groups }
-    ensures { IfOk result (λ outcome. AnswersFree own.now (texts words.now) (answer_of outcome)) }
+fn free_answer(alloc: Global, asked: &Asked, words: &[&str]) -> Result<Outcome, AllocError>
+    ensures { IfOk result (λ outcome. AnswersFree (asked_of asked.now) (texts words.now) (answer_of outcome)) }
 {
     match words {
-        [name, table, words @ ..] => table_answer(alloc, own, name, table, words),
+        [name, table, words @ ..] => table_answer(alloc, asked, name, table, words),
         _ => Ok(Outcome {
             text: String::from_str(alloc, NEEDED)?,
             status: MISUSED,
@@ -234,17 +277,16 @@ fn free_answer(alloc: Global, own: &Matches, words: &[&str]) -> Result<Outcome, 
 /// The answer to a script's name, its table and its words.
 fn table_answer(
     alloc: Global,
-    own: &Matches,
+    asked: &Asked,
     name: &str,
     table: &str,
     words: &[&str],
 ) -> Result<Outcome, AllocError>
-    requires own { HasOwnGroups own.now.groups }
     ensures { IfOk result (λ outcome.
-        AnswersTable own.now name.now table.now (texts words.now) (answer_of outcome)) }
+        AnswersTable (asked_of asked.now) name.now table.now (texts words.now) (answer_of outcome)) }
 {
     match rows_of(alloc, table) {
-        Ok(rows) => rows_answer(alloc, own, name, &rows, words),
+        Ok(rows) => declared_answer(alloc, asked, name, table, &rows, words),
         Err(error) => Ok(Outcome {
             text: table_refusal(alloc, error)?,
             status: MISUSED,
@@ -268,38 +310,100 @@ fn table_refusal(alloc: Global, error: TableError<'_>) -> Result<String, AllocEr
     }
 }
 
-/// The answer to words by the options of a table.
-fn rows_answer(
+/// The answer to a script's name, the options of its table and its words.
+fn declared_answer(
     alloc: Global,
-    own: &Matches,
+    asked: &Asked,
     name: &str,
+    table: &str,
     rows: &[Row<'_>],
     words: &[&str],
 ) -> Result<Outcome, AllocError>
-    requires own { HasOwnGroups own.now.groups }
     requires plain { ArePlainlyNamed (groups_of rows.now) }
-    ensures { IfOk result (λ outcome. AnswersScript own.now name.now
-        (script_options own.now (groups_of rows.now)) (texts words.now) (answer_of outcome)) }
+    ensures { IfOk result (λ outcome. DeclaresOptions table.now (groups_of rows.now)
+        → AnswersTable (asked_of asked.now) name.now table.now (texts words.now) (answer_of outcome)) }
 {
-    let options = options_of(alloc, own, rows)?;
+    match asked_error(asked, table, rows) {
+        Some(error) => Ok(Outcome {
+            text: variable_refusal(alloc, error)?,
+            status: MISUSED,
+        }),
+        None => rows_answer(alloc, asked, name, table, rows, words),
+    }
+}
+
+/// Why there are no variables where they are asked for.
+fn asked_error<'t>(asked: &'t Asked, table: &'t str, rows: &[Row<'t>]) -> Option<VariableError<'t>>
+    ensures { option_map variable_fault_told result
+        ≡ asked_fault (asked_of asked.now) table.now (groups_of rows.now) }
+{
+    match &asked.variables {
+        Some(prefix) => {
+            if asked.words {
+                Some(VariableError::WithWords)
+            } else {
+                variable_error(prefix.as_str(), table, rows)
+            }
+        }
+        None => None,
+    }
+}
+
+/// The line of a fault of variables.
+fn variable_refusal(alloc: Global, error: VariableError<'_>) -> Result<String, AllocError>
+    ensures { IfOk result (λ text.
+        string_bytes text ≡ variable_fault_line (variable_fault_told error.entry)) }
+{
+    match error {
+        VariableError::WithWords => format!(in alloc;
+            "getopts_shell: --words and --variables don't go together\n"
+        ),
+        VariableError::NoPrefix(prefix) => {
+            format!(in alloc; "getopts_shell: '{prefix}' makes no variable\n")
+        }
+        VariableError::NoVariable(number, name) => format!(in alloc;
+            "getopts_shell: line {number} of the options: '{name}' makes no variable\n"
+        ),
+        VariableError::VariableTwice(number, name) => format!(in alloc;
+            "getopts_shell: line {number} of the options: '{name}' makes the variable of another option\n"
+        ),
+    }
+}
+
+/// The answer to words by the options of a table.
+fn rows_answer(
+    alloc: Global,
+    asked: &Asked,
+    name: &str,
+    table: &str,
+    rows: &[Row<'_>],
+    words: &[&str],
+) -> Result<Outcome, AllocError>
+    requires plain { ArePlainlyNamed (groups_of rows.now) }
+    requires variables { asked_fault (asked_of asked.now) table.now (groups_of rows.now) ≡ None }
+    ensures { IfOk result (λ outcome. AnswersScript (asked_of asked.now) name.now
+        (script_options (asked_of asked.now) (groups_of rows.now)) (texts words.now) (answer_of outcome)) }
+{
+    let options = options_of(alloc, asked, rows)?;
     let script = Script {
+        asked,
         name,
+        table,
         rows,
         options: &options,
     };
-    script_answer(alloc, own, script, words)
+    script_answer(alloc, script, words)
 }
 
-/// The options of a table, in the style and the mode that the program's own words ask for.
-fn options_of(alloc: Global, own: &Matches, rows: &[Row<'_>]) -> Result<Options, AllocError>
-    requires own { HasOwnGroups own.now.groups }
-    ensures { IfOk result (λ options. options ≡ script_options own.now (groups_of rows.now)) }
+/// The options of a table, in the style and the mode that are asked for.
+fn options_of(alloc: Global, asked: &Asked, rows: &[Row<'_>]) -> Result<Options, AllocError>
+    ensures { IfOk result (λ options. options ≡ script_options (asked_of asked.now) (groups_of rows.now)) }
 {
     let mut options = Options::new(alloc);
-    if own.opt_present("stop") {
+    if asked.stop {
         options.parsing_style(ParsingStyle::StopAtFirstFree);
     }
-    options.long_only(own.opt_present("long-only"));
+    options.long_only(asked.long_only);
     add_rows(&mut options, rows)?;
     Ok(options)
 }
@@ -322,39 +426,31 @@ fn add_rows(options: &mut Options, rows: &[Row<'_>]) -> Result<(), AllocError>
 }
 
 /// The answer for a script and its words.
-fn script_answer(
-    alloc: Global,
-    own: &Matches,
-    script: Script<'_>,
-    words: &[&str],
-) -> Result<Outcome, AllocError>
-    requires own { HasOwnGroups own.now.groups }
+fn script_answer(alloc: Global, script: Script<'_>, words: &[&str]) -> Result<Outcome, AllocError>
     requires rows { script.options.now.groups ≡ groups_of script.rows.now }
     requires plain { ArePlainlyNamed (groups_of script.rows.now) }
-    ensures { IfOk result (λ outcome. AnswersScript own.now script.entry.name.now
+    requires variables { asked_fault (asked_of script.asked.now) script.table.now (groups_of script.rows.now) ≡ None }
+    ensures { IfOk result (λ outcome. AnswersScript (asked_of script.entry.asked.now) script.entry.name.now
         script.entry.options.now (texts words.now) (answer_of outcome)) }
 {
-    if own.opt_present("usage") {
-        Ok(Outcome {
-            text: help_of(alloc, own, script)?,
+    if script.asked.usage {
+        return Ok(Outcome {
+            text: help_of(alloc, script)?,
             status: DONE,
-        })
-    } else {
-        let shell = own.opt_str(alloc, "complete")?;
-        match shell {
-            Some(shell) => completion_answer(alloc, shell.as_str(), script),
-            None => words_answer(alloc, own, script, words),
-        }
+        });
+    }
+    match &script.asked.complete {
+        Some(shell) => completion_answer(alloc, shell.as_str(), script),
+        None => words_answer(alloc, script, words),
     }
 }
 
 /// The help of a script.
-fn help_of(alloc: Global, own: &Matches, script: Script<'_>) -> Result<String, AllocError>
-    requires { HasOwnGroups own.now.groups }
-    ensures { IfOk result (λ text.
-        IsHelp own.now script.entry.name.now script.entry.options.now (string_bytes text)) }
+fn help_of(alloc: Global, script: Script<'_>) -> Result<String, AllocError>
+    ensures { IfOk result (λ text. IsHelp (asked_of script.entry.asked.now) script.entry.name.now
+        script.entry.options.now (string_bytes text)) }
 {
-    match own.opt_str(alloc, "brief")? {
+    match &script.asked.brief {
         Some(brief) => script.options.usage(alloc, brief.as_str()),
         None => {
             let brief = script.options.short_usage(alloc, script.name)?;
@@ -376,27 +472,26 @@ fn completion_answer(alloc: Global, shell: &str, script: Script<'_>) -> Result<O
     }
 }
 
-/// The answer to the words of a script.
-fn words_answer(
-    alloc: Global,
-    own: &Matches,
-    script: Script<'_>,
-    words: &[&str],
-) -> Result<Outcome, AllocError>
-    requires own { HasOwnGroups own.now.groups }
+/// The answer to the words of a script: the code that prints its help where they ask for it, and else what
+/// they are.
+fn words_answer(alloc: Global, script: Script<'_>, words: &[&str]) -> Result<Outcome, AllocError>
+    requires asked { ReadsWords (asked_of script.asked.now) }
     requires rows { script.options.now.groups ≡ groups_of script.rows.now }
     requires plain { ArePlainlyNamed (groups_of script.rows.now) }
-    ensures { IfOk result (λ outcome. AnswersWords own.now script.entry.name.now
+    requires variables { asked_fault (asked_of script.asked.now) script.table.now (groups_of script.rows.now) ≡ None }
+    ensures { IfOk result (λ outcome. AnswersScript (asked_of script.entry.asked.now) script.entry.name.now
         script.entry.options.now (texts words.now) (answer_of outcome)) }
 {
     let asked = asks_help(alloc, script, words)?;
     if asked {
-        Ok(Outcome {
-            text: help_code(alloc, own, script)?,
+        return Ok(Outcome {
+            text: help_code(alloc, script)?,
             status: DONE,
-        })
-    } else {
-        line_answer(alloc, own, script, words)
+        });
+    }
+    match &script.asked.variables {
+        Some(prefix) => variables_answer(alloc, script, prefix.as_str(), words),
+        None => line_answer(alloc, script, words),
     }
 }
 
@@ -434,36 +529,21 @@ fn has_help(matches: &Matches) -> bool
     matches.opt_defined("help") && matches.opt_present("help")
 }
 
-/// Whether one of the options is called `help`, and takes no argument.
-fn offers_help(rows: &[Row<'_>]) -> bool
-    ensures { result ≡ offers_help (groups_of rows.now) }
-{
-    any_is_help(rows)
-}
-
 /// Whether one of the rows is called `help`, and takes no argument.
-fn any_is_help(rows: &[Row<'_>]) -> bool
+fn offers_help(rows: &[Row<'_>]) -> bool
     ensures { result ≡ list_any (λ row. bytes_eq row.long.now (codes "help") && is_no row.kind) rows.now }
 {
     rows.iter()
-        .any(|row| row.long == "help" && takes_none(row.kind))
-}
-
-/// Whether a kind takes no argument.
-fn takes_none(kind: HasArg) -> bool
-    ensures { result ≡ is_no kind }
-{
-    matches!(kind, HasArg::No)
+        .any(|row| row.long == "help" && matches!(row.kind, HasArg::No))
 }
 
 /// The code that prints the help of a script, and ends it.
-fn help_code(alloc: Global, own: &Matches, script: Script<'_>) -> Result<String, AllocError>
-    requires { HasOwnGroups own.now.groups }
+fn help_code(alloc: Global, script: Script<'_>) -> Result<String, AllocError>
     ensures { IfOk result (λ text. (help : Text)
-        × IsHelp own.now script.entry.name.now script.entry.options.now help
+        × IsHelp (asked_of script.entry.asked.now) script.entry.name.now script.entry.options.now help
         × (string_bytes text ≡ help_code help)) }
 {
-    let help = help_of(alloc, own, script)?;
+    let help = help_of(alloc, script)?;
     let mut text = String::from_str(alloc, "printf %s ")?;
     push_quoted(&mut text, help.as_str())?;
     text.push_str("; exit 0\n")?;
@@ -471,21 +551,18 @@ fn help_code(alloc: Global, own: &Matches, script: Script<'_>) -> Result<String,
 }
 
 /// The answer to words that don't ask for help: the canonical line of accepted words, or the first fault.
-fn line_answer(
-    alloc: Global,
-    own: &Matches,
-    script: Script<'_>,
-    words: &[&str],
-) -> Result<Outcome, AllocError>
-    requires own { HasOwnGroups own.now.groups }
+fn line_answer(alloc: Global, script: Script<'_>, words: &[&str]) -> Result<Outcome, AllocError>
+    requires asked { ReadsWords (asked_of script.asked.now) }
+    requires no_variables { (asked_of script.asked.now).variables ≡ None }
+    requires no_help { ¬ (AskHelp script.options.now (texts words.now)) }
     requires plain { ArePlainlyNamed script.options.now.groups }
-    ensures { IfOk result (λ outcome. AnswersLine own.now script.entry.name.now
+    ensures { IfOk result (λ outcome. AnswersScript (asked_of script.entry.asked.now) script.entry.name.now
         script.entry.options.now (texts words.now) (answer_of outcome)) }
 {
     names_resolve(script.options);
     match script.options.canonical_words(alloc, words) {
         Ok(Some(line)) => Ok(Outcome {
-            text: line_code(alloc, own, &line)?,
+            text: line_code(alloc, script.asked, &line)?,
             status: DONE,
         }),
         Ok(None) => unreachable!(),
@@ -496,13 +573,44 @@ fn line_answer(
     }
 }
 
+/// The answer to words that don't ask for help, by variables: the code that sets them, or the first fault.
+fn variables_answer(
+    alloc: Global,
+    script: Script<'_>,
+    prefix: &str,
+    words: &[&str],
+) -> Result<Outcome, AllocError>
+    requires asked { ReadsWords (asked_of script.asked.now) }
+    requires prefix { (asked_of script.asked.now).variables ≡ Some prefix.now }
+    requires no_help { ¬ (AskHelp script.options.now (texts words.now)) }
+    requires rows { script.options.now.groups ≡ groups_of script.rows.now }
+    requires variables { asked_fault (asked_of script.asked.now) script.table.now (groups_of script.rows.now) ≡ None }
+    ensures { IfOk result (λ outcome. AnswersScript (asked_of script.entry.asked.now) script.entry.name.now
+        script.entry.options.now (texts words.now) (answer_of outcome)) }
+{
+    let variables = Variables {
+        prefix,
+        arrays: script.asked.arrays,
+    };
+    match script.options.parse_words(alloc, words) {
+        Ok(matches) => Ok(Outcome {
+            text: variables_code(alloc, variables, script.rows, &matches)?,
+            status: DONE,
+        }),
+        Err(fail) => Ok(Outcome {
+            text: refusal(alloc, script, &fail)?,
+            status: REFUSED,
+        }),
+    }
+}
+
 /// The code that sets a script's words to those of a line, or the words alone.
-fn line_code(alloc: Global, own: &Matches, line: &[String]) -> Result<String, AllocError>
-    requires { HasOwnGroups own.now.groups }
-    ensures { IfOk result (λ text. string_bytes text ≡ line_code own.now (map string_bytes line.now)) }
+fn line_code(alloc: Global, asked: &Asked, line: &[String]) -> Result<String, AllocError>
+    ensures { IfOk result (λ text. string_bytes text
+        ≡ line_code (asked_of asked.now) (map string_bytes line.now)) }
 {
     let mut text = String::new(alloc);
-    if !own.opt_present("words") {
+    if !asked.words {
         text.push_str("set -- ")?;
     }
     push_quoted_words(&mut text, line)?;

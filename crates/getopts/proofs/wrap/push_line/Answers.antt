@@ -8,11 +8,11 @@ use Rattle.getopts.proofs.Wrapping.Rows.{adds_none, rows_begin, rows_take, rows_
 use Rattle.getopts.proofs.wrap.push_line.Goals as goal
 
 -- the line has no word
-pub returns-in_default : goal.returns-in_default
-returns-in_default c =
+pub returns-in-None : goal.returns-in-None
+returns-in-None c =
     let is_line = c.split_whitespace-words.ensures.rest in
     adds_none c.args.lim c.args.separator.now c.args.line.now c.args.begun _
-    (words_of-none c.args.line.now c.utf8.line (rw is_line at c.in_default.ensures.steps.1))
+    (words_of-none c.args.line.now c.utf8.line (rw is_line at c.in-None.ensures.steps.1))
 
 -- the first word begins a row
 pub loop-word-init : goal.loop-word-init
@@ -41,5 +41,5 @@ loop-word-preserved c =
 -- no word is left
 pub returns : goal.returns
 returns c =
-    let none = words_of-none _ c.loop-word.invariant.utf8 c.in-None.ensures.steps.1 in
+    let none = words_of-none _ c.loop-word.invariant.utf8 c.in-None-word.ensures.steps.1 in
     rows_finish c.loop-word.invariant c.args.begun (string_bytes c.args.text.now) none refl

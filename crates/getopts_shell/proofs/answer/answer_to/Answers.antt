@@ -1,11 +1,12 @@
 use Rattle.std.proofs.lemmas.Result.{IfOk-weaker}
-use Rattle.getopts_shell.specs.Program.{refused_own, accepted_own}
+use Rattle.getopts.specs.Names.{texts}
+use Rattle.getopts_shell.specs.Program.{refused_own}
 use Rattle.getopts_shell.proofs.answer.answer_to.Goals as goal
 
 pub returns-in-Ok : goal.returns-in-Ok
 returns-in-Ok c =
     IfOk-weaker c.own_answer.result _ _
-    (λ outcome is. accepted_own c.in-Ok.own _ (rw c.in_ok-options.ensures at c.in-Ok.ensures.accepted) is)
+    (λ outcome is. is (texts c.args.words.now) (rw c.in_ok-options.ensures at c.in-Ok.ensures.accepted))
     c.own_answer.ensures
 
 pub returns : goal.returns

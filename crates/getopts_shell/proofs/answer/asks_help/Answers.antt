@@ -2,13 +2,20 @@ use Rattle.std.proofs.Common.{◌≡◌, ◌↔◌, Bool, true, ap, subst, sym, 
 use Rattle.std.proofs.lemmas.Result.{IfOk-weaker}
 use Rattle.getopts.specs.Names.{texts}
 use Rattle.getopts_shell.specs.Program.{AskHelp, offers_help}
-use Rattle.getopts_shell.proofs.Help.{asked_is, never_asked}
+use Rattle.getopts_shell.proofs.Help.{asked_is, never_asked, never_offered, offers_rows}
 use Rattle.getopts_shell.proofs.answer.asks_help.Goals as goal
+
+pub returns-then-not-offered : goal.returns-then-not-offered
+returns-then-not-offered c =
+    never_offered c.args.script.options.now (texts c.args.words.now)
+    (ap (λ groups. offers_help groups) c.requires ∙ offers_rows c.args.script.rows.now
+    ∙ sym c.offers_help-offered.ensures ∙ c.if-not-offered.true)
 
 pub returns-in-Ok : goal.returns-in-Ok
 returns-in-Ok c =
     asked_is c.args.script.options.now (texts c.args.words.now) _ c.has_help.result c.in-Ok.ensures.read
-    (ap (λ groups. offers_help groups) c.requires ∙ sym c.offers_help-offered.ensures ∙ c.if-not-offered.false)
+    (ap (λ groups. offers_help groups) c.requires ∙ offers_rows c.args.script.rows.now
+    ∙ sym c.offers_help-offered.ensures ∙ c.if-not-offered.false)
     c.has_help.ensures
 
 pub returns-in-Err : goal.returns-in-Err

@@ -11,8 +11,8 @@ returns-in-Some c =
     let short = short_usage_text c.args.script.options.now c.args.script.name.now in
     subst (λ (b : Text). IfOk c.usage.result
     (λ text. IsTheOnly (IsUsageText c.args.script.options.now b) (string_bytes text)))
-    (c.as_str.ensures.value ∙ sym (ap (λ value. unwrap_or value short)
-    (sym c.in_ok-brief.ensures ∙ ap (option_map string_bytes) c.in-Some.is)))
+    (c.as_str.ensures.value
+    ∙ sym (ap (λ value. unwrap_or (option_map string_bytes value) short) c.in-Some.is))
     c.usage.ensures.text
 
 pub returns-in_ok-brief-in-None : goal.returns-in_ok-brief-in-None
@@ -20,6 +20,6 @@ returns-in_ok-brief-in-None c =
     let short = short_usage_text c.args.script.options.now c.args.script.name.now in
     subst (λ (b : Text). IfOk c.usage-in-None.result
     (λ text. IsTheOnly (IsUsageText c.args.script.options.now b) (string_bytes text)))
-    (c.as_str-in-None.ensures.value ∙ c.in_ok-brief-in-None.ensures.text ∙ sym (ap (λ value. unwrap_or value short)
-    (sym c.in_ok-brief.ensures ∙ ap (option_map string_bytes) c.in-None.is)))
+    (c.as_str-in-None.ensures.value ∙ c.in_ok-brief-in-None.ensures.text
+    ∙ sym (ap (λ value. unwrap_or (option_map string_bytes value) short) c.in-None.is))
     c.usage-in-None.ensures.text

@@ -1,6 +1,7 @@
 use Rattle.std.proofs.Common.{map, string_bytes, ap, subst, sym, ◌∙◌}
 use Rattle.getopts.specs.Names.{Text, texts}
-use Rattle.getopts_shell.specs.Program.{AnswersLine, accepted, refused, line_code}
+use Rattle.getopts_shell.specs.Held.{asked_of}
+use Rattle.getopts_shell.specs.Program.{AnswersScript, accepted, refused, line_code}
 use Rattle.getopts_shell.proofs.Line.{never_unwritable, tells_words}
 use Rattle.getopts_shell.proofs.answer.line_answer.Goals as goal
 
@@ -11,17 +12,18 @@ unreachable-requires c =
 
 pub returns-in_ok-line_code-in-Ok-Some : goal.returns-in_ok-line_code-in-Ok-Some
 returns-in_ok-line_code-in-Ok-Some c =
+    let asked = asked_of c.args.script.asked.now in
     let tells = tells_words c.args.script.options.now (texts c.args.words.now)
     (map string_bytes c.in-Ok-Some.line.items)
     c.names_resolve.ensures.empty c.in-Ok-Some.ensures.laws
     (rw c.in-Ok-Some.field-0-is at c.in-Ok-Some.ensures.written) in
-    subst (λ (t : Text). AnswersLine c.args.own.now c.args.script.name.now c.args.script.options.now
+    subst (λ (t : Text). AnswersScript asked c.args.script.name.now c.args.script.options.now
     (texts c.args.words.now) (record { text = t; status = 0 }))
     (sym (c.in_ok-line_code-in-Ok-Some.ensures
-    ∙ ap (λ items. line_code c.args.own.now (map string_bytes items)) c.deref.ensures.value))
-    (accepted (map string_bytes c.in-Ok-Some.line.items) tells)
+    ∙ ap (λ items. line_code asked (map string_bytes items)) c.deref.ensures.value))
+    (accepted (map string_bytes c.in-Ok-Some.line.items) c.requires.asked c.requires.no_help tells)
 
 pub returns-in_ok-refusal-in-Err : goal.returns-in_ok-refusal-in-Err
 returns-in_ok-refusal-in-Err c =
     let said = c.in_ok-refusal-in-Err.ensures in
-    rw said.2 (refused said.0 (rw said.1 at c.in-Err.ensures.refused))
+    rw said.2 (refused said.0 c.requires.asked c.requires.no_help (rw said.1 at c.in-Err.ensures.refused))

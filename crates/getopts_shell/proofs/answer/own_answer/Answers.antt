@@ -2,20 +2,22 @@ use Rattle.std.proofs.Common.{ap, map, string_bytes, subst, sym, ◌∙◌}
 use Rattle.std.proofs.lemmas.Result.{IfOk-weaker}
 use Rattle.getopts.specs.Matches.{Matched}
 use Rattle.getopts.specs.Names.{texts}
-use Rattle.getopts_shell.specs.Held.{answer_of}
-use Rattle.getopts_shell.specs.Program.{AnswersFree, own_help, of_free}
+use Rattle.getopts_shell.specs.Held.{answer_of, asked_of}
+use Rattle.getopts_shell.specs.Program.{Asked, AnswersFree, own_help, accepted_own}
 use Rattle.getopts_shell.proofs.answer.own_answer.Goals as goal
 
-pub returns-in_ok-usage : goal.returns-in_ok-usage
-returns-in_ok-usage c =
-    own_help _ (sym c.opt_present.ensures.present ∙ c.if-opt_present.true)
+pub returns-then-opt_present : goal.returns-then-opt_present
+returns-then-opt_present c = λ words is.
+    own_help c.args.own.now _ is (sym c.opt_present.ensures.present ∙ c.if-opt_present.true)
     (rw c.requires.options at c.in_ok-usage.ensures.text)
 
-pub returns-in_ok-words : goal.returns-in_ok-words
-returns-in_ok-words c =
-    let free = ap (λ words. texts words) c.deref-else-opt_present.ensures.value ∙ c.in_ok-words.ensures
+pub returns : goal.returns
+returns c =
+    let free = ap (λ words. texts words) c.deref-2.ensures.value ∙ c.in_ok-words.ensures
     ∙ ap (map string_bytes) c.deref.ensures.value ∙ ap (λ (matches : Matched). matches.free) c.own.view_is in
     IfOk-weaker c.free_answer.result _ _
-    (λ outcome is. of_free _ (sym c.opt_present.ensures.present ∙ c.if-opt_present.false)
-    (subst (λ words. AnswersFree c.args.own.now words (answer_of outcome)) free is))
+    (λ outcome is. λ words accepted. accepted_own c.args.own.now _ accepted
+    (sym c.opt_present.ensures.present ∙ c.if-opt_present.false)
+    (subst (λ (asked : Asked). AnswersFree asked c.args.own.now.free (answer_of outcome)) c.in_ok-asked.ensures
+    (subst (λ words. AnswersFree (asked_of c.in_ok-asked.asked) words (answer_of outcome)) free is)))
     c.free_answer.ensures
