@@ -130,11 +130,11 @@ over_proved() {
             getopts_c getopts_shell
 }
 
-# edits: in a copy, tries the edits of the library.
+# edits: in a copy, tries the edits of the libraries.
 edits() {
     mkdir "$room/copy" &&
         tar --exclude=./.git --exclude=out --exclude=target -c . | tar -C "$room/copy" -x &&
-        bash "$room/copy/tests/must-fail/try.sh" --jobs 1 getopts
+        bash "$room/copy/tests/must-fail/try.sh" --jobs 1 getopts getopts_bytes
 }
 
 room=$(mktemp -d)

@@ -139,7 +139,7 @@ for row in re.findall(r"^\|.*\|$", pages["docs/PROOFS.md"], re.M):
 # ---- names ----
 
 named = set(re.findall(r"`([A-Za-z_][\w-]*)`", pages["docs/GRAMMAR.md"]))
-for crate in ["getopts", "getopts_show", "getopts_c", "getopts_shell"]:
+for crate in ["getopts", "getopts_show", "getopts_bytes", "getopts_c", "getopts_shell"]:
     here = [name for name in tracked if name.startswith(f"crates/{crate}/specs/")]
     # Modules that stand under private clauses alone have their rules in comments.
     order = read(f"crates/{crate}/specs/Lib.antt") if here else ""
