@@ -29,7 +29,7 @@ def table_of(rng):
     lines = []
     for place in range(rng.randrange(0, 6)):
         # Most lines are options with names of their own.
-        item = item_of(rng) if rng.random() < 0.25 else rng.choice(
+        item = item_of(rng) if rng.random() < 0.1 else rng.choice(
             [f"[-{'abcde'[place]}|--long-{place}]..", f"[-{'abcde'[place]} FILE]", f"[--long-{place} [WHEN]]"])
         lines.append(rng.choice(["", " "]) + item + rng.choice(["", "  ", "\t", "   what it does, in many words " * 3]))
     return rng.choice(["\n", "\n", "\n# a remark\n", "\r\n"]).join(lines + rng.choice([[], ["[-h|--help]  print this"]])).encode()

@@ -40,7 +40,7 @@ check "no warning" built_without_a_warning
 cloned() {
     tar -C "$top" --exclude=./.git --exclude=out --exclude=target -c bindings/rust bindings/shell | tar -C "$room" -x &&
         (cd "$room/bindings" && git init -q . && git add -A . && git -c user.name=a -c user.email=a@b commit -q -m a) &&
-        cargo install "${flags[@]}" --git "file://$room/bindings" --root "$room/root" getopts_shell
+        cargo install "${flags[@]/--offline/--quiet}" --git "file://$room/bindings" --root "$room/root" getopts_shell
 }
 if has git; then
     check "cargo install --git" cloned
@@ -69,12 +69,14 @@ else
             (cd "$room/w/shell" && mkdir .cargo && cp "$room/registry.toml" .cargo/config.toml &&
                 RUSTC=/usr/bin/rustc RUSTC_BOOTSTRAP=1 RUSTFLAGS='-Zcrate-attr=feature(let_else)' \
                     CARGO_TARGET_X86_64_PC_WINDOWS_GNU_LINKER=x86_64-w64-mingw32-gcc \
-                    /usr/bin/cargo build --release --offline --target $windows)
+                    /usr/bin/cargo build --release --offline --ignore-rust-version --target $windows)
     }
     if check "the build for Windows" on_windows; then
         printf '#!/bin/sh\nexec "%s" "%s" "$@"\n' "$wine" "$room/target/$windows/release/getopts_shell.exe" >"$room/by_wine"
         chmod +x "$room/by_wine"
         export WINEPREFIX=$room/wine WINEDEBUG=-all
+        # The first run makes wine's folder, and says so.
+        "$room/by_wine" --help >/dev/null 2>&1
         says "beside the static program, under wine" python3 "$here/beside.py" --texts 40 "$theirs" "$room/by_wine"
     fi
 fi
