@@ -7,6 +7,7 @@ use super::complete::completion;
 use super::quote::{push_quoted, push_quoted_words};
 use super::row::Row;
 use super::table::{TableError, rows_of};
+use super::variables::{VariableError, Variables, variable_error, variables_code};
 use super::words::texts_of;
 use crate::getopts::{Fail, HasArg, Matches, Options, ParsingStyle, names_resolve};
 use crate::getopts_bytes::push_bytes;
@@ -51,13 +52,17 @@ struct Asked {
     words: bool,
     usage: bool,
     complete: Option<String>,
+    variables: Option<String>,
+    arrays: bool,
 }
 
-/// A script: what is asked for it, its name, and its options, as the rows of its table declare them.
+/// A script: what is asked for it, its name, its table, and its options, as the rows of the table declare
+/// them.
 #[derive(Clone, Copy)]
 struct Script<'s> {
     asked: &'s Asked,
     name: &'s str,
+    table: &'s str,
     rows: &'s [Row<'s>],
     options: &'s Options,
 }
@@ -67,8 +72,8 @@ struct Script<'s> {
 /// The words are the program's own options, the script's name, its table and its words. The text is made
 /// whole, then written once and flushed: on `out` where the status is 0, and on `err` where it is 2 or 5.
 ///
-/// - 0: code that sets the script's words to those of the canonical line, or that prints the script's help;
-///   with `--usage` the help itself, with `--complete` a completion script, with `--help` the program's help
+/// - 0: code that sets the script's words to those of the canonical line, or, with `--variables`, that sets
+///   variables, or that prints the script's help; with `--usage` the help itself, with `--complete` a completion script, with `--help` the program's help
 /// - 2: why the script's words are refused, and its short usage
 /// - 3: out of memory, with nothing written
 /// - 4: a write or a flush failed
@@ -140,6 +145,13 @@ fn add_own_options(options: &mut Options) -> Result<(), AllocError> {
         )?
         .optflag("l", "long-only", "let long names follow one dash too")?
         .optflag("w", "words", "write the words alone, without 'set --'")?
+        .optopt(
+            "V",
+            "variables",
+            "set a variable for each option, named PREFIX and its name",
+            "PREFIX",
+        )?
+        .optflag("A", "arrays", "with --variables, make an array of values")?
         .optflag("u", "usage", "write the help of TABLE")?
         .optopt(
             "c",
@@ -181,6 +193,8 @@ fn asked_by(alloc: Global, own: &Matches) -> Result<Asked, AllocError> {
         words: own.opt_present("words"),
         usage: own.opt_present("usage"),
         complete: own.opt_str(alloc, "complete")?,
+        variables: own.opt_str(alloc, "variables")?,
+        arrays: own.opt_present("arrays"),
     })
 }
 
@@ -204,7 +218,7 @@ fn table_answer(
     words: &[&str],
 ) -> Result<Outcome, AllocError> {
     match rows_of(alloc, table) {
-        Ok(rows) => rows_answer(alloc, asked, name, &rows, words),
+        Ok(rows) => declared_answer(alloc, asked, name, table, &rows, words),
         Err(error) => Ok(Outcome {
             text: table_refusal(alloc, error)?,
             status: MISUSED,
@@ -225,11 +239,62 @@ fn table_refusal(alloc: Global, error: TableError<'_>) -> Result<String, AllocEr
     }
 }
 
+/// The answer to a script's name, the options of its table and its words.
+fn declared_answer(
+    alloc: Global,
+    asked: &Asked,
+    name: &str,
+    table: &str,
+    rows: &[Row<'_>],
+    words: &[&str],
+) -> Result<Outcome, AllocError> {
+    match asked_error(asked, table, rows) {
+        Some(error) => Ok(Outcome {
+            text: variable_refusal(alloc, error)?,
+            status: MISUSED,
+        }),
+        None => rows_answer(alloc, asked, name, table, rows, words),
+    }
+}
+
+/// Why there are no variables where they are asked for.
+fn asked_error<'t>(asked: &'t Asked, table: &'t str, rows: &[Row<'t>]) -> Option<VariableError<'t>> {
+    match &asked.variables {
+        Some(prefix) => {
+            if asked.words {
+                Some(VariableError::WithWords)
+            } else {
+                variable_error(prefix.as_str(), table, rows)
+            }
+        }
+        None => None,
+    }
+}
+
+/// The line of a fault of variables.
+fn variable_refusal(alloc: Global, error: VariableError<'_>) -> Result<String, AllocError> {
+    match error {
+        VariableError::WithWords => text!(in alloc;
+            "getopts_shell: --words and --variables don't go together\n"
+        ),
+        VariableError::NoPrefix(prefix) => {
+            text!(in alloc; "getopts_shell: '{prefix}' makes no variable\n")
+        }
+        VariableError::NoVariable(number, name) => text!(in alloc;
+            "getopts_shell: line {number} of the options: '{name}' makes no variable\n"
+        ),
+        VariableError::VariableTwice(number, name) => text!(in alloc;
+            "getopts_shell: line {number} of the options: '{name}' makes the variable of another option\n"
+        ),
+    }
+}
+
 /// The answer to words by the options of a table.
 fn rows_answer(
     alloc: Global,
     asked: &Asked,
     name: &str,
+    table: &str,
     rows: &[Row<'_>],
     words: &[&str],
 ) -> Result<Outcome, AllocError> {
@@ -237,6 +302,7 @@ fn rows_answer(
     let script = Script {
         asked,
         name,
+        table,
         rows,
         options: &options,
     };
@@ -310,12 +376,14 @@ fn completion_answer(alloc: Global, shell: &str, script: Script<'_>) -> Result<O
 fn words_answer(alloc: Global, script: Script<'_>, words: &[&str]) -> Result<Outcome, AllocError> {
     let asked = asks_help(alloc, script, words)?;
     if asked {
-        Ok(Outcome {
+        return Ok(Outcome {
             text: help_code(alloc, script)?,
             status: DONE,
-        })
-    } else {
-        line_answer(alloc, script, words)
+        });
+    }
+    match &script.asked.variables {
+        Some(prefix) => variables_answer(alloc, script, prefix.as_str(), words),
+        None => line_answer(alloc, script, words),
     }
 }
 
@@ -369,6 +437,29 @@ fn line_answer(alloc: Global, script: Script<'_>, words: &[&str]) -> Result<Outc
             status: DONE,
         }),
         Ok(None) => unreachable!(),
+        Err(fail) => Ok(Outcome {
+            text: refusal(alloc, script, &fail)?,
+            status: REFUSED,
+        }),
+    }
+}
+
+/// The answer to words that don't ask for help, by variables: the code that sets them, or the first fault.
+fn variables_answer(
+    alloc: Global,
+    script: Script<'_>,
+    prefix: &str,
+    words: &[&str],
+) -> Result<Outcome, AllocError> {
+    let variables = Variables {
+        prefix,
+        arrays: script.asked.arrays,
+    };
+    match script.options.parse_words(alloc, words) {
+        Ok(matches) => Ok(Outcome {
+            text: variables_code(alloc, variables, script.rows, &matches)?,
+            status: DONE,
+        }),
         Err(fail) => Ok(Outcome {
             text: refusal(alloc, script, &fail)?,
             status: REFUSED,

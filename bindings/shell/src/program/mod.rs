@@ -9,6 +9,7 @@ mod item;
 mod quote;
 mod row;
 mod table;
+mod variables;
 mod words;
 
 use answer::{NO_MEMORY, answer};

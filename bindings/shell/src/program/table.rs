@@ -55,7 +55,7 @@ fn push_line<'t>(
 }
 
 /// Whether a line without blanks at its ends declares nothing.
-fn declares_nothing(line: &str) -> bool {
+pub(crate) fn declares_nothing(line: &str) -> bool {
     line.is_empty() || line.starts_with('#')
 }
 
@@ -81,7 +81,7 @@ fn any_is_called(rows: &[Row<'_>], text: &str) -> bool {
 }
 
 /// A text without the spaces, tabs and carriage returns at both ends.
-fn trimmed(text: &str) -> &str {
+pub(crate) fn trimmed(text: &str) -> &str {
     before_blanks(after_blanks(text))
 }
 
