@@ -72,7 +72,10 @@ ended() {
 PACKAGES='C compiler:gcc cc:gcc g++:g++ clang:clang ar:binutils nm:binutils objcopy:binutils readelf:binutils
 pkg-config:pkg-config musl-gcc:musl-tools aarch64-linux-gnu-gcc:gcc-aarch64-linux-gnu qemu-aarch64:qemu-user
 valgrind:valgrind shellcheck:shellcheck man:man-db groff:groff mandoc:mandoc dash:dash zsh:zsh ksh93:ksh93u+m mksh:mksh
-yash:yash busybox:busybox-static fish:fish pexpect:python3-pexpect unicode-width:librust-unicode-width-dev'
+yash:yash busybox:busybox-static fish:fish pexpect:python3-pexpect unicode-width:librust-unicode-width-dev
+librust-unicode-width-dev:librust-unicode-width-dev rustc:rustc cargo:cargo wasm32-wasi:libstd-rust-dev-wasm32
+x86_64-pc-windows-gnu:libstd-rust-dev-windows x86_64-w64-mingw32-gcc:gcc-mingw-w64-x86-64 wine64:wine64 node:nodejs
+i686-linux-gnu-gcc:gcc-i686-linux-gnu'
 
 # skipped: each test that was skipped, once, and the packages that have what it says is lacking.
 skipped() {
@@ -81,9 +84,8 @@ skipped() {
     [ -s "$room/skipped" ] || return 0
     echo "== skipped"
     sed 's/^skipped: //' "$room/skipped"
-    sed 's/.*: //' "$room/skipped" >"$room/lacking"
     while IFS=: read -r tools pair; do
-        grep -qwF -- "$tools" "$room/lacking" && packages="$packages $pair"
+        grep -qwF -- "$tools" "$room/skipped" && packages="$packages $pair"
     done < <(tr '\n' ' ' <<<"$PACKAGES" | sed 's/C compiler/C@compiler/' | tr ' @' '\n ')
     [ -z "$packages" ] || echo "these would run with: apt-get install$(tr ' ' '\n' <<<"$packages" | sort -u | tr '\n' ' ')"
 }

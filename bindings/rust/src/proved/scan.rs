@@ -123,7 +123,8 @@ fn is_dashed(word: &str) -> bool {
     }
 }
 
-/// How many words are dashed, up to where the rest is free.
+/// How many words are dashed, up to where the rest is free. It only says how much to reserve: a wrong
+/// number would cost memory alone.
 fn dashed_words(words: &[&str], stops: bool) -> usize {
     let mut dashed: usize = 0;
     'words: for word in words {
