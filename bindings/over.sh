@@ -41,21 +41,35 @@ over() {
         --logic-built "$kit/logic_built" --incremental out/incremental "${@:4}")
 }
 
-# build CRATE PROCESSOR FILE: builds a static library, or a program's object, for each processor of that kind.
+# build CRATE PROCESSOR FILE [CPU]: builds a static library, or a program's object, for each processor of that kind, or
+# from CPU on.
 build() {
     local words=(--target "$2-unknown-linux-gnu" --toolchain "$(kit)/toolchain" --backend llvm -o "$3")
-    [ "$2" != x86_64 ] || words+=(--cpu x86-64)
+    [ "$2" != x86_64 ] || words+=(--cpu "${4:-x86-64}")
     over "${RLIB:-crates/getopts/out/rlib/getopts.rlib}" build "$1" "${words[@]}" >"$3.said" 2>&1 || {
         tail -n 20 "$3.said" >&2
         stop "$1 isn't proved, or can't be built for $2"
     }
 }
 
+# musl PROCESSOR: where the C library of the static programs is.
+musl() { echo "/usr/lib/$1-linux-musl"; }
+
+# link PROCESSOR TO WORD..: links a static program of start.c, musl and what the words name.
+link() {
+    local musl tools
+    musl=$(musl "$1") tools=$(kit)/toolchain/bin
+    rm -f "$2"
+    "$tools/clang" --target="$1-linux-musl" -std=c11 -O2 -Wall -Wextra -Wpedantic -Wshadow -Wconversion -Werror -fno-pic \
+        -nostdinc -isystem "/usr/include/$1-linux-musl" -c bindings/shell/start.c -o "$2.start.o" &&
+        "$tools/ld.lld" -static -s --gc-sections --wrap=main "$musl"/crt{1,i}.o "$2.start.o" "${@:3}" \
+            "$musl"/{libc.a,crtn.o} -o "$2"
+}
+
 # put MADE PLACE: puts a file in its place, with its SHA-256 beside it.
 put() {
-    install -D -m "${mode:-644}" "$1" "$2"
-    (cd "$(dirname "$2")" && sha256sum "$(basename "$2")" >"$(basename "$2").sha256")
-    echo "made $2"
+    install -D -m "${mode:-644}" "$1" "$2" &&
+        (cd "$(dirname "$2")" && sha256sum "$(basename "$2")" >"$(basename "$2").sha256") && echo "made $2"
 }
 
 # whole PLACE: whether the file that is in place has its SHA-256.

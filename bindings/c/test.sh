@@ -88,6 +88,7 @@ for compiler in "${compilers[@]}"; do
         skip "the sanitizers of $compiler: it has none here"
     fi
 done
+count=2000
 if has musl-gcc; then
     all_of musl-gcc -O2
 else

@@ -4,8 +4,8 @@
 #     bindings/shell/program.sh [check | check-again]
 #
 # A program is the proved object, start.c and musl's C library, in one static file. Made are both kinds from one proof of
-# crates/getopts_shell over the library as `rt ci` left it. proved.sha256 has the sum of the object that `rt ci` built of
-# the same source, and that of start.c.
+# crates/getopts_shell over its libraries as `rt ci` left them. proved.sha256 has the sum of the object that `rt ci`
+# builds of the same source, and that of start.c.
 #
 # With check nothing is changed or proved: it says whether the object that `rt ci` left now and start.c are still those,
 # and whether each program has its SHA-256. With check-again it proves and builds both programs once more, and compares
@@ -19,19 +19,9 @@ proved=crates/getopts_shell/out/getopts_shell.o
 room=$(mktemp -d)
 trap 'rm -rf "$room"' EXIT
 
-# link PROCESSOR: links the program of the object that was built for a processor.
-link() {
-    local musl=/usr/lib/$1-linux-musl tools
-    tools=$(kit)/toolchain/bin
-    "$tools/clang" --target="$1-linux-musl" -std=c11 -O2 -Wall -Wextra -Wpedantic -Wshadow -Wconversion -Werror -fno-pic \
-        -nostdinc -isystem "/usr/include/$1-linux-musl" -c $here/start.c -o "$room/start.o"
-    "$tools/ld.lld" -static -s --gc-sections --wrap=main "$musl"/crt{1,i}.o "$room"/{start,getopts_shell}.o \
-        "$musl"/{libc.a,crtn.o} -o "$room/getopts_shell"
-}
-
 # made_of PROCESSOR: the SHA-256 of what a program is made of: the proved object, and the C library.
 made_of() {
-    (cd "$room" && sha256sum getopts_shell.o && cd "/usr/lib/$1-linux-musl" && sha256sum libc.a) 2>/dev/null
+    (cd "$room" && sha256sum getopts_shell.o && cd "$(musl "$1")" && sha256sum libc.a) 2>/dev/null
 }
 
 # each COMMAND: builds the object for each processor, and does a command with it.
@@ -45,10 +35,8 @@ each() {
 }
 
 make_program() {
-    [ -f "/usr/lib/$1-linux-musl/libc.a" ] || stop "there is no /usr/lib/$1-linux-musl/libc.a to link with"
-    link "$1"
-    mode=755 put "$room/getopts_shell" "$2/getopts_shell"
-    made_of "$1" >"$2/made_of.sha256"
+    link "$1" "$room/getopts_shell" "$room/getopts_shell.o" && mode=755 put "$room/getopts_shell" "$2/getopts_shell" &&
+        made_of "$1" >"$2/made_of.sha256"
 }
 
 compare_program() {
@@ -61,7 +49,7 @@ compare_program() {
         echo "skipped: the link of $2/getopts_shell: this machine doesn't have the musl that it was linked with"
         echo "its object is what the proved source gives"
     else
-        link "$1" && same "$room/getopts_shell" "$2/getopts_shell"
+        link "$1" "$room/getopts_shell" "$room/getopts_shell.o" && same "$room/getopts_shell" "$2/getopts_shell"
     fi
 }
 
@@ -79,9 +67,12 @@ as_proved() {
 
 case ${1:-} in
 '')
-    [ -f $proved ] || stop "there is no $proved: run 'rt ci', or 'rt run -- -h' in crates/getopts_shell"
+    for processor in "${processors[@]}"; do
+        [ -f "$(musl "$processor")/libc.a" ] || stop "there is no $(musl "$processor")/libc.a to link with"
+    done
     each make_program
-    sha256sum $proved $here/start.c >$here/proved.sha256
+    build getopts_shell x86_64 "$room/proved.o" x86-64-v2
+    { sha256sum <"$room/proved.o" | sed "s|-\$|$proved|"; sha256sum $here/start.c; } >$here/proved.sha256
     ;;
 check)
     for processor in "${processors[@]}"; do whole "$here/$processor/getopts_shell"; done

@@ -64,8 +64,5 @@ fn out_of_memory() -> ! {
 /// What a call gives that memory was granted to.
 #[inline]
 pub(crate) fn granted<T>(result: std::result::Result<T, AllocError>) -> T {
-    match result {
-        Ok(given) => given,
-        Err(_) => out_of_memory(),
-    }
+    result.unwrap_or_else(|_| out_of_memory())
 }

@@ -128,10 +128,8 @@ impl Options {
         if short_name.is_empty() && long_name.is_empty() {
             self.push_nameless(desc, hint, hasarg, occur);
         } else {
-            granted(
-                self.proved
-                    .add_group(short_name, long_name, desc, hint, hasarg, occur),
-            );
+            let proved = &mut self.proved;
+            granted(proved.add_group(short_name, long_name, desc, hint, hasarg, occur));
         }
         self
     }
@@ -282,15 +280,22 @@ impl Options {
     {
         let options = self.named();
         let args: Vec<C::Item> = args.into_iter().collect();
-        let mut words = Vec::with_capacity(args.len());
-        for arg in &args {
+        // Few words take no list of references.
+        let (mut few, mut many) = ([""; 16], Vec::new());
+        let words = if args.len() <= few.len() {
+            &mut few[..args.len()]
+        } else {
+            many.resize(args.len(), "");
+            &mut many[..]
+        };
+        for (word, arg) in words.iter_mut().zip(&args) {
             let arg = arg.as_ref();
             match arg.to_str() {
-                Some(word) => words.push(word),
+                Some(text) => *word = text,
                 None => return Err(Fail::UnrecognizedOption(format!("{arg:?}"))),
             }
         }
-        Ok(ask(options, &words)?)
+        Ok(ask(options, words)?)
     }
 
     /// Writes an accepted line again with main names alone: `--main` or `--main=value` for each option

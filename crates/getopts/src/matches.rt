@@ -187,6 +187,7 @@ impl MatchedGroups {
     }
 
     /// The occurrences of the group at a place.
+    #[inline]
     pub(crate) fn occurrences_at(&self, place: usize) -> Occurrences<'_>
         ensures { result ≡ Spec.found_in self.now place }
     {

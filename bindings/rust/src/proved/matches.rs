@@ -108,6 +108,7 @@ impl MatchedGroups {
     }
 
     /// The occurrences of the group at a place.
+    #[inline]
     pub(crate) fn occurrences_at(&self, place: usize) -> Occurrences<'_> {
         Occurrences::of(&self.found, self.index.places(place))
     }
