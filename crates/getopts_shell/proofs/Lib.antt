@@ -8,3 +8,5 @@ mod Plain
 mod Help
 mod Line
 mod Status
+mod Shell
+mod Assignments
