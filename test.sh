@@ -90,6 +90,16 @@ skipped() {
     [ -z "$packages" ] || echo "these would run with: apt-get install$(tr ' ' '\n' <<<"$packages" | sort -u | tr '\n' ' ')"
 }
 
+# built: when the programs that were run were built, and how many of their sources changed since.
+built() {
+    local crate program
+    for crate in getopts_refused getopts_show getopts_shell; do
+        program=crates/$crate/out/$crate
+        [ ! -x "$program" ] || echo "$crate was built $(date -r "$program" '+%F at %T'), and of its sources and the" \
+            "library's $(find crates/{getopts,$crate}/src -name '*.rt' -newer "$program" | wc -l) changed since"
+    done
+}
+
 # proofs: the gate of the toolchain. What it says is kept, so that others begin once it has proved a crate.
 proofs() {
     local status=0
@@ -151,7 +161,8 @@ if [ -n "$quick" ]; then
         begin "refused memory" bash tests/memory/run.sh
         begin "the programs and the system" python3 tests/system/run.py
     else
-        echo "skipped: refused memory, and the programs and the system: the whole test builds their programs"
+        echo "skipped: refused memory, and the programs and the system: the whole test builds their programs" |
+            tee -a "$room/said"
     fi
     part "tests and programs of all crates, unproved" bash tests/unproved.sh
 else
@@ -173,7 +184,10 @@ if [ -n "$failed" ]; then
     echo "failed: ${failed#; }"
     exit 1
 fi
-[ -z "$quick" ] || echo "Nothing was proved: 'bash test.sh' proves everything."
+if [ -n "$quick" ]; then
+    built
+    echo "Nothing was proved: 'bash test.sh' proves everything."
+fi
 times >"$room/times"
 processor=$(tail -n 1 "$room/times" | tr ms '  ' | awk '{ printf "%d", 60 * ($1 + $3) + $2 + $4 }')
 echo "all passed after $SECONDS s, with $processor s of processor"
