@@ -1,4 +1,5 @@
 mod Quoting
+mod QuotedBytes
 mod Items
 mod Lines
 mod Only
@@ -7,3 +8,4 @@ mod Plain
 mod Help
 mod Line
 mod Status
+mod Fronts

@@ -16,6 +16,7 @@ mod tests;
 mod words;
 
 use answer::{NO_MEMORY, answer};
+use std::alloc::AllocError;
 use std::io;
 use std::process::ExitCode;
 use words::{system_words, texts_of};
@@ -25,9 +26,9 @@ fn main(rt: HostRuntime) -> ExitCode {
     ExitCode::from(run(&rt).unwrap_or(NO_MEMORY))
 }
 
-/// The status of `answer` for the system's words. An error comes where they can't be read or held, and
-/// then nothing is written.
-fn run(rt: &HostRuntime) -> io::Result<u8>
+/// The status of `answer` for the system's words. An error comes where memory for them was refused, and then
+/// nothing is written.
+fn run(rt: &HostRuntime) -> Result<u8, AllocError>
     ensures { IfOk result IsStatus }
 {
     let words = system_words(rt)?;

@@ -1,50 +1,57 @@
 //! The system's words, without the program's own name.
 
-ghost use Rattle.std.specs.Prelude.{◌≡◌, map, IfOk};
+ghost use Rattle.std.specs.Prelude.{◌≡◌, ◌≤◌, map, vec_len, IfOk, IfSome};
 ghost use Rattle.std.specs.String.{string_bytes};
 ghost use Rattle.getopts.specs.Names.{texts};
+ghost use Rattle.getopts_bytes.specs.Marks.{text_of};
 
+use getopts_bytes::push_text;
 use std::alloc::{AllocError, Global};
 use std::env::{Env, FillError};
-use std::{env, io};
 
-/// The system, with the program's own name passed over unread, since it may be no text.
-#[derive(Drop)]
-struct AfterName<'r>(&'r HostRuntime);
+/// The bytes that a word's place in memory has at first.
+const BYTES: usize = 256;
 
-impl Alloc for AfterName<'_> {
-    type A = Global;
-
-    fn alloc(&self) -> Global {
-        self.0.alloc()
-    }
-}
-
-impl Env for AfterName<'_> {
-    fn arg(&self, i: usize, buf: &mut [u8]) -> Result<usize, FillError> {
-        match i.checked_add(1) {
-            Some(place) => self.0.arg(place, buf),
-            None => Err(FillError::NotPresent),
-        }
-    }
-
-    fn var(&self, name: &str, buf: &mut [u8]) -> Result<usize, FillError> {
-        self.0.var(name, buf)
-    }
-
-    fn var_at(&self, i: usize, buf: &mut [u8]) -> Result<usize, FillError> {
-        self.0.var_at(i, buf)
-    }
-}
-
-/// The words that the system gave, after the program's own name. An error comes where one is no text,
-/// or where memory was refused.
-pub(crate) fn system_words(rt: &HostRuntime) -> io::Result<Vec<String>> {
+/// The texts of the words that the system gave, after the program's own name.
+pub(crate) fn system_words(rt: &HostRuntime) -> Result<Vec<String>, AllocError> {
     let mut words = Vec::new(rt.alloc());
-    for word in env::args(&AfterName(rt))? {
-        words.push(word)?;
+    let mut buffer = Vec::new(rt.alloc());
+    buffer.resize(BYTES, 0)?;
+    for place in 1..usize::MAX {
+        let Some(len) = read_word(rt, place, &mut buffer)? else {
+            break;
+        };
+        words.push(text_of(rt.alloc(), &buffer[..len])?)?;
     }
     Ok(words)
+}
+
+/// Reads the word at a place to the front of a buffer, which grows until the word fits, and gives its length. There
+/// is none after the last word.
+fn read_word(
+    rt: &HostRuntime,
+    place: usize,
+    buffer: &mut Vec<u8>,
+) -> Result<Option<usize>, AllocError>
+    ensures { IfOk result (λ place. IfSome place (λ len. len ≤ vec_len buffer.new)) }
+{
+    for _ in 0..usize::BITS {
+        match rt.arg(place, buffer) {
+            Ok(len) => return Ok(Some(len)),
+            Err(FillError::NotPresent) => return Ok(None),
+            Err(FillError::TooLong) => buffer.resize(buffer.len().saturating_mul(2), 0)?,
+        }
+    }
+    Err(AllocError)
+}
+
+/// The text of a word.
+fn text_of(alloc: Global, word: &[u8]) -> Result<String, AllocError>
+    ensures { IfOk result (λ text. string_bytes text ≡ text_of word.now) }
+{
+    let mut text = String::new(alloc);
+    push_text(&mut text, word)?;
+    Ok(text)
 }
 
 /// The texts of words, in order.

@@ -1,0 +1,4 @@
+-- characters, and texts without marks
+pub mod Chars
+-- the text of a word, and the bytes of a text
+pub mod Texts
