@@ -2,8 +2,8 @@
 # Tests this repository.
 # usage: test.sh [--quick] [CRATE]
 #
-# It proves every crate and its tests and runs them. Beside that it tries each edit, makes the archive again over the
-# library as it was proved, tests the C layer and the Rust crate, and runs each program, as soon as it is there, with
+# It proves every crate and its tests and runs them. Beside that it tries each edit, makes the archives again over the
+# libraries as they were proved, tests the C layer and the Rust crate, and runs each program, as soon as it is there, with
 # memory refused, as the system may, and against the rules. CRATE is a folder with the Rust crate getopts 0.2.24, to
 # compare with. With --quick nothing is proved: tests and programs run unproved, what needs built programs runs where
 # they are, and there are fewer random cases.
@@ -35,11 +35,11 @@ verdict() {
     fi
 }
 
-# part WHAT COMMAND..: does a part.
+# part WHAT COMMAND..: does a part. What it says is kept for the end too.
 part() {
     local start=$SECONDS status=0
     echo "== $1"
-    "${@:2}" || status=$?
+    "${@:2}" 2>&1 | tee -a "$room/said" || status=$?
     verdict "$1" $status $((SECONDS - start))
 }
 
@@ -65,6 +65,38 @@ ended() {
         echo "== ${begun[at]}"
         tail -n 40 "$room/said.$at"
         verdict "${begun[at]}" $status "$(cat "$room/said.$at.time")"
+    done
+}
+
+# What tests can use, each with the package of Debian 12 that has it.
+PACKAGES='C compiler:gcc cc:gcc g++:g++ clang:clang ar:binutils nm:binutils objcopy:binutils readelf:binutils
+pkg-config:pkg-config musl-gcc:musl-tools aarch64-linux-gnu-gcc:gcc-aarch64-linux-gnu qemu-aarch64:qemu-user
+valgrind:valgrind shellcheck:shellcheck man:man-db groff:groff mandoc:mandoc dash:dash zsh:zsh ksh93:ksh93u+m mksh:mksh
+yash:yash busybox:busybox-static fish:fish pexpect:python3-pexpect unicode-width:librust-unicode-width-dev
+librust-unicode-width-dev:librust-unicode-width-dev rustc:rustc cargo:cargo wasm32-wasi:libstd-rust-dev-wasm32
+x86_64-pc-windows-gnu:libstd-rust-dev-windows x86_64-w64-mingw32-gcc:gcc-mingw-w64-x86-64 wine64:wine64 node:nodejs
+i686-linux-gnu-gcc:gcc-i686-linux-gnu'
+
+# skipped: each test that was skipped, once, and the packages that have what it says is lacking.
+skipped() {
+    local pair tools packages=
+    grep -h '^skipped: ' "$room"/said* | sort -u >"$room/skipped"
+    [ -s "$room/skipped" ] || return 0
+    echo "== skipped"
+    sed 's/^skipped: //' "$room/skipped"
+    while IFS=: read -r tools pair; do
+        grep -qwF -- "$tools" "$room/skipped" && packages="$packages $pair"
+    done < <(tr '\n' ' ' <<<"$PACKAGES" | sed 's/C compiler/C@compiler/' | tr ' @' '\n ')
+    [ -z "$packages" ] || echo "these would run with: apt-get install$(tr ' ' '\n' <<<"$packages" | sort -u | tr '\n' ' ')"
+}
+
+# built: when the programs that were run were built, and how many of their sources changed since.
+built() {
+    local crate program
+    for crate in getopts_refused getopts_show getopts_shell; do
+        program=crates/$crate/out/$crate
+        [ ! -x "$program" ] || echo "$crate was built $(date -r "$program" '+%F at %T'), and of its sources and the" \
+            "library's $(find crates/{getopts,$crate}/src -name '*.rt' -newer "$program" | wc -l) changed since"
     done
 }
 
@@ -97,56 +129,65 @@ once() {
     "$@"
 }
 
-# over_proved: in a copy, makes the archive again over the library as it was proved, and tries the edits over it.
+# over_proved: in a copy, makes the archives again over the libraries as they were proved, and tries the edits over them.
 over_proved() {
-    local rlib=crates/getopts/out/rlib/getopts.rlib
-    mkdir -p "$room/over/${rlib%/*}" &&
-        tar --exclude=./.git --exclude=out --exclude=target -c . | tar -C "$room/over" -x &&
-        cp -a "$rlib" "$room/over/${rlib%/*}/" &&
-        bash "$room/over/bindings/over.sh" "$room/over/$rlib" archive &&
-        bash "$room/over/tests/must-fail/try.sh" --jobs 1 --over "$room/over/$rlib" getopts_c getopts_shell
+    local library rlib
+    mkdir "$room/over" && tar --exclude=./.git --exclude=out --exclude=target -c . | tar -C "$room/over" -x || return 1
+    for library in getopts getopts_bytes; do
+        rlib=crates/$library/out/rlib
+        mkdir -p "$room/over/$rlib" && cp -a "$rlib/$library.rlib" "$room/over/$rlib/" || return 1
+    done
+    bash "$room/over/bindings/archive.sh" check &&
+        bash "$room/over/tests/must-fail/try.sh" --jobs 1 --over "$room/over/crates/getopts/out/rlib/getopts.rlib" \
+            getopts_c getopts_shell
 }
 
-# edits: in a copy, tries the edits of the library.
+# edits: in a copy, tries the edits of the libraries.
 edits() {
     mkdir "$room/copy" &&
         tar --exclude=./.git --exclude=out --exclude=target -c . | tar -C "$room/copy" -x &&
-        bash "$room/copy/tests/must-fail/try.sh" --jobs 1 getopts
+        bash "$room/copy/tests/must-fail/try.sh" --jobs 1 getopts getopts_bytes
 }
 
 room=$(mktemp -d)
 trap 'kill $(jobs -p) 2>/dev/null || true; rm -rf "$room"' EXIT
 
 if [ -n "$quick" ]; then
-    begin "C and Rust" bash bindings/test.sh --quick "$@"
+    begin "the Rust crate" bash bindings/rust/test.sh --quick "$@"
+    begin "C" bash bindings/c/test.sh --quick
+    begin "the program for shell scripts" bash tests/shell/run.sh
     if [ -x crates/getopts_refused/out/getopts_refused ] && [ -x crates/getopts_show/out/getopts_show ] &&
         [ -x crates/getopts_shell/out/getopts_shell ]; then
         begin "refused memory" bash tests/memory/run.sh
-        begin "the program and the system" python3 tests/system/run.py
-        begin "the program for shell scripts" bash tests/shell/run.sh
+        begin "the programs and the system" python3 tests/system/run.py
     else
-        echo "skipped: refused memory, the program and the system, and shell scripts: the whole test builds their programs"
+        echo "skipped: refused memory, and the programs and the system: the whole test builds their programs" |
+            tee -a "$room/said"
     fi
     part "tests and programs of all crates, unproved" bash tests/unproved.sh
 else
     # Each of these begins beside the proofs, and waits for what it stands on.
     begin "edits of the library" edits
-    begin "the archive over the proved library, and edits over it" once getopts -- over_proved
-    begin "C and Rust" bash bindings/test.sh --no-proofs --after "$room/show" "$@"
-    (once getopts_show -- true >/dev/null; touch "$room/show") &
+    begin "the archives over the proved libraries, and edits over them" once getopts getopts_bytes -- over_proved
+    begin "the Rust crate" bash bindings/rust/test.sh "$@"
+    begin "C" bash bindings/c/test.sh
     begin "refused memory" once getopts_refused getopts_show getopts_shell -- bash tests/memory/run.sh
-    begin "the program and the system" once getopts_show -- python3 tests/system/run.py
+    begin "the programs and the system" once getopts_show getopts_shell -- python3 tests/system/run.py
     begin "the program for shell scripts" once getopts_shell -- bash tests/shell/run.sh
     begin "recorded cases by the rules" once getopts_vectors -- python3 tests/differential/rules.py
     part "proofs, tests and programs of all crates" proofs
 fi
 part "pages and modules" python3 docs/check.py
 ended
+skipped
 if [ -n "$failed" ]; then
     echo "failed: ${failed#; }"
     exit 1
 fi
-[ -z "$quick" ] || echo "Nothing was proved: 'bash test.sh' proves everything."
+if [ -n "$quick" ]; then
+    built
+    echo "Nothing was proved: 'bash test.sh' proves everything."
+fi
 times >"$room/times"
 processor=$(tail -n 1 "$room/times" | tr ms '  ' | awk '{ printf "%d", 60 * ($1 + $3) + $2 + $4 }')
 echo "all passed after $SECONDS s, with $processor s of processor"

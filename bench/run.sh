@@ -84,14 +84,14 @@ fi
 # What a script of this folder measures of a program, from what was measured before or anew. A job that
 # the program doesn't do gives a dash.
 measured() {
-    local script=$1 a=$2 b=$3 kept
+    local what=$1 a=$2 b=$3 kept
     shift 3
     kept=$out/measured/$(sha256sum "$1" | cut -c 1-16)
     mkdir -p "$kept"
-    kept=$kept/$script-$a-$b-$(IFS=-; echo "${*:2}")
+    kept=$kept/$what-$a-$b-$(IFS=-; echo "${*:2}")
     if [ ! -s "$kept" ]; then
         if "$@" 0 > /dev/null 2>&1; then
-            "$here/$script.sh" "$a" "$b" "$@" > "$kept"
+            "$here/count.sh" "$what" "$a" "$b" "$@" > "$kept"
         else
             echo - > "$kept"
         fi
@@ -109,11 +109,11 @@ star() {
 
 # A row of a table: the job, this library, and each peer.
 row() {
-    local script=$1 job=$2 a=$3 b=$4 peer theirs name
-    printf '%-16s %14s' "$job" "$(measured "$script" "$a" "$b" "$OURS" "$job")"
+    local what=$1 job=$2 a=$3 b=$4 peer theirs name
+    printf '%-16s %14s' "$job" "$(measured "$what" "$a" "$b" "$OURS" "$job")"
     for peer in $peers; do
         program_of "$peer"
-        printf ' %14s' "$(measured "$script" "$a" "$b" "$theirs" "$name" "$job")$(star "$job")"
+        printf ' %14s' "$(measured "$what" "$a" "$b" "$theirs" "$name" "$job")$(star "$job")"
     done
     echo
 }

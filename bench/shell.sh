@@ -1,13 +1,15 @@
 #!/usr/bin/env bash
-# Prints the instructions of getopts_shell and of getopt(1) from start to end, above those of `true`, for six options
-# and five words. They are counted by valgrind's callgrind.
+# Prints the instructions from start to end of getopts_shell and of getopt(1) for six options and five words, of `true`,
+# and of a static program that does nothing. They are counted by valgrind's callgrind. It fails where getopts_shell takes
+# more than MOST.
 # usage: bench/shell.sh [PROGRAM]
 set -euo pipefail
 cd "$(dirname "$0")/.."
+MOST=38000
 for tool in valgrind getopt true; do
     command -v "$tool" >/dev/null || { echo "bench/shell.sh: there is no $tool on the path" >&2; exit 2; }
 done
-program=${1:-bindings/shell/getopts_shell}
+program=${1:-bindings/shell/$(uname -m)/getopts_shell}
 table='
 -i|--input FILE       read this file
 [-o|--output FILE]    write to FILE
@@ -17,16 +19,27 @@ table='
 [-h|--help]           print this help
 '
 words=(-vi a --output=b x --color)
+room=$(mktemp -d)
+trap 'rm -rf "$room"' EXIT
 
-# instructions COMMAND..: the instructions of a run.
+# instructions COMMAND..: the instructions of a run, which may not depend on the environment.
 instructions() {
-    LC_ALL=C.UTF-8 valgrind --tool=callgrind --callgrind-out-file=/dev/null "$@" 2>&1 >/dev/null |
+    env -i PATH="$PATH" LC_ALL=C.UTF-8 valgrind --tool=callgrind --callgrind-out-file=/dev/null "$@" 2>&1 >/dev/null |
         sed -n 's/.*Collected : \([0-9]*\).*/\1/p'
 }
 
-nothing=$(instructions "$(type -P true)")
 ours=$(instructions "$program" backup "$table" "${words[@]}")
-theirs=$(instructions getopt -n backup -o i:o:vc::L:h --long input:,output:,verbose,color::,help -- "${words[@]}")
-echo "true: $nothing"
-echo "getopts_shell: $((ours - nothing)) above it"
-echo "getopt: $((theirs - nothing)) above it"
+echo "getopts_shell: $ours"
+echo "getopt: $(instructions getopt -n backup -o i:o:vc::L:h --long input:,output:,verbose,color::,help -- "${words[@]}")"
+echo "true: $(instructions "$(type -P true)")"
+if command -v musl-gcc >/dev/null; then
+    echo 'int main(void) { return 0; }' >"$room/nothing.c"
+    musl-gcc -static -O2 "$room/nothing.c" -o "$room/nothing"
+    echo "a static program that does nothing: $(instructions "$room/nothing")"
+else
+    echo 'skipped: a static program that does nothing: there is no musl-gcc'
+fi
+if [ "$ours" -gt $MOST ]; then
+    echo "getopts_shell takes more than $MOST"
+    exit 1
+fi

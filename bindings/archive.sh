@@ -1,39 +1,23 @@
 #!/usr/bin/env bash
-# Makes the archive from the proved source, and puts it where cargo finds it, with its SHA-256 and its size.
+# Makes the archives for C from the proved source, one for each kind of processor, each with its SHA-256.
 #
 #     bindings/archive.sh [check]
 #
-# With check it changes nothing, and says whether the archive that is there is the one that the proved
-# source gives, byte for byte. Either proves what isn't proved yet: from nothing that takes about a quarter of
-# an hour.
+# With check it changes nothing, and says whether each archive that is there is the one that the proved source gives,
+# byte for byte. It proves crates/getopts_c over the library as `rt ci`, or `rt lib` in crates/getopts, left it.
 set -euo pipefail
-cd "$(dirname "$0")/.."
-here=bindings/rust/native/libgetopts_c.a
-made=crates/getopts_c/out/libgetopts_c.a
-
-if ! command -v rt >/dev/null; then
-    echo "there is no rt: the toolchain that makes the archive isn't on the path"
-    exit 1
-fi
+# shellcheck source=bindings/over.sh
+. "$(dirname "$0")/over.sh"
 case ${1:-} in
-'')
-    (cd crates/getopts_c && rt lib --jobs "${JOBS:-2}")
-    mkdir -p "$(dirname "$here")"
-    cp "$made" "$here"
-    (cd "$(dirname "$here")" && sha256sum libgetopts_c.a >libgetopts_c.a.sha256)
-    sed -i "s/^const SIZE: u64 = .*/const SIZE: u64 = $(stat -c %s "$here");/" bindings/rust/build.rs
-    cat "$here.sha256"
-    ;;
-check)
-    (cd crates/getopts_c && rt lib --jobs "${JOBS:-2}")
-    if ! cmp "$made" "$here"; then
-        echo "$here isn't what the proved source gives: bindings/archive.sh makes it anew"
-        exit 1
-    fi
-    echo "$here is what the proved source gives"
-    ;;
-*)
-    echo "usage: bindings/archive.sh [check]"
-    exit 2
-    ;;
+'') keep=put ;;
+check) keep=same ;;
+*) stop 'usage: bindings/archive.sh [check]' ;;
 esac
+room=$(mktemp -d)
+trap 'rm -rf "$room"' EXIT
+status=0
+for processor in "${processors[@]}"; do
+    build getopts_c "$processor" "$room/$processor.a"
+    $keep "$room/$processor.a" "bindings/c/native/$processor/libgetopts_c.a" || status=1
+done
+exit $status

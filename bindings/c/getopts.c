@@ -44,10 +44,6 @@ static char *const no_words[] = { NULL };
 #define OPTIONS(options) (options)->texts.bytes, (options)->texts.sizes.bytes, (options)->texts.numbers, \
     (options)->texts.sizes.numbers, (options)->kinds, (options)->groups
 
-/* An export that reads words. */
-typedef uint32_t line_call(const uint8_t *, size_t, const size_t *, size_t, const uint8_t *, size_t, bool,
-    bool, size_t, size_t, size_t *, size_t, uint8_t *, size_t, struct getopts_sizes *);
-
 /* Allocates a block of its sizes. */
 static bool take(struct block *block) {
     block->numbers = malloc(block->sizes.numbers * sizeof *block->numbers + block->sizes.bytes + 1);
@@ -62,6 +58,14 @@ static size_t length(char *const *texts, size_t count) {
     for (size_t nth = 0; nth < count; nth++)
         len += strlen(texts[nth]);
     return len;
+}
+
+/* Whether there are so many words, none of them NULL. */
+static bool are_words(char *const *words, size_t count) {
+    size_t nth = 0;
+    while (words != NULL && nth < count && words[nth] != NULL)
+        nth++;
+    return nth == count;
 }
 
 /* Puts texts at the front of a block, which is allocated: of its sizes, or of theirs where those are larger. */
@@ -80,8 +84,8 @@ static bool join(struct block *to, char *const *texts, size_t count, size_t len)
     return true;
 }
 
-/* GETOPTS_OK if a text is UTF-8, and else GETOPTS_BAD. The archive checks a text that isn't ASCII: as a program's
- * name, with no buffer for the usage line. */
+/* GETOPTS_OK if a text is UTF-8 below U+10FF80, and else GETOPTS_BAD. The archive checks a text that isn't ASCII: as a
+ * program's name, with no buffer for the usage line. */
 static uint32_t check_text(const char *text) {
     struct getopts_sizes sizes;
     const uint8_t *bytes = (const uint8_t *)text;
@@ -117,13 +121,13 @@ static uint32_t check_row(struct getopts *options, size_t row, char *const *text
         return wrong(options, "table[%zu]: %u is no kind", row, kind);
     for (size_t nth = 0; status == GETOPTS_OK && nth < 4; nth++)
         if ((status = check_text(texts[nth])) == GETOPTS_BAD)
-            return wrong(options, "table[%zu]: the %s isn't UTF-8", row, names[nth]);
+            return wrong(options, "table[%zu]: the %s isn't UTF-8 below U+10FF80", row, names[nth]);
     return status;
 }
 
 struct getopts *getopts_new(const struct getopts_option *table, enum getopts_modes modes) {
     size_t groups = 0;
-    while (table[groups].short_name != NULL || table[groups].long_name != NULL)
+    while (table != NULL && (table[groups].short_name != NULL || table[groups].long_name != NULL))
         groups++;
     struct getopts *options = calloc(1, sizeof *options + groups);
     char **texts = malloc((4 * groups + 1) * sizeof *texts);
@@ -135,6 +139,8 @@ struct getopts *getopts_new(const struct getopts_option *table, enum getopts_mod
         options->kinds[row] = (uint8_t)table[row].kind;
         status = check_row(options, row, texts + 4 * row, (unsigned)table[row].kind);
     }
+    if (status == GETOPTS_OK && table == NULL)
+        status = wrong(options, "the table is NULL");
     if (status == GETOPTS_OK && (unsigned)modes > GETOPTS_STOP + GETOPTS_LONG_ONLY)
         status = wrong(options, "%u is no sum of modes", (unsigned)modes);
     if (status == GETOPTS_BAD)
@@ -151,23 +157,13 @@ struct getopts *getopts_new(const struct getopts_option *table, enum getopts_mod
     return options;
 }
 
-/* The status of words of which one isn't UTF-8. The first such word becomes the name of a fault. */
-static uint32_t blame(size_t count, char *const *words, struct block *to) {
-    uint32_t status = GETOPTS_OK;
-    for (size_t nth = 0; status == GETOPTS_OK && nth < count; nth++)
-        if ((status = check_text(words[nth])) == GETOPTS_BAD) {
-            to->sizes.bytes = strlen(words[nth]);
-            memcpy(to->bytes, words[nth], to->sizes.bytes);
-            return GETOPTS_UNRECOGNIZED_OPTION;
-        }
-    return status == GETOPTS_OK ? GETOPTS_BAD : status;
-}
-
 /* Calls an export with buffers of a guessed size, in which all words fit, and once more if that is too small. */
-static uint32_t ask(const struct getopts *options, line_call *call, int given, char *const *words,
+static uint32_t ask(const struct getopts *options, getopts_c_reader *call, int given, char *const *words,
     struct block *answer) {
-    size_t count = given > 0 ? (size_t)given : 0, len = length(words, count);
-    uint32_t status = options->wrong[0] != '\0' ? GETOPTS_BAD : GETOPTS_TOO_SMALL;
+    size_t count = given > 0 ? (size_t)given : 0;
+    bool bad = options->wrong[0] != '\0' || !are_words(words, count);
+    size_t len = bad ? 0 : length(words, count);
+    uint32_t status = bad ? GETOPTS_BAD : GETOPTS_TOO_SMALL;
     struct getopts_sizes *sizes = &answer->sizes;
     *answer = (struct block){ .sizes = { 3 * options->groups + 4 * count + 8, 2 * len + 64 } };
     while (status == GETOPTS_TOO_SMALL) {
@@ -176,7 +172,7 @@ static uint32_t ask(const struct getopts *options, line_call *call, int given, c
             : call(OPTIONS(options), options->modes & GETOPTS_STOP, options->modes & GETOPTS_LONG_ONLY, count, len,
                 answer->numbers, sizes->numbers, answer->bytes, sizes->bytes, sizes);
     }
-    return status == GETOPTS_BAD && answer->bytes != NULL ? blame(count, words, answer) : status;
+    return status;
 }
 
 /* Copies a text, puts a zero after it, and goes on to what comes next. */
@@ -254,7 +250,8 @@ int getopts_read(struct getopts *options, int count, char *const *words) {
         free(options->reading.block);
         options->reading = reading;
     } else {
-        options->reading.message = status == GETOPTS_BAD ? options->wrong : "Out of memory";
+        options->reading.message = status != GETOPTS_BAD ? "Out of memory"
+            : options->wrong[0] != '\0' ? options->wrong : "a word is NULL";
     }
     return (int)status;
 }

@@ -10,8 +10,8 @@
  * - A pointer and its length are those of an array. With length 0 the pointer may be NULL.
  * - The buffers and the sizes overlap neither each other nor anything that is read. If they do, the answer may be
  *   wrong; in all tests nothing else was written. What is only read may overlap.
- * - A bool is 0 or 1, as C makes it. With other bytes, which a wrong declaration can pass, the answer may be wrong;
- *   in all tests the lowest bit counted.
+ * - A bool is 0 or 1, as C makes it. Other bytes, which a wrong declaration can pass, counted as one of the two in all
+ *   tests.
  *
  * A request stands for one set of options and one line at most, and an answer is read back in one way: its
  * numbers say where each part of it ends. */
@@ -45,10 +45,14 @@ enum {
 /* After GETOPTS_TOO_SMALL the same request with buffers of these sizes isn't answered so again. So a caller asks
  * with buffers of a guessed size, or with no more than the words take, and then once more. */
 
-/* GETOPTS_BAD is returned if the texts, lengths and kinds aren't those of options with UTF-8 texts and right
- * names, or if the words, the brief or the program's name aren't UTF-8 texts of these lengths, and only then;
- * GETOPTS_NO_MEMORY may come first. A short name has at most one byte, a long name doesn't have exactly one, and
- * not both are empty. */
+/* GETOPTS_BAD is returned if the texts, lengths and kinds aren't those of options with right names, if a text, the
+ * brief or the program's name isn't UTF-8 below U+10FF80, or if the lengths of words or texts don't fit their bytes,
+ * and only then; GETOPTS_NO_MEMORY may come first. A short name has at most one byte, a long name doesn't have exactly
+ * one, and not both are empty.
+ *
+ * Words may hold any bytes. Of a word each byte that is no part of a UTF-8 text below U+10FF80 is read as a character
+ * of its own, which no option has; ASCII is read as it is. Values, free words, canonical lines and the names in faults
+ * come back as the bytes that were given. */
 
 /* The size of an answer: written with every status up to GETOPTS_UNEXPECTED_ARGUMENT, and with
  * GETOPTS_TOO_SMALL. */
@@ -69,17 +73,10 @@ enum getopts_kind {
     GETOPTS_MULTI = 8     /* it comes any number of times */
 };
 
-/* Reads words by options. The words stand at the front of the two buffers, and the answer is written over them:
- * with the last three statuses they are as they were. If a buffer has less than is said to stand there, all that
- * it has is meant.
- *
- * The numbers are, for each name of each group in order, the short one and the long one, 1 and the place
- * of the group that it names, from 0, or 0 where it names none. Then how many groups there are, and for
- * each of them how many occurrences it has, and of each of those its position and 1 and its value's
- * length, or 0 where it has no value. Then how many free words there are, and the length of each; then 1
- * and the number of free words before those after `--`, or 0. The bytes are the values and the free words
- * in that order. A position is the index of a word. */
-uint32_t getopts_c_parse(
+/* A call that reads words by options. The words stand at the front of the two buffers, and the answer is written over
+ * them: with the last three statuses they are as they were. If a buffer has less than is said to stand there, all that
+ * it has is meant. */
+typedef uint32_t getopts_c_reader(
     const uint8_t *texts,    /* of each group the short name, the long name, the hint, the description */
     size_t texts_len,        /* how many bytes they are together */
     const size_t *lens,      /* the length of each text */
@@ -97,49 +94,25 @@ uint32_t getopts_c_parse(
     struct getopts_sizes *sizes /* how much the answer has */
 );
 
+/* The numbers are, for each name of each group in order, the short one and the long one, 1 and the place
+ * of the group that it names, from 0, or 0 where it names none. Then how many groups there are, and for
+ * each of them how many occurrences it has, and of each of those its position and 1 and its value's
+ * length, or 0 where it has no value. Then how many free words there are, and the length of each; then 1
+ * and the number of free words before those after `--`, or 0. The bytes are the values and the free words
+ * in that order. A position is the index of a word. */
+getopts_c_reader getopts_c_parse;
+
 /* Reads words as getopts_c_parse does, but doesn't check how often options came: it never returns
  * GETOPTS_OPTION_MISSING or GETOPTS_OPTION_DUPLICATED. */
-uint32_t getopts_c_parse_ignoring_counts(
-    const uint8_t *texts,    /* as in getopts_c_parse */
-    size_t texts_len,
-    const size_t *lens,
-    size_t lens_len,
-    const uint8_t *kinds,
-    size_t kinds_len,
-    bool stop,
-    bool long_only,
-    size_t words,
-    size_t words_len,
-    size_t *numbers,
-    size_t numbers_len,
-    uint8_t *bytes,
-    size_t bytes_len,
-    struct getopts_sizes *sizes
-);
+getopts_c_reader getopts_c_parse_ignoring_counts;
 
 /* Writes the canonical line of words: how many words it has, the length of each, and the words. If they are
  * accepted and have none, because a main name holds `=`, there are no numbers. */
-uint32_t getopts_c_canonical(
-    const uint8_t *texts,    /* as in getopts_c_parse */
-    size_t texts_len,
-    const size_t *lens,
-    size_t lens_len,
-    const uint8_t *kinds,
-    size_t kinds_len,
-    bool stop,
-    bool long_only,
-    size_t words,
-    size_t words_len,
-    size_t *numbers,
-    size_t numbers_len,
-    uint8_t *bytes,
-    size_t bytes_len,
-    struct getopts_sizes *sizes
-);
+getopts_c_reader getopts_c_canonical;
 
 /* Writes the usage text: the brief, and each option with its description. */
 uint32_t getopts_c_usage(
-    const uint8_t *texts,    /* as in getopts_c_parse, down to long_only */
+    const uint8_t *texts,    /* as in getopts_c_reader, down to long_only */
     size_t texts_len,
     const size_t *lens,
     size_t lens_len,
@@ -155,7 +128,7 @@ uint32_t getopts_c_usage(
 
 /* Writes the line of all options. */
 uint32_t getopts_c_short_usage(
-    const uint8_t *texts,    /* as in getopts_c_parse */
+    const uint8_t *texts,    /* as in getopts_c_reader */
     size_t texts_len,
     const size_t *lens,
     size_t lens_len,
@@ -170,7 +143,7 @@ uint32_t getopts_c_short_usage(
 
 /* Writes the rows of the usage text: how many they are, the length of each, and the rows. */
 uint32_t getopts_c_usage_rows(
-    const uint8_t *texts,    /* as in getopts_c_parse, down to long_only */
+    const uint8_t *texts,    /* as in getopts_c_reader, down to long_only */
     size_t texts_len,
     const size_t *lens,
     size_t lens_len,
@@ -185,8 +158,8 @@ uint32_t getopts_c_usage_rows(
 );
 
 /* The memory of the archive, which heap.c takes from malloc. Every archive of the toolchain uses these names, so
- * all that are in one program share a heap. The names of heap.c are weak: another heap in the program, such as
- * that of the Rust crate, replaces them. The linker refuses two that aren't weak. */
+ * all that are in one program share a heap. The names of heap.c are weak: another heap in the program replaces them.
+ * The linker refuses two that aren't weak. */
 
 /* A block, or that there is none: then the pointer points to something too, and isn't null. */
 struct getopts_block {

@@ -9,13 +9,13 @@
 # - PREFIX/share/man/man3: getopts.3, also by the name of each function
 # - PREFIX/share/doc/getopts: README.md, head.c and the licences
 #
-# It uses CC, AR, CFLAGS and LDFLAGS, and writes its files below DESTDIR. It needs a C compiler and ar, on x86-64 Linux.
+# It uses CC, AR, CFLAGS and LDFLAGS, and writes its files below DESTDIR. It needs a C compiler and ar, for x86-64 or
+# aarch64 Linux, such as CC=aarch64-linux-gnu-gcc or CC=musl-gcc.
 set -euo pipefail
+unset CDPATH
 here=$(cd "$(dirname "$0")" && pwd)
 top=$here/../..
-archive=$here/../rust/native/libgetopts_c.a
 read -ra compiler <<<"${CC:-cc}"
-read -ra ar <<<"${AR:-ar}"
 
 fail() {
     echo "bindings/c/install.sh: $1" >&2
@@ -84,14 +84,20 @@ if [ -n "$remove" ]; then
     exit
 fi
 
-[ -f "$archive" ] || fail "there is no bindings/rust/native/libgetopts_c.a: bindings/archive.sh makes it"
-for tool in "${compiler[0]}" "${ar[0]}"; do
-    command -v "$tool" >/dev/null || fail "there is no $tool"
-done
-case $(uname -sm) in
-"Linux x86_64") ;;
-*) fail "the archive is for x86-64 Linux, and this is $(uname -sm)" ;;
+command -v "${compiler[0]}" >/dev/null || fail "there is no ${compiler[0]}"
+target=$("${compiler[@]}" -dumpmachine)
+case $target in
+x86_64-*linux-*x32 | aarch64_be-*) processor=none ;;
+x86_64-*linux* | aarch64-*linux*) processor=${target%%-*} ;;
+*) processor=none ;;
 esac
+archive=$here/native/$processor/libgetopts_c.a
+[ -f "$archive" ] || fail "there is no archive for $target, only for Linux on $(cd "$here/native" && echo *)"
+# The archiver of that compiler, if there is one.
+ar=$target-ar
+command -v "$ar" >/dev/null || ar="ar"
+read -ra ar <<<"${AR:-$ar}"
+command -v "${ar[0]}" >/dev/null || fail "there is no ${ar[0]}"
 
 for part in heap getopts; do
     # shellcheck disable=SC2086

@@ -1,12 +1,12 @@
 #!/usr/bin/env bash
-# Tests the exports, the layer over them, the example and the installation, as each C compiler of this machine
-# builds them, and under its sanitizers of addresses and of undefined behaviour.
+# Tests the archives, the layer over them, the examples and the installation: as each C compiler of this machine builds
+# them, under its sanitizers of addresses and of undefined behaviour, with musl, and for aarch64 by qemu-aarch64.
 #
-#     bindings/c/test.sh [--quick] [FOLDER]
+#     bindings/c/test.sh [--quick]
 #
-# The random requests that were lawful are left in FOLDER with their answers, as rows. They are 20,000, and 2,000 with
-# --quick. What this machine doesn't have is skipped with a line that says so. The last line is 'N passed, M failed, K
-# skipped'.
+# It proves nothing: whether the archives are what the proved source gives is asked by `bindings/archive.sh check`. With
+# --quick there are fewer random requests. What this machine doesn't have is skipped with a line that says so. The last
+# line is 'N passed, M failed, K skipped'.
 set -uo pipefail
 count=20000
 if [ "${1:-}" = --quick ]; then
@@ -15,49 +15,57 @@ if [ "${1:-}" = --quick ]; then
 fi
 here=$(cd "$(dirname "$0")" && pwd)
 top=$(dirname "$(dirname "$here")")
-folder=${1:+$(mkdir -p "$1" && cd "$1" && pwd)}
 # shellcheck source=bindings/c/checks.sh
 . "$here/checks.sh"
-archive=$top/bindings/rust/native/libgetopts_c.a
+# shellcheck source=tests/memory/loop.sh
+. "$top/tests/memory/loop.sh"
 warnings=(-std=c11 -Wall -Wextra -Wpedantic -Wshadow -Wconversion -Wno-sign-conversion -Werror)
 plus_warnings=(-Wall -Wextra -Wpedantic -Werror)
-layer=("$here/getopts.c" "$here/heap.c" "$archive")
 wraps=-Wl,--wrap=malloc,--wrap=calloc,--wrap=realloc,--wrap=free
 # shellcheck disable=SC2054
 sanitizers=(-fsanitize=address,undefined -fno-sanitize-recover=all -g -O1)
 
-if [ ! -f "$archive" ]; then
-    echo "there is no bindings/rust/native/libgetopts_c.a: bindings/archive.sh makes it"
-    echo "0 passed, 1 failed"
-    exit 1
-fi
+# over PROCESSOR: takes the archive for a processor.
+over() {
+    archive=$here/native/$1/libgetopts_c.a
+    layer=("$here/getopts.c" "$here/heap.c" "$archive")
+}
 
-# all_of COMPILER FLAG..: every test as this compiler builds it with these flags.
+# all_of COMPILER FLAG..: every test as this compiler builds it with these flags. What it builds runs by the command
+# `by`, if there is one.
+by=()
 all_of() {
     local with="${*:1:2}" build=("$@" "${warnings[@]}") file
-    if check "rows ($with)" "${build[@]}" "$here/tests/rows.c" "${layer[@]}" -o "$room/rows"; then
-        while read -r file; do
-            says "${file#"$top/crates/"} ($with)" "$room/rows" "$file"
-        done < <(row_files)
-    fi
-    check "the layer ($with)" "${build[@]}" "$here/tests/layer.c" "${layer[@]}" -o "$room/of_layer" &&
-        says "the layer on wrong tables, counts and numbers ($with)" "$room/of_layer"
-    check "what a caller owes ($with)" "${build[@]}" "$here/tests/owed.c" "$archive" -o "$room/owed" &&
-        says "what a caller owes, kept and broken ($with)" "$room/owed"
-    file=$here/tests/exports_refused.c
-    check "exports ($with)" "${build[@]}" "$here/tests/exports.c" "$here/heap.c" "$archive" -o "$room/exports" &&
-        says "the exports on rows ($with)" "$room/exports"
-    check "exports_refused ($with)" "${build[@]}" "$file" "$archive" -o "$room/refused" &&
-        says "exports under refused memory ($with)" "$room/refused"
-    file=$here/tests/layer_refused.c
-    check "layer_refused ($with)" "${build[@]}" "$wraps" "$file" "${layer[@]}" -o "$room/refused" &&
-        says "layer under refused memory ($with)" "$room/refused"
-    file=$here/tests/requests.c
-    if check "requests ($with)" "${build[@]}" "$file" "$here/heap.c" "$archive" -o "$room/requests" &&
-        says "random requests ($with)" "$room/requests" "$count" "$room/lawful.rows" "$room/zeros.rows"; then
-        says "layer on those requests ($with)" "$room/rows" "$room/lawful.rows"
-    fi
+    # tried WHAT SOURCE.. -- WORD..: builds a program and runs it with these words.
+    tried() {
+        local what=$1 sources=()
+        shift
+        while [ "$1" != -- ]; do
+            sources+=("$1")
+            shift
+        done
+        check "$what: the build ($with)" "${build[@]}" "${sources[@]}" -o "$room/tried" &&
+            says "$what ($with)" "${by[@]}" "$room/tried" "${@:2}"
+    }
+    for file in rows layer; do
+        check "$file: the build ($with)" "${build[@]}" "$here/tests/$file.c" "${layer[@]}" -o "$room/$file"
+    done
+    while read -r file; do
+        says "${file#"$top/crates/"} ($with)" "${by[@]}" "$room/rows" "$file"
+    done < <(row_files)
+    says "the layer on wrong tables, counts and numbers ($with)" "${by[@]}" "$room/layer"
+    tried "layer under refused memory" "$wraps" "$here/tests/layer_refused.c" "${layer[@]}" --
+    tried "the exports, right and wrong" "$here/tests/exports.c" "$archive" --
+    tried "random requests" "$here/tests/requests.c" "$here/heap.c" "$archive" -- "$count" "$room/lawful.rows" &&
+        says "layer on those requests ($with)" "${by[@]}" "$room/rows" "$room/lawful.rows"
 }
+
+for processor in x86_64 aarch64; do
+    over $processor
+    check "the archive for $processor has its SHA-256" bash -c "cd '${archive%/*}' && sha256sum -c libgetopts_c.a.sha256"
+    check "the archive for $processor has less than 200,000 bytes" [ "$(stat -c %s "$archive")" -lt 200000 ]
+done
+over "$(uname -m)"
 
 compilers=()
 for compiler in gcc clang; do
@@ -80,8 +88,66 @@ for compiler in "${compilers[@]}"; do
         skip "the sanitizers of $compiler: it has none here"
     fi
 done
-if [ -n "$folder" ] && [ -f "$room/lawful.rows" ]; then
-    cp "$room/lawful.rows" "$room/zeros.rows" "$folder"
+count=2000
+if has musl-gcc; then
+    all_of musl-gcc -O2
+else
+    skip "musl: there is no musl-gcc"
+fi
+if [ "$(uname -m)" = aarch64 ]; then
+    skip "aarch64 by qemu-aarch64: this machine is one"
+elif has qemu-aarch64 aarch64-linux-gnu-gcc &&
+    aarch64-linux-gnu-gcc -static "$room/empty.c" -o "$room/empty" 2>"$room/said"; then
+    over aarch64
+    by=(qemu-aarch64)
+    all_of aarch64-linux-gnu-gcc -static -O2
+    by=()
+    over "$(uname -m)"
+else
+    skip "aarch64: there is no qemu-aarch64, or no aarch64-linux-gnu-gcc with a C library"
+fi
+
+# The program show.c, which answers as the program getopts_show does, that `rt ci` leaves, also where memory is refused.
+lines=("--output=x.txt --verbose in.txt" "-vvLd -La -Lb -c auto -o x.txt f -- g -v" "-v --help" "--nope"
+    "-o" "-o a -o b" "--verbose=x" "" "-c" "--output= é --color=日本")
+show=$top/crates/getopts_show/out/getopts_show
+same_as_show() {
+    local line words wanted said
+    for line in "${lines[@]}"; do
+        read -r -a words <<<"$line"
+        wanted=$("$show" "${words[@]}"; echo "status $?")
+        said=$("$room/show" "${words[@]}"; echo "status $?")
+        if [ "$said" != "$wanted" ]; then
+            printf '%s\n' "'$line': $said" "and not: $wanted"
+            return 1
+        fi
+    done
+}
+# refused: where a request for memory is refused, alone or with all after it, it writes nothing and ends with status 3.
+refused() {
+    local line words wanted why='' runs=0
+    for line in "${lines[@]:1:3}"; do
+        read -r -a words <<<"$line"
+        wanted=$("$room/show" "${words[@]}"; echo "status $?")
+        in_turn "$room/refuse.so" 0 "$wanted" "status 3" "$room/show" "${words[@]}" >"$room/why"
+        [ -s "$room/why" ] && why=yes && sed "s/^/'$line', /" "$room/why"
+    done
+    echo "$runs runs"
+    [ -z "$why" ] && [ "$runs" -gt 0 ]
+}
+if [ ${#compilers[@]} -gt 0 ]; then
+    build=("${compilers[0]}" -O2 "${warnings[@]}")
+    check "the program show.c" "${build[@]}" "$here/show.c" "${layer[@]}" -o "$room/show"
+    if [ -x "$show" ]; then
+        check "show.c answers as getopts_show" same_as_show
+    else
+        skip "show.c answers as getopts_show: 'rt ci' has not built that"
+    fi
+    if "${compilers[0]}" -O2 -ffreestanding -fPIC -shared -nostdlib "$top/tests/memory/refuse.c" -o "$room/refuse.so"; then
+        says "show.c under refused memory" refused
+    else
+        skip "show.c under refused memory: this compiler can't build what refuses it"
+    fi
 fi
 
 # Another archive that asks for the same heap: here a copy of this one, whose exports have other names.
@@ -119,15 +185,17 @@ fi
 # The global names of the archive, and those that it asks for, as getopts_c.h and README.md tell them.
 names() {
     local given asked
-    given=$(nm --defined-only -g "$archive" | sed -n 's/^[0-9a-f]* [A-Z] //p' | sort | tr '\n' ' ')
-    asked=$(nm -u "$archive" | sed -n 's/^ *U //p' | sort | tr '\n' ' ')
+    given=$(nm --defined-only -g "$1" | sed -n 's/^[0-9a-f]* [A-Z] //p' | sort | tr '\n' ' ')
+    asked=$(nm -u "$1" | sed -n 's/^ *U //p' | sort | tr '\n' ' ')
     echo "$given and $asked"
     local parse="getopts_c_parse getopts_c_parse_ignoring_counts"
     [ "$given" = "getopts_c_canonical $parse getopts_c_short_usage getopts_c_usage getopts_c_usage_rows " ] &&
         [ "$asked" = "memcpy memmove memset rattle_alloc rattle_dealloc rattle_realloc " ]
 }
 if has nm; then
-    check "the names of the archive" names
+    for processor in x86_64 aarch64; do
+        check "the names of the archive for $processor" names "$here/native/$processor/libgetopts_c.a"
+    done
 else
     skip "the names of the archive: there is no nm"
 fi
@@ -173,6 +241,30 @@ head_answers() {
 }
 plus_answers() {
     [ "$("$room/plus" --verbose -ox --verbose a --verbose)" = "2 x a --verbose" ]
+}
+# for_each_target: what install.sh puts there serves a program of each compiler, static and shared, and where there is no
+# archive it says so.
+for_each_target() {
+    local cc to=$room/target runs with said
+    for cc in "${compilers[@]}" musl-gcc aarch64-linux-gnu-gcc; do
+        if ! has "$cc" || ! "$cc" -static "$room/empty.c" -o "$room/empty" 2>/dev/null; then
+            echo "without $cc"
+            continue
+        fi
+        runs=()
+        [[ $cc != aarch64-* || $(uname -m) = aarch64 ]] || runs=(qemu-aarch64 -L /usr/aarch64-linux-gnu)
+        CC=$cc "$here/install.sh" "$to" || return 1
+        for with in "-static $to/lib/libgetopts.a" "-L$to/lib -Wl,-rpath,$to/lib -lgetopts"; do
+            # shellcheck disable=SC2086
+            "$cc" -isystem "$to/include" "$here/show.c" $with -o "$to/show" &&
+                [ "$(LD_LIBRARY_PATH='' "${runs[@]}" "$to/show" -vv x)" = "$("$room/show" -vv x)" ] || return 1
+        done
+        echo "$cc answers"
+    done
+    printf '#!/bin/sh\necho riscv64-linux-gnu\n' >"$room/elsewhere"
+    chmod +x "$room/elsewhere"
+    said=$(CC=$room/elsewhere "$here/install.sh" "$to" 2>&1)
+    [[ $said = *'there is no archive for riscv64-linux-gnu, only for Linux on aarch64 x86_64' ]]
 }
 # uninstalled: installs elsewhere, below a DESTDIR with a slash at its end or a relative one, and removes it again.
 uninstalled() {
@@ -241,18 +333,13 @@ elif check "bindings/c/install.sh" env CC="${compilers[0]}" "$here/install.sh" "
         check "a C++ program ($compiler)" "${build[@]}" &&
             check "the C++ program answers ($compiler)" plus_answers
     done
-    if has musl-gcc; then
-        build=(musl-gcc -std=c11 -static "$here/head.c" "${layer[@]}" -isystem "$prefix/include" -o "$room/head")
-        check "the example (musl)" "${build[@]}" && check "the example answers (musl)" head_answers
-    else
-        skip "musl: there is no musl-gcc"
-    fi
     if has nm readelf; then
         check "the names of the shared library" shared_exports
     else
         skip "the names of the shared library: there is no nm or no readelf"
     fi
     says "what a program grows by" costs
+    check "the installation for each compiler's target" for_each_target && grep '^without' "$room/said" | sed 's/^/skipped: the installation /'
     check "DESTDIR, --uninstall and --help" uninstalled
 fi
 manual() { [ -z "$(man --warnings -E UTF-8 -l "$here/getopts.3" 2>&1 >/dev/null)" ]; }
@@ -264,6 +351,7 @@ fi
 
 # What the page quotes.
 quoted() {
+    # shellcheck disable=SC2016
     sed -n '/^```c$/,/^```$/{/^```/!p}' "$here/README.md" | cmp - "$here/head.c"
 }
 check "README.md quotes the example" quoted

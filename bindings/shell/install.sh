@@ -1,20 +1,50 @@
 #!/bin/sh
-# Installs the program and its manual page.
-# usage: install.sh PREFIX
+# Installs the program for this machine's processor and its manual page, or removes them.
+# usage: install.sh [--uninstall] PREFIX
+# It writes below DESTDIR. MACHINE names another processor, as `uname -m` does.
 set -eu
-case ${1-} in
+unset CDPATH
+remove=
+if [ "${1-}" = --uninstall ]; then
+    remove=yes
+    shift
+fi
+if [ $# != 1 ]; then
+    set -- ''
+fi
+case $1 in
 '' | -*)
-    echo "usage: install.sh PREFIX" >&2
+    echo "usage: install.sh [--uninstall] PREFIX" >&2
     exit 2
     ;;
-/*) prefix=$1 ;;
-*) prefix=$PWD/$1 ;;
+/*) to=${DESTDIR-}$1 ;;
+*) to=${DESTDIR-}$PWD/$1 ;;
 esac
+case $to in
+/*) ;;
+*) to=$PWD/$to ;;
+esac
+program=$to/bin/getopts_shell page=$to/share/man/man1/getopts_shell.1
+if [ -n "$remove" ]; then
+    rm -f "$program" "$page"
+    echo "removed $program and its manual page"
+    exit
+fi
 cd "$(dirname "$0")"
-sha256sum -c --quiet getopts_shell.sha256
-mkdir -p "$prefix/bin" "$prefix/share/man/man1"
-cp getopts_shell "$prefix/bin/getopts_shell"
-chmod 755 "$prefix/bin/getopts_shell"
-cp getopts_shell.1 "$prefix/share/man/man1/getopts_shell.1"
-chmod 644 "$prefix/share/man/man1/getopts_shell.1"
-echo "installed $prefix/bin/getopts_shell and its manual page"
+machine=${MACHINE:-$(uname -m)}
+case $machine in
+amd64) machine=x86_64 ;;
+arm64) machine=aarch64 ;;
+esac
+if [ ! -f "$machine/getopts_shell" ]; then
+    echo "install.sh: there is no program for $machine, only for" */getopts_shell | sed 's|/getopts_shell||g' >&2
+    exit 1
+fi
+(cd "$machine" && sha256sum -c getopts_shell.sha256 >/dev/null)
+mkdir -p "$to/bin" "$to/share/man/man1"
+rm -f "$program"
+cp "$machine/getopts_shell" "$program"
+chmod 755 "$program"
+cp getopts_shell.1 "$page"
+chmod 644 "$page"
+echo "installed $program and its manual page"

@@ -1,4 +1,5 @@
-/* Refuses requests for memory. It is loaded before the C library, by LD_PRELOAD.
+/* Refuses requests for memory. It is loaded before the C library, by LD_PRELOAD; or, with STATIC, it stands in a static
+ * program before the heap of bindings/shell/start.c, by --wrap.
  *
  * Counted are all requests of the program, or, with REFUSE_MARKS=1, those between a request of BEFORE
  * bytes and one of AFTER bytes. The request whose number is REFUSE_AT is refused, and with REFUSE_ON=1
@@ -50,6 +51,39 @@ static int refuses(size bytes) {
     return 1;
 }
 
+#ifdef STATIC
+struct block {
+    _Bool ok;
+    void *at;
+};
+
+struct block __real_rattle_alloc(size bytes, size alignment);
+struct block __real_rattle_realloc(void *place, size kept, size bytes, size alignment);
+struct block __wrap_rattle_alloc(size bytes, size alignment);
+struct block __wrap_rattle_realloc(void *place, size kept, size bytes, size alignment);
+
+struct block __wrap_rattle_alloc(size bytes, size alignment) {
+    return refuses(bytes) ? (struct block){ 0, &at } : __real_rattle_alloc(bytes, alignment);
+}
+
+struct block __wrap_rattle_realloc(void *place, size kept, size bytes, size alignment) {
+    return refuses(bytes) ? (struct block){ 0, &at } : __real_rattle_realloc(place, kept, bytes, alignment);
+}
+
+/* glibc's names, for which the object asks that `rt ci` builds: it looks for features of the processor. */
+const void *__x86_get_cpuid_feature_leaf(unsigned leaf);
+long __write(int file, const void *bytes, size count);
+
+const void *__x86_get_cpuid_feature_leaf(unsigned leaf) {
+    static const unsigned all[8] = { -1u, -1u, -1u, -1u, -1u, -1u, -1u, -1u };
+    (void)leaf;
+    return all;
+}
+
+long __write(int file, const void *bytes, size count) {
+    return write(file, bytes, count);
+}
+#else
 void *malloc(size bytes) {
     return refuses(bytes) ? 0 : __libc_malloc(bytes);
 }
@@ -73,6 +107,7 @@ int posix_memalign(void **place, size alignment, size bytes) {
         *place = got;
     return got ? 0 : NO_MEMORY;
 }
+#endif
 
 static void say(const char *name, size number) {
     char digits[20];

@@ -82,14 +82,33 @@ for words in "--output=x.txt --verbose in.txt" "-vvLd -La -Lb -c auto -o x.txt f
 done
 
 part "refusing each request of the program for shell scripts"
-# Its own help, a script's help, words, a completion script, and accepted words.
+# shells PROGRAM: its own help, a script's help, words, a completion script, and accepted words.
 table=$'[-v|--verbose]..  say more\n-o|--output FILE  write to FILE\n[-h|--help]  print this help'
-for words in "-h" "-u backup TABLE" "backup TABLE -h" "-c zsh backup TABLE" "backup TABLE -vo x y"; do
-    read -r -a line <<<"$words"
-    line=("${line[@]/#TABLE/$table}")
-    answer=$("$shell" "${line[@]}"; echo "status $?")
-    refuses "getopts_shell $words" 0 "$answer" "status 3" "$shell" "${line[@]}"
-done
+shells() {
+    for words in "-h" "-u backup TABLE" "backup TABLE -h" "-c zsh backup TABLE" "backup TABLE -vo x y"; do
+        read -r -a line <<<"$words"
+        line=("${line[@]/#TABLE/$table}")
+        answer=$("$shell" "${line[@]}"; echo "status $?")
+        refuses "$(basename "$1") $words" 0 "$answer" "status 3" "$1" "${line[@]}"
+    done
+}
+shells "$shell"
+
+# The same where the heap is that of bindings/shell/start.c, in a static program of the proved object.
+with_start() {
+    local flags=(-O2 -Wall -Wextra -Werror -ffreestanding -nostdinc -fno-pic -DSTATIC)
+    "$tools/clang" --target=x86_64-linux-musl "${flags[@]}" -c tests/memory/refuse.c -o "$room/static.refuse.o" &&
+        (. bindings/over.sh && link x86_64 "$room/static" --wrap=rattle_alloc --wrap=rattle_realloc \
+            "$room/static.refuse.o" "$shell.o")
+}
+if [ "$(uname -m)" != x86_64 ] || [ ! -f /usr/lib/x86_64-linux-musl/libc.a ]; then
+    echo "skipped: the static program for shell scripts: this isn't x86-64 Linux with musl-dev"
+elif ! with_start; then
+    pass_or_fail "the static program for shell scripts" "it can't be linked"
+else
+    part "refusing each request of the static program for shell scripts"
+    shells "$room/static"
+fi
 
 part ""
 echo "$calls calls, $runs runs with memory refused, $swallowed swallowed"

@@ -2,13 +2,15 @@
 # Tries the edits of this folder: each turns a body of its crate, and the prover has to refuse it.
 # usage: tests/must-fail/try.sh [--jobs N] [--over RLIB] [--all | --plant] [CRATE..]
 #
-# An edit names the function that it turns, a file, and texts that stand there once with those in their place, each of
-# one or more lines. The function is checked with those that it calls, against its contract as it stands. The edits that
-# a line of CRATE/together names are tried in one check: none of their functions calls another of them. With --all
-# those in private/ too, which turn bodies that no public sentence speaks of. With --over the edits of the static library
-# are checked over this proved library. With --plant it plants wrong bodies in each crate instead, and prints what the
-# contracts let through. Everything is done on copies of the repository, N at once (2 if left out). The last line is 'N
-# passed, M failed'.
+# An edit names the function that it turns, a file, and texts that stand there once ('old') with those in their place
+# ('new'), each of one or more lines. The function is checked with those that it calls, against its contract as it
+# stands. A function that an edit adds needs an 'ensures': of one without it the prover knows nothing, so any body is
+# refused. Such an edit has also texts that are right in the same place ('right'), and with these the prover has to prove
+# the function. The edits that a line of CRATE/together names are tried in one check: none of their functions calls
+# another of them. With --all those in private/ too, which turn bodies that no public sentence speaks of. With --over the
+# edits of the static library are checked over this proved library. With --plant it plants wrong bodies in each crate
+# instead, and prints what the contracts let through. Everything is done on copies of the repository, N at once (2 if
+# left out). The last line is 'N passed, M failed'.
 set -euo pipefail
 top=$(cd "$(dirname "$0")/../.." && pwd)
 jobs=2 over= all= plant=
@@ -27,32 +29,43 @@ command -v rt >/dev/null || { echo "no rt on the path: the toolchain's bin folde
 room=$(mktemp -d)
 trap 'kill $(jobs -p) 2>/dev/null || true; rm -rf "$room"' EXIT
 
-# apply FOLDER EDIT..: makes edits in a crate's folder, where each of their texts stands once, and prints the function
-# of each.
+# apply FOLDER KIND EDIT..: makes edits in a crate's folder, where each of their texts stands once, and prints the function
+# of each. Where KIND is right, a text of that kind takes the place of the new one.
 apply() {
     python3 - "$@" <<'PY'
+import re
 import sys
+folder, wanted = sys.argv[1:3]
+def added(edit, old, new, right):
+    functions = dict(re.findall(r"\bfn (\w+)(.*?)(?=\bfn \w|\Z)", new, re.S))
+    for name in functions.keys() - set(re.findall(r"\bfn (\w+)", old)):
+        if not re.search(r"\bensures\b", functions[name]):
+            sys.exit(f"{edit}: it adds {name}, which has no ensures: any body with it would be refused")
+        if not right:
+            sys.exit(f"{edit}: it adds {name}, and has no right text, which would show that its ensures suffices")
 def replace(edit, name, old, new):
     text = open(name, encoding="utf-8").read()
     if text.count(old) != 1:
         sys.exit(f"{edit}: this doesn't stand once in {name}: {old}")
     open(name, "w", encoding="utf-8").write(text.replace(old, new))
-for edit in sys.argv[2:]:
-    function, name, old, new = "", "", [], []
+for edit in sys.argv[3:]:
+    function, name, texts, pairs = "", "", {}, []
     for line in open(edit, encoding="utf-8").read().splitlines() + ["end:"]:
         kind, _, rest = line.partition(":")
         rest = rest.removeprefix(" ")
-        if new and kind != "new":
-            replace(edit, name, "\n".join(old), "\n".join(new))
-            old, new = [], []
+        if "new" in texts and kind not in ("new", "right"):
+            pairs.append((name, {kind: "\n".join(lines) for kind, lines in texts.items()}))
+            texts = {}
         if kind == "fn":
             function = rest
         elif kind == "file":
-            name = f"{sys.argv[1]}/{rest}"
-        elif kind == "old":
-            old.append(rest)
-        elif kind == "new":
-            new.append(rest)
+            name = f"{folder}/{rest}"
+        elif kind in ("old", "new", "right"):
+            texts.setdefault(kind, []).append(rest)
+    old, new, right = ("\n".join(texts.get(kind, "") for _, texts in pairs) for kind in ("old", "new", "right"))
+    added(edit, old, new, right.strip())
+    for name, texts in pairs:
+        replace(edit, name, texts["old"], texts.get(wanted, texts["new"]))
     print(function)
 PY
 }
@@ -68,15 +81,16 @@ refusal() {
             grep -F "$proof/" "$said" | grep ": error: " | grep -vE "$names" | sed -n 1p | grep .; }
 }
 
-# try_edits COPY EDIT..: makes these edits of one crate together, and says of each whether the check refuses its function.
+# try_edits COPY KIND EDIT..: makes these edits of one crate together, and says of each whether the check refuses its
+# function, or proves it where KIND is right.
 try_edits() {
-    local copy=$1 crate functions said status=0 at only=()
-    shift
+    local copy=$1 kind=$2 crate functions said status=0 at only=()
+    shift 2
     crate=${1#"$top"/tests/must-fail/}
     crate=${crate%%/*}
     local folder=$copy/crates/$crate
     cp -a "$folder/src" "$copy/kept"
-    if ! functions=$(apply "$folder" "$@" 2>"$copy/said"); then
+    if ! functions=$(apply "$folder" "$kind" "$@" 2>"$copy/said"); then
         for edit in "$@"; do echo "FAILED: $crate: $(basename "$edit" .edit): $(cat "$copy/said")"; done
     else
         mapfile -t functions <<<"$functions"
@@ -87,7 +101,9 @@ try_edits() {
             (cd "$folder" && rt check --jobs 1 "${only[@]}") >"$copy/said" 2>&1 || status=$?
         fi
         for at in "${!functions[@]}"; do
-            if [ $status = 1 ] && said=$(refusal "$copy/said" "${functions[at]}"); then
+            if [ "$kind" = right ] && [ $status = 0 ]; then
+                echo "proved: $crate: $(basename "${@:at+1:1}" .edit): a right body of the same shape"
+            elif [ "$kind" = new ] && [ $status = 1 ] && said=$(refusal "$copy/said" "${functions[at]}"); then
                 echo "refused: $crate: $(basename "${@:at+1:1}" .edit): ${said:0:120}"
             else
                 said=$(grep -m1 -E "^fn ${functions[at]}: |: error: " "$copy/said" || tail -n 1 "$copy/said")
@@ -114,10 +130,11 @@ plant_in() {
 edits_of() {
     local folder=$top/tests/must-fail/$1 together=$top/tests/must-fail/$1/together
     if [ -f "$together" ]; then
-        grep -v '^#' "$together" | sed -e "s|[a-z_][a-z_]*|$folder/&.edit|g" -e 's/^/try_edits /'
+        grep -v '^#' "$together" | sed -e "s|[a-z_][a-z_]*|$folder/&.edit|g" -e 's/^/try_edits new /'
     fi
     find "$folder" $([ -n "$all" ] || echo -maxdepth 1) -name '*.edit' | sort | while read -r edit; do
-        grep -qsw "$(basename "$edit" .edit)" "$together" || echo "try_edits $edit"
+        grep -qsw "$(basename "$edit" .edit)" "$together" || echo "try_edits new $edit"
+        ! grep -q '^right:' "$edit" || echo "try_edits right $edit"
     done
 }
 
@@ -154,6 +171,6 @@ done
 wait
 cat "$room"/results.*
 failed=$(cat "$room"/results.* | grep -c '^FAILED' || true)
-passed=$(cat "$room"/results.* | grep -cE '^(refused|planted)' || true)
+passed=$(cat "$room"/results.* | grep -cE '^(refused|proved|planted)' || true)
 echo "$passed passed, $failed failed"
 [ "$failed" = 0 ]

@@ -4,7 +4,8 @@ nothing, little, or fail in the middle; little memory and little stack.
 
 Each run has to end with the status that the README gives, never by a signal that the system didn't send, and has
 to write what the README says. It takes the program that `rt ci` leaves in crates/getopts_show/out, or `rt run`
-there. The last line is 'N passed, M failed'.
+there, and the program for shell scripts that bindings/shell has for this machine, which is one static file. The last
+line is 'N passed, M failed'.
 """
 
 import concurrent.futures
@@ -12,7 +13,9 @@ import ctypes
 import errno
 import os
 import pathlib
+import platform
 import resource
+import shlex
 import shutil
 import signal
 import subprocess
@@ -21,6 +24,7 @@ import tempfile
 
 HERE = pathlib.Path(__file__).resolve().parent
 SHOW = HERE.parent.parent / "crates/getopts_show/out/getopts_show"
+SHELL = HERE.parent.parent / "bindings/shell" / platform.machine() / "getopts_shell"
 
 # The statuses: shown, refused, want of memory or words that are no text, and output that failed.
 SHOWN, REFUSED, NOTHING, NOT_WRITTEN = 0, 2, 3, 4
@@ -66,12 +70,12 @@ def limited(limits):
     return before
 
 
-def run(words=(), limits=None, name=None, out=subprocess.PIPE, environment=None, **how):
-    """Runs the program: its status (less than 0 for a signal), and what it wrote."""
+def run(words=(), limits=None, name=None, out=subprocess.PIPE, environment=None, program=SHOW, before=None, **how):
+    """Runs a program: its status (less than 0 for a signal), and what it wrote."""
     global runs
     runs += 1
-    done = subprocess.run([name or SHOW, *words], executable=SHOW, stdout=out, stderr=subprocess.PIPE,
-                          env={**os.environ, **(environment or {})}, preexec_fn=limited(limits or {}), **how)
+    done = subprocess.run([name or program, *words], executable=program, stdout=out, stderr=subprocess.PIPE,
+                          env={**os.environ, **(environment or {})}, preexec_fn=before or limited(limits or {}), **how)
     return done.returncode, (done.stdout or b"") + (b"" if done.returncode == NOT_LOADED else done.stderr)
 
 
@@ -251,6 +255,50 @@ def little_stack():
         ends(f"20,000 words with a stack of {kib} KiB", ended, SHOWN, shown(free=words))
 
 
+def the_static_program(room):
+    """The program for shell scripts, whose words, memory and signals are those of bindings/shell/start.c."""
+    given = ["-w", "try", "[-v]..  say more\n[-o FILE]  write to FILE"]
+    words_of = lambda free: [*given, "-vo", "it's", *free]
+    letters = ["x" * 100_000] * 15
+    for what, free in (("words", ["x", ""]), ("the longest word", ["x" * (LONGEST)]), ("long words", letters),
+                       ("many words", ["f"] * 20_000), ("no words", [])):
+        told, wrote = run(words_of(free), program=SHELL)
+        read = shlex.split(wrote.decode())
+        expect(f"static, {what}", "" if (told, read) == (SHOWN, ["--v", "--o=it's", "--", *free]) else f"{told}: {read[:9]}")
+    words = words_of(["x" * 200])
+    text = run(words, program=SHELL)[1]
+    ends("static, a closed output", run(words, program=SHELL, out=None, before=closed(1)), NOT_WRITTEN, b"")
+    with open("/dev/null", "rb") as only_read:
+        ends("static, an output that is only read", run(words, program=SHELL, out=only_read), NOT_WRITTEN, b"")
+    with open("/dev/full", "wb") as full:
+        ends("static, a full output", run(words, program=SHELL, out=full), NOT_WRITTEN, b"")
+    for restore in (True, False):
+        reader, writer = os.pipe()
+        os.close(reader)
+        ends(f"static, a pipe whose reader is gone, {restore}",
+             run(words, program=SHELL, out=writer, restore_signals=restore), NOT_WRITTEN, b"")
+        os.close(writer)
+    refused = [*given, "--nope"]
+    done = subprocess.run([SHELL, *refused], stdout=subprocess.PIPE, preexec_fn=closed(2))
+    ends("static, a fault that can't be written", (done.returncode, done.stdout), NOT_WRITTEN, b"")
+    for most in (0, 1, 100, len(text) - 1, len(text)):
+        with open(room / "static", "wb") as file:
+            told, _ = run(words, {resource.RLIMIT_FSIZE: most}, program=SHELL, out=file)
+        wanted = SHOWN if most == len(text) else -signal.SIGXFSZ
+        ends(f"static, a file of at most {most} bytes", (told, (room / "static").read_bytes()), wanted, text[:most])
+    reader, writer = os.pipe()
+    os.set_blocking(writer, False)
+    told, _ = run(words_of(letters), program=SHELL, out=writer)
+    os.close(writer)
+    with os.fdopen(reader, "rb") as some:
+        ends("static, a pipe that is full", (told, b"'--v' "), NOT_WRITTEN, some.read()[:6])
+    with_little("static, words", range(MIB // 8, MIB, 4096), SHOWN, text, words=words, program=SHELL)
+    with_little("static, long words", range(MIB // 4, 20 * MIB, MIB // 4), SHOWN, run(words_of(letters), program=SHELL)[1],
+                words=words_of(letters), program=SHELL)
+    for kib in (16, 32, 64, 256):
+        ends(f"static, a stack of {kib} KiB", run(words, {resource.RLIMIT_STACK: kib * 1024}, program=SHELL), SHOWN, text)
+
+
 def counted(part, *given):
     """The runs of a part, and the checks of it that passed and that failed."""
     before = runs, passed, failed
@@ -268,7 +316,7 @@ def main():
         preload = between(room)
         parts = [(large_words, preload), (little_memory, preload), (writes_that_take_little_or_fail, preload),
                  (words_that_are_no_text,), (no_words, preload), (outputs_that_take_nothing,),
-                 (a_file_of_so_many_bytes, room), (little_stack,)]
+                 (a_file_of_so_many_bytes, room), (little_stack,), (the_static_program, room)]
         with concurrent.futures.ProcessPoolExecutor(4) as apart:
             for told in [apart.submit(counted, *part) for part in parts]:
                 ran, well, badly = told.result()

@@ -1,234 +1,262 @@
-/* Calls the exports on rows that are written out: each status, and what each answer holds, with its sizes. */
+/* Calls the exports on rows that are written out, in buffers that just suffice and in smaller ones, and with each
+ * request for memory refused in turn, once alone and once with all after it. Then calls them as getopts_c.h says that a
+ * caller must not: with buffers that overlap, and with a bool that is neither 0 nor 1. Nothing is promised of such a
+ * call, but it has to end with a status that there is, to write nowhere else, and to leave no block; and such a bool
+ * counts as one of the two. */
 #include "../getopts_c.h"
 
 #include <stdio.h>
+#include <stdlib.h>
 #include <string.h>
 
-/* The option `o`/`output`. */
-static const char texts[] = "ooutputNAMEset the output";
+/* The heap: which request it refuses, and whether those after it too; the requests so far, how many were refused, and
+ * the blocks that weren't freed. */
+static struct {
+    size_t at;
+    bool on;
+    size_t requests, refused, blocks;
+} heap;
 
-static const size_t lens[4] = { 1, 6, 4, 14 };
+static struct getopts_block tried(void *block, size_t size) {
+    static char nothing;
+    bool refuses = ++heap.requests == heap.at || (heap.on && heap.requests > heap.at);
+    void *got = refuses ? NULL : realloc(block, size);
+    heap.refused += refuses;
+    heap.blocks += block == NULL && got != NULL;
+    return (struct getopts_block){ got != NULL, got != NULL ? got : &nothing };
+}
 
-/* It comes exactly once, or at most once; or it takes no argument; or it is of a kind that there is not. */
-enum {
-    REQUIRED = GETOPTS_YES + GETOPTS_REQ,
-    ONCE = GETOPTS_YES + GETOPTS_OPTIONAL,
-    FLAG = GETOPTS_NO + GETOPTS_OPTIONAL,
-    NO_KIND = 3
-};
+struct getopts_block rattle_alloc(size_t size, size_t align) {
+    return tried(NULL, size != 0 ? size : align);
+}
 
-static const uint8_t once = ONCE;
+struct getopts_block rattle_realloc(void *block, size_t kept, size_t size, size_t align) {
+    (void)kept;
+    return tried(block, size != 0 ? size : align);
+}
+
+void rattle_dealloc(void *block) {
+    free(block);
+    heap.blocks--;
+}
 
 static int failed;
 
-static void expect(bool holds, const char *what) {
-    if (!holds) {
-        printf("FAILED: %s\n", what);
-        failed = 1;
-    }
+static void expect(bool holds, const char *name, const char *what) {
+    if (!holds && failed++ < 10)
+        printf("FAILED: %s: %s, request %zu refused\n", name, what, heap.at);
 }
 
-/* The rooms, and how much an answer has. */
-struct room {
-    size_t numbers[64];
-    uint8_t bytes[256];
+/* The most numbers and bytes of an answer, and what a request is: of `o`/`output` and `v`/`verbose`, with words that
+ * are the brief and the program's name too. */
+enum { NUMBERS = 16, BYTES = 96 };
+enum export { PARSE, IGNORING_COUNTS, CANONICAL, USAGE, SHORT_USAGE, ROWS, EXPORTS };
+
+struct request {
+    size_t lens[8], word_lens[3];
+    uint8_t texts[41], words[12], kinds[2], count;
+};
+
+/* Where an answer goes. */
+struct place {
+    size_t *numbers, numbers_len;
+    uint8_t *bytes;
+    size_t bytes_len;
+    struct getopts_sizes *sizes;
+};
+
+struct answer {
+    size_t numbers[NUMBERS];
+    uint8_t bytes[BYTES];
     struct getopts_sizes sizes;
 };
 
-/* What stood in the rooms before a call. */
-static struct room before;
-
-/* Rooms that no answer has been written to, which would tell wrong sizes, with words at the front. */
-static void put(struct room *room, const char *words, size_t words_len, const size_t *word_lens, size_t count) {
-    for (size_t i = 0; i < 64; i++)
-        room->numbers[i] = 9;
-    memset(room->bytes, '.', sizeof room->bytes);
-    room->sizes.numbers = 77;
-    room->sizes.bytes = 77;
-    if (count > 0) {
-        memcpy(room->numbers, word_lens, count * sizeof *word_lens);
-        memcpy(room->bytes, words, words_len);
-    }
-    before = *room;
-}
-
-static void empty(struct room *room) {
-    put(room, "", 0, NULL, 0);
-}
-
-static const uint8_t *bytes_of(const char *text) {
-    return (const uint8_t *)text;
-}
-
-/* What words of these lengths are answered, by that option of this kind, in rooms of these sizes. */
-static uint32_t parsed(uint8_t kind, const char *words, size_t words_len, const size_t *word_lens, size_t count,
-    size_t numbers, size_t bytes, struct room *room) {
-    put(room, words, words_len, word_lens, count);
-    return getopts_c_parse(bytes_of(texts), sizeof texts - 1, lens, 4, &kind, 1, false, false, count, words_len,
-        room->numbers, numbers, room->bytes, bytes, &room->sizes);
-}
-
-/* Whether a room holds these numbers and bytes, all that it has of them and then what stood there. */
-static bool holds(const struct room *room, const size_t *numbers, size_t count, const char *bytes) {
-    size_t len = strlen(bytes);
-    return (count == 0 || memcmp(room->numbers, numbers, count * sizeof *numbers) == 0)
-        && memcmp(room->numbers + count, before.numbers + count, (64 - count) * sizeof *numbers) == 0
-        && memcmp(room->bytes, bytes, len) == 0 && memcmp(room->bytes + len, before.bytes + len, 256 - len) == 0;
-}
-
-static bool untouched(const struct room *room) {
-    return holds(room, NULL, 0, "");
-}
-
-static bool tells(const struct room *room, size_t numbers, size_t bytes) {
-    return room->sizes.numbers == numbers && room->sizes.bytes == bytes;
-}
-
-/* Each fault has its status, and so has what is no request: bytes that are no text, bytes left over, bytes
- * that are lacking, a word that ends within a character, and a kind that there is not. */
-static void each_line_has_its_status(void) {
-    static const struct row {
-        uint8_t kind;
-        const char *words;
-        size_t lens[2], count;
-        uint32_t status;
-    } rows[] = {
-        { ONCE, "-o", { 2 }, 1, GETOPTS_ARGUMENT_MISSING },
-        { ONCE, "-x", { 2 }, 1, GETOPTS_UNRECOGNIZED_OPTION },
-        { REQUIRED, "x", { 1 }, 1, GETOPTS_OPTION_MISSING },
-        { ONCE, "-oa-ob", { 3, 3 }, 2, GETOPTS_OPTION_DUPLICATED },
-        { FLAG, "--output=a", { 10 }, 1, GETOPTS_UNEXPECTED_ARGUMENT },
-        { ONCE, "-\xff", { 2 }, 1, GETOPTS_BAD },
-        { ONCE, "ab", { 1 }, 1, GETOPTS_BAD },
-        { ONCE, "a", { 2 }, 1, GETOPTS_BAD },
-        { ONCE, "\xc3\xa9", { 1, 1 }, 2, GETOPTS_BAD },
-        { NO_KIND, "x", { 1 }, 1, GETOPTS_BAD },
+/* Asks with the words at the front of the buffers. What is read may be overwritten, so the sizes come from `is`. */
+static uint32_t ask(enum export export, const struct request *is, const struct request *from, const struct place *to) {
+    static getopts_c_reader *const readers[] = {
+        getopts_c_parse, getopts_c_parse_ignoring_counts, getopts_c_canonical,
     };
-    struct room room;
-    for (size_t i = 0; i < sizeof rows / sizeof *rows; i++) {
-        uint32_t status = parsed(rows[i].kind, rows[i].words, strlen(rows[i].words), rows[i].lens, rows[i].count,
-            64, 64, &room);
-        expect(status == rows[i].status, rows[i].words);
-        expect(status != GETOPTS_BAD || tells(&room, 77, 77), "no sizes of a bad request");
+    size_t len = strlen((const char *)is->words);
+#define OPTIONS from->texts, sizeof from->texts, from->lens, 8, from->kinds, 2
+    if (export <= CANONICAL) {
+        memcpy(to->numbers, is->word_lens, is->count * sizeof(size_t));
+        memcpy(to->bytes, is->words, len);
+        return readers[export](OPTIONS, false, false, is->count, len, to->numbers, to->numbers_len, to->bytes,
+            to->bytes_len, to->sizes);
     }
+    return export == USAGE
+        ? getopts_c_usage(OPTIONS, false, from->words, len, to->bytes, to->bytes_len, to->sizes)
+        : export == SHORT_USAGE
+        ? getopts_c_short_usage(OPTIONS, from->words, len, to->bytes, to->bytes_len, to->sizes)
+        : getopts_c_usage_rows(OPTIONS, false, to->numbers, to->numbers_len, to->bytes, to->bytes_len, to->sizes);
 }
 
-static void accepted_words_are_told(void) {
-    struct room room;
-    expect(parsed(once, "-oabx", 5, (size_t[]){ 4, 1 }, 2, 9, 5, &room) == GETOPTS_OK, "accepted");
-    expect(holds(&room, (size_t[]){ 1, 1, 1, 1, 0, 3, 1, 1, 0 }, 9, "abx"), "what was accepted");
-    expect(tells(&room, 9, 3), "the sizes of what was accepted, which fills the room for numbers");
-}
+#define TEXTS { 1, 6, 4, 14, 1, 7, 0, 8 }
+#define REQUEST(kind, other, count, words, ...) \
+    { TEXTS, { __VA_ARGS__ }, "ooutputNAMEset the outputvverbosesay more", words, { kind, other }, count }
+enum { ONCE = GETOPTS_YES, EXACTLY_ONCE = GETOPTS_YES + GETOPTS_REQ, ANY = GETOPTS_NO + GETOPTS_MULTI, NO_KIND = 3 };
 
-static void small_room_tells_the_size(void) {
-    struct room room;
-    expect(parsed(once, "x", 1, (size_t[]){ 1 }, 1, 1, 1, &room) == GETOPTS_TOO_SMALL, "room for the word alone");
-    expect(tells(&room, 7, 1) && untouched(&room), "sizes where there is too little room");
-    expect(parsed(once, "xy", 2, (size_t[]){ 1, 1 }, 2, 1, 1, &room) == GETOPTS_TOO_SMALL, "room for one of two words");
-    expect(tells(&room, 7, 1) && untouched(&room), "the sizes for the word that is there");
-}
+static const struct row {
+    const char *name;
+    enum export export;
+    struct request request;
+    uint32_t status;
+    size_t count, numbers[NUMBERS];
+    const char *bytes;
+} rows[] = {
+    { "words", PARSE, REQUEST(ONCE, ANY, 3, "-oa-vx", 3, 2, 1), GETOPTS_OK, 14,
+        { 1, 1, 2, 2, 2, 1, 0, 2, 1, 1, 0, 1, 1, 0 }, "ax" },
+    { "no argument", PARSE, REQUEST(ONCE, ANY, 1, "-o", 2), GETOPTS_ARGUMENT_MISSING, 1, { 1 }, "o" },
+    { "no such option", PARSE, REQUEST(ONCE, ANY, 3, "-v--nopex", 2, 6, 1), GETOPTS_UNRECOGNIZED_OPTION, 1, { 4 }, "nope" },
+    { "missing", PARSE, REQUEST(EXACTLY_ONCE, ANY, 1, "x", 1), GETOPTS_OPTION_MISSING, 1, { 6 }, "output" },
+    { "twice", PARSE, REQUEST(ONCE, ANY, 2, "-oa-ob", 3, 3), GETOPTS_OPTION_DUPLICATED, 1, { 6 }, "output" },
+    { "an argument", PARSE, REQUEST(ONCE, ANY, 1, "--verbose=a", 11), GETOPTS_UNEXPECTED_ARGUMENT, 1, { 7 }, "verbose" },
+    { "no kind", PARSE, REQUEST(ONCE, NO_KIND, 1, "x", 1), GETOPTS_BAD, 0, { 0 }, "" },
+    { "bytes left over", PARSE, REQUEST(ONCE, ANY, 1, "ab", 1), GETOPTS_BAD, 0, { 0 }, "" },
+    { "bytes lacking", CANONICAL, REQUEST(ONCE, ANY, 1, "a", 2), GETOPTS_BAD, 0, { 0 }, "" },
+    { "twice, ignored", IGNORING_COUNTS, REQUEST(ONCE, ANY, 2, "-oa-ob", 3, 3), GETOPTS_OK, 13,
+        { 1, 1, 2, 2, 2, 2, 0, 2, 1, 2, 0, 0, 0 }, "ab" },
+    { "a fault, counts ignored", IGNORING_COUNTS, REQUEST(EXACTLY_ONCE, ANY, 1, "-x", 2),
+        GETOPTS_UNRECOGNIZED_OPTION, 1, { 1 }, "x" },
+    { "a canonical line", CANONICAL, REQUEST(ONCE, ANY, 2, "x-oab", 1, 4), GETOPTS_OK, 4, { 3, 11, 2, 1 }, "--output=ab--x" },
+    { "none", CANONICAL, REQUEST(ONCE, ANY, 1, "-o", 2), GETOPTS_ARGUMENT_MISSING, 1, { 1 }, "o" },
+    { "a usage text", USAGE, REQUEST(ONCE, ANY, 0, "B", 0), GETOPTS_OK, 0, { 0 },
+        "B\n\nOptions:\n    -o, --output NAME   set the output\n    -v, --verbose       say more\n" },
+    { "a short usage", SHORT_USAGE, REQUEST(ONCE, ANY, 0, "copy", 0), GETOPTS_OK, 0, { 0 },
+        "Usage: copy [-o NAME] [-v].." },
+    { "usage rows", ROWS, REQUEST(ONCE, ANY, 0, "", 0), GETOPTS_OK, 3, { 2, 38, 32 },
+        "    -o, --output NAME   set the output    -v, --verbose       say more" },
+};
 
-static void a_fault_is_told(void) {
-    struct room room;
-    expect(parsed(once, "-xyz", 4, (size_t[]){ 4 }, 1, 1, 4, &room) == GETOPTS_UNRECOGNIZED_OPTION, "a fault");
-    expect(holds(&room, (size_t[]){ 1 }, 1, "x") && tells(&room, 1, 1), "the name of the fault");
-}
-
-/* An option that is missing, or came again, is no fault where counts are ignored. */
-static void counts_are_ignored(void) {
-    static const struct row {
-        uint8_t kind;
-        const char *words;
-        size_t lens[2], count, numbers[11];
-        uint32_t status;
-        const char *bytes;
-    } rows[] = {
-        { REQUIRED, "x", { 1 }, 1, { 1, 1, 1, 0, 1, 1, 0 }, GETOPTS_OK, "x" },
-        { ONCE, "-oa-ob", { 3, 3 }, 2, { 1, 1, 1, 2, 0, 2, 1, 2, 0, 0 }, GETOPTS_OK, "ab" },
-        { REQUIRED, "-x", { 2 }, 1, { 1 }, GETOPTS_UNRECOGNIZED_OPTION, "x" },
-    };
-    static const size_t sizes[] = { 7, 10, 1 };
-    struct room room;
-    for (size_t i = 0; i < sizeof rows / sizeof *rows; i++) {
-        const struct row *row = &rows[i];
-        size_t len = strlen(row->words);
-        put(&room, row->words, len, row->lens, row->count);
-        uint32_t status = getopts_c_parse_ignoring_counts(bytes_of(texts), sizeof texts - 1, lens, 4, &row->kind, 1,
-            false, false, row->count, len, room.numbers, sizes[i], room.bytes, len, &room.sizes);
-        expect(status == row->status, "the status where counts are ignored");
-        expect(holds(&room, row->numbers, sizes[i], row->bytes) && tells(&room, sizes[i], strlen(row->bytes)),
-            "what is told where counts are ignored");
+/* Asks in buffers of these sizes, and tells whether the answer has this status, is as written where it is one, and
+ * leaves everything else as it was. */
+static bool answers(const struct row *row, size_t numbers, size_t bytes, uint32_t status) {
+    struct answer is, was;
+    size_t len = strlen(row->bytes);
+    bool written = status < GETOPTS_NO_MEMORY, sized = written || status == GETOPTS_TOO_SMALL;
+    memset(&is, 0x5a, sizeof is);
+    struct place to = { is.numbers, numbers, is.bytes, bytes, &is.sizes };
+    if (row->export <= CANONICAL) {
+        memcpy(is.numbers, row->request.word_lens, row->request.count * sizeof(size_t));
+        memcpy(is.bytes, row->request.words, strlen((const char *)row->request.words));
     }
+    was = is;
+    if (written) {
+        memcpy(was.numbers, row->numbers, row->count * sizeof(size_t));
+        memcpy(was.bytes, row->bytes, len);
+    }
+    if (sized)
+        was.sizes = (struct getopts_sizes){ row->count, len };
+    heap.requests = heap.refused = heap.blocks = 0;
+    return ask(row->export, &row->request, &row->request, &to) == status && memcmp(&is, &was, sizeof is) == 0
+        && heap.blocks == 0;
 }
 
-static void the_canonical_line_is_told(void) {
-    struct room room;
-    put(&room, "x-oab", 5, (size_t[]){ 1, 4 }, 2);
-    expect(getopts_c_canonical(bytes_of(texts), sizeof texts - 1, lens, 4, &once, 1, false, false, 2, 5, room.numbers, 5,
-               room.bytes, 16, &room.sizes)
-            == GETOPTS_OK,
-        "a canonical line");
-    expect(holds(&room, (size_t[]){ 3, 11, 2, 1 }, 4, "--output=ab--x") && tells(&room, 4, 14), "its words");
+static size_t most(size_t one, size_t other) {
+    return one > other ? one : other;
 }
 
-/* The line of all options, in so much room. */
-static uint32_t short_usage(size_t bytes, struct room *room) {
-    empty(room);
-    return getopts_c_short_usage(bytes_of(texts), sizeof texts - 1, lens, 4, &once, 1, bytes_of("copy"), 4, room->bytes,
-        bytes, &room->sizes);
+/* A row in buffers that just suffice, in smaller ones that hold the words, and with requests refused. */
+static size_t refusals_of(const struct row *row) {
+    bool reads = row->export <= CANONICAL;
+    size_t words = reads ? row->request.count : 0, words_len = reads ? strlen((const char *)row->request.words) : 0;
+    size_t numbers = most(row->count, words), len = strlen(row->bytes), bytes = most(len, words_len), refused = 0;
+    heap.at = 0;
+    expect(answers(row, NUMBERS, BYTES, row->status), row->name, "another answer");
+    expect(answers(row, numbers, bytes, row->status), row->name, "another answer in just enough");
+    if (row->count > words)
+        expect(answers(row, row->count - 1, bytes, GETOPTS_TOO_SMALL), row->name, "a number too little");
+    if (len > words_len)
+        expect(answers(row, numbers, len - 1, GETOPTS_TOO_SMALL), row->name, "a byte too little");
+    for (int on = 0; on < 2; on++)
+        for (heap.at = 1, heap.on = on == 1; !answers(row, NUMBERS, BYTES, row->status) && failed == 0; heap.at++) {
+            expect(heap.refused > 0 && answers(row, NUMBERS, BYTES, GETOPTS_NO_MEMORY), row->name, "no refusal");
+            refused++;
+        }
+    heap.at = 0, heap.on = false;
+    return refused;
 }
 
-static void the_short_usage_is_told(void) {
-    struct room room;
-    expect(short_usage(21, &room) == GETOPTS_OK, "a short usage");
-    expect(holds(&room, NULL, 0, "Usage: copy [-o NAME]") && tells(&room, 0, 21), "its text, which fills the room");
-    expect(short_usage(20, &room) == GETOPTS_TOO_SMALL, "a byte too little for it");
-    expect(tells(&room, 0, 21) && untouched(&room), "what a byte too little for it tells");
+/* Memory that buffers lie in, with what is read at its front. */
+enum { MARGIN = 64, SPACE = 448 };
+
+static union {
+    struct {
+        uint8_t before[MARGIN], space[SPACE], after[MARGIN];
+    } part;
+    uint8_t all[2 * MARGIN + SPACE];
+    size_t aligned;
+} memory, wanted;
+
+static void pass_over(const void *buffer, size_t size) {
+    size_t from = (size_t)((const uint8_t *)buffer - memory.all);
+    memcpy(wanted.all + from, memory.all + from, size);
 }
 
-static void the_usage_is_told(void) {
-    static const char text[] = "B\n\nOptions:\n    -o, --output NAME   set the output\n";
-    struct room room;
-    empty(&room);
-    uint32_t status = getopts_c_usage(bytes_of(texts), sizeof texts - 1, lens, 4, &once, 1, false, bytes_of("B"), 1,
-        room.bytes, sizeof text - 1, &room.sizes);
-    expect(status == GETOPTS_OK, "a usage text");
-    expect(holds(&room, NULL, 0, text) && tells(&room, 0, sizeof text - 1), "its text, which fills the room");
-    empty(&room);
-    status = getopts_c_usage(bytes_of(texts), sizeof texts - 1, lens, 4, &once, 1, false, bytes_of("B"), 1, room.bytes,
-        sizeof text - 2, &room.sizes);
-    expect(status == GETOPTS_TOO_SMALL, "a byte too little");
-    expect(tells(&room, 0, sizeof text - 1) && untouched(&room), "what a byte too little tells");
+/* Each export with buffers at many places of one memory, which may overlap each other and what is read. */
+static size_t overlapping(const struct request *request) {
+    size_t asked = 0;
+    for (int export = 0; export < EXPORTS; export++)
+        for (size_t at = 0; at + NUMBERS * sizeof(size_t) <= SPACE; at += 4 * sizeof(size_t))
+            for (size_t byte = 0; byte + BYTES <= SPACE; byte += 13)
+                for (size_t size = 0; size + sizeof(struct getopts_sizes) <= SPACE; size += 5 * sizeof(size_t)) {
+                    struct place to = { (size_t *)(void *)(memory.part.space + at), NUMBERS, memory.part.space + byte,
+                        BYTES, (struct getopts_sizes *)(void *)(memory.part.space + size) };
+                    memset(&memory, 0x5a, sizeof memory);
+                    memcpy(memory.part.space, request, sizeof *request);
+                    wanted = memory;
+                    uint32_t status = ask((enum export)export, request,
+                        (const struct request *)(const void *)memory.part.space, &to);
+                    pass_over(to.numbers, NUMBERS * sizeof(size_t));
+                    pass_over(to.bytes, BYTES);
+                    pass_over(to.sizes, sizeof *to.sizes);
+                    expect(status <= GETOPTS_TOO_SMALL && heap.blocks == 0, "overlapping", "no status, or a block left");
+                    expect(memcmp(memory.all, wanted.all, sizeof memory.all) == 0, "overlapping", "written elsewhere");
+                    asked++;
+                }
+    return asked;
 }
 
-/* The rows of the usage text, in so much room. */
-static uint32_t usage_rows(size_t numbers, size_t bytes, struct room *room) {
-    empty(room);
-    return getopts_c_usage_rows(bytes_of(texts), sizeof texts - 1, lens, 4, &once, 1, false, room->numbers, numbers,
-        room->bytes, bytes, &room->sizes);
+/* An export as a caller might declare it that has no bool. */
+typedef uint32_t parse_by_bytes(const uint8_t *, size_t, const size_t *, size_t, const uint8_t *, size_t, uint8_t,
+    uint8_t, size_t, size_t, size_t *, size_t, uint8_t *, size_t, struct getopts_sizes *);
+typedef void any_call(void);
+
+/* What words give that each of the four modes reads otherwise. */
+static struct answer read_by(unsigned stop, unsigned long_only) {
+    static const size_t lens[4] = { 1, 6, 0, 0 };
+    static const uint8_t kind = GETOPTS_YES + GETOPTS_MULTI;
+    struct answer answer = { { 9, 1, 10 }, "-output=ax--output=b", { 0, 0 } };
+    parse_by_bytes *parse = (parse_by_bytes *)(any_call *)getopts_c_parse;
+    parse((const uint8_t *)"ooutput", 7, lens, 4, &kind, 1, (uint8_t)stop, (uint8_t)long_only, 3, 20, answer.numbers,
+        NUMBERS, answer.bytes, BYTES, &answer.sizes);
+    return answer;
 }
 
-static void the_usage_rows_are_told(void) {
-    struct room room;
-    expect(usage_rows(2, 38, &room) == GETOPTS_OK, "usage rows");
-    expect(holds(&room, (size_t[]){ 1, 38 }, 2, "    -o, --output NAME   set the output") && tells(&room, 2, 38),
-        "the rows, which fill the rooms");
-    expect(usage_rows(1, 38, &room) == GETOPTS_TOO_SMALL && tells(&room, 2, 38), "a number too little for the rows");
-    expect(untouched(&room), "nothing is written where a number is too little");
-    expect(usage_rows(2, 37, &room) == GETOPTS_TOO_SMALL && tells(&room, 2, 38), "a byte too little for the rows");
-    expect(untouched(&room), "nothing is written where a byte is too little");
+static void bools_of_other_bytes(void) {
+    struct answer modes[4];
+    for (unsigned mode = 0; mode < 4; mode++) {
+        modes[mode] = read_by(mode / 2, mode % 2);
+        for (unsigned other = 0; other < mode; other++)
+            expect(memcmp(&modes[mode], &modes[other], sizeof *modes) != 0, "bools", "two modes read alike");
+    }
+    for (unsigned both = 0; both < 65536; both++) {
+        struct answer answer = read_by(both / 256, both % 256);
+        bool known = false;
+        for (unsigned mode = 0; mode < 4; mode++)
+            known = known || memcmp(&answer, &modes[mode], sizeof answer) == 0;
+        expect(known, "bools", "read as in no mode");
+    }
 }
 
 int main(void) {
-    each_line_has_its_status();
-    accepted_words_are_told();
-    small_room_tells_the_size();
-    a_fault_is_told();
-    counts_are_ignored();
-    the_canonical_line_is_told();
-    the_short_usage_is_told();
-    the_usage_is_told();
-    the_usage_rows_are_told();
-    puts(failed ? "the exports failed" : "the exports answer as they should");
-    return failed;
+    size_t refused = 0;
+    for (size_t nth = 0; nth < sizeof rows / sizeof *rows; nth++)
+        refused += refusals_of(&rows[nth]);
+    size_t asked = overlapping(&rows[0].request);
+    bools_of_other_bytes();
+    if (failed == 0)
+        printf("%zu rows, %zu calls with memory refused, %zu with buffers that may overlap, 65536 with any two bytes for "
+               "bools\n", sizeof rows / sizeof *rows, refused, asked);
+    return failed > 0;
 }

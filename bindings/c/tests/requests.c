@@ -1,5 +1,5 @@
 /* Makes random requests of the exports, of which every second is broken, and writes those that are lawful
- * with their answers as rows: requests COUNT ROWS ZEROS. Rows with a zero byte in a text go to ZEROS.
+ * with their answers as rows: requests COUNT ROWS. Those with a zero byte in a text are answered, and not written.
  *
  * What is only read lies between pages that can't be touched, and can't be written. The rooms have one number or
  * one byte less than was told, and then as much, between such pages too; but never less than the words need that
@@ -172,10 +172,10 @@ static void cut(size_t *len, size_t most) {
 }
 
 static void break_texts(struct told *told) {
-    static const char *const not_utf8[] = {
-        "\xff", "\xc3", "\xed\xa0\x80", "\xc0\x80", "\xf4\x90\x80\x80", "\x80",
+    static const char *const no_texts[] = {
+        "\xff", "\xc3", "\xed\xa0\x80", "\xc0\x80", "\xf4\x90\x80\x80", "\x80", "\xf4\x8f\xbe\x80", "\xf4\x8f\xbf\xbf",
     };
-    const char *bad = PICK(not_utf8);
+    const char *bad = PICK(no_texts);
     size_t one = below(told->count + 1), two = below(told->count + 1), half = (size_t)1 << 63;
     switch (below(7)) {
     case 0:
@@ -228,8 +228,8 @@ static void broken(struct request *request) {
         }
 }
 
-/* Whether some bytes are UTF-8. */
-static bool is_utf8(const uint8_t *text, size_t len) {
+/* Whether some bytes are UTF-8 below U+10FF80. */
+static bool is_text(const uint8_t *text, size_t len) {
     for (size_t nth = 0; nth < len;) {
         uint32_t first = text[nth++], code = first;
         size_t more = first < 0x80 ? 0 : first < 0xe0 ? 1 : first < 0xf0 ? 2 : 3;
@@ -242,17 +242,17 @@ static bool is_utf8(const uint8_t *text, size_t len) {
                 return false;
             code = code << 6 | (text[nth] & 0x3f);
         }
-        if (code < least[more] || code > 0x10ffff || (code >= 0xd800 && code < 0xe000))
+        if (code < least[more] || code > 0x10ff7f || (code >= 0xd800 && code < 0xe000))
             return false;
     }
     return true;
 }
 
-/* Whether the lengths part the bytes into UTF-8 texts. */
-static bool are_texts(const struct told *told) {
+/* Whether the lengths part the bytes, into such texts or into any words. */
+static bool are_parts(const struct told *told, bool texts) {
     size_t from = 0;
     for (size_t nth = 0; nth < told->count; from += told->lens[nth++])
-        if (told->lens[nth] > told->len - from || !is_utf8(told->bytes + from, told->lens[nth]))
+        if (told->lens[nth] > told->len - from || (texts && !is_text(told->bytes + from, told->lens[nth])))
             return false;
     return from == told->len;
 }
@@ -264,7 +264,7 @@ static bool reads_words(const struct request *request) {
 /* By the rules of getopts_c.h: whether something lawful is what the request says. */
 static bool is_lawful(const struct request *request) {
     const struct told *told = &request->texts;
-    if (told->count != 4 * request->kinds_len || !are_texts(told))
+    if (told->count != 4 * request->kinds_len || !are_parts(told, true))
         return false;
     for (size_t group = 0; group < request->kinds_len; group++) {
         size_t short_len = told->lens[4 * group], long_len = told->lens[4 * group + 1];
@@ -273,8 +273,8 @@ static bool is_lawful(const struct request *request) {
             return false;
     }
     if (reads_words(request))
-        return are_texts(&request->words);
-    return request->export == ROWS || is_utf8(request->start.bytes, request->start.len);
+        return are_parts(&request->words, false);
+    return request->export == ROWS || is_text(request->start.bytes, request->start.len);
 }
 
 /* The room for an answer. */
@@ -589,7 +589,7 @@ static bool has_zero(const struct request *request) {
 
 /* Asks with no room but for the words, with the room told, and with one less, and tells whether the request was
  * lawful. */
-static bool answered(const struct request *request, FILE *rows, FILE *zeros) {
+static bool answered(const struct request *request, FILE *rows, FILE *nowhere) {
     size_t words = reads_words(request) ? request->words.count : 0;
     size_t words_len = reads_words(request) ? request->words.len : 0;
     struct room room = { .numbers_len = words, .bytes_len = words_len, .sizes = { 77, 78 } };
@@ -616,7 +616,7 @@ static bool answered(const struct request *request, FILE *rows, FILE *zeros) {
         demand(less == 0 || (status == GETOPTS_TOO_SMALL && untouched()), "answered in less room than told");
     }
     demand(status < GETOPTS_NO_MEMORY, "the room told doesn't suffice");
-    out = has_zero(request) ? zeros : rows;
+    out = has_zero(request) ? nowhere : rows;
     next_number = room.numbers;
     next_byte = room.bytes != NULL ? room.bytes : (const uint8_t *)"";
     numbers_left = told.numbers;
@@ -629,18 +629,18 @@ static bool answered(const struct request *request, FILE *rows, FILE *zeros) {
 
 int main(int argc, char **argv) {
     static struct request request;
-    if (argc != 4)
+    if (argc != 3)
         return 2;
     size_t count = strtoul(argv[1], NULL, 10), lawful = 0, broken_lawful = 0;
-    FILE *rows = fopen(argv[2], "w"), *zeros = fopen(argv[3], "w"), *nowhere = fopen("/dev/null", "w");
-    demand(rows != NULL && zeros != NULL && nowhere != NULL, "no file to write to");
+    FILE *rows = fopen(argv[2], "w"), *nowhere = fopen("/dev/null", "w");
+    demand(rows != NULL && nowhere != NULL, "no file to write to");
     guard();
     for (number_of_case = 0; number_of_case < count; number_of_case++) {
         bool breaks = number_of_case % 2 == 1;
         make(&request);
         if (breaks)
             broken(&request);
-        bool is = answered(&request, rows, zeros);
+        bool is = answered(&request, rows, nowhere);
         demand(is || breaks, "a request that wasn't broken is bad");
         if (is && request.export == PARSE) {
             request.export = IGNORING_COUNTS;
@@ -650,7 +650,6 @@ int main(int argc, char **argv) {
         broken_lawful += is && breaks;
     }
     fclose(rows);
-    fclose(zeros);
     fclose(nowhere);
     printf("%zu requests, %zu lawful, of which %zu were broken\n", count, lawful, broken_lawful);
     return 0;

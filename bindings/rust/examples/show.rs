@@ -18,20 +18,15 @@ fn shown(matches: &Matches, line: &[String]) -> String {
     let mut text = String::new();
     for name in ["output", "help", "verbose", "L", "color"] {
         text += &format!("{name}: {}", matches.opt_count(name));
-        for position in matches.opt_positions(name) {
-            text += &format!(" @{position}");
-        }
+        let positions = matches.opt_positions(name).into_iter();
+        text.extend(positions.map(|position| format!(" @{position}")));
         text += "\n";
         for (position, value) in matches.opt_strs_pos(name) {
             text += &format!("{name} @{position} = {value}\n");
         }
     }
-    for word in &matches.free {
-        text += &format!("free: {word}\n");
-    }
-    for word in line {
-        text += &format!("line: {word}\n");
-    }
+    text.extend(matches.free.iter().map(|word| format!("free: {word}\n")));
+    text.extend(line.iter().map(|word| format!("line: {word}\n")));
     text
 }
 
@@ -44,11 +39,8 @@ fn main() -> ExitCode {
             ExitCode::SUCCESS
         }
         Ok(matches) => {
-            let line = options.canonical(&words).expect("the words are accepted");
-            print!(
-                "{}",
-                shown(&matches, &line.expect("no main name holds `=`"))
-            );
+            let line = options.canonical(&words).expect("accepted words");
+            print!("{}", shown(&matches, &line.expect("plain main names")));
             ExitCode::SUCCESS
         }
         Err(fail) => {

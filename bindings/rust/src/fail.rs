@@ -1,7 +1,8 @@
 //! Refusals.
-#![forbid(unsafe_code)]
 
-use crate::Matches;
+use crate::alloc::AllocError;
+use crate::{Matches, proved};
+use std::alloc::{Layout, handle_alloc_error};
 use std::error::Error;
 use std::fmt;
 
@@ -36,9 +37,32 @@ impl fmt::Display for Fail {
             Fail::UnrecognizedOption(name) => write!(f, "Unrecognized option: '{name}'"),
             Fail::OptionMissing(name) => write!(f, "Required option '{name}' missing"),
             Fail::OptionDuplicated(name) => write!(f, "Option '{name}' given more than once"),
-            Fail::UnexpectedArgument(name) => {
-                write!(f, "Option '{name}' does not take an argument")
-            }
+            Fail::UnexpectedArgument(of) => write!(f, "Option '{of}' does not take an argument"),
         }
     }
+}
+
+impl From<proved::Fail> for Fail {
+    fn from(fail: proved::Fail) -> Fail {
+        match fail {
+            proved::Fail::ArgumentMissing(name) => Fail::ArgumentMissing(name),
+            proved::Fail::UnrecognizedOption(name) => Fail::UnrecognizedOption(name),
+            proved::Fail::OptionMissing(name) => Fail::OptionMissing(name),
+            proved::Fail::OptionDuplicated(name) => Fail::OptionDuplicated(name),
+            proved::Fail::UnexpectedArgument(name) => Fail::UnexpectedArgument(name),
+            proved::Fail::OutOfMemory => out_of_memory(),
+        }
+    }
+}
+
+/// Ends the process, as any allocation in Rust that is refused does.
+#[cold]
+fn out_of_memory() -> ! {
+    handle_alloc_error(Layout::new::<u8>())
+}
+
+/// What a call gives that memory was granted to.
+#[inline]
+pub(crate) fn granted<T>(result: std::result::Result<T, AllocError>) -> T {
+    result.unwrap_or_else(|_| out_of_memory())
 }

@@ -1,4 +1,4 @@
-//! Command-line options: the surface of the crate `getopts` 0.2.24 over a proved library.
+//! Command-line options: the surface of the crate `getopts` 0.2.24 over its proved port.
 //!
 //! A program declares option groups, reads a list of words by them, asks what was given, and prints
 //! help:
@@ -18,41 +18,39 @@
 //! assert!(options.usage("Usage: copy FILE").contains("-o, --output NAME"));
 //! ```
 //!
-//! What differs from the crate, what is proved and what it costs is told in `README.md`. The feature
-//! `canonical` adds `Options::canonical` and `Options::parse_ignoring_counts`.
-#![deny(unsafe_code)]
+//! What differs from the crate, what is proved and what it costs is told in `README.md`. The feature `proved` makes the
+//! proved source itself public, for who wants calls that report refused memory.
+#![forbid(unsafe_code)]
 #![warn(missing_docs)]
 
-#[cfg(all(getopts_no_archive, not(doc)))]
-compile_error!(
-    "native/libgetopts_c.a is missing: take it from the repository, or make it by bindings/archive.sh"
-);
-
-#[cfg(all(getopts_cut_archive, not(doc)))]
-compile_error!(
-    "native/libgetopts_c.a isn't a whole archive: take it from the repository again, or make it by \
-     bindings/archive.sh"
-);
-
-#[cfg(all(getopts_elsewhere, not(doc)))]
-compile_error!(
-    "the archive is for x86-64 Linux: for another target depend on the crate getopts itself (leave out the patch, or \
-     the git dependency)"
-);
-
-mod answer;
-mod archive;
+mod convert;
 mod debug;
 mod fail;
 mod matches;
 mod options;
-mod texts;
+mod width;
+
+/// Declares the modules that the feature `proved` makes public.
+macro_rules! modules {
+    ($seen:vis) => {
+        $seen mod alloc;
+        $seen mod fallible;
+        // The source has laws, which do nothing, parts that this crate doesn't use, and Rattle's forms.
+        #[allow(unused_variables, unused_labels, unused_imports, dead_code, missing_docs, clippy::all)]
+        $seen mod proved;
+    };
+}
+#[cfg(feature = "proved")]
+modules!(pub);
+#[cfg(not(feature = "proved"))]
+modules!(pub(crate));
 
 pub use fail::{Fail, Result};
 pub use matches::Matches;
-pub use options::{HasArg, Occur, Options, ParsingStyle};
+pub use options::Options;
+pub use proved::{HasArg, Occur, ParsingStyle};
 
 /// The examples of the README are tested.
-#[cfg(all(doctest, feature = "canonical"))]
+#[cfg(doctest)]
 #[doc = include_str!("../README.md")]
 struct Readme;

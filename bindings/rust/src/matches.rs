@@ -1,126 +1,43 @@
 //! What an accepted line gave.
-#![forbid(unsafe_code)]
 
-use crate::answer::{Answer, Reader};
+use crate::alloc::Global;
 use crate::debug;
-use crate::options::Names;
+use crate::fail::granted;
+use crate::fallible::TryClone;
+use crate::proved;
 use std::fmt;
 use std::result::Result;
 use std::str::FromStr;
-use std::sync::Arc;
 
 /// What an accepted line gave: the options by name, and the words that are no option.
-#[derive(Clone, PartialEq, Eq)]
+#[derive(PartialEq, Eq)]
 pub struct Matches {
-    names: Arc<Names>,
-    /// Where each name stands, one more than the place of its group; then the groups; and then where the
-    /// first number and the first byte of each group are.
-    numbers: Vec<usize>,
-    /// Where the last of these begin.
-    starts: usize,
-    text: String,
     /// The free words, in the order of the line.
     pub free: Vec<String>,
-    trailing: Option<usize>,
+    /// What was proved of the line, without the free words.
+    proved: proved::Matches,
 }
 
-/// The occurrences of one option: the position of each and its value's length and one more, or nought,
-/// and the values.
-#[derive(Clone, Copy)]
-struct Given<'m> {
-    numbers: &'m [usize],
-    text: &'m str,
-}
-
-impl<'m> Given<'m> {
-    /// Those whose first number and first byte are these.
-    fn at(numbers: &'m [usize], text: &'m str, number: usize, byte: usize) -> Given<'m> {
-        let numbers = &numbers[number + 1..][..2 * numbers[number]];
-        let text = &text[byte..][..text_len(numbers)];
-        Given { numbers, text }
+impl Clone for Matches {
+    fn clone(&self) -> Matches {
+        Matches {
+            free: self.free.clone(),
+            proved: granted(self.proved.try_clone()),
+        }
     }
-
-    fn count(self) -> usize {
-        self.numbers.len() / 2
-    }
-
-    fn positions(self) -> impl Iterator<Item = usize> + 'm {
-        self.numbers.chunks_exact(2).map(|pair| pair[0])
-    }
-
-    /// The position and the value, if there is one, of each occurrence.
-    fn iter(self) -> impl Iterator<Item = (usize, Option<&'m str>)> {
-        let mut rest = self.text;
-        self.numbers.chunks_exact(2).map(move |pair| {
-            let value = pair[1].checked_sub(1).map(|len| {
-                let (value, after) = rest.split_at(len);
-                rest = after;
-                value
-            });
-            (pair[0], value)
-        })
-    }
-
-    /// The positions and values of the occurrences that have one.
-    fn values(self) -> impl Iterator<Item = (usize, &'m str)> {
-        self.iter()
-            .filter_map(|(position, value)| Some((position, value?)))
-    }
-
-    fn first_value(self) -> Option<&'m str> {
-        self.iter().next()?.1
-    }
-}
-
-/// How long the values of occurrences with these numbers are together.
-fn text_len(numbers: &[usize]) -> usize {
-    let pairs = numbers.chunks_exact(2);
-    pairs.map(|pair| pair[1].saturating_sub(1)).sum()
 }
 
 impl Matches {
-    pub(crate) fn of(names: Arc<Names>, answer: Answer) -> Matches {
-        let (mut numbers, mut text) = (answer.numbers, answer.text);
-        let answered = numbers.len();
-        let groups = 2 * names.kinds.len();
-        let (mut number, mut byte) = (groups + 1, 0);
-        for _ in 0..numbers[groups] {
-            numbers.extend([number, byte]);
-            let end = number + 1 + 2 * numbers[number];
-            byte += text_len(&numbers[number + 1..end]);
-            number = end;
-        }
-        // The free words, and where those after `--` begin, stand behind the groups.
-        let mut reader = Reader::new(&numbers[number..answered], &text[byte..]);
-        let free = reader.texts();
-        let trailing = reader.number().checked_sub(1);
-        numbers.drain(number..answered);
-        text.truncate(byte);
+    pub(crate) fn of(mut proved: proved::Matches) -> Matches {
         Matches {
-            names,
-            numbers,
-            starts: number,
-            text,
-            free,
-            trailing,
+            free: std::mem::take(&mut proved.free),
+            proved,
         }
     }
 
-    fn find(&self, name: &str) -> Option<Given<'_>> {
-        let place = self.names.place(name)?;
-        Some(self.of_group(self.numbers[place].checked_sub(1)?))
-    }
-
-    /// What was given of the option at a place.
-    fn of_group(&self, group: usize) -> Given<'_> {
-        let start = self.starts + 2 * group;
-        let (number, byte) = (self.numbers[start], self.numbers[start + 1]);
-        Given::at(&self.numbers, &self.text, number, byte)
-    }
-
-    fn given(&self, name: &str) -> Given<'_> {
-        match self.find(name) {
-            Some(given) => given,
+    fn given(&self, name: &str) -> proved::Occurrences<'_> {
+        match self.proved.opt_place(name) {
+            Some(place) => self.proved.occurrences_at(place),
             None => panic!("No option '{name}' defined"),
         }
     }
@@ -137,9 +54,8 @@ impl Matches {
     /// let matches = options.parse(["in.txt"]).unwrap();
     /// assert!(matches.opt_defined("quiet") && !matches.opt_defined("loud"));
     /// ```
-    #[must_use]
     pub fn opt_defined(&self, name: &str) -> bool {
-        self.find(name).is_some()
+        self.proved.opt_defined(name)
     }
 
     /// Whether an option was given, by any of its names.
@@ -149,9 +65,8 @@ impl Matches {
     /// options.optflag("q", "quiet", "say less");
     /// assert!(options.parse(["-q"]).unwrap().opt_present("quiet"));
     /// ```
-    #[must_use]
     pub fn opt_present(&self, name: &str) -> bool {
-        self.opt_count(name) > 0
+        !self.given(name).is_empty()
     }
 
     /// How often an option was given, by any of its names.
@@ -161,9 +76,8 @@ impl Matches {
     /// options.optflagmulti("v", "verbose", "say more");
     /// assert_eq!(options.parse(["-vv", "--verbose"]).unwrap().opt_count("v"), 3);
     /// ```
-    #[must_use]
     pub fn opt_count(&self, name: &str) -> usize {
-        self.given(name).count()
+        self.given(name).len()
     }
 
     /// The positions of an option's occurrences: indexes of words, a separate argument counted.
@@ -174,9 +88,8 @@ impl Matches {
     /// let matches = options.parse(["-v", "-o", "x", "-vv"]).unwrap();
     /// assert_eq!(matches.opt_positions("v"), [0, 3, 3]);
     /// ```
-    #[must_use]
     pub fn opt_positions(&self, name: &str) -> Vec<usize> {
-        self.given(name).positions().collect()
+        granted(self.given(name).positions(Global))
     }
 
     /// Whether the option of some name in the list was given. A name that no option has doesn't count.
@@ -187,10 +100,8 @@ impl Matches {
     /// let names = ["a", "b", "c"].map(String::from);
     /// assert!(options.parse(["-b"]).unwrap().opts_present(&names));
     /// ```
-    #[must_use]
     pub fn opts_present(&self, names: &[String]) -> bool {
-        let given = |given: Given<'_>| given.count() > 0;
-        names.iter().any(|name| self.find(name).is_some_and(given))
+        self.proved.opts_present(names)
     }
 
     /// Whether the option of some name in the list was given. Names are looked at up to that one.
@@ -200,7 +111,6 @@ impl Matches {
     /// options.optflag("a", "", "").optflag("b", "", "");
     /// assert!(options.parse(["-b"]).unwrap().opts_present_any(["a", "b"]));
     /// ```
-    #[must_use]
     pub fn opts_present_any<C: IntoIterator>(&self, names: C) -> bool
     where
         C::Item: AsRef<str>,
@@ -218,7 +128,6 @@ impl Matches {
     /// let names = ["a", "b"].map(String::from);
     /// assert_eq!(options.parse(["-bx"]).unwrap().opts_str(&names).unwrap(), "x");
     /// ```
-    #[must_use]
     pub fn opts_str(&self, names: &[String]) -> Option<String> {
         names.iter().find_map(|name| self.opt_str(name))
     }
@@ -232,7 +141,6 @@ impl Matches {
     /// let matches = options.parse(["-bx"]).unwrap();
     /// assert_eq!(matches.opts_str_first(["a", "b"]).unwrap(), "x");
     /// ```
-    #[must_use]
     pub fn opts_str_first<C: IntoIterator>(&self, names: C) -> Option<String>
     where
         C::Item: AsRef<str>,
@@ -249,12 +157,8 @@ impl Matches {
     /// options.optmulti("L", "", "add a folder", "DIR");
     /// assert_eq!(options.parse(["-La", "-L", "b"]).unwrap().opt_strs("L"), ["a", "b"]);
     /// ```
-    #[must_use]
     pub fn opt_strs(&self, name: &str) -> Vec<String> {
-        self.given(name)
-            .values()
-            .map(|(_, value)| value.to_string())
-            .collect()
+        granted(self.given(name).values(Global))
     }
 
     /// The positions and values of those of an option's occurrences that have a value.
@@ -265,10 +169,8 @@ impl Matches {
     /// let values = options.parse(["-L", "a", "-Lb"]).unwrap().opt_strs_pos("L");
     /// assert_eq!(values, [(0, "a".to_string()), (2, "b".to_string())]);
     /// ```
-    #[must_use]
     pub fn opt_strs_pos(&self, name: &str) -> Vec<(usize, String)> {
-        let owned = |(position, value): (usize, &str)| (position, value.to_string());
-        self.given(name).values().map(owned).collect()
+        granted(self.given(name).pairs(Global))
     }
 
     /// The value of an option's first occurrence.
@@ -278,7 +180,6 @@ impl Matches {
     /// options.optopt("o", "output", "set the output file", "NAME");
     /// assert_eq!(options.parse(["-ofile"]).unwrap().opt_str("output").unwrap(), "file");
     /// ```
-    #[must_use]
     pub fn opt_str(&self, name: &str) -> Option<String> {
         self.value(name).map(str::to_string)
     }
@@ -292,10 +193,9 @@ impl Matches {
     /// let matches = options.parse(["--color"]).unwrap();
     /// assert_eq!(matches.opt_default("color", "auto").unwrap(), "auto");
     /// ```
-    #[must_use]
     pub fn opt_default(&self, name: &str, def: &str) -> Option<String> {
-        let (_, value) = self.given(name).iter().next()?;
-        Some(value.unwrap_or(def).to_string())
+        let value = self.given(name).first_value_or(def);
+        value.map(str::to_string)
     }
 
     /// The value of an option's first occurrence, read as a `T`.
@@ -333,33 +233,29 @@ impl Matches {
     /// let options = getopts::Options::new();
     /// assert_eq!(options.parse(["a", "--", "b"]).unwrap().free_trailing_start(), Some(1));
     /// ```
-    #[must_use]
     pub fn free_trailing_start(&self) -> Option<usize> {
-        self.trailing
+        self.proved.free_trailing_start()
     }
 }
 
 impl fmt::Debug for Matches {
     fn fmt(&self, f: &mut fmt::Formatter<'_>) -> fmt::Result {
-        let mut reader = Reader::new(&self.names.texts.lens, &self.names.texts.text);
-        let opt = |&kind| {
-            let [short_name, long_name, _, _] = [(); 4].map(|()| reader.text());
-            debug::Opt {
-                short_name,
-                long_name,
-                kind,
-            }
-        };
-        let opts: Vec<_> = self.names.kinds.iter().map(opt).collect();
+        let opts = debug::opts_of(&self.proved);
         let given = |(position, value)| (position, debug::Given(value));
         let vals: Vec<Vec<_>> = (0..opts.len())
-            .map(|group| self.of_group(group).iter().map(given).collect())
+            .map(|place| {
+                self.proved
+                    .occurrences_at(place)
+                    .into_iter()
+                    .map(given)
+                    .collect()
+            })
             .collect();
         f.debug_struct("Matches")
             .field("opts", &opts)
             .field("vals", &vals)
             .field("free", &self.free)
-            .field("args_end", &self.trailing)
+            .field("args_end", &self.free_trailing_start())
             .finish()
     }
 }

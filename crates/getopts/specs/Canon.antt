@@ -103,9 +103,9 @@ pub record ReadsBack (options : Declared) (content : Content) : Type 0 where
       (canonical_line options.groups content)
   pub same : content_of options (canonical_reading options.groups content) ≡ content
 
--- The laws of the canonical line of a content that is plain and that some line says. In both styles
--- and both modes it reads back, it says that content alone, and the canonical line of what it says
--- is that line; and of sound and plain contents it is that of this one only.
+-- The laws of the canonical line of a content that is plain and that some line says. The content is
+-- sound; the line reads back in both styles and both modes; it says that content alone; and of sound
+-- and plain contents it is that of this one only.
 pub record HasCanonicalLine (options : Declared) (content : Content) : Type 0 where
   pub sound : IsSound options.groups content
   pub reads_back : (style : ParsingStyle) (long_only : Bool)

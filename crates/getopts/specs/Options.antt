@@ -84,12 +84,6 @@ occur_of groups name =
 abbrev pub Declares : Declared → Text → Type 0
 Declares options name = IsSome (resolution (names_of options.groups) name)
 
--- these options declare this name, with this kind of argument and this kind of occurrence
-abbrev pub DeclaresAs : Declared → Text → HasArg → Occur → Type 0
-DeclaresAs options name kind occurrence =
-    (kind_of options.groups name ≡ Some kind)
-    × (occur_of options.groups name ≡ Some occurrence)
-
 -- the grammar of options
 abbrev pub grammar_of : Declared → Grammar
 grammar_of options = record {

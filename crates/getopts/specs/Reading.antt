@@ -297,14 +297,6 @@ pub record IsLongForm (grammar : Grammar) (word name : Text) (argument : Option 
   pub word_is : word ≡ long_word dashes name argument
   pub filled : word ≢ dash_text dashes
 
--- a word in short form: in ordinary mode, `-` and this text, which isn't empty and doesn't begin
--- with `-`
-pub record IsShortForm (grammar : Grammar) (word text : Text) : Type 0 where
-  pub ordinary : grammar.long_only ≡ false
-  pub word_is : word ≡ dash ∷ text
-  pub filled : text ≢ []
-  pub second : begins_with_dash text ≡ false
-
 -- a word in short form that has this text after flags: in ordinary mode, with no `-` after its dash
 pub record HasAfterFlags (grammar : Grammar) (word text : Text) : Type 0 where
   pub bytes : List ℕ

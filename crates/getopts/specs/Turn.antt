@@ -1,14 +1,14 @@
 -- What the first word of a line gives, with the words after it. The clauses of `scan` say that the
 -- code finds this, and the lemmas on readings, that it is what those of `Reading` say.
 use Rattle.std.specs.Prelude.{◌≡◌, ◌≢◌, ◌==◌, ℕ, List, [], ◌∷◌, ◌++◌, length, map, Option}
-use Rattle.std.specs.Prelude.{Some, None, Result, Ok, Err, if◌then◌else◌, encode_utf8}
+use Rattle.std.specs.Prelude.{Some, None, Result, Ok, Err, if◌then◌else◌, false, encode_utf8}
 use Rattle.std.specs.Option.{option_map_or}
 use Rattle.std.specs.Str.{chars}
 use Rattle.getopts.specs.Names.{Text}
 use Rattle.getopts.specs.Options.{Grammar}
 use Rattle.getopts.specs.Fail.{Fault, argument_missing, unrecognized_option, unexpected_argument}
-use Rattle.getopts.specs.Reading.{equals_sign, is_dashed, Argument, none, attached}
-use Rattle.getopts.specs.Reading.{separate, Dashes, dash_text, flags, ends_in, Item, long, cluster}
+use Rattle.getopts.specs.Reading.{dash, begins_with_dash, equals_sign, is_dashed, Argument, none}
+use Rattle.getopts.specs.Reading.{attached, separate, Dashes, dash_text, flags, ends_in, Item, long, cluster}
 use Rattle.getopts.specs.Reading.{value_of, argument_words, MayStandBefore, free_items, Tail}
 use Rattle.getopts.specs.Reading.{Occurrence, at_position, mentions}
 use Rattle.getopts.specs.declared.groups.HasArg.{HasArg}
@@ -30,6 +30,14 @@ pub record IsInLongForm (grammar : Grammar) (dashes : Dashes) (word text : Text)
   pub before : MayStandBefore grammar.long_only dashes text
   pub word_is : word ≡ dash_text dashes ++ text
   pub filled : word ≢ dash_text dashes
+
+-- a word in short form: in ordinary mode, `-` and this text, which isn't empty and doesn't begin
+-- with `-`
+pub record IsShortForm (grammar : Grammar) (word text : Text) : Type 0 where
+  pub ordinary : grammar.long_only ≡ false
+  pub word_is : word ≡ dash ∷ text
+  pub filled : text ≢ []
+  pub second : begins_with_dash text ≡ false
 
 -- the argument of an option in long form, by the one attached to it and the words after its own;
 -- or its fault

@@ -18,10 +18,10 @@ use std::str::FromStr;
 fn copied(alloc: Global, text: Option<&str>) -> Result<Option<String>, AllocError>
     ensures { IfOk result (λ copy. option_map string_bytes copy ≡ option_copied text.entry) }
 {
-    let Some(text) = text else {
-        return Ok(None);
-    };
-    Ok(Some(String::from_str(alloc, text)?))
+    match text {
+        Some(text) => Ok(Some(String::from_str(alloc, text)?)),
+        None => Ok(None),
+    }
 }
 
 impl Matches {

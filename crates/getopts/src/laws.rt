@@ -41,8 +41,8 @@ pub fn one_reading_one_canonical_line(options: &Options)
     ensures holds_same { OneContentHoldsSame options.now }
 
     // Canonical lines are equal exactly if they say the same: those of contents, and those that are
-    // returned. Each reads back in both styles and both modes, says nothing else, is its own, and
-    // is that of no other content.
+    // returned. Each reads back in both styles and both modes, says nothing else, and is that of no
+    // other content.
     ensures one_line_one_content { OneLineOneContent options.now }
     ensures canonical_lines { (words : List Text) (content : Content)
         → Says options.now words content → IsPlain options.now.groups content
@@ -70,7 +70,8 @@ pub fn declared_options_keep_laws()
         → OneContentHoldsSame options }
 {}
 
-/// Three facts of how the names of options resolve: a law to cite, which does nothing.
+/// Three facts of how the names of options resolve, and that the options may be declared: a law to
+/// cite, which does nothing.
 ///
 /// The main name of a resolved group resolves to that same group. A name of one byte that resolves
 /// is a short name, and no long one. The empty name resolves to none.
@@ -78,6 +79,8 @@ pub fn names_resolve(options: &Options)
     ensures main_name { MainNameResolves (names_of options.now.groups) }
     ensures one_byte { OneByteIsShort (names_of options.now.groups) }
     ensures empty { EmptyResolvesNot (names_of options.now.groups) }
+
+    // The premise of `declared_options_keep_laws`.
     ensures declared { MayBeDeclared options.now.groups }
 {
     let _groups = options.groups();

@@ -165,6 +165,13 @@ impl Model for MatchedGroups {
 impl MatchedGroups {
     ghost use Rattle.getopts.specs.Same.{same_matched_group};
 
+    /// The groups.
+    pub(crate) fn groups(&self) -> &Groups
+        ensures { map (λ group. group.signature) self.now ≡ signatures_of result.now }
+    {
+        &self.groups
+    }
+
     /// The place of the group that a name resolves to.
     pub(crate) fn place_of(&self, name: &str) -> Option<usize>
         ensures { result ≡ Spec.place_of self.now name.now }
@@ -180,6 +187,7 @@ impl MatchedGroups {
     }
 
     /// The occurrences of the group at a place.
+    #[inline]
     pub(crate) fn occurrences_at(&self, place: usize) -> Occurrences<'_>
         ensures { result ≡ Spec.found_in self.now place }
     {

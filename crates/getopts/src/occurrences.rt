@@ -337,6 +337,7 @@ impl<'m> Occurrences<'m> {
     }
 
     /// Whether two groups have occurrences of the same positions and values in the same order.
+    #[inline]
     pub(crate) fn same(&self, other: &Occurrences<'_>) -> bool
         ensures { result ≡ pointwise same_found self.now other.now }
     {

@@ -159,7 +159,8 @@ fn is_dashed(word: &str) -> bool
     }
 }
 
-/// How many words are dashed, up to where the rest is free.
+/// How many words are dashed, up to where the rest is free. It only says how much to reserve: a wrong
+/// number would cost memory alone.
 fn dashed_words(words: &[&str], stops: bool) -> usize {
     let mut dashed: usize = 0;
     'words: for word in words {
@@ -246,8 +247,9 @@ impl<'o> Scanner<'o> {
             long_turn grammar dashes text.now (texts after.now) ≡ faults fault)) }
     {
         let (name, argument) = name_and_argument(text);
-        let Some((group, kind)) = self.option(name) else {
-            return Err(Fail::unrecognized_option(alloc, name));
+        let (group, kind) = match self.option(name) {
+            Some(option) => option,
+            None => return Err(Fail::unrecognized_option(alloc, name)),
         };
         let (value, used) = match (kind, argument) {
             (HasArg::No, None) => (None, 0),
@@ -336,8 +338,9 @@ impl<'o> Scanner<'o> {
     fn shape<'w>(&self, word: &'w str) -> Shape<'w>
         ensures { HasShape (scanner_grammar self.now) word.now result }
     {
-        let Some(text) = after_dash(word) else {
-            return Shape::Free;
+        let text = match after_dash(word) {
+            Some(text) => text,
+            None => return Shape::Free,
         };
         match after_dash(text) {
             Some(long) if long.is_empty() => Shape::Stop,
@@ -377,9 +380,7 @@ impl<'o> Scanner<'o> {
                     push_copies(alloc, &mut line.free, after)?;
                     return Ok(line);
                 }
-                Shape::Long(text) => {
-                    at + 1 + self.long(alloc, text, after, at, &mut line.found)?
-                }
+                Shape::Long(text) => at + 1 + self.long(alloc, text, after, at, &mut line.found)?,
                 Shape::Cluster(text) => {
                     at + 1 + self.cluster(alloc, text, after, at, &mut line.found)?
                 }

@@ -87,8 +87,9 @@ fn push_line(
         (string_bytes text.old) (string_bytes text.new)) }
 {
     let mut words = line.split_whitespace();
-    let Some(first) = words.next() else {
-        return Ok(begun);
+    let first = match words.next() {
+        Some(first) => first,
+        None => return Ok(begun),
     };
     push_parting(text, begun, separator)?;
     text.push_str(first)?;

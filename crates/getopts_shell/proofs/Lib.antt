@@ -9,3 +9,5 @@ mod Help
 mod Line
 mod Status
 mod Fronts
+mod Shell
+mod Assignments

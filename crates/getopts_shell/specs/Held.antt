@@ -5,15 +5,18 @@ use Rattle.std.specs.Option.{option_map}
 use Rattle.std.specs.String.{string_bytes}
 use Rattle.getopts.specs.Matches.{MatchedGroup, matched}
 use Rattle.getopts.specs.Names.{main_name}
-use Rattle.getopts.specs.Options.{Declared, Group, group_of, signatures_of, with_group}
+use Rattle.getopts.specs.Options.{Declared, Group, Signature, group_of, signatures_of, with_group}
 use Rattle.getopts.specs.Reading.{Occurrence, holds_equals}
 use Rattle.getopts_shell.specs.Program.{Answer, Asked, own_groups}
+use Rattle.getopts_shell.specs.Variables.{VariableFault, no_prefix, no_variable, variable_twice, with_words}
 use Rattle.getopts_shell.specs.Table.{TableFault, no_option, name_twice}
 use Rattle.getopts_shell.specs.declared.answer.Asked.{Asked as AskedHeld}
 use Rattle.getopts_shell.specs.declared.answer.Outcome.{Outcome}
 use Rattle.getopts_shell.specs.declared.row.Row.{Row}
 use Rattle.getopts_shell.specs.declared.table.TableError.{TableError}
 use Rattle.getopts_shell.specs.declared.table.TableError.TheVariants as error
+use Rattle.getopts_shell.specs.declared.variables.VariableError.{VariableError}
+use Rattle.getopts_shell.specs.declared.variables.VariableError.TheVariants as variable
 
 -- the group of a row
 abbrev pub group_of_row : Row → Group
@@ -47,6 +50,8 @@ asked_of asked = record {
   words = asked.words;
   usage = asked.usage;
   complete = option_map string_bytes asked.complete;
+  variables = option_map string_bytes asked.variables;
+  arrays = asked.arrays;
 }
 
 -- the groups are the program's own, each with its share of some occurrences
@@ -61,3 +66,14 @@ ArePlainlyNamed groups = AllByRecursion (λ group. holds_equals (main_name group
 abbrev pub with_groups : Declared → List Group → Declared
 with_groups options [] = options
 with_groups options (group ∷ groups) = with_groups (with_group options group) groups
+
+-- what reading asks of each group that matches hold
+abbrev pub held_signatures : List MatchedGroup → List Signature
+held_signatures groups = map (λ group. group.signature) groups
+
+-- the fault that an error of variables tells
+abbrev pub variable_fault_told : VariableError → VariableFault
+variable_fault_told variable.WithWords = with_words
+variable_fault_told (variable.NoPrefix prefix) = no_prefix prefix.now
+variable_fault_told (variable.NoVariable number name) = no_variable number name.now
+variable_fault_told (variable.VariableTwice number name) = variable_twice number name.now

@@ -3,7 +3,7 @@ use Rattle.std.specs.Prelude.{◌≡◌, ◌≢◌, ◌≤◌, ◌&&◌, ◌||�
 use Rattle.std.specs.Prelude.{Some, None, codes, decimal, if◌then◌else◌, ◌⊎◌}
 use Rattle.std.specs.Io.KnownBytes.{Appends}
 use Rattle.std.specs.List.{AllByRecursion, list_any}
-use Rattle.std.specs.Option.{unwrap_or}
+use Rattle.std.specs.Option.{option_and_then, unwrap_or}
 use Rattle.std.specs.Str.{bytes_eq}
 use Rattle.getopts.specs.Accessors.{first_value, found_of, is_present}
 use Rattle.getopts.specs.Canon.{HasCanonicalLine, canonical_word}
@@ -12,7 +12,7 @@ use Rattle.getopts.specs.Fail.{Fault, fault_text}
 use Rattle.getopts.specs.Matches.{Matched}
 use Rattle.getopts.specs.Names.{Text}
 use Rattle.getopts.specs.Only.{IsTheOnly}
-use Rattle.getopts.specs.Options.{Group, Declared, group_of}
+use Rattle.getopts.specs.Options.{Group, Declared, group_of, names_of}
 use Rattle.getopts.specs.Parse.{HasReading, IsAccepted, IsRefused}
 use Rattle.getopts.specs.Reading.{stop_word}
 use Rattle.getopts.specs.Usage.{IsUsageText, short_usage_text}
@@ -23,6 +23,8 @@ use Rattle.getopts.specs.declared.groups.ParsingStyle.TheVariants.{FloatingFrees
 use Rattle.getopts_bytes.specs.Marks.{bytes_of}
 use Rattle.getopts_shell.specs.Quote.{AreCommands, quoted, quoted_words, shell_words}
 use Rattle.getopts_shell.specs.Table.{DeclaresOptions, IsTableFault, TableFault, no_option, name_twice, reason_of}
+use Rattle.getopts_shell.specs.Variables.{SetsVariables, VariableFault, no_prefix, no_variable, prefix_fault}
+use Rattle.getopts_shell.specs.Variables.{variable_twice, variables_code, with_words}
 
 -- ---- the program's own options
 
@@ -32,6 +34,9 @@ own_groups =
     ∷ group_of (codes "s") (codes "stop") (codes "leave all words from the first free one on free") [] No Optional
     ∷ group_of (codes "l") (codes "long-only") (codes "let long names follow one dash too") [] No Optional
     ∷ group_of (codes "w") (codes "words") (codes "write the words alone, without 'set --'") [] No Optional
+    ∷ group_of (codes "V") (codes "variables") (codes "set a variable for each option, named PREFIX and its name")
+    (codes "PREFIX") Yes Optional
+    ∷ group_of (codes "A") (codes "arrays") (codes "with --variables, make an array of values") [] No Optional
     ∷ group_of (codes "u") (codes "usage") (codes "write the help of TABLE") [] No Optional
     ∷ group_of (codes "c") (codes "complete") (codes "write a completion script for bash, zsh or fish")
     (codes "SHELL") Yes Optional
@@ -59,6 +64,8 @@ pub record Asked : Type 0 where
   pub words : Bool
   pub usage : Bool
   pub complete : Option Text
+  pub variables : Option Text
+  pub arrays : Bool
 
 -- what words with these matches ask for
 abbrev pub asked_by : Matched → Asked
@@ -69,6 +76,8 @@ asked_by own = record {
   words = is_given own (codes "words");
   usage = is_given own (codes "usage");
   complete = value_given own (codes "complete");
+  variables = value_given own (codes "variables");
+  arrays = is_given own (codes "arrays");
 }
 
 -- a script's words are read: neither its help nor its completion is asked for
@@ -141,6 +150,20 @@ abbrev pub AskHelp : Declared → List Text → Type 0
 AskHelp options words = (matches : Matched) × HasReading options words matches
     × (offers_help options.groups ≡ true) × (is_present matches.groups (codes "help") ≡ true)
 
+-- the line of a fault of variables
+abbrev pub variable_fault_line : VariableFault → Text
+variable_fault_line with_words = codes "getopts_shell: --words and --variables don't go together\n"
+variable_fault_line (no_prefix prefix) = codes "getopts_shell: '" ++ (prefix ++ codes "' makes no variable\n")
+variable_fault_line (no_variable number name) = codes "getopts_shell: line "
+    ++ (decimal number ++ (codes " of the options: '" ++ (name ++ codes "' makes no variable\n")))
+variable_fault_line (variable_twice number name) = codes "getopts_shell: line "
+    ++ (decimal number ++ (codes " of the options: '" ++ (name ++ codes "' makes the variable of another option\n")))
+
+-- the fault of the variables that are asked for, with a table of these options
+abbrev pub asked_fault : Asked → Text → List Group → Option VariableFault
+asked_fault asked table groups = option_and_then
+    (λ prefix. if asked.words then Some with_words else prefix_fault prefix table (names_of groups)) asked.variables
+
 -- the code that sets a script's words to those of a line, or the words alone
 abbrev pub line_code : Asked → List Text → Text
 line_code asked line =
@@ -174,7 +197,8 @@ pub data AnswersCompletion (shell : Text) : Answer → Type 0 where
   no_script : has_completion shell ≡ false → AnswersCompletion shell (misused (no_completion shell))
 
 -- The answer for a script with these options: its help, its completion script, or what its words are. That
--- is the code that prints its help where they ask for it, and else their canonical line or the first fault.
+-- is the code that prints its help where they ask for it, and else their canonical line, the code that sets
+-- variables, or the first fault.
 pub data AnswersScript (asked : Asked) (name : Text) (options : Declared) (words : List Text)
     : Answer → Type 0 where
   usage : (help : Text) → asked.usage ≡ true → IsHelp asked name options help
@@ -185,17 +209,26 @@ pub data AnswersScript (asked : Asked) (name : Text) (options : Declared) (words
       → AreCommands (help_code help) (codes "printf" ∷ codes "%s" ∷ help ∷ []) (codes "exit" ∷ [])
       → AnswersScript asked name options words (done (help_code help))
   accepted : (line : List Text) → ReadsWords asked → ¬ (AskHelp options words)
-      → TellsWords asked options words line
+      → asked.variables ≡ None → TellsWords asked options words line
       → AnswersScript asked name options words (done (line_code asked line))
+  variables : (prefix : Text) (matches : Matched) → ReadsWords asked → ¬ (AskHelp options words)
+      → asked.variables ≡ Some prefix → IsAccepted options words matches
+      → SetsVariables prefix asked.arrays matches
+      → AnswersScript asked name options words (done (variables_code prefix asked.arrays matches))
   refused : (fault : Fault) → ReadsWords asked → ¬ (AskHelp options words)
       → IsRefused options words fault → AnswersScript asked name options words
       (record { text = refused_text options name fault; status = 2 })
 
--- The answer to a script's name, its table and its words: the fault of the table, or that for its options.
+-- The answer to a script's name, its table and its words: the fault of the table or of its variables, or
+-- that for its options.
 pub data AnswersTable (asked : Asked) (name table : Text) (words : List Text) : Answer → Type 0 where
   faulty : (fault : TableFault) → IsTableFault table fault
       → AnswersTable asked name table words (misused (table_fault_line fault))
+  no_variables : (groups : List Group) (fault : VariableFault) → DeclaresOptions table groups
+      → asked_fault asked table groups ≡ Some fault
+      → AnswersTable asked name table words (misused (variable_fault_line fault))
   declared : (groups : List Group) (answer : Answer) → DeclaresOptions table groups
+      → asked_fault asked table groups ≡ None
       → AnswersScript asked name (script_options asked groups) words answer
       → AnswersTable asked name table words answer
 

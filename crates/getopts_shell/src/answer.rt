@@ -1,7 +1,8 @@
 //! What the program answers to words.
 
 ghost use Rattle.std.specs.Prelude.{◌≡◌, ◌≢◌, ◌≤◌, ◌⊎◌, ℕ, ◌++◌, ◌↔◌, ◌&&◌, codes, map, true, false, IsTrue, List};
-ghost use Rattle.std.specs.Prelude.{Option, IfOk, OnOk, Some};
+ghost use Rattle.std.specs.Prelude.{Option, IfOk, OnOk, Some, None};
+ghost use Rattle.std.specs.Option.{option_map};
 ghost use Rattle.std.specs.Io.KnownBytes.{Appends};
 ghost use Rattle.std.specs.List.{list_any};
 ghost use Rattle.std.specs.Str.{bytes_eq};
@@ -13,14 +14,15 @@ ghost use Rattle.getopts.specs.Names.{Text, texts};
 ghost use Rattle.getopts.specs.Options.{with_group};
 ghost use Rattle.getopts.specs.Parse.{IsAccepted, IsRefused};
 ghost use Rattle.getopts_shell.specs.Held.{group_of_row, groups_of, fault_told, answer_of, HasOwnGroups};
-ghost use Rattle.getopts_shell.specs.Held.{ArePlainlyNamed, asked_of};
+ghost use Rattle.getopts_shell.specs.Held.{ArePlainlyNamed, asked_of, variable_fault_told};
 ghost use Rattle.getopts_shell.specs.Program.{own_groups, own_options, script_options, done, misused};
 ghost use Rattle.getopts_shell.specs.Program.{table_fault_line, fault_line, refused_text};
 ghost use Rattle.getopts_shell.specs.Program.{IsHelp, help_code, AskHelp, is_no, offers_help, line_code};
 ghost use Rattle.getopts_shell.specs.Program.{Asked, asked_by, ReadsWords, AnswersScript, AppendsFront, ShowsFront};
 ghost use Rattle.getopts_shell.specs.Program.{AnswersTable, AnswersFree, IsAnswer, IsOutput, IsStatus, ShowsAnswer};
 ghost use Rattle.getopts_shell.specs.Program.{AnswersCompletion, no_completion};
-ghost use Rattle.getopts_shell.specs.Table.{TableFault, no_option, name_twice};
+ghost use Rattle.getopts_shell.specs.Program.{asked_fault, variable_fault_line};
+ghost use Rattle.getopts_shell.specs.Table.{DeclaresOptions, TableFault, no_option, name_twice};
 ghost use Rattle.getopts_shell.specs.Held.{with_groups};
 
 use crate::complete::completion;
@@ -28,6 +30,7 @@ use crate::item::reason_of;
 use crate::quote::{push_quoted, push_quoted_words};
 use crate::row::Row;
 use crate::table::{TableError, rows_of};
+use crate::variables::{VariableError, Variables, variable_error, variables_code};
 use crate::words::texts_of;
 use getopts::{Fail, HasArg, Matches, Options, ParsingStyle, names_resolve};
 use getopts_bytes::push_bytes;
@@ -78,13 +81,17 @@ struct Asked {
     words: bool,
     usage: bool,
     complete: Option<String>,
+    variables: Option<String>,
+    arrays: bool,
 }
 
-/// A script: what is asked for it, its name, and its options, as the rows of its table declare them.
+/// A script: what is asked for it, its name, its table, and its options, as the rows of the table declare
+/// them.
 #[derive(Clone, Copy)]
 struct Script<'s> {
     asked: &'s Asked,
     name: &'s str,
+    table: &'s str,
     rows: &'s [Row<'s>],
     options: &'s Options,
 }
@@ -94,8 +101,8 @@ struct Script<'s> {
 /// The words are the program's own options, the script's name, its table and its words. The text is made
 /// whole, then written once and flushed: on `out` where the status is 0, and on `err` where it is 2 or 5.
 ///
-/// - 0: code that sets the script's words to those of the canonical line, or that prints the script's help;
-///   with `--usage` the help itself, with `--complete` a completion script, with `--help` the program's help
+/// - 0: code that sets the script's words to those of the canonical line, or, with `--variables`, that sets
+///   variables, or that prints the script's help; with `--usage` the help itself, with `--complete` a completion script, with `--help` the program's help
 /// - 2: why the script's words are refused, and its short usage
 /// - 3: out of memory, with nothing written
 /// - 4: a write or a flush failed, and what was written is a front of the text
@@ -217,6 +224,13 @@ fn add_own_options(options: &mut Options) -> Result<(), AllocError>
         )?
         .optflag("l", "long-only", "let long names follow one dash too")?
         .optflag("w", "words", "write the words alone, without 'set --'")?
+        .optopt(
+            "V",
+            "variables",
+            "set a variable for each option, named PREFIX and its name",
+            "PREFIX",
+        )?
+        .optflag("A", "arrays", "with --variables, make an array of values")?
         .optflag("u", "usage", "write the help of TABLE")?
         .optopt(
             "c",
@@ -276,6 +290,8 @@ fn asked_by(alloc: Global, own: &Matches) -> Result<Asked, AllocError>
         words: own.opt_present("words"),
         usage: own.opt_present("usage"),
         complete: own.opt_str(alloc, "complete")?,
+        variables: own.opt_str(alloc, "variables")?,
+        arrays: own.opt_present("arrays"),
     })
 }
 
@@ -304,7 +320,7 @@ fn table_answer(
         AnswersTable (asked_of asked.now) name.now table.now (texts words.now) (answer_of outcome)) }
 {
     match rows_of(alloc, table) {
-        Ok(rows) => rows_answer(alloc, asked, name, &rows, words),
+        Ok(rows) => declared_answer(alloc, asked, name, table, &rows, words),
         Err(error) => Ok(Outcome {
             text: table_refusal(alloc, error)?,
             status: MISUSED,
@@ -329,15 +345,77 @@ fn table_refusal(alloc: Global, error: TableError<'_>) -> Result<String, AllocEr
     }
 }
 
+/// The answer to a script's name, the options of its table and its words.
+fn declared_answer(
+    alloc: Global,
+    asked: &Asked,
+    name: &str,
+    table: &str,
+    rows: &[Row<'_>],
+    words: &[&str],
+) -> Result<Outcome, AllocError>
+    requires plain { ArePlainlyNamed (groups_of rows.now) }
+    ensures { IfOk result (λ outcome. DeclaresOptions table.now (groups_of rows.now)
+        → AnswersTable (asked_of asked.now) name.now table.now (texts words.now) (answer_of outcome)) }
+{
+    match asked_error(asked, table, rows) {
+        Some(error) => Ok(Outcome {
+            text: variable_refusal(alloc, error)?,
+            status: MISUSED,
+        }),
+        None => rows_answer(alloc, asked, name, table, rows, words),
+    }
+}
+
+/// Why there are no variables where they are asked for.
+fn asked_error<'t>(asked: &'t Asked, table: &'t str, rows: &[Row<'t>]) -> Option<VariableError<'t>>
+    ensures { option_map variable_fault_told result
+        ≡ asked_fault (asked_of asked.now) table.now (groups_of rows.now) }
+{
+    match &asked.variables {
+        Some(prefix) => {
+            if asked.words {
+                Some(VariableError::WithWords)
+            } else {
+                variable_error(prefix.as_str(), table, rows)
+            }
+        }
+        None => None,
+    }
+}
+
+/// The line of a fault of variables.
+fn variable_refusal(alloc: Global, error: VariableError<'_>) -> Result<String, AllocError>
+    ensures { IfOk result (λ text.
+        string_bytes text ≡ variable_fault_line (variable_fault_told error.entry)) }
+{
+    match error {
+        VariableError::WithWords => format!(in alloc;
+            "getopts_shell: --words and --variables don't go together\n"
+        ),
+        VariableError::NoPrefix(prefix) => {
+            format!(in alloc; "getopts_shell: '{prefix}' makes no variable\n")
+        }
+        VariableError::NoVariable(number, name) => format!(in alloc;
+            "getopts_shell: line {number} of the options: '{name}' makes no variable\n"
+        ),
+        VariableError::VariableTwice(number, name) => format!(in alloc;
+            "getopts_shell: line {number} of the options: '{name}' makes the variable of another option\n"
+        ),
+    }
+}
+
 /// The answer to words by the options of a table.
 fn rows_answer(
     alloc: Global,
     asked: &Asked,
     name: &str,
+    table: &str,
     rows: &[Row<'_>],
     words: &[&str],
 ) -> Result<Outcome, AllocError>
     requires plain { ArePlainlyNamed (groups_of rows.now) }
+    requires variables { asked_fault (asked_of asked.now) table.now (groups_of rows.now) ≡ None }
     ensures { IfOk result (λ outcome. AnswersScript (asked_of asked.now) name.now
         (script_options (asked_of asked.now) (groups_of rows.now)) (texts words.now) (answer_of outcome)) }
 {
@@ -345,6 +423,7 @@ fn rows_answer(
     let script = Script {
         asked,
         name,
+        table,
         rows,
         options: &options,
     };
@@ -385,6 +464,7 @@ fn add_rows(options: &mut Options, rows: &[Row<'_>]) -> Result<(), AllocError>
 fn script_answer(alloc: Global, script: Script<'_>, words: &[&str]) -> Result<Outcome, AllocError>
     requires rows { script.options.now.groups ≡ groups_of script.rows.now }
     requires plain { ArePlainlyNamed (groups_of script.rows.now) }
+    requires variables { asked_fault (asked_of script.asked.now) script.table.now (groups_of script.rows.now) ≡ None }
     ensures { IfOk result (λ outcome. AnswersScript (asked_of script.entry.asked.now) script.entry.name.now
         script.entry.options.now (texts words.now) (answer_of outcome)) }
 {
@@ -433,17 +513,20 @@ fn words_answer(alloc: Global, script: Script<'_>, words: &[&str]) -> Result<Out
     requires asked { ReadsWords (asked_of script.asked.now) }
     requires rows { script.options.now.groups ≡ groups_of script.rows.now }
     requires plain { ArePlainlyNamed (groups_of script.rows.now) }
+    requires variables { asked_fault (asked_of script.asked.now) script.table.now (groups_of script.rows.now) ≡ None }
     ensures { IfOk result (λ outcome. AnswersScript (asked_of script.entry.asked.now) script.entry.name.now
         script.entry.options.now (texts words.now) (answer_of outcome)) }
 {
     let asked = asks_help(alloc, script, words)?;
     if asked {
-        Ok(Outcome {
+        return Ok(Outcome {
             text: help_code(alloc, script)?,
             status: DONE,
-        })
-    } else {
-        line_answer(alloc, script, words)
+        });
+    }
+    match &script.asked.variables {
+        Some(prefix) => variables_answer(alloc, script, prefix.as_str(), words),
+        None => line_answer(alloc, script, words),
     }
 }
 
@@ -505,6 +588,7 @@ fn help_code(alloc: Global, script: Script<'_>) -> Result<String, AllocError>
 /// The answer to words that don't ask for help: the canonical line of accepted words, or the first fault.
 fn line_answer(alloc: Global, script: Script<'_>, words: &[&str]) -> Result<Outcome, AllocError>
     requires asked { ReadsWords (asked_of script.asked.now) }
+    requires no_variables { (asked_of script.asked.now).variables ≡ None }
     requires no_help { ¬ (AskHelp script.options.now (texts words.now)) }
     requires plain { ArePlainlyNamed script.options.now.groups }
     ensures { IfOk result (λ outcome. AnswersScript (asked_of script.entry.asked.now) script.entry.name.now
@@ -517,6 +601,37 @@ fn line_answer(alloc: Global, script: Script<'_>, words: &[&str]) -> Result<Outc
             status: DONE,
         }),
         Ok(None) => unreachable!(),
+        Err(fail) => Ok(Outcome {
+            text: refusal(alloc, script, &fail)?,
+            status: REFUSED,
+        }),
+    }
+}
+
+/// The answer to words that don't ask for help, by variables: the code that sets them, or the first fault.
+fn variables_answer(
+    alloc: Global,
+    script: Script<'_>,
+    prefix: &str,
+    words: &[&str],
+) -> Result<Outcome, AllocError>
+    requires asked { ReadsWords (asked_of script.asked.now) }
+    requires prefix { (asked_of script.asked.now).variables ≡ Some prefix.now }
+    requires no_help { ¬ (AskHelp script.options.now (texts words.now)) }
+    requires rows { script.options.now.groups ≡ groups_of script.rows.now }
+    requires variables { asked_fault (asked_of script.asked.now) script.table.now (groups_of script.rows.now) ≡ None }
+    ensures { IfOk result (λ outcome. AnswersScript (asked_of script.entry.asked.now) script.entry.name.now
+        script.entry.options.now (texts words.now) (answer_of outcome)) }
+{
+    let variables = Variables {
+        prefix,
+        arrays: script.asked.arrays,
+    };
+    match script.options.parse_words(alloc, words) {
+        Ok(matches) => Ok(Outcome {
+            text: variables_code(alloc, variables, script.rows, &matches)?,
+            status: DONE,
+        }),
         Err(fail) => Ok(Outcome {
             text: refusal(alloc, script, &fail)?,
             status: REFUSED,

@@ -13,6 +13,7 @@ mod row;
 mod table;
 #[cfg(test)]
 mod tests;
+mod variables;
 mod words;
 
 use answer::{NO_MEMORY, answer};

@@ -76,7 +76,7 @@ fn push_line<'t>(
 }
 
 /// Whether a line without blanks at its ends declares nothing.
-fn declares_nothing(line: &str) -> bool
+pub(crate) fn declares_nothing(line: &str) -> bool
     ensures { result ≡ (is_empty line.now || slice_index line.now 0 == 35) }
 {
     line.is_empty() || line.starts_with('#')
@@ -110,7 +110,7 @@ fn any_is_called(rows: &[Row<'_>], text: &str) -> bool
 }
 
 /// A text without the spaces, tabs and carriage returns at both ends.
-fn trimmed(text: &str) -> &str
+pub(crate) fn trimmed(text: &str) -> &str
     ensures { result.now ≡ trimmed text.now }
 {
     before_blanks(after_blanks(text))

@@ -74,6 +74,10 @@ Options:
     -s, --stop          leave all words from the first free one on free
     -l, --long-only     let long names follow one dash too
     -w, --words         write the words alone, without 'set --'
+    -V, --variables PREFIX
+                        set a variable for each option, named PREFIX and its
+                        name
+    -A, --arrays        with --variables, make an array of values
     -u, --usage         write the help of TABLE
     -c, --complete SHELL
                         write a completion script for bash, zsh or fish

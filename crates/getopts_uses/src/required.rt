@@ -1,15 +1,17 @@
 //! A program of its own: options in a helper, accessors by literal names.
 
-ghost use Rattle.std.specs.Prelude.{◌≡◌, IfOk, IsSome, codes};
-ghost use Rattle.getopts.specs.Options.{Declares, DeclaresAs};
+ghost use Rattle.std.specs.Prelude.{◌≡◌, IfOk, IsSome, Some, codes};
+ghost use Rattle.getopts.specs.Options.{Declares, kind_of, occur_of};
 
 use getopts::{Fail, HasArg, Matches, Occur, Options};
 use std::alloc::{AllocError, Global};
 
 /// The options of the program.
 fn options(alloc: Global) -> Result<Options, AllocError>
-    ensures input { IfOk result (λ options.
-        DeclaresAs options (codes "input") HasArg.Yes Occur.Req) }
+    ensures argument { IfOk result (λ options.
+        kind_of options.groups (codes "input") ≡ Some HasArg.Yes) }
+    ensures required { IfOk result (λ options.
+        occur_of options.groups (codes "input") ≡ Some Occur.Req) }
     ensures output { IfOk result (λ options. Declares options (codes "output")) }
     ensures verbose { IfOk result (λ options. Declares options (codes "verbose")) }
 {

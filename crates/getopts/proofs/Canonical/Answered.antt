@@ -40,15 +40,18 @@ pub holds_equals-found : (text : Text) (found : Bool)
 holds_equals-found text true there at =
     let place = there refl in
     sym (list_any_at (λ c. c == equals_sign) text place.0 0 place.1 (rw place.2 refl))
-holds_equals-found text false there at = sym (holds_equals-none text (λ k within is. true≢false (sym (at k within is))))
+holds_equals-found text false there at =
+    sym (holds_equals-none text (λ k within is. true≢false (sym (at k within is))))
 
 -- occurrences of groups whose main names hold no `=`
 pub plain-list_all : (groups : List Group) (found : List Occurrence)
     → list_all (λ o. not (holds_equals (main_at groups o.mention.group))) found ≡ true
-    → AllByRecursion (λ m. holds_equals (main_at groups m.group) ≡ false) (map (λ (o : Occurrence). o.mention) found)
+    → AllByRecursion (λ m. holds_equals (main_at groups m.group) ≡ false)
+    (map (λ (o : Occurrence). o.mention) found)
 plain-list_all groups found all =
     is_plain-true groups (map (λ (o : Occurrence). o.mention) found)
-    (list_all-map (λ m. not (holds_equals (main_at groups m.group))) (λ (o : Occurrence). o.mention) found ∙ all)
+    (list_all-map (λ m. not (holds_equals (main_at groups m.group)))
+    (λ (o : Occurrence). o.mention) found ∙ all)
 
 -- an occurrence of a group whose main name holds `=`
 pub not_plain-list_all : (groups : List Group) (found : List Occurrence)
@@ -57,12 +60,14 @@ pub not_plain-list_all : (groups : List Group) (found : List Occurrence)
     (map (λ (o : Occurrence). o.mention) found))
 not_plain-list_all groups found some =
     is_plain-false groups (map (λ (o : Occurrence). o.mention) found)
-    (list_all-map (λ m. not (holds_equals (main_at groups m.group))) (λ (o : Occurrence). o.mention) found ∙ some)
+    (list_all-map (λ m. not (holds_equals (main_at groups m.group)))
+    (λ (o : Occurrence). o.mention) found ∙ some)
 
 -- what words are accepted with is what a reading says that keeps the counts
 pub count_keeping : (options : Declared) (words : List Text) (content : Content)
     (is : IsAcceptedWith options words content) → IsCountKeeping options is.reading words
-count_keeping options words content is = record { reads = meets (Reads options words) is.reading is.only; keeps = is.counts }
+count_keeping options words content is =
+    record { reads = meets (Reads options words) is.reading is.only; keeps = is.counts }
 
 -- the matches of a line that was read are those of its reading
 pub HasReading-line : (options : Declared) (words : List Text) (read : ReadLine)
@@ -72,7 +77,8 @@ pub HasReading-line : (options : Declared) (words : List Text) (read : ReadLine)
       trailing_start = read.line.trailing_start;
     })
 HasReading-line options words read is =
-    HasReading-reading options is.declared words is.reads.reading is.reads.reads read.line.found is.reads.occurrences
+    HasReading-reading options is.declared words is.reads.reading is.reads.reads read.line.found
+    is.reads.occurrences
     (map string_bytes read.line.free.items) read.line.trailing_start is.reads.free is.reads.trailing
 
 module _ (options : Declared) (words : List Text) (accepted : ReadLine)
@@ -83,16 +89,23 @@ module _ (options : Declared) (words : List Text) (accepted : ReadLine)
     free = map string_bytes accepted.line.free.items;
     trailing_start = accepted.line.trailing_start;
   })
-  IsAccepted-line = record { read = HasReading-line options words accepted is.is_read; counts = is.keeps }
+  IsAccepted-line = record {
+    read = HasReading-line options words accepted is.is_read;
+    counts = is.keeps;
+  }
 
   -- its occurrences are of the groups
-  pub groups_within : AllByRecursion (λ o. o.mention.group < length options.groups) accepted.line.found
+  pub groups_within : AllByRecursion (λ o. o.mention.group < length options.groups)
+      accepted.line.found
   groups_within =
       let reading = is.is_read.reads.reading in
       let fits = IsFitting-reading options reading words is.is_read.reads.reads in
-      subst (AllByRecursion (λ o. o.mention.group < length options.groups)) (sym is.is_read.reads.occurrences)
-      (AllByRecursion-follows (λ o. FitsGroup options.groups o.mention) (λ o. o.mention.group < length options.groups)
-      (λ o fits. FitsGroup-within options.groups o.mention fits) (occurrences_of (grammar_of options) reading)
+      subst (AllByRecursion (λ o. o.mention.group < length options.groups))
+      (sym is.is_read.reads.occurrences)
+      (AllByRecursion-follows (λ o. FitsGroup options.groups o.mention)
+      (λ o. o.mention.group < length options.groups)
+      (λ o fits. FitsGroup-within options.groups o.mention fits)
+      (occurrences_of (grammar_of options) reading)
       (AllByRecursion-unmap (FitsGroup options.groups) (λ (o : Occurrence). o.mention)
       (occurrences_of (grammar_of options) reading) fits))
 
@@ -100,20 +113,23 @@ module _ (options : Declared) (words : List Text) (accepted : ReadLine)
   pub IsAcceptedWith-line : IsAcceptedWith options words (line_content accepted.line)
   IsAcceptedWith-line =
       let reading = is.is_read.reads.reading in
-      let told : map (λ (o : Occurrence). o.mention) accepted.line.found ≡ mentions_of (grammar_of options) reading =
+      let told : map (λ (o : Occurrence). o.mention) accepted.line.found
+      ≡ mentions_of (grammar_of options) reading =
       ap (map (λ (o : Occurrence). o.mention)) is.is_read.reads.occurrences in
       record {
         reading = reading;
         only = only_reads options is.is_read.declared words reading is.is_read.reads.reads;
         counts = subst KeepsCounts
-            (groups_are options is.is_read.declared words reading is.is_read.reads.reads accepted.line.found
+            (groups_are options is.is_read.declared words reading is.is_read.reads.reads
+            accepted.line.found
             is.is_read.reads.occurrences) is.keeps;
         content_is = λ i. record { mentions = told i; free = is.is_read.reads.free i };
       }
 
   -- and the line says it
   Says-line : Says options words (line_content accepted.line)
-  Says-line = Says-accepted options options.style options.long_only words (line_content accepted.line) IsAcceptedWith-line
+  Says-line = Says-accepted options options.style options.long_only words
+      (line_content accepted.line) IsAcceptedWith-line
 
   -- where they hold no group whose main name holds `=`, the line that is made is theirs
   pub IsWritten-line : list_all
@@ -146,7 +162,8 @@ pub KeepsLineLaws-lawful : (options : Declared) → MayBeDeclared options.groups
     → KeepsLineLaws options
 KeepsLineLaws-lawful options declared words line written =
     HasCanonicalLine-says options words written.content declared.named (named_here options declared)
-    (Says-accepted options options.style options.long_only words written.content written.accepted) written.plain
+    (Says-accepted options options.style options.long_only words written.content written.accepted)
+    written.plain
 
 -- what an answered line meets, and what holds where none is answered
 pub IfSome-weaker : {X : Type 0} (answer : Option X) (P Q : X → Type 0) → ((x : X) → P x → Q x)
@@ -184,14 +201,16 @@ first_broken (first ∷ before) (second ∷ others) group other after more same
 only_count_fault : (groups : List MatchedGroup) (fault other : Fault) → IsCountFault groups fault
     → IsCountFault groups other → fault ≡ other
 only_count_fault groups fault other is is_other =
-    let group = first_broken is.before is_other.before is.group is_other.group is.after is_other.after
+    let group = first_broken is.before is_other.before is.group is_other.group is.after
+    is_other.after
     (sym is.groups_are ∙ is_other.groups_are) is.kept is.broken is_other.kept is_other.broken in
     is.fault_is ∙ ap broken_count group ∙ sym is_other.fault_is
 
 -- groups that keep their counts have none
 no_count_fault : (groups : List MatchedGroup) (fault : Fault) → KeepsCounts groups
     → IsCountFault groups fault → ⊥
-no_count_fault groups fault keeps is = is.broken (KeepsCount-at is.before is.group is.after (subst KeepsCounts is.groups_are keeps))
+no_count_fault groups fault keeps is =
+    is.broken (KeepsCount-at is.before is.group is.after (subst KeepsCounts is.groups_are keeps))
 
 module _ (options : Declared) (words : List Text) where
   -- words that have a reading have it
@@ -209,14 +228,19 @@ module _ (options : Declared) (words : List Text) where
   -- words have one reading's matches
   only_matches : (m n : Matched) → HasReading options words m → HasReading options words n → m ≡ n
   only_matches m n has other =
-      has.matches_are ∙ ap (matches_of options) ((other.only has.reading).0 (reads_of m has)) ∙ sym other.matches_are
+      has.matches_are ∙ ap (matches_of options) ((other.only has.reading).0 (reads_of m has))
+      ∙ sym other.matches_are
 
   only_refusal : (fault other : Fault) → IsRefused options words fault
       → IsRefused options words other → fault ≡ other
-  only_refusal fault other (inl is) (inl is_other) = (is_other.only fault).0 (meets (IsScanFault (grammar_of options) words) fault is.only)
-  only_refusal fault other (inl is) (inr is_other) = absurd (is.no_reading is_other.read.reading (reads_of is_other.matches is_other.read))
-  only_refusal fault other (inr is) (inl is_other) = absurd (is_other.no_reading is.read.reading (reads_of is.matches is.read))
-  only_refusal fault other (inr is) (inr is_other) = only_count_fault is_other.matches.groups fault other
+  only_refusal fault other (inl is) (inl is_other) =
+      (is_other.only fault).0 (meets (IsScanFault (grammar_of options) words) fault is.only)
+  only_refusal fault other (inl is) (inr is_other) =
+      absurd (is.no_reading is_other.read.reading (reads_of is_other.matches is_other.read))
+  only_refusal fault other (inr is) (inl is_other) =
+      absurd (is_other.no_reading is.read.reading (reads_of is.matches is.read))
+  only_refusal fault other (inr is) (inr is_other) =
+      only_count_fault is_other.matches.groups fault other
       (subst (λ (m : Matched). IsCountFault m.groups fault)
       (only_matches is.matches is_other.matches is.read is_other.read) is.breaks) is_other.breaks
 
@@ -234,21 +258,27 @@ module _ (options : Declared) (words : List Text) where
   pub only_parse_answer : (answer other : Result Matched Fault) → IsParseAnswer options words answer
       → IsParseAnswer options words other → answer ≡ other
   only_parse_answer (Ok m) (Ok n) is is_other = ap Ok (only_matches m n is.read is_other.read)
-  only_parse_answer (Ok m) (Err other) is is_other = absurd (not_refused is.read.reading other (keeps_accepted m is) is_other)
-  only_parse_answer (Err fault) (Ok n) is is_other = absurd (not_refused is_other.read.reading fault (keeps_accepted n is_other) is)
-  only_parse_answer (Err fault) (Err other) is is_other = ap Err (only_refusal fault other is is_other)
+  only_parse_answer (Ok m) (Err other) is is_other =
+      absurd (not_refused is.read.reading other (keeps_accepted m is) is_other)
+  only_parse_answer (Err fault) (Ok n) is is_other =
+      absurd (not_refused is_other.read.reading fault (keeps_accepted n is_other) is)
+  only_parse_answer (Err fault) (Err other) is is_other =
+      ap Err (only_refusal fault other is is_other)
 
   -- words are accepted with one content
   pub only_content : (content other : Content) → IsAcceptedWith options words content
       → IsAcceptedWith options words other → content ≡ other
   only_content content other is is_other =
       is.content_is ∙ ap (content_of options)
-      ((is_other.only is.reading).0 (count_keeping options words content is).reads) ∙ sym is_other.content_is
+      ((is_other.only is.reading).0 (count_keeping options words content is).reads)
+      ∙ sym is_other.content_is
 
   pub only_line : (line other : List Text) → IsWritten options words line
       → IsWritten options words other → line ≡ other
   only_line line other is is_other =
-      is.line_is ∙ ap (canonical_line options.groups) (only_content is.content is_other.content is.accepted is_other.accepted) ∙ sym is_other.line_is
+      is.line_is ∙ ap (canonical_line options.groups)
+      (only_content is.content is_other.content is.accepted is_other.accepted)
+      ∙ sym is_other.line_is
 
   -- words aren't both written and unwritable
   not_both : (line : List Text) → IsWritten options words line → IsUnwritable options words → ⊥
@@ -259,18 +289,23 @@ module _ (options : Declared) (words : List Text) where
   pub only_canonical_answer : (answer other : Result (Option (List Text)) Fault)
       → IsCanonicalAnswer options words answer → IsCanonicalAnswer options words other
       → answer ≡ other
-  only_canonical_answer (Ok (Some line)) (Ok (Some other)) is is_other = ap (λ (l : List Text). Ok (Some l)) (only_line line other is is_other)
+  only_canonical_answer (Ok (Some line)) (Ok (Some other)) is is_other =
+      ap (λ (l : List Text). Ok (Some l)) (only_line line other is is_other)
   only_canonical_answer (Ok (Some line)) (Ok None) is is_other = absurd (not_both line is is_other)
-  only_canonical_answer (Ok None) (Ok (Some other)) is is_other = absurd (not_both other is_other is)
+  only_canonical_answer (Ok None) (Ok (Some other)) is is_other =
+      absurd (not_both other is_other is)
   only_canonical_answer (Ok None) (Ok None) is is_other = refl
   only_canonical_answer (Ok (Some line)) (Err other) is is_other =
-      absurd (not_refused is.accepted.reading other (count_keeping options words is.content is.accepted) is_other)
+      absurd (not_refused is.accepted.reading other
+      (count_keeping options words is.content is.accepted) is_other)
   only_canonical_answer (Ok None) (Err other) is is_other =
-      absurd (not_refused is.accepted.reading other (count_keeping options words is.content is.accepted) is_other)
+      absurd (not_refused is.accepted.reading other
+      (count_keeping options words is.content is.accepted) is_other)
   only_canonical_answer (Err fault) (Ok (Some other)) is is_other =
       absurd (not_refused is_other.accepted.reading fault
       (count_keeping options words is_other.content is_other.accepted) is)
   only_canonical_answer (Err fault) (Ok None) is is_other =
       absurd (not_refused is_other.accepted.reading fault
       (count_keeping options words is_other.content is_other.accepted) is)
-  only_canonical_answer (Err fault) (Err other) is is_other = ap Err (only_refusal fault other is is_other)
+  only_canonical_answer (Err fault) (Err other) is is_other =
+      ap Err (only_refusal fault other is is_other)

@@ -1,5 +1,6 @@
 -- The laws of the canonical line.
-use Rattle.std.proofs.Common.{◌≡◌, ◌<◌, ◌≢◌, ◌⊎◌, ◌↔◌, ℕ, zero, suc, ◌+◌, ◌==◌, Bool, true, false, not}
+use Rattle.std.proofs.Common.{◌≡◌, ◌<◌, ◌≢◌, ◌⊎◌, ◌↔◌, ℕ, zero, suc, ◌+◌, ◌==◌, Bool, true, false}
+use Rattle.std.proofs.Common.{not}
 use Rattle.std.proofs.Common.{List, [], ◌∷◌, ◌++◌, length, map, Option, Some, None, refl, sym, ap}
 use Rattle.std.proofs.Common.{◌∙◌, subst, inl, inr, arith, append-nil}
 use Rattle.std.proofs.lemmas.Bool.{cases_Bool, and_parts, not-true, or_cases, or_left, or_right}
@@ -10,7 +11,8 @@ use Rattle.std.specs.Prelude.{slice_get}
 use Rattle.std.specs.List.{AllByRecursion, Contains, filter, flat_map, list_all}
 use Rattle.std.specs.Option.{option_and_then, option_map, unwrap_or}
 use Rattle.getopts.specs.Names.{Text, IsLawfullyNamed, resolution}
-use Rattle.getopts.specs.Options.{Signature, Group, Declared, AreLawfullyNamed, names_of, signatures_of}
+use Rattle.getopts.specs.Options.{Signature, Group, Declared, AreLawfullyNamed, names_of}
+use Rattle.getopts.specs.Options.{signatures_of}
 use Rattle.getopts.specs.Options.{Grammar, kind_of, grammar_of}
 use Rattle.getopts.specs.Reading.{dash, equals_sign, begins_with_dash, holds_equals, stop_word}
 use Rattle.getopts.specs.Reading.{Argument, none, attached, separate, one, two, flags, ends_in}
@@ -52,14 +54,17 @@ pub AnswersMain-resolution : (groups : List Group) (name : Text) (place : ℕ)
     → resolution (names_of groups) name ≡ Some place → AnswersMain groups place
 AnswersMain-resolution groups name place resolves =
     let within = resolution_within (names_of groups) name place resolves in
-    let there = slice_get-get_or (names_of groups) place (record { short = []; long = [] }) within in
-    rw (main_at-Some groups place _ there) (resolution-main_name (names_of groups) name place _ resolves there)
+    let there = slice_get-get_or (names_of groups) place
+    (record { short = []; long = [] }) within in
+    rw (main_at-Some groups place _ there)
+    (resolution-main_name (names_of groups) name place _ resolves there)
 
 -- the main name of such a group isn't empty
 main_at-filled : (groups : List Group) (place : ℕ) → AreLawfullyNamed groups
     → AnswersMain groups place → main_at groups place ≢ []
 main_at-filled groups place lawful own empty =
-    let no_name = resolution-nil (names_of groups) (AllByRecursion-map IsLawfullyNamed (λ group. group.signature.names) groups lawful) in
+    let no_name = resolution-nil (names_of groups)
+    (AllByRecursion-map IsLawfullyNamed (λ group. group.signature.names) groups lawful) in
     none-some place (sym no_name ∙ (rw empty at own))
 
 -- the kind of argument of the group at this place
@@ -71,7 +76,8 @@ abbrev pub FitsGroup : List Group → Mention → Type 0
 FitsGroup groups m = (kind : HasArg) × (kind_at groups m.group ≡ Some kind) × FitsKind kind m.value
 
 -- such a group is there
-pub FitsGroup-within : (groups : List Group) (m : Mention) → FitsGroup groups m → m.group < length groups
+pub FitsGroup-within : (groups : List Group) (m : Mention) → FitsGroup groups m
+    → m.group < length groups
 FitsGroup-within groups m fits = there groups m.group fits.0 fits.1 where
   there : (groups : List Group) (place : ℕ) (kind : HasArg) → kind_at groups place ≡ Some kind
       → place < length groups
@@ -92,13 +98,18 @@ record IsGood (groups : List Group) (m : Mention) : Type 0 where
 IsGood-mention : (options : Declared) (name : Text) (kind : HasArg) (value : Option Text)
     → kind_of options.groups name ≡ Some kind → FitsKind kind value
     → IsGood options.groups (mention_of (grammar_of options) name value)
-IsGood-mention options name kind value signature fits = option_and_then_some _ (resolution (names_of options.groups) name) kind signature by_place where
-  by_place : (place : ℕ) → resolution (names_of options.groups) name ≡ Some place
-      → kind_at options.groups place ≡ Some kind
-      → IsGood options.groups (mention_of (grammar_of options) name value)
-  by_place place resolves there =
-      let same : unwrap_or (resolution (names_of options.groups) name) 0 ≡ place = ap (λ o. unwrap_or o 0) resolves in
-      rw same (record { own = AnswersMain-resolution options.groups name place resolves; fits = (kind, there, fits) })
+IsGood-mention options name kind value signature fits =
+    option_and_then_some _ (resolution (names_of options.groups) name) kind signature by_place where
+      by_place : (place : ℕ) → resolution (names_of options.groups) name ≡ Some place
+          → kind_at options.groups place ≡ Some kind
+          → IsGood options.groups (mention_of (grammar_of options) name value)
+      by_place place resolves there =
+          let same : unwrap_or (resolution (names_of options.groups) name) 0 ≡ place =
+          ap (λ o. unwrap_or o 0) resolves in
+          rw same (record {
+            own = AnswersMain-resolution options.groups name place resolves;
+            fits = (kind, there, fits);
+          })
 
 -- a lawful argument gives a value that the kind may have
 FitsKind-long : (kind : HasArg) (argument : Argument) → FitsLong kind argument
@@ -129,32 +140,43 @@ IsGood-flags : (options : Declared) (names : List ℕ)
     → AllByRecursion (IsGood options.groups)
     (map (λ name. mention_of (grammar_of options) (name ∷ []) None) names)
 IsGood-flags options names each =
-    AllByRecursion-map (IsGood options.groups) (λ name. mention_of (grammar_of options) (name ∷ []) None) names
-    (AllByRecursion-follows (IsFlag (grammar_of options)) _ (λ name flag. IsGood-mention options (name ∷ []) No None flag tt) names each)
+    AllByRecursion-map (IsGood options.groups)
+    (λ name. mention_of (grammar_of options) (name ∷ []) None) names
+    (AllByRecursion-follows (IsFlag (grammar_of options)) _
+    (λ name flag. IsGood-mention options (name ∷ []) No None flag tt) names each)
 
 IsGood-item : (options : Declared) (item : Item) → IsLawfulItem (grammar_of options) item
     → AllByRecursion (IsGood options.groups) (mentions (grammar_of options) item)
 IsGood-item options (free word) lawful = tt
 IsGood-item options (long dashes name argument) lawful =
-    let signature = lawful.resolves in
-    (IsGood-mention options name signature.0 (value_of argument) signature.1 (FitsKind-long signature.0 argument signature.2), tt)
-IsGood-item options (cluster names flags) lawful = AllByRecursion-append (IsGood options.groups) _ [] (IsGood-flags options names lawful.each) tt
+    let signature = lawful.resolves in (
+      IsGood-mention options name signature.0 (value_of argument) signature.1
+          (FitsKind-long signature.0 argument signature.2),
+      tt,
+    )
+IsGood-item options (cluster names flags) lawful =
+    AllByRecursion-append (IsGood options.groups) _ [] (IsGood-flags options names lawful.each) tt
 IsGood-item options (cluster names (ends_in option argument)) lawful =
     let signature = lawful.last in
-    AllByRecursion-append (IsGood options.groups) _ _ (IsGood-flags options names lawful.each)
-    (IsGood-mention options (option ∷ []) signature.0 (value_of argument) signature.1 (FitsKind-end signature.0 argument signature.2), tt)
+    AllByRecursion-append (IsGood options.groups) _ _ (IsGood-flags options names lawful.each) (
+      IsGood-mention options (option ∷ []) signature.0 (value_of argument) signature.1
+          (FitsKind-end signature.0 argument signature.2),
+      tt,
+    )
 
 IsGood-items : (options : Declared) (items : List Item)
     → AllByRecursion (IsLawfulItem (grammar_of options)) items
     → AllByRecursion (IsGood options.groups) (flat_map (mentions (grammar_of options)) items)
 IsGood-items options [] lawful = tt
 IsGood-items options (item ∷ items) lawful =
-    AllByRecursion-append (IsGood options.groups) _ _ (IsGood-item options item lawful.0) (IsGood-items options items lawful.1)
+    AllByRecursion-append (IsGood options.groups) _ _ (IsGood-item options item lawful.0)
+    (IsGood-items options items lawful.1)
 
 IsGood-reading : (options : Declared) (reading : Reading)
     → AllByRecursion (IsLawfulItem (grammar_of options)) reading.items
     → AllByRecursion (IsGood options.groups) (mentions_of (grammar_of options) reading)
-IsGood-reading options reading lawful = rw (mentions_of-items (grammar_of options) reading) (IsGood-items options reading.items lawful)
+IsGood-reading options reading lawful =
+    rw (mentions_of-items (grammar_of options) reading) (IsGood-items options reading.items lawful)
 
 -- the content of any reading is sound
 pub IsSound-reading : (options : Declared) (reading : Reading) (words : List Text)
@@ -169,7 +191,8 @@ pub IsFitting-reading : (options : Declared) (reading : Reading) (words : List T
     → IsReading (grammar_of options) reading words
     → IsFitting options.groups (content_of options reading)
 IsFitting-reading options reading words reads =
-    AllByRecursion-follows (IsGood options.groups) (FitsGroup options.groups) (λ m good. good.fits) _ (IsGood-reading options reading reads.items)
+    AllByRecursion-follows (IsGood options.groups) (FitsGroup options.groups)
+    (λ m good. good.fits) _ (IsGood-reading options reading reads.items)
 
 -- what a value gives as an attached argument
 attached_argument-attached_value : (value : Option Text)
@@ -211,21 +234,28 @@ IsLawfulItem-canonical : (options : Declared) (m : Mention) → IsGood options.g
 IsLawfulItem-canonical options m good plain =
     let signature : kind_of options.groups (main_at options.groups m.group) ≡ Some good.fits.0 =
     ap (option_and_then (kind_at options.groups)) good.own ∙ good.fits.1 in
-    record { before = tt; cut_once = plain; resolves = (good.fits.0, signature, FitsLong-attached_value good.fits.0 m.value good.fits.2) }
+    record {
+      before = tt;
+      cut_once = plain;
+      resolves = (good.fits.0, signature, FitsLong-attached_value good.fits.0 m.value good.fits.2);
+    }
 
 IsLawfulItem-canonical_all : (options : Declared) (ms : List Mention)
     → AllByRecursion (IsGood options.groups) ms
     → AllByRecursion (λ m. HasPlainMain options.groups m.group) ms
     → AllByRecursion (IsLawfulItem (grammar_of options)) (map (canonical_item options.groups) ms)
 IsLawfulItem-canonical_all options [] good plain = tt
-IsLawfulItem-canonical_all options (m ∷ ms) good plain =
-    (IsLawfulItem-canonical options m good.0 plain.0, IsLawfulItem-canonical_all options ms good.1 plain.1)
+IsLawfulItem-canonical_all options (m ∷ ms) good plain = (
+  IsLawfulItem-canonical options m good.0 plain.0,
+  IsLawfulItem-canonical_all options ms good.1 plain.1,
+)
 
 -- a canonical item mentions what it was written for
 mentions-canonical : (options : Declared) (m : Mention) → IsGood options.groups m
     → mentions (grammar_of options) (canonical_item options.groups m) ≡ m ∷ []
 mentions-canonical options m good =
-    let place : unwrap_or (resolution (names_of options.groups) (main_at options.groups m.group)) 0 ≡ m.group = ap (λ o. unwrap_or o 0) good.own in
+    let place : unwrap_or (resolution (names_of options.groups) (main_at options.groups m.group)) 0
+    ≡ m.group = ap (λ o. unwrap_or o 0) good.own in
     rw (place, value_of-attached_value m.value) refl
 
 mentions-canonical_all : (options : Declared) (ms : List Mention)
@@ -247,7 +277,8 @@ free_items-canonical groups (m ∷ ms) = free_items-canonical groups ms
 AreWellFollowed-canonical : (groups : List Group) (ms : List Mention) (more : List Text)
     → AreWellFollowed (map (canonical_item groups) ms) more
 AreWellFollowed-canonical groups [] more = tt
-AreWellFollowed-canonical groups (m ∷ ms) more = (λ bare. absurd (true≢false (sym bare)), AreWellFollowed-canonical groups ms more)
+AreWellFollowed-canonical groups (m ∷ ms) more =
+    (λ bare. absurd (true≢false (sym bare)), AreWellFollowed-canonical groups ms more)
 
 -- the canonical reading reads the canonical line
 IsReading-canonical : (options : Declared) (content : Content)
@@ -281,15 +312,19 @@ length-found_at : (place : ℕ) (grammar : Grammar) (reading : Reading)
     → length (found_at place (occurrences_of grammar reading))
     ≡ count_at place (mentions_of grammar reading)
 length-found_at place grammar reading =
-    length-map _ _ ∙ sym (length-filter-map (λ m. m.group == place) (λ (o : Occurrence). o.mention) (occurrences_of grammar reading))
+    length-map _ _
+    ∙ sym (length-filter-map (λ m. m.group == place) (λ (o : Occurrence). o.mention)
+    (occurrences_of grammar reading))
 
 -- the counts depend on the number of occurrences for each place
 KeepsCounts-numbers : (signatures : List Signature) (place : ℕ) (old new : List Occurrence)
     → ((k : ℕ) → length (found_at k old) ≡ length (found_at k new))
     → KeepsCounts (matched place signatures old) → KeepsCounts (matched place signatures new)
 KeepsCounts-numbers [] place old new same keeps = tt
-KeepsCounts-numbers (signature ∷ signatures) place old new same keeps =
-    (subst (λ (count : ℕ). FitsCount signature.occurrence count) (same place) keeps.0, KeepsCounts-numbers signatures (place + 1) old new same keeps.1)
+KeepsCounts-numbers (signature ∷ signatures) place old new same keeps = (
+  subst (λ (count : ℕ). FitsCount signature.occurrence count) (same place) keeps.0,
+  KeepsCounts-numbers signatures (place + 1) old new same keeps.1,
+)
 
 -- readings with equal mentions keep the counts alike
 pub KeepsCounts-mentions : (signatures : List Signature) (grammar other_grammar : Grammar)
@@ -298,7 +333,8 @@ pub KeepsCounts-mentions : (signatures : List Signature) (grammar other_grammar 
     → KeepsCounts (matched 0 signatures (occurrences_of other_grammar other))
 KeepsCounts-mentions signatures grammar other_grammar reading other same keeps =
     KeepsCounts-numbers signatures 0 _ _
-    (λ k. length-found_at k grammar reading ∙ ap (count_at k) same ∙ sym (length-found_at k other_grammar other)) keeps
+    (λ k. length-found_at k grammar reading ∙ ap (count_at k) same
+    ∙ sym (length-found_at k other_grammar other)) keeps
 
 -- words that are accepted with a content, in some style and mode, say it
 pub Says-accepted : (options : Declared) (style : ParsingStyle) (long_only : Bool)
@@ -337,12 +373,14 @@ ReadsBackEverywhere-says options words content says plain style long_only =
     (IsGood-reading said says.reading says.reads.reads.items) in
     let back = content_of-canonical set content good in
     let told : mentions_of (grammar_of said) says.reading ≡ mentions_of (grammar_of set)
-    (canonical_reading options.groups content) = ap (λ c. c.mentions) (sym says.content_is ∙ sym back) in
+    (canonical_reading options.groups content) =
+    ap (λ c. c.mentions) (sym says.content_is ∙ sym back) in
     record {
       reads = record {
         reads = IsReading-canonical set content good plain;
         keeps = KeepsCounts-mentions (signatures_of options.groups) (grammar_of said)
-            (grammar_of set) says.reading (canonical_reading options.groups content) told says.reads.keeps;
+            (grammar_of set) says.reading (canonical_reading options.groups content) told
+            says.reads.keeps;
       };
       same = back;
     }
@@ -350,7 +388,8 @@ ReadsBackEverywhere-says options words content says plain style long_only =
 -- names are texts in both styles and both modes
 IsNamed-with_setting : (options : Declared) (style : ParsingStyle) (long_only : Bool)
     → IsNamed (grammar_of options) → IsNamed (grammar_of (with_setting options style long_only))
-IsNamed-with_setting options style long_only named = record { empty = named.empty; ascii = named.ascii }
+IsNamed-with_setting options style long_only named =
+    record { empty = named.empty; ascii = named.ascii }
 
 -- a canonical line that reads back says nothing else, since a line has one reading at most
 says_nothing_else-reads_back : (options : Declared) (content : Content)
@@ -359,7 +398,8 @@ says_nothing_else-reads_back : (options : Declared) (content : Content)
 says_nothing_else-reads_back options content named back other says =
     let there = back says.style says.long_only in
     let set = with_setting options says.style says.long_only in
-    let same = only_reading (grammar_of set) (IsNamed-with_setting options says.style says.long_only named)
+    let same = only_reading (grammar_of set)
+    (IsNamed-with_setting options says.style says.long_only named)
     (canonical_line options.groups content) says.reading _
     says.reads.reads there.reads.reads in
     says.content_is ∙ ap (content_of set) same ∙ there.same
@@ -368,7 +408,8 @@ says_nothing_else-reads_back options content named back other says =
 cut_once-with_equals : (a b : Text) (v w : Option Text) → holds_equals a ≡ false
     → holds_equals b ≡ false → a ++ with_equals v ≡ b ++ with_equals w → (a ≡ b) × (v ≡ w)
 cut_once-with_equals a b v w none_a none_b same =
-    let both = sym (cut_at_equals-append a v none_a) ∙ ap cut_at_equals same ∙ cut_at_equals-append b w none_b in
+    let both = sym (cut_at_equals-append a v none_a) ∙ ap cut_at_equals same
+    ∙ cut_at_equals-append b w none_b in
     (ap (λ (p : Text × Option Text). p.0) both, ap (λ (p : Text × Option Text). p.1) both)
 
 -- the text after the dashes of a canonical word
@@ -383,16 +424,20 @@ canonical_word-cancel : (groups : List Group) (m o : Mention) → AnswersMain gr
     → canonical_word groups m ≡ canonical_word groups o → m ≡ o
 canonical_word-cancel groups m o own own_other plain plain_other same =
     let text = canonical_word-text groups m (main_at groups o.group ++ with_equals o.value) same in
-    let parts = cut_once-with_equals (main_at groups m.group) (main_at groups o.group) m.value o.value plain plain_other text in
-    let place : m.group ≡ o.group = same_Some _ _ (sym own ∙ ap (resolution (names_of groups)) parts.0 ∙ own_other) in
-    let mention_with : ℕ → Option Text → Mention = λ group value. record { group = group; value = value } in
+    let parts = cut_once-with_equals (main_at groups m.group)
+    (main_at groups o.group) m.value o.value plain plain_other text in
+    let place : m.group ≡ o.group =
+    same_Some _ _ (sym own ∙ ap (resolution (names_of groups)) parts.0 ∙ own_other) in
+    let mention_with : ℕ → Option Text → Mention =
+    λ group value. record { group = group; value = value } in
     ap (λ group. mention_with group m.value) place ∙ ap (mention_with o.group) parts.1
 
 -- `--` is the word of no mention
 canonical_word-no_stop : (groups : List Group) (m : Mention) → AreLawfullyNamed groups
     → AnswersMain groups m.group → HasPlainMain groups m.group → canonical_word groups m ≢ stop_word
 canonical_word-no_stop groups m lawful own plain same =
-    let parts = cut_once-with_equals (main_at groups m.group) [] m.value None plain refl (canonical_word-text groups m [] same) in
+    let parts = cut_once-with_equals (main_at groups m.group) [] m.value None plain refl
+    (canonical_word-text groups m [] same) in
     main_at-filled groups m.group lawful own parts.0
 
 -- the line tells the mentions and the free words
@@ -403,7 +448,8 @@ canonical_line-parts : (groups : List Group) (ms os : List Mention) (frees other
     → AllByRecursion (λ m. HasPlainMain groups m.group) os
     → map (canonical_word groups) ms ++ stop_word ∷ frees
     ≡ map (canonical_word groups) os ++ stop_word ∷ others → (ms ≡ os) × (frees ≡ others)
-canonical_line-parts groups [] [] frees others lawful own own_other plain plain_other same = (refl, cc)
+canonical_line-parts groups [] [] frees others lawful own own_other plain plain_other same =
+    (refl, cc)
 canonical_line-parts groups [] (o ∷ os) frees others lawful own own_other plain plain_other same =
     let first : canonical_word groups o ≡ stop_word = cc in
     absurd (canonical_word-no_stop groups o lawful own_other.0 plain_other.0 first)
@@ -413,9 +459,12 @@ canonical_line-parts groups (m ∷ ms) [] frees others lawful own own_other plai
 canonical_line-parts groups (m ∷ ms) (o ∷ os) frees others lawful own own_other
     plain plain_other same =
     let first : canonical_word groups m ≡ canonical_word groups o = cc in
-    let after : map (canonical_word groups) ms ++ stop_word ∷ frees ≡ map (canonical_word groups) os ++ stop_word ∷ others = cc in
-    let head : m ≡ o = canonical_word-cancel groups m o own.0 own_other.0 plain.0 plain_other.0 first in
-    let parts = canonical_line-parts groups ms os frees others lawful own.1 own_other.1 plain.1 plain_other.1 after in
+    let after : map (canonical_word groups) ms ++ stop_word ∷ frees ≡ map (canonical_word groups) os
+    ++ stop_word ∷ others = cc in
+    let head : m ≡ o =
+    canonical_word-cancel groups m o own.0 own_other.0 plain.0 plain_other.0 first in
+    let parts = canonical_line-parts groups ms os frees others lawful own.1 own_other.1 plain.1
+    plain_other.1 after in
     let told : ms ≡ os = parts.0 in
     (cc, parts.1)
 
@@ -423,13 +472,17 @@ canonical_line-parts groups (m ∷ ms) (o ∷ os) frees others lawful own own_ot
 pub canonical_line-same : (groups : List Group) (content other : Content) → AreLawfullyNamed groups
     → IsSound groups content → IsPlain groups content → IsSound groups other → IsPlain groups other
     → (canonical_line groups content ≡ canonical_line groups other) ↔ (content ≡ other)
-canonical_line-same groups content other lawful sound plain sound_other plain_other = (tells, ap (canonical_line groups)) where
-  tells : canonical_line groups content ≡ canonical_line groups other → content ≡ other
-  tells same =
-      let parts = canonical_line-parts groups content.mentions other.mentions content.free other.free lawful sound
-      sound_other plain plain_other same in
-      let content_with : List Mention → List Text → Content = λ told frees. record { mentions = told; free = frees } in
-      ap (λ told. content_with told content.free) parts.0 ∙ ap (content_with other.mentions) parts.1
+canonical_line-same groups content other lawful sound plain sound_other plain_other =
+    (tells, ap (canonical_line groups)) where
+      tells : canonical_line groups content ≡ canonical_line groups other → content ≡ other
+      tells same =
+          let parts = canonical_line-parts groups content.mentions other.mentions content.free
+          other.free lawful sound
+          sound_other plain plain_other same in
+          let content_with : List Mention → List Text → Content =
+          λ told frees. record { mentions = told; free = frees } in
+          ap (λ told. content_with told content.free) parts.0
+          ∙ ap (content_with other.mentions) parts.1
 
 -- the laws of the canonical line of a plain content that a line says
 pub HasCanonicalLine-says : (options : Declared) (words : List Text) (content : Content)
@@ -444,7 +497,8 @@ HasCanonicalLine-says options words content lawful named says plain =
       reads_back = back;
       says_nothing_else = nothing_else;
       only = λ other sound_other plain_other.
-          canonical_line-same options.groups other content lawful sound_other plain_other sound plain;
+          canonical_line-same options.groups other content lawful sound_other plain_other sound
+          plain;
     }
 
 -- two canonical lines are equal exactly if they say the same
@@ -452,7 +506,8 @@ pub OneLineOneContent-lawful : (options : Declared) → AreLawfullyNamed options
     → OneLineOneContent options
 OneLineOneContent-lawful options lawful words others content other
     says plain says_other plain_other =
-    canonical_line-same options.groups content other lawful (IsSound-says options words content says) plain
+    canonical_line-same options.groups content other lawful
+    (IsSound-says options words content says) plain
     (IsSound-says options others other says_other) plain_other
 
 -- a text whose front holds `=` holds it
@@ -468,27 +523,35 @@ no_name-equals : (name main : Text) (argument : Argument) → holds_equals name 
     → holds_equals main ≡ true
     → name ++ with_equals (attached_argument argument) ≡ main ++ with_equals (value_of argument) → ⊥
 no_name-equals name main none cut_once holds same =
-    true≢false (sym holds ∙ ap holds_equals (sym (append_cancel_right name main [] same)) ∙ cut_once)
+    true≢false (sym holds ∙ ap holds_equals (sym (append_cancel_right name main [] same))
+    ∙ cut_once)
 no_name-equals name main (attached value) cut_once holds same =
-    true≢false (sym holds ∙ ap holds_equals (sym (append_cancel_right name main (equals_sign ∷ value) same)) ∙ cut_once)
+    true≢false (sym holds
+    ∙ ap holds_equals (sym (append_cancel_right name main (equals_sign ∷ value) same)) ∙ cut_once)
 no_name-equals name main (separate word) cut_once holds same =
-    true≢false (sym (holds_equals-append main (equals_sign ∷ word) holds) ∙ ap holds_equals (sym same ∙ append-nil name) ∙ cut_once)
+    true≢false (sym (holds_equals-append main (equals_sign ∷ word) holds)
+    ∙ ap holds_equals (sym same ∙ append-nil name) ∙ cut_once)
 
 -- the canonical word is that of no lawful item with just its mention, where the main name holds `=`
 pub HasNoItem-equals : (options : Declared) (m : Mention)
     → holds_equals (main_at options.groups m.group) ≡ true → HasNoItem options m
 HasNoItem-equals options m holds style long_only (free word) lawful just same = absurd cc
 HasNoItem-equals options m holds style long_only (long one name argument) lawful just same =
-    let text : name ++ with_equals (attached_argument argument) ≡ dash ∷ (main_at options.groups m.group ++ with_equals m.value) = cc in
-    true≢false (sym (ap begins_with_dash text) ∙ begins_with_dash-append name (attached_argument argument) lawful.before.1)
+    let text : name ++ with_equals (attached_argument argument) ≡ dash
+    ∷ (main_at options.groups m.group ++ with_equals m.value) = cc in
+    true≢false (sym (ap begins_with_dash text)
+    ∙ begins_with_dash-append name (attached_argument argument) lawful.before.1)
 HasNoItem-equals options m holds style long_only (long two name argument) lawful just same =
-    let text : name ++ with_equals (attached_argument argument) ≡ main_at options.groups m.group ++ with_equals m.value = cc in
-    let mentioned : mention_of (grammar_of (with_setting options style long_only)) name (value_of argument) ≡ m = cc in
+    let text : name ++ with_equals (attached_argument argument) ≡ main_at options.groups m.group
+    ++ with_equals m.value = cc in
+    let mentioned : mention_of (grammar_of (with_setting options style long_only)) name
+    (value_of argument) ≡ m = cc in
     let value : m.value ≡ value_of argument = sym (ap (λ k. k.value) mentioned) in
     no_name-equals name (main_at options.groups m.group) argument lawful.cut_once holds
     (text ∙ ap (λ v. main_at options.groups m.group ++ with_equals v) value)
 HasNoItem-equals options m holds style long_only (cluster names end) lawful just same =
-    let text : names ++ end_text end ≡ dash ∷ (main_at options.groups m.group ++ with_equals m.value) = cc in
+    let text : names ++ end_text end ≡ dash
+    ∷ (main_at options.groups m.group ++ with_equals m.value) = cc in
     true≢false (sym (ap begins_with_dash text) ∙ lawful.short_form)
 
 -- whether no mentioned group has a main name that holds `=`
@@ -500,7 +563,8 @@ pub is_plain-true : (groups : List Group) (mentions : List Mention)
     → is_plain groups mentions ≡ true → AllByRecursion (λ m. HasPlainMain groups m.group) mentions
 is_plain-true groups [] plain = tt
 is_plain-true groups (m ∷ ms) plain =
-    let parts = and_parts (not (holds_equals (main_at groups m.group))) (is_plain groups ms) plain in
+    let parts = and_parts (not (holds_equals (main_at groups m.group)))
+    (is_plain groups ms) plain in
     (not-true (holds_equals (main_at groups m.group)) parts.0, is_plain-true groups ms parts.1)
 
 is_plain-from : (groups : List Group) (mentions : List Mention)
@@ -512,7 +576,8 @@ is_plain-from groups (m ∷ ms) plain = rw (plain.0) (is_plain-from groups ms pl
 pub is_plain-false : (groups : List Group) (mentions : List Mention)
     → is_plain groups mentions ≡ false
     → ¬ (AllByRecursion (λ m. HasPlainMain groups m.group) mentions)
-is_plain-false groups mentions other = λ plain. true≢false (sym (is_plain-from groups mentions plain) ∙ other)
+is_plain-false groups mentions other =
+    λ plain. true≢false (sym (is_plain-from groups mentions plain) ∙ other)
 
 -- mentions are plain, or one is of such a group
 plain_cases : (groups : List Group) (ms : List Mention)
@@ -530,7 +595,12 @@ plain_cases groups (m ∷ ms) = elim (cases_Bool (holds_equals (main_at groups m
 -- a content that isn't plain has a mention that can't be written
 pub HasUnwritable-content : (options : Declared) (content : Content)
     → ¬ (IsPlain options.groups content) → HasUnwritable options content
-HasUnwritable-content options content not_plain = elim (plain_cases options.groups content.mentions) [
-  | inl plain ↦ absurd (not_plain plain)
-  | inr found ↦ record { unwritable = found.0; mentioned = found.1; no_item = HasNoItem-equals options found.0 found.2 }
-]
+HasUnwritable-content options content not_plain =
+    elim (plain_cases options.groups content.mentions) [
+      | inl plain ↦ absurd (not_plain plain)
+      | inr found ↦ record {
+        unwritable = found.0;
+        mentioned = found.1;
+        no_item = HasNoItem-equals options found.0 found.2;
+      }
+    ]

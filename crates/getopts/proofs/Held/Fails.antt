@@ -33,7 +33,8 @@ last_or-append o (d ∷ front) c text = last_or-append (Some d) front c text
 apart_ends : {P : Type 0} (name other : Text)
     → fault_text (option_duplicated name) ≡ fault_text (unexpected_argument other) → P
 apart_ends name other same =
-    let ends : name ++ 39 ∷ codes " given more than once" ≡ other ++ 39 ∷ codes " does not take an argument" =
+    let ends : name ++ 39 ∷ codes " given more than once" ≡ other ++ 39
+    ∷ codes " does not take an argument" =
     append_cancel_left (codes "Option '") _ _ same in
     let last : 101 ≡ 116 = same_Some _ _
     (sym (last_or-append None name 39 (codes " given more than once")) ∙ ap (last_or None) ends
@@ -43,23 +44,27 @@ apart_ends name other same =
 -- a name between two texts
 name_within : (front back name other : Text) → front ++ (name ++ back) ≡ front ++ (other ++ back)
     → name ≡ other
-name_within front back name other same = append_cancel_right name other back (append_cancel_left front _ _ same)
+name_within front back name other same =
+    append_cancel_right name other back (append_cancel_left front _ _ same)
 
 -- the text of a fault tells the fault
 same_fault : (fault other : Fault) → fault_text fault ≡ fault_text other → fault ≡ other
-same_fault (argument_missing a) (argument_missing b) e = ap argument_missing (name_within (codes "Argument to option '") (codes "' missing") a b e)
+same_fault (argument_missing a) (argument_missing b) e =
+    ap argument_missing (name_within (codes "Argument to option '") (codes "' missing") a b e)
 same_fault (argument_missing a) (unrecognized_option b) e = apart _ _ e refl
 same_fault (argument_missing a) (option_missing b) e = apart _ _ e refl
 same_fault (argument_missing a) (option_duplicated b) e = apart _ _ e refl
 same_fault (argument_missing a) (unexpected_argument b) e = apart _ _ e refl
 same_fault (unrecognized_option a) (argument_missing b) e = apart _ _ e refl
-same_fault (unrecognized_option a) (unrecognized_option b) e = ap unrecognized_option (name_within (codes "Unrecognized option: '") (codes "'") a b e)
+same_fault (unrecognized_option a) (unrecognized_option b) e =
+    ap unrecognized_option (name_within (codes "Unrecognized option: '") (codes "'") a b e)
 same_fault (unrecognized_option a) (option_missing b) e = apart _ _ e refl
 same_fault (unrecognized_option a) (option_duplicated b) e = apart _ _ e refl
 same_fault (unrecognized_option a) (unexpected_argument b) e = apart _ _ e refl
 same_fault (option_missing a) (argument_missing b) e = apart _ _ e refl
 same_fault (option_missing a) (unrecognized_option b) e = apart _ _ e refl
-same_fault (option_missing a) (option_missing b) e = ap option_missing (name_within (codes "Required option '") (codes "' missing") a b e)
+same_fault (option_missing a) (option_missing b) e =
+    ap option_missing (name_within (codes "Required option '") (codes "' missing") a b e)
 same_fault (option_missing a) (option_duplicated b) e = apart _ _ e refl
 same_fault (option_missing a) (unexpected_argument b) e = apart _ _ e refl
 same_fault (option_duplicated a) (argument_missing b) e = apart _ _ e refl
@@ -73,7 +78,8 @@ same_fault (unexpected_argument a) (unrecognized_option b) e = apart _ _ e refl
 same_fault (unexpected_argument a) (option_missing b) e = apart _ _ e refl
 same_fault (unexpected_argument a) (option_duplicated b) e = apart_ends b a (sym e)
 same_fault (unexpected_argument a) (unexpected_argument b) e =
-    ap unexpected_argument (name_within (codes "Option '") (codes "' does not take an argument") a b e)
+    ap unexpected_argument (name_within (codes "Option '")
+    (codes "' does not take an argument") a b e)
 
 -- no fault's text is that of want of memory
 apart_memory : {P : Type 0} (fault : Fault) → fault_text fault ≡ codes "Out of memory" → P

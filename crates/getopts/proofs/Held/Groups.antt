@@ -34,7 +34,8 @@ between text start end = take (end - start) (drop start text)
 -- a group by its record, where its texts start here in the text of all
 abbrev pub group_by : Text → ℕ → GroupRecord → Group
 group_by text start r = record {
-  signature = signature_with r.kinds (between text start r.short_end) (between text r.short_end r.long_end);
+  signature = signature_with r.kinds (between text start r.short_end)
+      (between text r.short_end r.long_end);
   hint = between text r.long_end r.hint_end;
   description = between text r.hint_end r.desc_end;
 }
@@ -52,10 +53,16 @@ length-groups_from text start [] = refl
 length-groups_from text start (r ∷ records) = ap suc (length-groups_from text r.desc_end records)
 
 -- the record of a group that is there
-pub record_within : (text : Text) (start : ℕ) (records : List GroupRecord) (groups : List Group) (place : ℕ)
+pub record_within : (text : Text) (start : ℕ) (records : List GroupRecord) (groups : List Group)
+    (place : ℕ)
     → groups_from text start records ≡ groups → place < length groups → place < length records
 record_within text start records groups place are within =
-    omega (arith, within, ap (λ (groups : List Group). length groups) are, length-groups_from text start records)
+    omega (
+      arith,
+      within,
+      ap (λ (groups : List Group). length groups) are,
+      length-groups_from text start records,
+    )
 
 -- where the texts of the group at a place start
 abbrev pub start_at : ℕ → List GroupRecord → ℕ → ℕ
@@ -103,10 +110,13 @@ pub HaveNamesOfBytes-from : (text : Text) → IsOfBytes text
     → HaveNamesOfBytes (names_of (groups_from text start records))
 HaveNamesOfBytes-from text bytes start [] number = All-nil (λ byte. byte < 256)
 HaveNamesOfBytes-from text bytes start (r ∷ records) zero =
-    All-take (λ byte. byte < 256) (r.short_end - start) (drop start text) (All-drop (λ byte. byte < 256) start text bytes)
+    All-take (λ byte. byte < 256) (r.short_end - start) (drop start text)
+    (All-drop (λ byte. byte < 256) start text bytes)
 HaveNamesOfBytes-from text bytes start (r ∷ records) (suc zero) =
-    All-take (λ byte. byte < 256) (r.long_end - r.short_end) (drop r.short_end text) (All-drop (λ byte. byte < 256) r.short_end text bytes)
-HaveNamesOfBytes-from text bytes start (r ∷ records) (suc (suc number)) = HaveNamesOfBytes-from text bytes r.desc_end records number
+    All-take (λ byte. byte < 256) (r.long_end - r.short_end) (drop r.short_end text)
+    (All-drop (λ byte. byte < 256) r.short_end text bytes)
+HaveNamesOfBytes-from text bytes start (r ∷ records) (suc (suc number)) =
+    HaveNamesOfBytes-from text bytes r.desc_end records number
 
 -- what is known of the group at a place
 abbrev signature_at : List Group → ℕ → Option Signature
@@ -117,7 +127,8 @@ pub name_at-short : (groups : List Group) (number : ℕ) (signature : Signature)
     → signature_at groups (number / 2) ≡ Some signature → number % 2 ≡ 0
     → name_at (names_of groups) number ≡ signature.names.short
 name_at-short [] number signature at even = cc at
-name_at-short (first ∷ groups) zero signature at even = ap (λ k. k.names.short) (same_Some first.signature signature at)
+name_at-short (first ∷ groups) zero signature at even =
+    ap (λ k. k.names.short) (same_Some first.signature signature at)
 name_at-short (first ∷ groups) (suc zero) signature at even = absurd (omega (arith, even))
 name_at-short (first ∷ groups) (suc (suc number)) signature at even =
     let half : suc (suc number) / 2 ≡ suc (number / 2) = omega arith in
@@ -128,7 +139,8 @@ pub name_at-long : (groups : List Group) (number : ℕ) (signature : Signature)
     → name_at (names_of groups) number ≡ signature.names.long
 name_at-long [] number signature at odd = cc at
 name_at-long (first ∷ groups) zero signature at odd = absurd (omega (arith, odd))
-name_at-long (first ∷ groups) (suc zero) signature at odd = ap (λ k. k.names.long) (same_Some first.signature signature at)
+name_at-long (first ∷ groups) (suc zero) signature at odd =
+    ap (λ k. k.names.long) (same_Some first.signature signature at)
 name_at-long (first ∷ groups) (suc (suc number)) signature at odd =
     let half : suc (suc number) / 2 ≡ suc (number / 2) = omega arith in
     name_at-long groups number signature (rw half at at) (omega (arith, odd))
@@ -151,7 +163,8 @@ pub name_at-past : (groups : List Group) (number : ℕ) → length groups ≤ nu
 name_at-past [] number past = refl
 name_at-past (first ∷ groups) zero past = absurd (omega (arith, past))
 name_at-past (first ∷ groups) (suc zero) past = absurd (omega (arith, past))
-name_at-past (first ∷ groups) (suc (suc number)) past = name_at-past groups number (omega (arith, past))
+name_at-past (first ∷ groups) (suc (suc number)) past =
+    name_at-past groups number (omega (arith, past))
 
 -- ---- one more group
 
@@ -163,33 +176,49 @@ length-text_ends (r ∷ records) = omega (arith, length-text_ends records)
 module _ (added : GroupRecord) where
   -- the texts of one more group end after those of the others
   text_ends-push : (records : List GroupRecord) → text_ends (records ++ added ∷ [])
-      ≡ (((text_ends records ++ added.short_end ∷ []) ++ added.long_end ∷ []) ++ added.hint_end ∷ [])
+      ≡ (((text_ends records ++ added.short_end ∷ []) ++ added.long_end ∷ []) ++ added.hint_end
+      ∷ [])
       ++ added.desc_end ∷ []
   text_ends-push [] = refl
   text_ends-push (r ∷ records) =
-      ap (λ ends. r.short_end ∷ r.long_end ∷ r.hint_end ∷ r.desc_end ∷ ends) (text_ends-push records)
+      ap (λ ends. r.short_end ∷ r.long_end ∷ r.hint_end ∷ r.desc_end ∷ ends)
+      (text_ends-push records)
 
   -- and it has the four texts after theirs
-  groups_with-push : (short long hint description : Text) (records : List GroupRecord) (texts : List Text)
+  groups_with-push : (short long hint description : Text) (records : List GroupRecord)
+      (texts : List Text)
       → length texts ≡ 4 * length records
       → groups_with (records ++ added ∷ [])
       ((((texts ++ short ∷ []) ++ long ∷ []) ++ hint ∷ []) ++ description ∷ [])
       ≡ groups_with records texts
-      ++ record { signature = signature_with added.kinds short long; hint = hint; description = description } ∷ []
+      ++ record {
+        signature = signature_with added.kinds short long;
+        hint = hint;
+        description = description;
+      } ∷ []
   groups_with-push short long hint description [] [] fits = refl
   groups_with-push short long hint description [] (a ∷ texts) fits = absurd (omega (arith, fits))
   groups_with-push short long hint description (r ∷ records) [] fits = absurd (omega (arith, fits))
-  groups_with-push short long hint description (r ∷ records) (a ∷ []) fits = absurd (omega (arith, fits))
-  groups_with-push short long hint description (r ∷ records) (a ∷ b ∷ []) fits = absurd (omega (arith, fits))
-  groups_with-push short long hint description (r ∷ records) (a ∷ b ∷ c ∷ []) fits = absurd (omega (arith, fits))
+  groups_with-push short long hint description (r ∷ records) (a ∷ []) fits =
+      absurd (omega (arith, fits))
+  groups_with-push short long hint description (r ∷ records) (a ∷ b ∷ []) fits =
+      absurd (omega (arith, fits))
+  groups_with-push short long hint description (r ∷ records) (a ∷ b ∷ c ∷ []) fits =
+      absurd (omega (arith, fits))
   groups_with-push short long hint description (r ∷ records) (a ∷ b ∷ c ∷ d ∷ texts) fits =
-      ap (λ (groups : List Group). record { signature = signature_with r.kinds a b; hint = c; description = d } ∷ groups)
+      ap (λ (groups : List Group). record {
+        signature = signature_with r.kinds a b;
+        hint = c;
+        description = d;
+      } ∷ groups)
       (groups_with-push short long hint description records texts (omega (arith, fits)))
 
 -- The record of a group whose four texts were added one after the other.
 module _ (text short long hint description one two three all : Text) (one_is : one ≡ text ++ short)
-    (two_is : two ≡ one ++ long) (three_is : three ≡ two ++ hint) (all_is : all ≡ three ++ description)
-    (added : GroupRecord) (short_end : added.short_end ≡ length one) (long_end : added.long_end ≡ length two)
+    (two_is : two ≡ one ++ long) (three_is : three ≡ two ++ hint)
+    (all_is : all ≡ three ++ description)
+    (added : GroupRecord) (short_end : added.short_end ≡ length one)
+    (long_end : added.long_end ≡ length two)
     (hint_end : added.hint_end ≡ length three) (desc_end : added.desc_end ≡ length all)
     (short_utf8 : IsUtf8 short) (long_utf8 : IsUtf8 long) (hint_utf8 : IsUtf8 hint)
     (description_utf8 : IsUtf8 description) where
@@ -198,10 +227,15 @@ module _ (text short long hint description one two three all : Text) (one_is : o
       → IsWellCut all (text_ends (records ++ added ∷ []))
       × (groups_from all 0 (records ++ added ∷ [])
       ≡ groups_from text 0 records
-      ++ record { signature = signature_with added.kinds short long; hint = hint; description = description } ∷ [])
+      ++ record {
+        signature = signature_with added.kinds short long;
+        hint = hint;
+        description = description;
+      } ∷ [])
   groups_pushed records cut =
       let ends = text_ends records in
-      let at = λ (end : ℕ) (size : ℕ) (is : end ≡ size) (before : List ℕ). ap (λ (n : ℕ). before ++ n ∷ []) is in
+      let at = λ (end : ℕ) (size : ℕ) (is : end ≡ size) (before : List ℕ). ap
+      (λ (n : ℕ). before ++ n ∷ []) is in
       let first = texts_push text short one ends (ends ++ added.short_end ∷ []) one_is
       (at added.short_end (length one) short_end ends) short_utf8 cut in
       let second = texts_push one long two (ends ++ added.short_end ∷ [])
@@ -209,13 +243,16 @@ module _ (text short long hint description one two three all : Text) (one_is : o
       (at added.long_end (length two) long_end (ends ++ added.short_end ∷ [])) long_utf8 first.0 in
       let third = texts_push two hint three ((ends ++ added.short_end ∷ []) ++ added.long_end ∷ [])
       (((ends ++ added.short_end ∷ []) ++ added.long_end ∷ []) ++ added.hint_end ∷ []) three_is
-      (at added.hint_end (length three) hint_end ((ends ++ added.short_end ∷ []) ++ added.long_end ∷ []))
+      (at added.hint_end (length three) hint_end ((ends ++ added.short_end ∷ []) ++ added.long_end
+      ∷ []))
       hint_utf8 second.0 in
       let last = texts_push three description all
       (((ends ++ added.short_end ∷ []) ++ added.long_end ∷ []) ++ added.hint_end ∷ [])
-      ((((ends ++ added.short_end ∷ []) ++ added.long_end ∷ []) ++ added.hint_end ∷ []) ++ added.desc_end ∷ []) all_is
+      ((((ends ++ added.short_end ∷ []) ++ added.long_end ∷ []) ++ added.hint_end ∷ [])
+      ++ added.desc_end ∷ []) all_is
       (at added.desc_end (length all) desc_end
-      (((ends ++ added.short_end ∷ []) ++ added.long_end ∷ []) ++ added.hint_end ∷ [])) description_utf8 third.0 in
+      (((ends ++ added.short_end ∷ []) ++ added.long_end ∷ []) ++ added.hint_end ∷ []))
+      description_utf8 third.0 in
       let cut_there = text_ends-push added records in
       let texts = pieces text 0 ends in
       let pieces_are : pieces all 0 (text_ends (records ++ added ∷ []))
@@ -224,7 +261,8 @@ module _ (text short long hint description one two three all : Text) (one_is : o
       ∙ ap (λ (ts : List Text). ts ++ description ∷ []) (third.1
       ∙ ap (λ (ts : List Text). ts ++ hint ∷ []) (second.1
       ∙ ap (λ (ts : List Text). ts ++ long ∷ []) first.1)) in
-      let as_many : length texts ≡ 4 * length records = length-pieces text 0 ends ∙ length-text_ends records in (
+      let as_many : length texts ≡ 4 * length records = length-pieces text 0 ends
+      ∙ length-text_ends records in (
         subst (IsWellCut all) (sym cut_there) last.0,
         ap (groups_with (records ++ added ∷ [])) pieces_are
             ∙ groups_with-push added short long hint description records texts as_many,
@@ -235,7 +273,8 @@ module _ (text short long hint description one two three all : Text) (one_is : o
 -- the texts of groups, in order
 abbrev all_texts : List Group → List Text
 all_texts [] = []
-all_texts (g ∷ groups) = g.signature.names.short ∷ g.signature.names.long ∷ g.hint ∷ g.description ∷ all_texts groups
+all_texts (g ∷ groups) = g.signature.names.short ∷ g.signature.names.long ∷ g.hint ∷ g.description
+    ∷ all_texts groups
 
 -- they are the pieces of the text of all
 all_texts-from : (text : Text) (start : ℕ) (records : List GroupRecord)
@@ -261,7 +300,8 @@ records_told text other start other_start (r ∷ records) (o ∷ others) ends sa
     let more_ends : text_ends records ≡ text_ends others = cc ends in
     let first : group_by text start r ≡ group_by other other_start o = cc same in
     let kinds : r.kinds ≡ o.kinds = ap (λ (g : Group). kinds_of g.signature) first in
-    let more : groups_from text r.desc_end records ≡ groups_from other o.desc_end others = cc same in
+    let more : groups_from text r.desc_end records ≡ groups_from other o.desc_end others =
+    cc same in
     let rest = records_told text other r.desc_end o.desc_end records others more_ends more in
     λ i. record {
       short_end = short i;
@@ -273,7 +313,8 @@ records_told text other start other_start (r ∷ records) (o ∷ others) ends sa
 
 same_kinds-decides : (a b : Kinds) → Decides (same_kinds a b) (a ≡ b)
 same_kinds-decides a b = Decides-like (same_kinds a b) (λ e. ap kinds_of e)
-    (λ e. ap (λ (k : Kinds). signature_with k [] []) e) (same_signature-decides (signature_with a [] []) (signature_with b [] []))
+    (λ e. ap (λ (k : Kinds). signature_with k [] []) e)
+    (same_signature-decides (signature_with a [] []) (signature_with b [] []))
 
 -- the test of two records says exactly that they are equal
 same_record-decides : (a b : GroupRecord) → Decides (same_record a b) (a ≡ b)
@@ -287,7 +328,13 @@ same_record-decides a b = Decides-like (same_record a b)
     })
     (λ e. (
       ap (λ r. r.short_end) e,
-      (ap (λ r. r.long_end) e, (ap (λ r. r.hint_end) e, (ap (λ r. r.desc_end) e, ap (λ r. r.kinds) e))),
+      (
+        ap (λ r. r.long_end) e,
+        (
+          ap (λ r. r.hint_end) e,
+          (ap (λ r. r.desc_end) e, ap (λ r. r.kinds) e),
+        ),
+      ),
     ))
     (Decides-and _ _ (Decides-eqb a.short_end b.short_end)
     (Decides-and _ _ (Decides-eqb a.long_end b.long_end)
@@ -300,9 +347,12 @@ pub same_groups : (text other : Text) (records others : List GroupRecord)
     → (bytes_eq text other && pointwise same_record records others)
     ≡ pointwise same_group (groups_from text 0 records) (groups_from other 0 others)
 same_groups text other records others cut other_cut =
-    let by_parts : Decides (bytes_eq text other && pointwise same_record records others) ((text ≡ other) × (records ≡ others)) =
-    Decides-and _ _ (bytes_eq-Decides text other) (pointwise_decides same_record-decides records others) in
-    let told : groups_from text 0 records ≡ groups_from other 0 others → (text ≡ other) × (records ≡ others) = λ e.
+    let by_parts : Decides (bytes_eq text other && pointwise same_record records others)
+    ((text ≡ other) × (records ≡ others)) =
+    Decides-and _ _ (bytes_eq-Decides text other)
+    (pointwise_decides same_record-decides records others) in
+    let told : groups_from text 0 records ≡ groups_from other 0 others → (text ≡ other)
+    × (records ≡ others) = λ e.
     let parts = pieces_tell text other 0 (text_ends records) (text_ends others)
     cut.in_order other_cut.in_order
     (sym (all_texts-from text 0 records) ∙ ap all_texts e ∙ all_texts-from other 0 others) in

@@ -23,18 +23,20 @@ as_many values records = length-pieces values 0 (value_ends records) ∙ length-
 -- as many occurrences as are held
 pub length-with_values : (values : Text) (records : List OccurrenceRecord)
     → length (with_values values records) ≡ length records
-length-with_values values records = beside records (pieces values 0 (value_ends records)) (as_many values records) where
-  beside : (records : List OccurrenceRecord) (texts : List Text) → length texts ≡ length records
-      → length (map record_view (zip records texts)) ≡ length records
-  beside [] texts fits = refl
-  beside (g ∷ records) [] fits = absurd (omega arith)
-  beside (g ∷ records) (text ∷ texts) fits = ap suc (beside records texts (omega arith))
+length-with_values values records =
+    beside records (pieces values 0 (value_ends records)) (as_many values records) where
+      beside : (records : List OccurrenceRecord) (texts : List Text) → length texts ≡ length records
+          → length (map record_view (zip records texts)) ≡ length records
+      beside [] texts fits = refl
+      beside (g ∷ records) [] fits = absurd (omega arith)
+      beside (g ∷ records) (text ∷ texts) fits = ap suc (beside records texts (omega arith))
 
 -- a place of an occurrence is one of what is held of it
 pub within_items : (now : List Occurrence) (values : Text) (items : List OccurrenceRecord)
     (place : ℕ)
     → with_values values items ≡ now → place < length now → place < length items
-within_items now values items place is inside = omega (arith, inside, ap length is, length-with_values values items)
+within_items now values items place is inside =
+    omega (arith, inside, ap length is, length-with_values values items)
 
 -- an occurrence beside its text
 slice_get-beside : (records : List OccurrenceRecord) (texts : List Text) (place : ℕ)
@@ -47,18 +49,21 @@ slice_get-beside (h ∷ records) (other ∷ texts) zero g text there own =
     let same : h ≡ g = cc there in
     let one : other ≡ text = cc own in
     λ i. Some (record_view (same i, one i))
-slice_get-beside (h ∷ records) (other ∷ texts) (suc place) g text there own = slice_get-beside records texts place g text there own
+slice_get-beside (h ∷ records) (other ∷ texts) (suc place) g text there own =
+    slice_get-beside records texts place g text there own
 
 -- the occurrence at a place, whose values start here, has that piece of the values
 pub with_values-at : (values : Text) (records : List OccurrenceRecord) (place start : ℕ)
     (g : OccurrenceRecord)
-    → place < length records → slice_get records place ≡ Some g → get_or (value_ends records) place 0 ≡ values_end g
+    → place < length records → slice_get records place ≡ Some g
+    → get_or (value_ends records) place 0 ≡ values_end g
     → get_or (0 ∷ value_ends records) place 0 ≡ start
     → slice_get (with_values values records) place
     ≡ Some (record_view (g, take (values_end g - start) (drop start values)))
 with_values-at values records place start g within there ends starts =
     slice_get-beside records (pieces values 0 (value_ends records)) place g _ there
-    (pieces-at values 0 (value_ends records) place start (values_end g) (omega (arith, length-map records values_end)) starts ends)
+    (pieces-at values 0 (value_ends records) place start (values_end g)
+    (omega (arith, length-map records values_end)) starts ends)
 
 -- its position is the one that is held
 pub position-at : (values : Text) (records : List OccurrenceRecord) (place : ℕ)
@@ -68,8 +73,10 @@ pub position-at : (values : Text) (records : List OccurrenceRecord) (place : ℕ
 position-at values records place g at =
     let within = slice_get_within records place g at in
     let ends : get_or (value_ends records) place 0 ≡ values_end g =
-    get_or-map values_end records place g 0 within ∙ ap values_end (get_or_from_slice_get records place g g at) in
-    ap (option_map (λ (o : Occurrence). o.position)) (with_values-at values records place _ g within at ends refl)
+    get_or-map values_end records place g 0 within
+    ∙ ap values_end (get_or_from_slice_get records place g g at) in
+    ap (option_map (λ (o : Occurrence). o.position))
+    (with_values-at values records place _ g within at ends refl)
 
 -- one more occurrence beside one more text
 beside-push : (records : List OccurrenceRecord) (texts : List Text) (g : OccurrenceRecord)
@@ -81,32 +88,39 @@ beside-push [] [] g text fits = refl
 beside-push [] (other ∷ texts) g text fits = absurd (omega arith)
 beside-push (h ∷ records) [] g text fits = absurd (omega arith)
 beside-push (h ∷ records) (other ∷ texts) g text fits =
-    ap (λ (more : List Occurrence). record_view (h, other) ∷ more) (beside-push records texts g text (omega arith))
+    ap (λ (more : List Occurrence). record_view (h, other) ∷ more)
+    (beside-push records texts g text (omega arith))
 
 -- one more occurrence has what the values grew by
 pub with_values-push : (values value grown : Text) (records more : List OccurrenceRecord)
     (g : OccurrenceRecord)
-    → grown ≡ values ++ value → more ≡ records ++ g ∷ [] → values_end g ≡ length grown → IsUtf8 value
+    → grown ≡ values ++ value → more ≡ records ++ g ∷ [] → values_end g ≡ length grown
+    → IsUtf8 value
     → IsWellCut values (value_ends records)
     → IsWellCut grown (value_ends more)
     × (with_values grown more ≡ with_values values records ++ record_view (g, value) ∷ [])
 with_values-push values value grown records more g is_grown is_more ends utf8 cut =
     let ends_are : value_ends more ≡ value_ends records ++ length grown ∷ [] =
-    ap value_ends is_more ∙ map-append values_end records (g ∷ []) ∙ ap (λ end. value_ends records ++ end ∷ []) ends in
-    let pushed = texts_push values value grown (value_ends records) (value_ends more) is_grown ends_are utf8 cut in (
+    ap value_ends is_more ∙ map-append values_end records (g ∷ [])
+    ∙ ap (λ end. value_ends records ++ end ∷ []) ends in
+    let pushed = texts_push values value grown (value_ends records)
+    (value_ends more) is_grown ends_are utf8 cut in (
       pushed.0,
       (λ i. map record_view (zip (is_more i) (pushed.1 i)))
-          ∙ beside-push records (pieces values 0 (value_ends records)) g value (as_many values records),
+          ∙ beside-push records (pieces values 0 (value_ends records)) g value
+          (as_many values records),
     )
 
 -- the groups of occurrences, whatever their values
 pub groups-with_values : (values : Text) (records : List OccurrenceRecord)
     → map (λ (g : OccurrenceRecord). g.group) records
     ≡ map (λ (o : Occurrence). o.mention.group) (with_values values records)
-groups-with_values values records = beside records (pieces values 0 (value_ends records)) (as_many values records) where
-  beside : (records : List OccurrenceRecord) (texts : List Text) → length texts ≡ length records
-      → map (λ (g : OccurrenceRecord). g.group) records
-      ≡ map (λ (o : Occurrence). o.mention.group) (map record_view (zip records texts))
-  beside [] texts fits = refl
-  beside (g ∷ records) [] fits = absurd (omega arith)
-  beside (g ∷ records) (text ∷ texts) fits = ap (λ (more : List ℕ). g.group ∷ more) (beside records texts (omega arith))
+groups-with_values values records =
+    beside records (pieces values 0 (value_ends records)) (as_many values records) where
+      beside : (records : List OccurrenceRecord) (texts : List Text) → length texts ≡ length records
+          → map (λ (g : OccurrenceRecord). g.group) records
+          ≡ map (λ (o : Occurrence). o.mention.group) (map record_view (zip records texts))
+      beside [] texts fits = refl
+      beside (g ∷ records) [] fits = absurd (omega arith)
+      beside (g ∷ records) (text ∷ texts) fits =
+          ap (λ (more : List ℕ). g.group ∷ more) (beside records texts (omega arith))

@@ -33,20 +33,26 @@ names-matched : (first : ℕ) (signatures : List Signature) (occurrences : List 
     → map (λ (group : MatchedGroup). group.signature.names) (matched first signatures occurrences)
     ≡ map (λ (signature : Signature). signature.names) signatures
 names-matched first [] occurrences = refl
-names-matched first (signature ∷ signatures) occurrences = ap (λ (more : List Names). signature.names ∷ more) (names-matched (first + 1) signatures occurrences)
+names-matched first (signature ∷ signatures) occurrences =
+    ap (λ (more : List Names). signature.names ∷ more)
+    (names-matched (first + 1) signatures occurrences)
 
 -- what is known of the groups that matches hold
 pub signatures-matched : (first : ℕ) (signatures : List Signature) (occurrences : List Occurrence)
-    → map (λ (group : MatchedGroup). group.signature) (matched first signatures occurrences) ≡ signatures
+    → map (λ (group : MatchedGroup). group.signature) (matched first signatures occurrences)
+    ≡ signatures
 signatures-matched first [] occurrences = refl
-signatures-matched first (signature ∷ signatures) occurrences = ap (λ (more : List Signature). signature ∷ more) (signatures-matched (first + 1) signatures occurrences)
+signatures-matched first (signature ∷ signatures) occurrences =
+    ap (λ (more : List Signature). signature ∷ more)
+    (signatures-matched (first + 1) signatures occurrences)
 
 -- the occurrences of the group at a place
 found-matched : (first : ℕ) (signatures : List Signature) (occurrences : List Occurrence) (i : ℕ)
     → i < length signatures
     → found_in (matched first signatures occurrences) i ≡ found_at (first + i) occurrences
 found-matched first [] occurrences i within = absurd (omega arith)
-found-matched first (signature ∷ signatures) occurrences zero within = ap (λ (n : ℕ). found_at n occurrences) (omega arith)
+found-matched first (signature ∷ signatures) occurrences zero within =
+    ap (λ (n : ℕ). found_at n occurrences) (omega arith)
 found-matched first (signature ∷ signatures) occurrences (suc i) within =
     found-matched (first + 1) signatures occurrences i (omega arith)
     ∙ ap (λ (n : ℕ). found_at n occurrences) (omega arith)
@@ -55,11 +61,13 @@ found-matched first (signature ∷ signatures) occurrences (suc i) within =
 pub AreHeldLawfully-matched : (first : ℕ) (groups : List Group) (occurrences : List Occurrence)
     → AreLawfullyNamed groups → AreHeldLawfully (matched first (signatures_of groups) occurrences)
 AreHeldLawfully-matched first [] occurrences lawful = tt
-AreHeldLawfully-matched first (group ∷ groups) occurrences lawful = (lawful.0, AreHeldLawfully-matched (first + 1) groups occurrences lawful.1)
+AreHeldLawfully-matched first (group ∷ groups) occurrences lawful =
+    (lawful.0, AreHeldLawfully-matched (first + 1) groups occurrences lawful.1)
 
 -- a name resolves among the groups that matches hold as among their names
 pub place_of-matched : (groups : List Group) (occurrences : List Occurrence) (name : Text)
-    → resolution (names_of groups) name ≡ place_of (matched 0 (signatures_of groups) occurrences) name
+    → resolution (names_of groups) name
+    ≡ place_of (matched 0 (signatures_of groups) occurrences) name
 place_of-matched groups occurrences name = ap (λ (names : List Names). resolution names name)
     (sym (names-matched 0 (signatures_of groups) occurrences ∙ names-signatures_of groups))
 
@@ -89,9 +97,11 @@ module _ (groups : List Group) (occurrences : List Occurrence) (place : ℕ) whe
   held_places-within = elim (cases_lt place (length groups)) [
     | inl there ↦
         let mentioned = map (λ (o : Occurrence). o.mention.group) occurrences in
-        let within = recursion_from_All (λ p. p < length mentioned) (places_of place mentioned) (places_of-within place mentioned) in
+        let within = recursion_from_All (λ p. p < length mentioned) (places_of place mentioned)
+        (places_of-within place mentioned) in
         subst (AllByRecursion (λ p. p < length occurrences)) (sym (places-there there))
-        (subst (λ n. AllByRecursion (λ p. p < n) (places_of place mentioned)) (length-map occurrences (λ (o : Occurrence). o.mention.group)) within)
+        (subst (λ n. AllByRecursion (λ p. p < n) (places_of place mentioned))
+        (length-map occurrences (λ (o : Occurrence). o.mention.group)) within)
     | inr past ↦ subst (AllByRecursion (λ p. p < length occurrences)) (sym (places-past past)) tt
   ]
 
@@ -102,15 +112,22 @@ module _ (groups : List Group) (occurrences : List Occurrence) (place : ℕ) whe
     | inl there ↦
         ap (λ (ps : List ℕ). map found_part (filter_map (λ p. slice_get occurrences p) ps))
         (places-there there)
-        ∙ ap (map found_part) (filter_map-places_of (λ (o : Occurrence). o.mention.group) place occurrences)
+        ∙ ap (map found_part) (filter_map-places_of
+        (λ (o : Occurrence). o.mention.group) place occurrences)
         ∙ ap (λ n. found_at n occurrences) (sym (zero-add place))
-        ∙ sym (found-matched 0 (signatures_of groups) occurrences place (omega (arith, length-signatures_of groups)))
+        ∙ sym (found-matched 0 (signatures_of groups) occurrences place
+        (omega (arith, length-signatures_of groups)))
     | inr past ↦
         ap (λ (ps : List ℕ). map found_part (filter_map (λ p. slice_get occurrences p) ps))
         (places-past past)
-        ∙ sym (ap (λ (o : Option MatchedGroup). option_map_or (λ (group : MatchedGroup). group.found) o [])
+        ∙ sym (ap (λ (o : Option MatchedGroup). option_map_or
+        (λ (group : MatchedGroup). group.found) o [])
         (slice_get_past (matched 0 (signatures_of groups) occurrences) place
-        (omega (arith, length-matched 0 (signatures_of groups) occurrences, length-signatures_of groups))))
+        (omega (
+          arith,
+          length-matched 0 (signatures_of groups) occurrences,
+          length-signatures_of groups,
+        ))))
   ]
 
 -- values are the texts of the pairs
@@ -130,12 +147,13 @@ texts_of_pairs (found ∷ founds) = of_value found.value (texts_of_pairs founds)
 pub texts_of_held_pairs : (pairs : List (ℕ × String Global)) (founds : List Found)
     → map pair_view pairs ≡ pairs_of founds
     → map (λ (pair : ℕ × String Global). string_bytes pair.1) pairs ≡ values_of founds
-texts_of_held_pairs pairs founds same = views pairs ∙ ap (map (λ (pair : ℕ × Text). pair.1)) same ∙ texts_of_pairs founds where
-  views : (ps : List (ℕ × String Global))
-      → map (λ (pair : ℕ × String Global). string_bytes pair.1) ps
-      ≡ map (λ (pair : ℕ × Text). pair.1) (map pair_view ps)
-  views [] = refl
-  views (pair ∷ ps) = ap (λ (more : List Text). string_bytes pair.1 ∷ more) (views ps)
+texts_of_held_pairs pairs founds same = views pairs ∙ ap (map (λ (pair : ℕ × Text). pair.1)) same
+    ∙ texts_of_pairs founds where
+      views : (ps : List (ℕ × String Global))
+          → map (λ (pair : ℕ × String Global). string_bytes pair.1) ps
+          ≡ map (λ (pair : ℕ × Text). pair.1) (map pair_view ps)
+      views [] = refl
+      views (pair ∷ ps) = ap (λ (more : List Text). string_bytes pair.1 ∷ more) (views ps)
 
 -- groups with their occurrences are not the same where what is known of them isn't
 pub differ_signature : (groups others : List MatchedGroup)
@@ -145,10 +163,11 @@ pub differ_signature : (groups others : List MatchedGroup)
 differ_signature [] [] differ = absurd (true≢false differ)
 differ_signature [] (b ∷ others) differ = refl
 differ_signature (a ∷ groups) [] differ = refl
-differ_signature (a ∷ groups) (b ∷ others) differ = elim (and_cases (same_signature a.signature b.signature) _ differ) [
-  | inl first ↦ and_left _ _ (and_left _ (pointwise same_found a.found b.found) first)
-  | inr rest ↦ and_right (same_matched_group a b) _ (differ_signature groups others rest)
-]
+differ_signature (a ∷ groups) (b ∷ others) differ =
+    elim (and_cases (same_signature a.signature b.signature) _ differ) [
+      | inl first ↦ and_left _ _ (and_left _ (pointwise same_found a.found b.found) first)
+      | inr rest ↦ and_right (same_matched_group a b) _ (differ_signature groups others rest)
+    ]
 
 -- nor where the occurrences at some place aren't
 pub differ_found : (groups others : List MatchedGroup) (i : ℕ)
@@ -157,8 +176,10 @@ pub differ_found : (groups others : List MatchedGroup) (i : ℕ)
 differ_found [] [] i differ = absurd (true≢false differ)
 differ_found [] (b ∷ others) i differ = refl
 differ_found (a ∷ groups) [] i differ = refl
-differ_found (a ∷ groups) (b ∷ others) zero differ = and_left _ _ (and_right (same_signature a.signature b.signature) _ differ)
-differ_found (a ∷ groups) (b ∷ others) (suc i) differ = and_right (same_matched_group a b) _ (differ_found groups others i differ)
+differ_found (a ∷ groups) (b ∷ others) zero differ =
+    and_left _ _ (and_right (same_signature a.signature b.signature) _ differ)
+differ_found (a ∷ groups) (b ∷ others) (suc i) differ =
+    and_right (same_matched_group a b) _ (differ_found groups others i differ)
 
 -- else they are the same
 pub same_found_everywhere : (groups others : List MatchedGroup)
@@ -172,5 +193,6 @@ same_found_everywhere [] (b ∷ others) signature found = signature
 same_found_everywhere (a ∷ groups) [] signature found = signature
 same_found_everywhere (a ∷ groups) (b ∷ others) signature found =
     let parts = and_parts (same_signature a.signature b.signature) _ signature in
-    and_from (same_matched_group a b) _ (and_from (same_signature a.signature b.signature) _ parts.0 (found 0 (omega arith)))
+    and_from (same_matched_group a b) _
+    (and_from (same_signature a.signature b.signature) _ parts.0 (found 0 (omega arith)))
     (same_found_everywhere groups others parts.1 (λ i h. found (suc i) (omega arith)))

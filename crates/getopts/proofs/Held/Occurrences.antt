@@ -53,18 +53,22 @@ module _ (occurrences : List Occurrence) (places : List ℕ)
 
   -- as many occurrences as places
   pub length-founds : length founds ≡ length places
-  length-founds = length-map (filter_map (λ place. slice_get occurrences place) places) found_part ∙ length-at_places occurrences places all
+  length-founds = length-map (filter_map (λ place. slice_get occurrences place) places) found_part
+      ∙ length-at_places occurrences places all
 
   -- an occurrence that is there has its place
-  pub place_within : (seen : List Found) (i : ℕ) → founds ≡ seen → i < length seen → i < length places
-  place_within seen i are within = omega (arith, within, length-founds, ap (λ (fs : List Found). length fs) are)
+  pub place_within : (seen : List Found) (i : ℕ) → founds ≡ seen → i < length seen
+      → i < length places
+  place_within seen i are within =
+      omega (arith, within, length-founds, ap (λ (fs : List Found). length fs) are)
 
   -- the occurrence at one of the places
   pub founds-at : (i place : ℕ) → slice_get places i ≡ Some place
       → slice_get founds i ≡ option_map found_part (slice_get occurrences place)
   founds-at i place at =
       slice_get-map found_part (filter_map (λ place. slice_get occurrences place) places) i
-      ∙ ap (λ (o : Option Occurrence). option_map found_part o) (slice_get-at_places occurrences places i place all at)
+      ∙ ap (λ (o : Option Occurrence). option_map found_part o)
+      (slice_get-at_places occurrences places i place all at)
 
 -- a part of an occurrence that may be there has its position
 pub position-part : (o : Option Occurrence) → option_map (λ (o : Occurrence). o.position) o
@@ -78,7 +82,8 @@ pub positions-next : (founds : List Found) (i : ℕ) → positions_of (take (i +
     ++ cons_option (option_map (λ (found : Found). found.position) (slice_get founds i)) []
 positions-next founds i =
     ap positions_of (take-more founds i)
-    ∙ map-append (λ (found : Found). found.position) (take i founds) (cons_option (slice_get founds i) [])
+    ∙ map-append (λ (found : Found). found.position) (take i founds)
+    (cons_option (slice_get founds i) [])
     ∙ ap (λ more. positions_of (take i founds) ++ more) (alone (slice_get founds i)) where
       alone : (o : Option Found) → positions_of (cons_option o [])
           ≡ cons_option (option_map (λ (found : Found). found.position) o) []
@@ -90,24 +95,28 @@ module _ (founds : List Found) (i : ℕ) (next : Option (ℕ × Option (Bor Text
   -- one more occurrence of a front, as it is read
   pub founds-more : take (i + 1) founds
       ≡ take i founds ++ cons_option (option_map held_found next) []
-  founds-more = take-more founds i ∙ ap (λ (o : Option Found). take i founds ++ cons_option o []) (sym is)
+  founds-more = take-more founds i
+      ∙ ap (λ (o : Option Found). take i founds ++ cons_option o []) (sym is)
 
   -- its position
   pub positions-more : positions_of (take (i + 1) founds)
       ≡ positions_of (take i founds) ++ positions_of (cons_option (option_map held_found next) [])
-  positions-more = ap positions_of founds-more ∙ map-append (λ (found : Found). found.position) (take i founds)
+  positions-more = ap positions_of founds-more
+      ∙ map-append (λ (found : Found). found.position) (take i founds)
       (cons_option (option_map held_found next) [])
 
   -- its value
   pub values-more : values_of (take (i + 1) founds)
       ≡ values_of (take i founds) ++ values_of (cons_option (option_map held_found next) [])
-  values-more = ap values_of founds-more ∙ filter_map-append (λ (found : Found). found.value) (take i founds)
+  values-more = ap values_of founds-more
+      ∙ filter_map-append (λ (found : Found). found.value) (take i founds)
       (cons_option (option_map held_found next) [])
 
   -- its position and value
   pub pairs-more : pairs_of (take (i + 1) founds)
       ≡ pairs_of (take i founds) ++ pairs_of (cons_option (option_map held_found next) [])
-  pairs-more = ap pairs_of founds-more ∙ filter_map-append pair_of (take i founds) (cons_option (option_map held_found next) [])
+  pairs-more = ap pairs_of founds-more
+      ∙ filter_map-append pair_of (take i founds) (cons_option (option_map held_found next) [])
 
 module _ {X : Type 0} (E : X → X → Bool) where
   -- lists that differ at a place differ
@@ -117,13 +126,15 @@ module _ {X : Type 0} (E : X → X → Bool) where
   pointwise-differ [] (y ∷ ys) i differ = refl
   pointwise-differ (x ∷ xs) [] i differ = refl
   pointwise-differ (x ∷ xs) (y ∷ ys) zero differ = and_left (E x y) (pointwise E xs ys) differ
-  pointwise-differ (x ∷ xs) (y ∷ ys) (suc i) differ = and_right (E x y) (pointwise E xs ys) (pointwise-differ xs ys i differ)
+  pointwise-differ (x ∷ xs) (y ∷ ys) (suc i) differ =
+      and_right (E x y) (pointwise E xs ys) (pointwise-differ xs ys i differ)
 
   -- fronts that are the same, with one more element that is
   pointwise-take_more : (xs ys : List X) (i : ℕ) → pointwise E (take i xs) (take i ys) ≡ true
       → option_eq E (slice_get xs i) (slice_get ys i) ≡ true
       → pointwise E (take (i + 1) xs) (take (i + 1) ys) ≡ true
-  pointwise-take_more [] [] i same here = let none : length {A = X} [] ≤ i + 1 = omega arith in rw (take_all (i + 1) [] none)
+  pointwise-take_more [] [] i same here = let none : length {A = X} [] ≤ i + 1 =
+      omega arith in rw (take_all (i + 1) [] none)
   pointwise-take_more [] (y ∷ ys) zero same here = absurd (false≢true here)
   pointwise-take_more [] (y ∷ ys) (suc i) same here = absurd (false≢true same)
   pointwise-take_more (x ∷ xs) [] zero same here = absurd (false≢true here)
@@ -132,11 +143,14 @@ module _ {X : Type 0} (E : X → X → Bool) where
   pointwise-take_more (x ∷ xs) (y ∷ ys) (suc i) same here =
       let later : suc i + 1 ≡ suc (i + 1) = omega arith in
       let parts = and_parts (E x y) (pointwise E (take i xs) (take i ys)) same in
-      rw later (and_from (E x y) (pointwise E (take (i + 1) xs) (take (i + 1) ys)) parts.0 (pointwise-take_more xs ys i parts.1 here))
+      rw later (and_from (E x y) (pointwise E (take (i + 1) xs) (take (i + 1) ys)) parts.0
+      (pointwise-take_more xs ys i parts.1 here))
 
 -- two occurrences as they are read, compared as the code compares them
 abbrev pub same_read : Option (ℕ × Option (Bor Text)) → Option (ℕ × Option (Bor Text)) → Bool
-same_read = option_eq (λ a b. a.0 == b.0 && option_eq (λ text other. pointwise ◌==◌ text.now other.now) a.1 b.1)
+same_read =
+    option_eq (λ a b. a.0 == b.0 && option_eq
+    (λ text other. pointwise ◌==◌ text.now other.now) a.1 b.1)
 
 -- this is how occurrences are compared
 same_read-found : (a b : Option (ℕ × Option (Bor Text)))

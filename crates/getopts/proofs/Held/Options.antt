@@ -6,7 +6,8 @@ use Rattle.std.specs.Cmp.Lexicographic.{pointwise_decides, bytes_decides}
 use Rattle.std.proofs.lemmas.Bool.Decides.{Decides-and, Decides-like, Decides-eqb}
 use Rattle.getopts.specs.Names.{Names}
 use Rattle.getopts.specs.Options.{Signature, Group, Declared}
-use Rattle.getopts.specs.Same.{kind_index, occurrence_index, style_index, same_names, same_signature}
+use Rattle.getopts.specs.Same.{kind_index, occurrence_index, style_index, same_names}
+use Rattle.getopts.specs.Same.{same_signature}
 use Rattle.getopts.specs.Same.{same_group, same_options}
 use Rattle.getopts.specs.declared.groups.HasArg.{HasArg}
 use Rattle.getopts.specs.declared.groups.Occur.{Occur}
@@ -45,15 +46,26 @@ same_style StopAtFirstFree StopAtFirstFree h = refl
 
 -- the test of two names says exactly that they are equal
 pub same_names-decides : (a b : Names) → Decides (same_names a b) (a ≡ b)
-same_names-decides a b = Decides-like (same_names a b) (λ h. λ i. record { short = h.0 i; long = h.1 i })
+same_names-decides a b =
+    Decides-like (same_names a b) (λ h. λ i. record { short = h.0 i; long = h.1 i })
     (λ e. (ap (λ n. n.short) e, ap (λ n. n.long) e))
     (Decides-and _ _ (bytes_decides a.short b.short) (bytes_decides a.long b.long))
 
 -- the test of what is known of two groups says exactly that it is equal
 pub same_signature-decides : (a b : Signature) → Decides (same_signature a b) (a ≡ b)
 same_signature-decides a b = Decides-like (same_signature a b)
-    (λ h. λ i. record { names = h.0 i; kind = same_kind a.kind b.kind h.1.0 i; occurrence = same_occurrence a.occurrence b.occurrence h.1.1 i })
-    (λ e. (ap (λ k. k.names) e, (ap (λ k. kind_index k.kind) e, ap (λ k. occurrence_index k.occurrence) e)))
+    (λ h. λ i. record {
+      names = h.0 i;
+      kind = same_kind a.kind b.kind h.1.0 i;
+      occurrence = same_occurrence a.occurrence b.occurrence h.1.1 i;
+    })
+    (λ e. (
+      ap (λ k. k.names) e,
+      (
+        ap (λ k. kind_index k.kind) e,
+        ap (λ k. occurrence_index k.occurrence) e,
+      ),
+    ))
     (Decides-and _ _ (same_names-decides a.names b.names)
     (Decides-and _ _ (Decides-eqb (kind_index a.kind) (kind_index b.kind))
     (Decides-eqb (occurrence_index a.occurrence) (occurrence_index b.occurrence))))
@@ -63,12 +75,17 @@ pub same_group-decides : (a b : Group) → Decides (same_group a b) (a ≡ b)
 same_group-decides a b = Decides-like (same_group a b)
     (λ h. λ i. record { signature = h.0 i; hint = h.1.0 i; description = h.1.1 i })
     (λ e. (ap (λ g. g.signature) e, (ap (λ g. g.hint) e, ap (λ g. g.description) e)))
-    (Decides-and _ _ (same_signature-decides a.signature b.signature) (Decides-and _ _ (bytes_decides a.hint b.hint) (bytes_decides a.description b.description)))
+    (Decides-and _ _ (same_signature-decides a.signature b.signature)
+    (Decides-and _ _ (bytes_decides a.hint b.hint) (bytes_decides a.description b.description)))
 
 -- the test of two options says exactly that they are equal
 pub same_options-decides : (a b : Declared) → Decides (same_options a b) (a ≡ b)
 same_options-decides a b = Decides-like (same_options a b)
-    (λ h. λ i. record { groups = h.0 i; style = same_style a.style b.style h.1.0 i; long_only = h.1.1 i })
+    (λ h. λ i. record {
+      groups = h.0 i;
+      style = same_style a.style b.style h.1.0 i;
+      long_only = h.1.1 i;
+    })
     (λ e. (ap (λ o. o.groups) e, (ap (λ o. style_index o.style) e, ap (λ o. o.long_only) e)))
     (Decides-and _ _ (pointwise_decides same_group-decides a.groups b.groups)
     (Decides-and _ _ (Decides-eqb (style_index a.style) (style_index b.style))

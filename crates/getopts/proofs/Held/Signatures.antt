@@ -15,7 +15,8 @@ length-signatures_of groups = length-map groups (λ group. group.signature)
 pub names-signatures_of : (groups : List Group)
     → map (λ (signature : Signature). signature.names) (signatures_of groups) ≡ names_of groups
 names-signatures_of [] = refl
-names-signatures_of (group ∷ groups) = ap (λ (more : List Names). group.signature.names ∷ more) (names-signatures_of groups)
+names-signatures_of (group ∷ groups) =
+    ap (λ (more : List Names). group.signature.names ∷ more) (names-signatures_of groups)
 
 -- so are the kinds at a place
 pub kinds-signatures_of : (groups : List Group) (place : ℕ)
@@ -27,7 +28,8 @@ kinds-signatures_of (group ∷ groups) (suc place) = kinds-signatures_of groups 
 
 -- and the main name
 pub main-signatures_of : (groups : List Group) (place : ℕ) → main_at groups place
-    ≡ option_map_or (λ (signature : Signature). main_name signature.names) (slice_get (signatures_of groups) place) []
+    ≡ option_map_or (λ (signature : Signature). main_name signature.names)
+    (slice_get (signatures_of groups) place) []
 main-signatures_of [] place = refl
 main-signatures_of (group ∷ groups) zero = refl
 main-signatures_of (group ∷ groups) (suc place) = main-signatures_of groups place

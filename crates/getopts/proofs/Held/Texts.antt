@@ -16,11 +16,13 @@ pub IsCharBoundary-append : (text more : List ℕ) → IsUtf8 more → (place : 
     → IsCharBoundary (text ++ more) place
 IsCharBoundary-append text more utf8 place cut = elim (cases_lt place (length text)) [
   | inl within ↦
-      let same : get_or (text ++ more) place 0 ≡ get_or text place 0 = get_or_append_left text more 0 place within in
+      let same : get_or (text ++ more) place 0 ≡ get_or text place 0 =
+      get_or_append_left text more 0 place within in
       (omega (arith, length-append text more), λ _ high. omega (arith, cut.1 within (omega arith)))
   | inr past ↦
       let at_end : length text ≡ place = omega (arith, cut.0) in
-      subst (IsCharBoundary (text ++ more)) at_end (IsCharBoundary-at_seam (text ++ more) text more refl utf8)
+      subst (IsCharBoundary (text ++ more)) at_end
+      (IsCharBoundary-at_seam (text ++ more) text more refl utf8)
 ]
 
 -- one more text is the last one, and ends where the one text does
@@ -29,11 +31,13 @@ pub texts_push : (text more grown : List ℕ) (ends grown_ends : List ℕ) → g
     → IsWellCut grown grown_ends × (pieces grown 0 grown_ends ≡ pieces text 0 ends ++ more ∷ [])
 texts_push text more grown ends grown_ends at_text at_ends utf8 cut =
     let both = text ++ more in
-    let between = All-weaker (IsCharBoundary text) (IsCharBoundary both) (IsCharBoundary-append text more utf8) ends cut.between_characters in
+    let between = All-weaker (IsCharBoundary text) (IsCharBoundary both)
+    (IsCharBoundary-append text more utf8) ends cut.between_characters in
     rw (at_ends, at_text) (
       record {
         in_order = AreEnds-push text more 0 ends cut.in_order;
-        between_characters = All-push (IsCharBoundary both) ends (length both) between (IsCharBoundary-end both);
+        between_characters = All-push (IsCharBoundary both) ends (length both) between
+            (IsCharBoundary-end both);
       },
       pieces-push text more 0 ends cut.in_order,
     )

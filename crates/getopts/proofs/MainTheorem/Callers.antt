@@ -4,7 +4,8 @@ use Rattle.std.proofs.Common.{map, Option, Some, None, Result, Ok, Err, refl, ap
 use Rattle.std.specs.List.{filter, filter_map, cons_option}
 use Rattle.getopts.specs.Names.{Text, resolution}
 use Rattle.std.specs.Option.{option_map_or}
-use Rattle.getopts.specs.Options.{Signature, Declared, MayBeDeclared, names_of, signatures_of, grammar_of}
+use Rattle.getopts.specs.Options.{Signature, Declared, MayBeDeclared, names_of, signatures_of}
+use Rattle.getopts.specs.Options.{grammar_of}
 use Rattle.getopts.specs.Reading.{Reading, Mention, Occurrence, occurrences_of, free_words}
 use Rattle.getopts.specs.ReadingLaws.{mentions_of}
 use Rattle.getopts.specs.Canon.{Content}
@@ -60,8 +61,10 @@ values-found_in : (signatures : List Signature) (first i : ℕ) (old new : List 
     → each_value (found_in (matched first signatures new) i)
     ≡ each_value (found_in (matched first signatures old) i)
 values-found_in [] first i old new same = refl
-values-found_in (signature ∷ signatures) first zero old new same = values-found_at first new ∙ ap (values_at first) same ∙ sym (values-found_at first old)
-values-found_in (signature ∷ signatures) first (suc i) old new same = values-found_in signatures (first + 1) i old new same
+values-found_in (signature ∷ signatures) first zero old new same = values-found_at first new
+    ∙ ap (values_at first) same ∙ sym (values-found_at first old)
+values-found_in (signature ∷ signatures) first (suc i) old new same =
+    values-found_in signatures (first + 1) i old new same
 
 -- readings that mention the same have the same values of each name
 values-found_of : (options : Declared) (old new : Reading)
@@ -69,22 +72,26 @@ values-found_of : (options : Declared) (old new : Reading)
     → each_value (found_of (matches_of options new).groups name)
     ≡ each_value (found_of (matches_of options old).groups name)
 values-found_of options old new same name =
-    ap (λ (place : Option ℕ). each_value (option_map_or (found_in (matches_of options new).groups) place []))
+    ap (λ (place : Option ℕ). each_value
+    (option_map_or (found_in (matches_of options new).groups) place []))
     (resolves new)
     ∙ here (resolution (names_of options.groups) name)
-    ∙ ap (λ (place : Option ℕ). each_value (option_map_or (found_in (matches_of options old).groups) place []))
+    ∙ ap (λ (place : Option ℕ). each_value
+    (option_map_or (found_in (matches_of options old).groups) place []))
     (sym (resolves old)) where
       resolves : (reading : Reading)
           → place_of (matches_of options reading).groups name
           ≡ resolution (names_of options.groups) name
       resolves reading = sym (place_of-groups options (matches_of options reading).groups
-          (signatures-matched 0 (signatures_of options.groups) (occurrences_of (grammar_of options) reading)) name)
+          (signatures-matched 0 (signatures_of options.groups)
+          (occurrences_of (grammar_of options) reading)) name)
 
       here : (place : Option ℕ)
           → each_value (option_map_or (found_in (matches_of options new).groups) place [])
           ≡ each_value (option_map_or (found_in (matches_of options old).groups) place [])
       here None = refl
-      here (Some i) = values-found_in (signatures_of options.groups) 0 i (occurrences_of (grammar_of options) old)
+      here (Some i) = values-found_in (signatures_of options.groups) 0 i
+          (occurrences_of (grammar_of options) old)
           (occurrences_of (grammar_of options) new) same
 
 first_of_values : List (Option Text) → Option Text
@@ -98,7 +105,8 @@ first_value-each (found ∷ founds) = refl
 
 pub each_value-first : (founds others : List Found) → each_value founds ≡ each_value others
     → first_value founds ≡ first_value others
-each_value-first founds others same = first_value-each founds ∙ ap first_of_values same ∙ sym (first_value-each others)
+each_value-first founds others same = first_value-each founds ∙ ap first_of_values same
+    ∙ sym (first_value-each others)
 
 values_of-each : (founds : List Found)
     → values_of founds ≡ filter_map (λ (value : Option Text). value) (each_value founds)
@@ -108,13 +116,15 @@ values_of-each (found ∷ founds) = ap (cons_option found.value) (values_of-each
 pub each_value-values : (founds others : List Found) → each_value founds ≡ each_value others
     → values_of founds ≡ values_of others
 each_value-values founds others same =
-    values_of-each founds ∙ ap (filter_map (λ (value : Option Text). value)) same ∙ sym (values_of-each others)
+    values_of-each founds ∙ ap (filter_map (λ (value : Option Text). value)) same
+    ∙ sym (values_of-each others)
 
 -- readings with one content give matches that hold the same but for positions
 HoldSame-content : (options : Declared) (old new : Reading)
     → mentions_of (grammar_of options) new ≡ mentions_of (grammar_of options) old
     → free_words new ≡ free_words old → HoldSame (matches_of options old) (matches_of options new)
-HoldSame-content options old new same free = record { values = values-found_of options old new same; free = free }
+HoldSame-content options old new same free =
+    record { values = values-found_of options old new same; free = free }
 
 -- words with the content of accepted words are accepted, with matches that hold the same
 pub OneContentHoldsSame_lem : (options : Declared) → AcceptedExactlyWhen options
@@ -122,7 +132,8 @@ pub OneContentHoldsSame_lem : (options : Declared) → AcceptedExactlyWhen optio
 OneContentHoldsSame_lem options accepted_when words others old new matches accepted
     reads reads_new same =
     let grammar = grammar_of options in
-    let told : mentions_of grammar new ≡ mentions_of grammar old = ap (λ (content : Content). content.mentions) same in
+    let told : mentions_of grammar new ≡ mentions_of grammar old =
+    ap (λ (content : Content). content.mentions) same in
     let free : free_words new ≡ free_words old = ap (λ (content : Content). content.free) same in
     let matches_are : matches_of options old ≡ matches =
     ap (matches_of options) ((accepted.read.only old).0 reads) ∙ sym accepted.read.matches_are in
@@ -130,7 +141,8 @@ OneContentHoldsSame_lem options accepted_when words others old new matches accep
     subst (λ (those : Matched). KeepsCounts those.groups) (sym matches_are) accepted.counts in
     let keeps : KeepsCounts (matches_of options new).groups = KeepsCounts-mentions
     (signatures_of options.groups) grammar grammar old new (sym told) kept in (
-      (accepted_when others (matches_of options new)).1 (new, record { reads = reads_new; keeps = keeps }, refl),
+      (accepted_when others (matches_of options new)).1
+          (new, record { reads = reads_new; keeps = keeps }, refl),
       subst (λ (those : Matched). HoldSame those (matches_of options new)) matches_are
           (HoldSame-content options old new told free),
     )

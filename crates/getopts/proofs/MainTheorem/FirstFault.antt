@@ -30,7 +30,8 @@ fits_count-false Multi count breaks = cc
 -- the fault of the first group that breaks its count
 abbrev pub first_count_fault : List MatchedGroup → Option Fault
 first_count_fault [] = None
-first_count_fault (group ∷ groups) = if fits_count group.signature.occurrence (length group.found) then first_count_fault
+first_count_fault (group ∷ groups) =
+    if fits_count group.signature.occurrence (length group.found) then first_count_fault
     groups else Some (broken_count group)
 
 -- the groups keep their counts, or this is their fault
@@ -57,7 +58,8 @@ HaveFault-first : (group : MatchedGroup) (groups : List MatchedGroup)
     → fits_count group.signature.occurrence (length group.found) ≡ fits
     → HaveFault (group ∷ groups)
     (if fits then first_count_fault groups else Some (broken_count group))
-HaveFault-first group groups others true fits = HaveFault-more group groups (first_count_fault groups)
+HaveFault-first group groups others true fits =
+    HaveFault-more group groups (first_count_fault groups)
     (fits_count-true group.signature.occurrence (length group.found) fits) others
 HaveFault-first group groups others false breaks = record {
   before = [];

@@ -17,7 +17,9 @@ is_plain_short (byte ∷ other ∷ more) = false
 
 -- whether names are lawful, the short one of ASCII
 abbrev pub are_plain_names : Names → Bool
-are_plain_names names = is_plain_short names.short && (not (length names.long == 1) && nat_lt 0 (length names.short + length names.long))
+are_plain_names names =
+    is_plain_short names.short && (not (length names.long == 1) && nat_lt 0
+    (length names.short + length names.long))
 
 short_length : (short : Text) → is_plain_short short ≡ true → length short ≤ 1
 short_length [] plain = omega arith
@@ -32,8 +34,10 @@ short_ascii (byte ∷ other ∷ more) plain i = cc
 
 plain_lawful : (names : Names) → are_plain_names names ≡ true → IsLawfullyNamed names
 plain_lawful names plain =
-    let parts = and_parts (is_plain_short names.short) (not (length names.long == 1) && nat_lt 0 (length names.short + length names.long)) plain in
-    let more = and_parts (not (length names.long == 1)) (nat_lt 0 (length names.short + length names.long)) parts.1 in
+    let parts = and_parts (is_plain_short names.short)
+    (not (length names.long == 1) && nat_lt 0 (length names.short + length names.long)) plain in
+    let more = and_parts (not (length names.long == 1))
+    (nat_lt 0 (length names.short + length names.long)) parts.1 in
     record {
       short_fits = short_length names.short parts.0;
       long_fits = grind (arith, nat_tests);
@@ -50,7 +54,8 @@ lawful_groups [] plain = record { named = tt; shorts = tt }
 lawful_groups (group ∷ groups) plain =
     let names = group.signature.names in
     let parts = and_parts (are_plain_names group.signature.names) (are_plain groups) plain in
-    let short = and_parts (is_plain_short names.short) (not (length names.long == 1) && nat_lt 0 (length names.short + length names.long)) parts.0 in
+    let short = and_parts (is_plain_short names.short)
+    (not (length names.long == 1) && nat_lt 0 (length names.short + length names.long)) parts.0 in
     let others = lawful_groups groups parts.1 in
     record {
       named = (plain_lawful names parts.0, others.named);

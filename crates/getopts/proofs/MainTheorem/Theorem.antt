@@ -1,5 +1,6 @@
 -- The main theorem, of options that are lawfully named, by texts.
-use Rattle.std.proofs.Common.{◌⊎◌, List, refl, sym, subst, inl, inr, Option, Some, None, Result, Ok, Err}
+use Rattle.std.proofs.Common.{◌⊎◌, List, refl, sym, subst, inl, inr, Option, Some, None, Result, Ok}
+use Rattle.std.proofs.Common.{Err}
 use Rattle.getopts.specs.Names.{Text, AreTexts}
 use Rattle.getopts.specs.Options.{Declared, MayBeDeclared, grammar_of}
 use Rattle.getopts.specs.Fail.{Fault}
@@ -37,9 +38,11 @@ module _ (options : Declared) (declared : MayBeDeclared options.groups) where
 
   -- words have one reading at most
   pub OneReading-options : OneReading options
-  OneReading-options words reading other reads other_reads = only_reading (grammar_of options) named words reading other reads other_reads
+  OneReading-options words reading other reads other_reads =
+      only_reading (grammar_of options) named words reading other reads other_reads
 
-  has_reading : (words : List Text) (reading : Reading) → IsReading (grammar_of options) reading words
+  has_reading : (words : List Text) (reading : Reading)
+      → IsReading (grammar_of options) reading words
       → HasReading options words (matches_of options reading)
   has_reading words reading reads = record {
     reading = reading;
@@ -50,7 +53,10 @@ module _ (options : Declared) (declared : MayBeDeclared options.groups) where
   -- a reading that keeps the counts is accepted, with its matches and its content
   accepted : (words : List Text) (reading : Reading) → IsCountKeeping options reading words
       → IsAccepted options words (matches_of options reading)
-  accepted words reading keeps = record { read = has_reading words reading keeps.reads; counts = keeps.keeps }
+  accepted words reading keeps = record {
+    read = has_reading words reading keeps.reads;
+    counts = keeps.keeps;
+  }
 
   accepted_with : (words : List Text) (reading : Reading) → IsCountKeeping options reading words
       → IsAcceptedWith options words (content_of options reading)
@@ -65,7 +71,8 @@ module _ (options : Declared) (declared : MayBeDeclared options.groups) where
   pub HasCanonicalLine-options : (words : List Text) (content : Content)
       → Says options words content → IsPlain options.groups content
       → HasCanonicalLine options content
-  HasCanonicalLine-options words content says plain = HasCanonicalLine-says options words content declared.named named says plain
+  HasCanonicalLine-options words content says plain =
+      HasCanonicalLine-says options words content declared.named named says plain
 
   -- accepted exactly when a reading keeps the counts
   pub AcceptedExactlyWhen-options : AcceptedExactlyWhen options
@@ -82,7 +89,8 @@ module _ (options : Declared) (declared : MayBeDeclared options.groups) where
 
   first_fault : (words : List Text) (fault : Fault) → IsRefused options words fault
       → IsFirstFault words fault
-  first_fault words fault (inl is) = inl (meets (IsScanFault (grammar_of options) words) fault is.only)
+  first_fault words fault (inl is) =
+      inl (meets (IsScanFault (grammar_of options) words) fault is.only)
   first_fault words fault (inr is) = inr (
     is.read.reading,
     reads_of options words is.matches is.read,
@@ -100,13 +108,17 @@ module _ (options : Declared) (declared : MayBeDeclared options.groups) where
 
   refused : (words : List Text) (fault : Fault) → AreTexts words → IsFirstFault words fault
       → IsRefused options words fault
-  refused words fault texts (inl scan) = inl (HasNoReading-fault options declared words texts fault scan)
+  refused words fault texts (inl scan) =
+      inl (HasNoReading-fault options declared words texts fault scan)
   refused words fault texts (inr count) = inr (breaks_counts words fault count.0 count.1 count.2)
 
   -- refused exactly when none does
   pub RefusedExactlyWhen-options : RefusedExactlyWhen options
   RefusedExactlyWhen-options words fault texts = (
-    λ is. (λ reading keeps. not_refused options words reading fault keeps is, first_fault words fault is),
+    λ is. (
+      λ reading keeps. not_refused options words reading fault keeps is,
+      first_fault words fault is,
+    ),
     λ told. refused words fault texts told.1,
   )
 
@@ -117,10 +129,16 @@ module _ (options : Declared) (declared : MayBeDeclared options.groups) where
       ⊎ ((fault : Fault) × HasNoReading options words fault))
   one_of_three words texts = elim (reading_or_fault (grammar_of options) named words texts) [
     | inl read ↦ elim (KeepsCounts-cases (matches_of options read.0).groups) [
-      | inl keeps ↦ inl (matches_of options read.0, accepted words read.0 (record { reads = read.1; keeps = keeps }))
+      | inl keeps ↦
+          inl (
+            matches_of options read.0,
+            accepted words read.0
+                (record { reads = read.1; keeps = keeps }),
+          )
       | inr breaks ↦ inr (inl (breaks.0, breaks_counts words breaks.0 read.0 read.1 breaks.1))
     ]
-    | inr fault ↦ inr (inr (fault.0, HasNoReading-fault options declared words texts fault.0 fault.1))
+    | inr fault ↦
+        inr (inr (fault.0, HasNoReading-fault options declared words texts fault.0 fault.1))
   ]
 
   -- `parse` has one answer
@@ -130,7 +148,8 @@ module _ (options : Declared) (declared : MayBeDeclared options.groups) where
     | inr (inl is) ↦ (Err is.0, only_answer words (Err is.0) (inr is.1))
     | inr (inr is) ↦ (Err is.0, only_answer words (Err is.0) (inl is.1))
   ] where
-    only_answer : (words : List Text) (answer : Result Matched Fault) → IsParseAnswer options words answer
+    only_answer : (words : List Text) (answer : Result Matched Fault)
+        → IsParseAnswer options words answer
         → IsTheOnly (IsParseAnswer options words) answer
     only_answer words answer is = IsTheOnly-from (IsParseAnswer options words) answer is
         (λ other also. only_parse_answer options words other answer also is)

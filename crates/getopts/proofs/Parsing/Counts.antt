@@ -24,23 +24,28 @@ broken_count group = count_fault (main_name group.signature.names) (length group
 
 -- a known group with its occurrences, at this place
 abbrev pub matched_at : ℕ → Signature → List Occurrence → MatchedGroup
-matched_at place signature occurrences = record { signature = signature; found = found_at place occurrences }
+matched_at place signature occurrences =
+    record { signature = signature; found = found_at place occurrences }
 
 -- the matched groups from a place on
 pub matched-from : (first : ℕ) (signatures : List Signature) (occurrences : List Occurrence) (i : ℕ)
     (signature : Signature) → slice_get signatures i ≡ Some signature →
-    drop i (matched first signatures occurrences) ≡ matched_at (first + i) signature occurrences ∷ drop (i + 1) (matched first signatures occurrences)
+    drop i (matched first signatures occurrences) ≡ matched_at (first + i) signature occurrences
+    ∷ drop (i + 1) (matched first signatures occurrences)
 matched-from first [] occurrences i signature there = cc there
 matched-from first (k ∷ signatures) occurrences zero signature there =
     let same : k ≡ signature = cc in
-    ap (λ n. matched_at n k occurrences ∷ matched (first + 1) signatures occurrences) (sym (add-zero first))
-    ∙ ap (λ x. matched_at (first + 0) x occurrences ∷ matched (first + 1) signatures occurrences) same
+    ap (λ n. matched_at n k occurrences ∷ matched (first + 1) signatures occurrences)
+    (sym (add-zero first))
+    ∙ ap (λ x. matched_at (first + 0) x occurrences
+    ∷ matched (first + 1) signatures occurrences) same
 matched-from first (k ∷ signatures) occurrences (suc i) signature there =
     let place : first + 1 + i ≡ first + suc i = omega arith in
     let later : suc i + 1 ≡ suc (i + 1) = omega arith in
     let whole = matched first (k ∷ signatures) occurrences in
     matched-from (first + 1) signatures occurrences i signature there
-    ∙ ap (λ n. matched_at n signature occurrences ∷ drop (i + 1) (matched (first + 1) signatures occurrences)) place
+    ∙ ap (λ n. matched_at n signature occurrences
+    ∷ drop (i + 1) (matched (first + 1) signatures occurrences)) place
     ∙ ap (λ n. matched_at (first + suc i) signature occurrences ∷ drop n whole) (sym later)
 
 -- how many occurrences of a group there are, by the index
@@ -48,7 +53,8 @@ pub length-found_at : (count : ℕ) (occurrences : List Occurrence) (i : ℕ) �
     → length (unwrap_or (slice_get (index_of count occurrences) i) [])
     ≡ length (found_at i occurrences)
 length-found_at count occurrences i within =
-    let founds : length (found_at i occurrences) ≡ length (filter (λ (o : Occurrence). o.mention.group == i) occurrences) = simp length-map in
+    let founds : length (found_at i occurrences)
+    ≡ length (filter (λ (o : Occurrence). o.mention.group == i) occurrences) = simp length-map in
     ap (λ (o : Option (List ℕ)). length (unwrap_or o []))
     (slice_get-places_by_group count i
     (map (λ (o : Occurrence). o.mention.group) occurrences) within)
@@ -58,9 +64,11 @@ length-found_at count occurrences i within =
 pub length-matched : (first : ℕ) (signatures : List Signature) (occurrences : List Occurrence)
     → length (matched first signatures occurrences) ≡ length signatures
 length-matched first [] occurrences = refl
-length-matched first (signature ∷ signatures) occurrences = ap suc (length-matched (first + 1) signatures occurrences)
+length-matched first (signature ∷ signatures) occurrences =
+    ap suc (length-matched (first + 1) signatures occurrences)
 
-module _ (signatures : List Signature) (occurrences : List Occurrence) (i : ℕ) (signature : Signature)
+module _ (signatures : List Signature) (occurrences : List Occurrence) (i : ℕ)
+    (signature : Signature)
     (there : slice_get signatures i ≡ Some signature)
     (kept : KeepsCounts (take i (matched 0 signatures occurrences))) (count : ℕ)
     (counted : count ≡ length (found_at i occurrences)) where
@@ -75,7 +83,8 @@ module _ (signatures : List Signature) (occurrences : List Occurrence) (i : ℕ)
       let whole = matched 0 signatures occurrences in
       let there = slice_get-drop whole i ∙ ap (λ (gs : List MatchedGroup). slice_get gs 0) here in
       subst KeepsCounts (sym (take-get whole i (matched_at i signature occurrences) there))
-      (AllByRecursion-append KeepsCount (take i whole) (matched_at i signature occurrences ∷ []) kept
+      (AllByRecursion-append KeepsCount (take i whole)
+      (matched_at i signature occurrences ∷ []) kept
       ((subst (FitsCount signature.occurrence) counted fits), tt))
 
   -- the group there breaks its count
@@ -88,7 +97,8 @@ module _ (signatures : List Signature) (occurrences : List Occurrence) (i : ℕ)
         before = take i whole;
         group = matched_at i signature occurrences;
         after = drop (i + 1) whole;
-        groups_are = sym (take-append-drop i whole) ∙ ap (λ (gs : List MatchedGroup). take i whole ++ gs) here;
+        groups_are = sym (take-append-drop i whole)
+            ∙ ap (λ (gs : List MatchedGroup). take i whole ++ gs) here;
         kept = kept;
         broken = λ keeps. broken (subst (FitsCount signature.occurrence) (sym counted) keeps);
         fault_is = fault_is;
@@ -97,12 +107,14 @@ module _ (signatures : List Signature) (occurrences : List Occurrence) (i : ℕ)
 -- the group at a place, by its kinds
 pub signature-there : (signatures : List Signature) (i : ℕ) (kinds : Kinds)
     → Some kinds ≡ option_map kinds_of (slice_get signatures i)
-    → (signature : Signature) × (slice_get signatures i ≡ Some signature) × (signature.occurrence ≡ kinds.occurrence)
+    → (signature : Signature) × (slice_get signatures i ≡ Some signature)
+    × (signature.occurrence ≡ kinds.occurrence)
 signature-there [] i kinds there = cc there
 signature-there (signature ∷ signatures) zero kinds there =
     let same : kinds ≡ kinds_of signature = cc there in
     (signature, refl, sym (ap (λ (k : Kinds). k.occurrence) same))
-signature-there (signature ∷ signatures) (suc i) kinds there = signature-there signatures i kinds there
+signature-there (signature ∷ signatures) (suc i) kinds there =
+    signature-there signatures i kinds there
 
 -- a test of groups that passes for each group with occurrences passes for each occurrence
 pub list_all-by_group : (p : ℕ → Bool) (occurrences : List Occurrence)
@@ -114,22 +126,30 @@ list_all-by_group p (o ∷ occurrences) each =
     (λ (o : Occurrence). record { position = o.position; value = o.mention.value })
     (cond b (o ∷ filter (λ (o : Occurrence). o.mention.group == group) occurrences)
     (filter (λ (o : Occurrence). o.mention.group == group) occurrences)) in
-    let same : (o.mention.group == o.mention.group) ≡ true = eq-eqb o.mention.group o.mention.group refl in
+    let same : (o.mention.group == o.mention.group) ≡ true =
+    eq-eqb o.mention.group o.mention.group refl in
     let here : 0 < length (found_at o.mention.group (o ∷ occurrences)) = rw same (omega arith) in
-    and_from (p o.mention.group) (list_all (λ o. p o.mention.group) occurrences) (each o.mention.group here)
+    and_from (p o.mention.group) (list_all (λ o. p o.mention.group) occurrences)
+    (each o.mention.group here)
     (list_all-by_group p occurrences
     (λ group some. each group
-    (elim (o.mention.group == group) as (λ b. 0 < length (founds group b)) [ true ↦ omega arith | false ↦ some ])))
+    (elim (o.mention.group == group) as (λ b. 0 < length (founds group b)) [
+      | true ↦
+          omega arith
+      | false ↦ some
+    ])))
 
 -- a test that fails for a group with occurrences fails for one of them
 pub list_all-fails_by_group : (p : ℕ → Bool) (group : ℕ) (occurrences : List Occurrence)
     → p group ≡ false → 0 < length (found_at group occurrences)
     → list_all (λ o. p o.mention.group) occurrences ≡ false
 list_all-fails_by_group p group [] fails some = absurd (omega arith)
-list_all-fails_by_group p group (o ∷ occurrences) fails some = elim (cases_eq o.mention.group group) [
-  | inl same ↦ rw (same, fails) refl
-  | inr other ↦
-      let apart : (o.mention.group == group) ≡ false = ne_eqb o.mention.group group other in
-      let rest = list_all-fails_by_group p group occurrences fails (rw apart at some) in
-      elim (p o.mention.group) as (λ b. (b && list_all (λ o. p o.mention.group) occurrences) ≡ false) [ true ↦ rest | false ↦ refl ]
-]
+list_all-fails_by_group p group (o ∷ occurrences) fails some =
+    elim (cases_eq o.mention.group group) [
+      | inl same ↦ rw (same, fails) refl
+      | inr other ↦
+          let apart : (o.mention.group == group) ≡ false = ne_eqb o.mention.group group other in
+          let rest = list_all-fails_by_group p group occurrences fails (rw apart at some) in
+          elim (p o.mention.group) as (λ b. (b && list_all (λ o. p o.mention.group) occurrences)
+          ≡ false) [ true ↦ rest | false ↦ refl ]
+    ]

@@ -43,24 +43,29 @@ names-signature : (groups : List MatchedGroup) (signatures : List Signature)
     → map (λ (group : MatchedGroup). group.signature) groups ≡ signatures
     → map (λ (group : MatchedGroup). group.signature.names) groups
     ≡ map (λ (signature : Signature). signature.names) signatures
-names-signature groups signatures same = names-map groups ∙ ap (map (λ (signature : Signature). signature.names)) same where
-  names-map : (groups : List MatchedGroup)
-      → map (λ (group : MatchedGroup). group.signature.names) groups
-      ≡ map (λ (signature : Signature). signature.names) (map (λ (group : MatchedGroup). group.signature) groups)
-  names-map [] = refl
-  names-map (group ∷ groups) = ap (λ (more : List Names). group.signature.names ∷ more) (names-map groups)
+names-signature groups signatures same = names-map groups
+    ∙ ap (map (λ (signature : Signature). signature.names)) same where
+      names-map : (groups : List MatchedGroup)
+          → map (λ (group : MatchedGroup). group.signature.names) groups
+          ≡ map (λ (signature : Signature). signature.names)
+          (map (λ (group : MatchedGroup). group.signature) groups)
+      names-map [] = refl
+      names-map (group ∷ groups) =
+          ap (λ (more : List Names). group.signature.names ∷ more) (names-map groups)
 
 -- a name resolves alike among groups and among those that matches hold of them
 pub place_of-groups : (options : Declared) (groups : List MatchedGroup) → AreGroupsOf options groups
     → (name : Text) → resolution (names_of options.groups) name ≡ place_of groups name
 place_of-groups options groups are name =
     ap (λ (names : List Names). resolution names name)
-    (sym (names-signature groups (signatures_of options.groups) are ∙ names-signatures_of options.groups))
+    (sym (names-signature groups (signatures_of options.groups) are
+    ∙ names-signatures_of options.groups))
 
 -- each name that the options declare is defined
 defined-groups : (options : Declared) (groups : List MatchedGroup) → AreGroupsOf options groups
     → (name : Text) → Declares options name → IsDefined groups name
-defined-groups options groups are name declares = subst (λ (place : Option ℕ). IsSome place) (place_of-groups options groups are name) declares
+defined-groups options groups are name declares =
+    subst (λ (place : Option ℕ). IsSome place) (place_of-groups options groups are name) declares
 
 -- what is found of a group at a place among those that match these
 module _ (P : Signature → List Found → Type 0) where
@@ -81,7 +86,8 @@ module _ (P : Signature → List Found → Type 0) where
 -- the kinds of known groups
 kind-signature : (groups : List Group) (place : ℕ) (kind : HasArg)
     → option_map (λ (group : Group). group.signature.kind) (slice_get groups place) ≡ Some kind
-    → (signature : Signature) × (slice_get (signatures_of groups) place ≡ Some signature) × (signature.kind ≡ kind)
+    → (signature : Signature) × (slice_get (signatures_of groups) place ≡ Some signature)
+    × (signature.kind ≡ kind)
 kind-signature [] place kind there = cc there
 kind-signature (group ∷ groups) zero kind there = (group.signature, refl, same_Some _ _ there)
 kind-signature (group ∷ groups) (suc place) kind there = kind-signature groups place kind there
@@ -92,27 +98,31 @@ occurrence-signature : (groups : List Group) (place : ℕ) (occurrence : Occur)
     → (signature : Signature) × (slice_get (signatures_of groups) place ≡ Some signature)
     × (signature.occurrence ≡ occurrence)
 occurrence-signature [] place occurrence there = cc there
-occurrence-signature (group ∷ groups) zero occurrence there = (group.signature, refl, same_Some _ _ there)
-occurrence-signature (group ∷ groups) (suc place) occurrence there = occurrence-signature groups place occurrence there
+occurrence-signature (group ∷ groups) zero occurrence there =
+    (group.signature, refl, same_Some _ _ there)
+occurrence-signature (group ∷ groups) (suc place) occurrence there =
+    occurrence-signature groups place occurrence there
 
 module _ (options : Declared) (groups : List MatchedGroup) (are : AreGroupsOf options groups) where
   -- each required option was given once
   required-groups : KeepsCounts groups → (name : Text)
       → occur_of options.groups name ≡ Some Req
       → length (found_of groups name) ≡ 1
-  required-groups keeps name required = option_and_then_some _ (resolution (names_of options.groups) name) Req required by_place where
-    by_place : (place : ℕ) → resolution (names_of options.groups) name ≡ Some place
-        → option_map (λ (group : Group). group.signature.occurrence) (slice_get options.groups place)
-        ≡ Some Req → length (found_of groups name) ≡ 1
-    by_place place resolves there =
-        let signature = occurrence-signature options.groups place Req there in
-        let fits = at_place (λ signature found. FitsCount signature.occurrence (length found))
-        (signatures_of options.groups) groups are keeps place signature.0 signature.1 in
-        let once : FitsCount Req (length (found_in groups place)) =
-        subst (λ (occurrence : Occur). FitsCount occurrence (length (found_in groups place)))
-        signature.2 fits in
-        ap (λ (at : Option ℕ). length (option_map_or (found_in groups) at []))
-        (sym (place_of-groups options groups are name) ∙ resolves) ∙ once
+  required-groups keeps name required =
+      option_and_then_some _ (resolution (names_of options.groups) name) Req required by_place where
+        by_place : (place : ℕ) → resolution (names_of options.groups) name ≡ Some place
+            → option_map (λ (group : Group). group.signature.occurrence)
+            (slice_get options.groups place)
+            ≡ Some Req → length (found_of groups name) ≡ 1
+        by_place place resolves there =
+            let signature = occurrence-signature options.groups place Req there in
+            let fits = at_place (λ signature found. FitsCount signature.occurrence (length found))
+            (signatures_of options.groups) groups are keeps place signature.0 signature.1 in
+            let once : FitsCount Req (length (found_in groups place)) =
+            subst (λ (occurrence : Occur). FitsCount occurrence (length (found_in groups place)))
+            signature.2 fits in
+            ap (λ (at : Option ℕ). length (option_map_or (found_in groups) at []))
+            (sym (place_of-groups options groups are name) ∙ resolves) ∙ once
 
   -- occurrences that have values have a first
   first_there : (founds : List Found) → HaveValuesFor Yes founds → 0 < length founds
@@ -126,18 +136,25 @@ module _ (options : Declared) (groups : List MatchedGroup) (are : AreGroupsOf op
   -- each option that needs an argument and was given has a value
   needed-groups : HaveValuesByKind groups → (name : Text) → kind_of options.groups name ≡ Some Yes
       → 0 < length (found_of groups name) → IsSome (first_value (found_of groups name))
-  needed-groups have name needs = option_and_then_some _ (resolution (names_of options.groups) name) Yes needs by_place where
-    by_place : (place : ℕ) → resolution (names_of options.groups) name ≡ Some place
-        → option_map (λ (group : Group). group.signature.kind) (slice_get options.groups place)
-        ≡ Some Yes → 0 < length (found_of groups name) → IsSome (first_value (found_of groups name))
-    by_place place resolves there =
-        let signature = kind-signature options.groups place Yes there in
-        let fits = at_place (λ signature found. HaveValuesFor signature.kind found) (signatures_of options.groups) groups are have place signature.0 signature.1 in
-        let values : HaveValuesFor Yes (found_in groups place) =
-        subst (λ (kind : HasArg). HaveValuesFor kind (found_in groups place)) signature.2 fits in
-        let here : Some place ≡ place_of groups name = sym resolves ∙ place_of-groups options groups are name in
-        first_there (found_of groups name)
-        (subst (λ (at : Option ℕ). HaveValuesFor Yes (option_map_or (found_in groups) at [])) here values)
+  needed-groups have name needs =
+      option_and_then_some _ (resolution (names_of options.groups) name) Yes needs by_place where
+        by_place : (place : ℕ) → resolution (names_of options.groups) name ≡ Some place
+            → option_map (λ (group : Group). group.signature.kind) (slice_get options.groups place)
+            ≡ Some Yes → 0 < length (found_of groups name)
+            → IsSome (first_value (found_of groups name))
+        by_place place resolves there =
+            let signature = kind-signature options.groups place Yes there in
+            let fits = at_place (λ signature found. HaveValuesFor signature.kind found)
+            (signatures_of options.groups) groups are have place signature.0 signature.1 in
+            let values : HaveValuesFor Yes (found_in groups place) =
+            subst (λ (kind : HasArg). HaveValuesFor kind (found_in groups place)) signature.2
+            fits in
+            let here : Some place ≡ place_of groups name = sym resolves
+            ∙ place_of-groups options groups are name in
+            first_there (found_of groups name)
+            (subst (λ (at : Option ℕ). HaveValuesFor Yes (option_map_or (found_in groups) at []))
+            here
+            values)
 
 -- an occurrence of a group of a kind
 FitsKind-place : (groups : List Group) (o : Occurrence) (place : ℕ) (kind : HasArg)
@@ -153,7 +170,8 @@ HaveValuesFor-found_at : (groups : List Group) (place : ℕ) (kind : HasArg)
     → AllByRecursion (λ o. FitsGroup groups o.mention) occurrences
     → HaveValuesFor kind (found_at place occurrences)
 HaveValuesFor-found_at groups place kind there [] each = tt
-HaveValuesFor-found_at groups place kind there (o ∷ occurrences) each = here (o.mention.group == place) refl
+HaveValuesFor-found_at groups place kind there (o ∷ occurrences) each =
+    here (o.mention.group == place) refl
     (HaveValuesFor-found_at groups place kind there occurrences each.1) where
       here : (is : Bool) → (o.mention.group == place) ≡ is
           → HaveValuesFor kind (found_at place occurrences)
@@ -161,7 +179,10 @@ HaveValuesFor-found_at groups place kind there (o ∷ occurrences) each = here (
           (map (λ (o : Occurrence). record { position = o.position; value = o.mention.value })
           (cond is (o ∷ filter (λ (o : Occurrence). o.mention.group == place) occurrences)
           (filter (λ (o : Occurrence). o.mention.group == place) occurrences)))
-      here true is others = (FitsKind-place groups o place kind there each.0 (eqb-true o.mention.group place is), others)
+      here true is others = (
+        FitsKind-place groups o place kind there each.0 (eqb-true o.mention.group place is),
+        others,
+      )
       here false is others = others
 
 -- the groups of matches have values as their kinds want
@@ -173,10 +194,12 @@ HaveValuesByKind-matched : (groups : List Group) (first : ℕ) (signatures : Lis
     o.mention) occurrences → HaveValuesByKind (matched first signatures occurrences)
 HaveValuesByKind-matched groups first [] occurrences are each = tt
 HaveValuesByKind-matched groups first (signature ∷ signatures) occurrences are each = (
-  HaveValuesFor-found_at groups first signature.kind (subst (λ n. kind_at groups n ≡ Some signature.kind) (add-zero first)
+  HaveValuesFor-found_at groups first signature.kind
+      (subst (λ n. kind_at groups n ≡ Some signature.kind) (add-zero first)
       (are 0 signature refl)) occurrences each,
   HaveValuesByKind-matched groups (first + 1) signatures occurrences
-      (λ i other there. subst (λ n. kind_at groups n ≡ Some other.kind) (moved i) (are (suc i) other there)) each,
+      (λ i other there. subst (λ n. kind_at groups n ≡ Some other.kind) (moved i)
+      (are (suc i) other there)) each,
 ) where
   moved : (i : ℕ) → first + suc i ≡ first + 1 + i
   moved i = omega arith
@@ -184,8 +207,10 @@ HaveValuesByKind-matched groups first (signature ∷ signatures) occurrences are
 kind_at-signature : (groups : List Group) (i : ℕ) (signature : Signature)
     → slice_get (signatures_of groups) i ≡ Some signature → kind_at groups i ≡ Some signature.kind
 kind_at-signature [] i signature there = cc there
-kind_at-signature (group ∷ groups) zero signature there = ap (λ (k : Signature). Some k.kind) (same_Some _ _ there)
-kind_at-signature (group ∷ groups) (suc i) signature there = kind_at-signature groups i signature there
+kind_at-signature (group ∷ groups) zero signature there =
+    ap (λ (k : Signature). Some k.kind) (same_Some _ _ there)
+kind_at-signature (group ∷ groups) (suc i) signature there =
+    kind_at-signature groups i signature there
 
 module _ (options : Declared) (words : List Text) (matches : Matched)
     (has : HasReading options words matches) where
@@ -196,7 +221,8 @@ module _ (options : Declared) (words : List Text) (matches : Matched)
   -- matches hold the groups of the options
   AreGroupsOf-read : AreGroupsOf options matches.groups
   AreGroupsOf-read = ap (map (λ (group : MatchedGroup). group.signature)) groups_are
-      ∙ signatures-matched 0 (signatures_of options.groups) (occurrences_of (grammar_of options) has.reading)
+      ∙ signatures-matched 0 (signatures_of options.groups)
+      (occurrences_of (grammar_of options) has.reading)
 
   -- and values as their kinds want
   HaveValuesByKind-read : HaveValuesByKind matches.groups
@@ -208,7 +234,8 @@ module _ (options : Declared) (words : List Text) (matches : Matched)
       (λ (o : Occurrence). o.mention) occurrences fits in
       subst HaveValuesByKind (sym groups_are)
       (HaveValuesByKind-matched options.groups 0 (signatures_of options.groups) occurrences
-      (λ i signature there. subst (λ n. kind_at options.groups n ≡ Some signature.kind) (sym (zero-add i))
+      (λ i signature there. subst (λ n. kind_at options.groups n ≡ Some signature.kind)
+      (sym (zero-add i))
       (kind_at-signature options.groups i signature there)) each)
 
   -- and what the options declare of their groups
@@ -242,9 +269,12 @@ EndIn-tail (rest words) = ([], refl)
 no_free_items : (grammar : Grammar) → grammar.style ≡ StopAtFirstFree → (items : List Item)
     → AllByRecursion (IsLawfulItem grammar) items → free_items items ≡ []
 no_free_items grammar style [] lawful = refl
-no_free_items grammar style (free word ∷ items) lawful = let floating : grammar.style ≡ FloatingFrees = lawful.0.1 in absurd cc
-no_free_items grammar style (long dashes name argument ∷ items) lawful = no_free_items grammar style items lawful.1
-no_free_items grammar style (cluster names end ∷ items) lawful = no_free_items grammar style items lawful.1
+no_free_items grammar style (free word ∷ items) lawful =
+    let floating : grammar.style ≡ FloatingFrees = lawful.0.1 in absurd cc
+no_free_items grammar style (long dashes name argument ∷ items) lawful =
+    no_free_items grammar style items lawful.1
+no_free_items grammar style (cluster names end ∷ items) lawful =
+    no_free_items grammar style items lawful.1
 
 -- under `StopAtFirstFree` the words of a reading end in its free words
 EndIn-reading : (grammar : Grammar) (reading : Reading) (words : List Text)
@@ -256,9 +286,14 @@ EndIn-reading grammar reading words reads style =
     let none : free_words reading ≡ tail_frees reading.tail =
     ap (λ (frees : List Text). frees ++ tail_frees reading.tail)
     (no_free_items grammar style reading.items reads.items) in
-    let joined : front ++ (tail.0 ++ tail_frees reading.tail) ≡ (front ++ tail.0) ++ tail_frees reading.tail = simp append_assoc in
-    let parts : words ≡ front ++ tail_words reading.tail = sym reads.spells ∙ spelled_all-append reading.items [] (tail_words reading.tail) in
-    (front ++ tail.0, parts ∙ ap (λ (ws : List Text). front ++ ws) tail.1 ∙ joined ∙ ap (λ (ws : List Text). (front ++ tail.0) ++ ws) (sym none))
+    let joined : front ++ (tail.0 ++ tail_frees reading.tail) ≡ (front ++ tail.0)
+    ++ tail_frees reading.tail = simp append_assoc in
+    let parts : words ≡ front ++ tail_words reading.tail = sym reads.spells
+    ∙ spelled_all-append reading.items [] (tail_words reading.tail) in (
+      front ++ tail.0,
+      parts ∙ ap (λ (ws : List Text). front ++ ws) tail.1 ∙ joined
+          ∙ ap (λ (ws : List Text). (front ++ tail.0) ++ ws) (sym none),
+    )
 
 -- under `StopAtFirstFree` the words end in the free words that matches hold
 pub HaveLastWordsFree-read : (options : Declared) (words : List Text) (matches : Matched)

@@ -29,15 +29,18 @@ module _ (options : Declared) (declared : MayBeDeclared options.groups) where
     pub only_reads : (reading : Reading) → Reads options words reading
         → IsTheOnly (Reads options words) reading
     only_reads reading reads = IsTheOnly-from (Reads options words) reading reads
-        (λ other other_reads. only_reading (grammar_of options) named_here words other reading other_reads reads)
+        (λ other other_reads. only_reading (grammar_of options) named_here words other reading
+        other_reads reads)
 
     -- a scan fault leaves no reading and no other fault
     pub HasNoReading-fault : AreTexts words → (fault : Fault)
         → IsScanFault (grammar_of options) words fault → HasNoReading options words fault
     HasNoReading-fault texts fault fault_is = record {
       only = IsTheOnly-from (IsScanFault (grammar_of options) words) fault fault_is
-          (λ other is. only_fault (grammar_of options) named_here words other fault texts is fault_is);
-      no_reading = λ reading reads. no_reading (grammar_of options) named_here words fault reading texts fault_is reads;
+          (λ other is. only_fault (grammar_of options) named_here words other fault texts is
+          fault_is);
+      no_reading = λ reading reads. no_reading (grammar_of options) named_here words fault reading
+          texts fault_is reads;
     }
 
     module _ (reading : Reading) (reads : IsReading (grammar_of options) reading words)
@@ -60,7 +63,11 @@ module _ (options : Declared) (declared : MayBeDeclared options.groups) where
       HasReading-reading frees trailing free_are trailing_is = record {
         reading = reading;
         only = only_reads reading reads;
-        matches_are = λ i. record { groups = groups_are i; free = free_are i; trailing_start = trailing_is i };
+        matches_are = λ i. record {
+          groups = groups_are i;
+          free = free_are i;
+          trailing_start = trailing_is i;
+        };
       }
 
   -- readings keep the laws
@@ -71,7 +78,8 @@ module _ (options : Declared) (declared : MayBeDeclared options.groups) where
     cluster = ClusterSplits_lem (grammar_of options);
     dashes = OneDashOrTwo_lem (grammar_of options);
     lines = LinesCompose_lem (grammar_of options)
-        (λ reading other words reads other_reads. only_reading (grammar_of options) named_here words reading other
+        (λ reading other words reads other_reads. only_reading
+        (grammar_of options) named_here words reading other
         reads other_reads);
     trailing = TrailingStartIsAfterStop_lem (grammar_of options);
     frees = FreeWordsAreSubsequence_lem (grammar_of options);

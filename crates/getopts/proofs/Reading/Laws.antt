@@ -21,8 +21,10 @@ use Rattle.getopts.specs.Reading.{IsReading, Mention, mentions, Occurrence, at_p
 use Rattle.getopts.specs.Reading.{occurrences_after, occurrences_of, free_items, tail_frees}
 use Rattle.getopts.specs.Reading.{free_words, trailing_after}
 use Rattle.getopts.specs.Matches.{Found, found_at, matched}
-use Rattle.getopts.specs.ReadingLaws.{AreHigherAfter, ReadsAlike, Respells, mentions_of, positions_in}
-use Rattle.getopts.specs.ReadingLaws.{LongAttachedOrSeparate, ShortAttachedOrSeparate, ClusterSplits}
+use Rattle.getopts.specs.ReadingLaws.{AreHigherAfter, ReadsAlike, Respells, mentions_of}
+use Rattle.getopts.specs.ReadingLaws.{positions_in}
+use Rattle.getopts.specs.ReadingLaws.{LongAttachedOrSeparate, ShortAttachedOrSeparate}
+use Rattle.getopts.specs.ReadingLaws.{ClusterSplits}
 use Rattle.getopts.specs.ReadingLaws.{OneDashOrTwo, is_last_bare, joined_reading, HasContentOfBoth}
 use Rattle.getopts.specs.ReadingLaws.{LinesCompose, IsAfterStop, TrailingStartIsAfterStop}
 use Rattle.getopts.specs.ReadingLaws.{IsSubsequence, FreeWordsAreSubsequence, HavePositionsInOrder}
@@ -50,7 +52,8 @@ is_dashed-long grammar two name text before ordinary = refl
 -- a lawful cluster's word is dashed
 is_dashed-cluster : (grammar : Grammar) (names : List ℕ) (end : End)
     → IsLawfulCluster grammar names end → is_dashed (dash ∷ (names ++ end_text end)) ≡ true
-is_dashed-cluster grammar names end lawful = short_dashed grammar _ _ (lawful_short grammar names end lawful)
+is_dashed-cluster grammar names end lawful =
+    short_dashed grammar _ _ (lawful_short grammar names end lawful)
 
 -- What lets new items stand where old ones stood, before these words: they are lawful and well
 -- followed where the old ones are, and begin with a dashed word in ordinary mode.
@@ -65,7 +68,8 @@ EndsOrIsDashed-in_place : (front old new : List Item) (more : List Text)
     → EndsOrIsDashed (spelled_all new more) → EndsOrIsDashed (spelled_all (front ++ old) more)
     → EndsOrIsDashed (spelled_all (front ++ new) more)
 EndsOrIsDashed-in_place [] old new more dashed begins = dashed
-EndsOrIsDashed-in_place (item ∷ front) old new more dashed begins = EndsOrIsDashed-spelled item _ _ begins
+EndsOrIsDashed-in_place (item ∷ front) old new more dashed begins =
+    EndsOrIsDashed-spelled item _ _ begins
 
 -- items in front are well followed by the new ones too
 AreWellFollowed-in_place : (grammar : Grammar) (front old new : List Item) (more : List Text)
@@ -75,7 +79,8 @@ AreWellFollowed-in_place : (grammar : Grammar) (front old new : List Item) (more
     → AreWellFollowed (front ++ new) more
 AreWellFollowed-in_place grammar [] old new more lawful dashed followed before = followed before
 AreWellFollowed-in_place grammar (item ∷ front) old new more lawful dashed followed before = (
-  λ bare. EndsOrIsDashed-in_place front old new more (dashed (ordinary_from_bare grammar item lawful.0 bare)) (before.0 bare),
+  λ bare. EndsOrIsDashed-in_place front old new more
+      (dashed (ordinary_from_bare grammar item lawful.0 bare)) (before.0 bare),
   AreWellFollowed-in_place grammar front old new more lawful.1 dashed followed before.1,
 )
 
@@ -87,13 +92,16 @@ IsReading-in_place : (grammar : Grammar) (front old new : List Item) (tail : Tai
     → IsReading grammar (record { items = front ++ new; tail = tail })
     (spelled_all (front ++ new) (tail_words tail))
 IsReading-in_place grammar front old new tail words fit reads =
-    let ahead : AllByRecursion (IsLawfulItem grammar) front = AllByRecursion-left (IsLawfulItem grammar) front old reads.items in
-    let lawful : AllByRecursion (IsLawfulItem grammar) new = fit.lawful (AllByRecursion-right (IsLawfulItem grammar) front old reads.items) in
+    let ahead : AllByRecursion (IsLawfulItem grammar) front =
+    AllByRecursion-left (IsLawfulItem grammar) front old reads.items in
+    let lawful : AllByRecursion (IsLawfulItem grammar) new =
+    fit.lawful (AllByRecursion-right (IsLawfulItem grammar) front old reads.items) in
     record {
       spells = refl;
       items = AllByRecursion-append (IsLawfulItem grammar) front new ahead lawful;
       tail = reads.tail;
-      followed = AreWellFollowed-in_place grammar front old new (tail_words tail) ahead (fit.dashed lawful) fit.followed reads.followed;
+      followed = AreWellFollowed-in_place grammar front old new (tail_words tail) ahead
+          (fit.dashed lawful) fit.followed reads.followed;
     }
 
 -- items in front leave the same occurrences where the new items have those of the old ones
@@ -111,13 +119,15 @@ occurrences_after-in_place grammar (item ∷ front) old new same before =
 pub free_items-append : (items others : List Item)
     → free_items (items ++ others) ≡ free_items items ++ free_items others
 free_items-append [] others = refl
-free_items-append (free word ∷ items) others = ap (λ words. word ∷ words) (free_items-append items others)
+free_items-append (free word ∷ items) others =
+    ap (λ words. word ∷ words) (free_items-append items others)
 free_items-append (item ∷ items) others = free_items-append items others
 
 -- items in front leave the same free words where the new items have those of the old ones
 free_items-in_place : (front old new : List Item) → free_items new ≡ free_items old
     → free_items (front ++ new) ≡ free_items (front ++ old)
-free_items-in_place front old new same = rw (free_items-append front new, same, ← free_items-append front old)
+free_items-in_place front old new same =
+    rw (free_items-append front new, same, ← free_items-append front old)
 
 -- items in front leave the same mentions where the new items have those of the old ones
 mentions_of-in_place : (grammar : Grammar) (front old new : List Item) (tail : Tail)
@@ -126,7 +136,11 @@ mentions_of-in_place : (grammar : Grammar) (front old new : List Item) (tail : T
     ≡ mentions_of grammar (record { items = front ++ old; tail = tail })
 mentions_of-in_place grammar front old new tail same =
     mentions_of-items grammar (record { items = front ++ new; tail = tail })
-    ∙ rw (flat_map-append (mentions grammar) front new, same, ← flat_map-append (mentions grammar) front old) refl
+    ∙ rw (
+      flat_map-append (mentions grammar) front new,
+      same,
+      ← flat_map-append (mentions grammar) front old,
+    ) refl
     ∙ sym (mentions_of-items grammar (record { items = front ++ old; tail = tail }))
 
 -- new items that fit, with the same mentions and free words and with alike positions, read alike
@@ -141,7 +155,8 @@ ReadsAlike-in_place : (grammar : Grammar) (Alike : List ℕ → List ℕ → Typ
     → ReadsAlike grammar Alike (record { items = front ++ old; tail = tail })
     (record { items = front ++ new; tail = tail })
 ReadsAlike-in_place grammar Alike front old new tail words fit same alike same_free reads =
-    let same_words : free_items (front ++ new) ≡ free_items (front ++ old) = free_items-in_place front old new same_free in
+    let same_words : free_items (front ++ new) ≡ free_items (front ++ old) =
+    free_items-in_place front old new same_free in
     record {
       reads = IsReading-in_place grammar front old new tail words fit reads;
       mentions = mentions_of-in_place grammar front old new tail same;
@@ -161,21 +176,25 @@ module _ (grammar : Grammar) (item longer : Item)
       → FitInPlace grammar (item ∷ back)
       (longer ∷ back) more) → Respells grammar item (longer ∷ []) AreHigherAfter
   Respells-longer fit front back tail words reads =
-      ReadsAlike-in_place grammar (AreHigherAfter (word_count front)) front (item ∷ back) (longer ∷ back) tail words (fit back (tail_words tail))
+      ReadsAlike-in_place grammar (AreHigherAfter (word_count front)) front (item ∷ back)
+      (longer ∷ back) tail words (fit back (tail_words tail))
       (ap (λ (told : List Mention). told ++ flat_map (mentions grammar) back) same)
       (positions_in-one_higher grammar item longer back same one_more front tail)
-      (free_items-append (longer ∷ []) back ∙ ap (λ frees. frees ++ free_items back) same_free ∙ sym (free_items-append (item ∷ []) back)) reads
+      (free_items-append (longer ∷ []) back ∙ ap (λ frees. frees ++ free_items back) same_free
+      ∙ sym (free_items-append (item ∷ []) back)) reads
 
   -- the other for the longer one
   Respells-shorter : ((back : List Item) (more : List Text)
       → FitInPlace grammar (longer ∷ back) (item ∷ back) more)
       → Respells grammar longer (item ∷ []) (λ position old new. AreHigherAfter position new old)
   Respells-shorter fit front back tail words reads =
-      ReadsAlike-in_place grammar (λ old new. AreHigherAfter (word_count front) new old) front (longer ∷ back)
+      ReadsAlike-in_place grammar (λ old new. AreHigherAfter (word_count front) new old) front
+      (longer ∷ back)
       (item ∷ back) tail words (fit back (tail_words tail))
       (ap (λ (told : List Mention). told ++ flat_map (mentions grammar) back) (sym same))
       (positions_in-one_higher grammar item longer back same one_more front tail)
-      (free_items-append (item ∷ []) back ∙ ap (λ frees. frees ++ free_items back) (sym same_free) ∙ sym (free_items-append (longer ∷ []) back)) reads
+      (free_items-append (item ∷ []) back ∙ ap (λ frees. frees ++ free_items back) (sym same_free)
+      ∙ sym (free_items-append (longer ∷ []) back)) reads
 
 -- a lawful long item fits in place of one with the same name
 FitInPlace-long : (grammar : Grammar) (dashes other : Dashes) (name : Text)
@@ -203,10 +222,12 @@ IsLawfulLong-yes grammar dashes name argument new_argument kind fits lawful = re
 pub LongAttachedOrSeparate_lem : (grammar : Grammar) → LongAttachedOrSeparate grammar
 LongAttachedOrSeparate_lem grammar = record {
   either = λ dashes name argument kind. record {
-    to_longer = Respells-longer grammar (long dashes name (attached argument)) (long dashes name (separate argument)) refl refl refl
+    to_longer = Respells-longer grammar (long dashes name (attached argument))
+        (long dashes name (separate argument)) refl refl refl
         (λ back more. FitInPlace-long grammar dashes dashes name _ _ back more
         (IsLawfulLong-yes grammar dashes name (attached argument) (separate argument) kind tt));
-    to_shorter = Respells-shorter grammar (long dashes name (attached argument)) (long dashes name (separate argument)) refl refl refl
+    to_shorter = Respells-shorter grammar (long dashes name (attached argument))
+        (long dashes name (separate argument)) refl refl refl
         (λ back more. FitInPlace-long grammar dashes dashes name _ _ back more
         (IsLawfulLong-yes grammar dashes name (separate argument) (attached argument) kind tt));
   };
@@ -222,14 +243,17 @@ MayStandBefore-long_only long_only two name only plain = tt
 pub OneDashOrTwo_lem : (grammar : Grammar) → OneDashOrTwo grammar
 OneDashOrTwo_lem grammar = record {
   other_dashes = λ dashes other name argument only plain front back tail words reads.
-      ReadsAlike-in_place grammar (λ old new. new ≡ old) front (long dashes name argument ∷ back) (long other name argument ∷ back) tail words
-      (FitInPlace-long grammar dashes other name argument argument back (tail_words tail) (λ lawful. record {
+      ReadsAlike-in_place grammar (λ old new. new ≡ old) front (long dashes name argument ∷ back)
+      (long other name argument ∷ back) tail words
+      (FitInPlace-long grammar dashes other name argument argument back (tail_words tail)
+      (λ lawful. record {
         before = MayStandBefore-long_only grammar.long_only other name only plain;
         cut_once = lawful.cut_once;
         resolves = lawful.resolves;
       })) refl
       (ap (map (λ (o : Occurrence). o.position))
-      (occurrences_after-in_place grammar front (long dashes name argument ∷ back) (long other name argument ∷ back)
+      (occurrences_after-in_place grammar front (long dashes name argument ∷ back)
+      (long other name argument ∷ back)
       (λ before. refl) 0))
       refl reads;
 }
@@ -268,7 +292,8 @@ ShortAttachedOrSeparate_lem grammar = record {
     to_longer = to_separate names option argument kind;
     to_shorter = Respells-shorter grammar (cluster names (ends_in option (attached argument)))
         (cluster names (ends_in option (separate argument))) refl refl refl
-        (λ back more. FitInPlace-cluster grammar names option (separate argument) (attached argument) back more kind filled refl);
+        (λ back more. FitInPlace-cluster grammar names option (separate argument)
+        (attached argument) back more kind filled refl);
   };
 }
   where
@@ -279,7 +304,8 @@ ShortAttachedOrSeparate_lem grammar = record {
     to_separate names option argument kind =
         Respells-longer grammar (cluster names (ends_in option (attached argument)))
         (cluster names (ends_in option (separate argument))) refl refl refl
-        (λ back more. FitInPlace-cluster grammar names option (attached argument) (separate argument) back more kind tt refl)
+        (λ back more. FitInPlace-cluster grammar names option (attached argument)
+        (separate argument) back more kind tt refl)
 
 -- a cluster whose rest is bare is bare
 is_bare-rest : (flag : ℕ) (names : List ℕ) (end : End) → is_bare (cluster names end) ≡ true
@@ -326,7 +352,8 @@ Respells-split grammar flag names end filled plain front back tail words reads =
         ),
       );
       dashed = λ each ordinary. refl;
-      followed = λ each. (λ bare. cc bare, (λ bare. each.0 (is_bare-rest flag names end bare), each.1));
+      followed =
+          λ each. (λ bare. cc bare, (λ bare. each.0 (is_bare-rest flag names end bare), each.1));
     }
 
 -- a cluster splits
@@ -340,8 +367,10 @@ AreWellFollowed-append : (items others : List Item) (more : List Text) → is_la
     → AreWellFollowed (items ++ others) more
 AreWellFollowed-append [] others more last before after = after
 AreWellFollowed-append (item ∷ []) others more last before after = (λ bare. cc (last, bare), after)
-AreWellFollowed-append (item ∷ next ∷ items) others more last before after =
-    (λ bare. EndsOrIsDashed-spelled next _ _ (before.0 bare), AreWellFollowed-append (next ∷ items) others more last before.1 after)
+AreWellFollowed-append (item ∷ next ∷ items) others more last before after = (
+  λ bare. EndsOrIsDashed-spelled next _ _ (before.0 bare),
+  AreWellFollowed-append (next ∷ items) others more last before.1 after,
+)
 
 -- two readings joined have the content of both
 HasContentOfBoth-joined : (grammar : Grammar) (first second : Reading) → first.tail ≡ line_end
@@ -372,9 +401,11 @@ IsReading-joined grammar first second words more reads ends last after = record 
     spelled_all-append first.items [] more,
     rw ends at reads.spells,
   );
-  items = AllByRecursion-append (IsLawfulItem grammar) first.items second.items reads.items after.items;
+  items = AllByRecursion-append (IsLawfulItem grammar) first.items second.items reads.items
+      after.items;
   tail = after.tail;
-  followed = AreWellFollowed-append first.items second.items (tail_words second.tail) last (rw ends at reads.followed) after.followed;
+  followed = AreWellFollowed-append first.items second.items (tail_words second.tail) last
+      (rw ends at reads.followed) after.followed;
 }
 
 -- lines compose, where a line has one reading at most
@@ -408,7 +439,8 @@ IsAfterStop-tail frees items (stop (word ∷ words)) start are at =
 -- the trailing start is after the stop
 pub TrailingStartIsAfterStop_lem : (grammar : Grammar) → TrailingStartIsAfterStop grammar
 TrailingStartIsAfterStop_lem grammar = record {
-  after_stop = λ reading words start reads at. IsAfterStop-tail (free_items reading.items) reading.items reading.tail start refl at;
+  after_stop = λ reading words start reads at. IsAfterStop-tail
+      (free_items reading.items) reading.items reading.tail start refl at;
 }
 
 -- the texts are the words with some left out, word by word
@@ -423,7 +455,8 @@ pub data IsPart : List Text → List Text → Type 0 where
 IsSubsequence-part : (texts words : List Text) → IsPart texts words → IsSubsequence texts words
 IsSubsequence-part _ _ empty = ([], refl)
 IsSubsequence-part _ _ (kept {texts} {words} word part) =
-    let more = IsSubsequence-part texts words part in (true ∷ more.0, ap (λ (texts : List Text). word ∷ texts) more.1)
+    let more = IsSubsequence-part texts words part in
+    (true ∷ more.0, ap (λ (texts : List Text). word ∷ texts) more.1)
 IsSubsequence-part _ _ (left_out {texts} {words} word part) =
     let more = IsSubsequence-part texts words part in (false ∷ more.0, more.1)
 
@@ -442,7 +475,8 @@ IsPart-tail (rest words) = IsPart-refl words
 IsPart-after : (front words others : List Text) → IsPart words others
     → IsPart words (front ++ others)
 IsPart-after [] words others among = among
-IsPart-after (word ∷ front) words others among = left_out word (IsPart-after front words others among)
+IsPart-after (word ∷ front) words others among =
+    left_out word (IsPart-after front words others among)
 
 -- the free words of items and a tail are among their words
 IsPart-items : (items : List Item) (tail : Tail)
@@ -476,7 +510,8 @@ RiseFrom-get_or : (low : ℕ) (founds : List Found) → RiseFrom low founds
 RiseFrom-get_or low [] rise index default in_range = absurd (omega arith)
 RiseFrom-get_or low (found ∷ founds) rise zero default in_range = rise.0
 RiseFrom-get_or low (found ∷ founds) rise (suc index) default in_range =
-    let step : found.position ≤ (get_or founds index default).position = RiseFrom-get_or found.position founds rise.1 index default (omega arith) in
+    let step : found.position ≤ (get_or founds index default).position =
+    RiseFrom-get_or found.position founds rise.1 index default (omega arith) in
     omega (arith, rise.0, step)
 
 -- the positions of a group's occurrences never decrease
@@ -490,7 +525,8 @@ NeverDecrease-from_rise low [] rise i j default ordered in_range = absurd (omega
 NeverDecrease-from_rise low (found ∷ founds) rise zero zero default ordered in_range = omega arith
 NeverDecrease-from_rise low (found ∷ founds) rise zero (suc j) default ordered in_range =
     RiseFrom-get_or found.position founds rise.1 j default (omega arith)
-NeverDecrease-from_rise low (found ∷ founds) rise (suc i) zero default ordered in_range = absurd (omega arith)
+NeverDecrease-from_rise low (found ∷ founds) rise (suc i) zero default ordered in_range =
+    absurd (omega arith)
 NeverDecrease-from_rise low (found ∷ founds) rise (suc i) (suc j) default ordered in_range =
     NeverDecrease-from_rise found.position founds rise.1 i j default (omega arith) (omega arith)
 
@@ -501,25 +537,34 @@ RiseFrom-item : (place position : ℕ) (told : List Mention) (later : List Occur
 RiseFrom-item place position [] later rise = rise
 RiseFrom-item place position (first ∷ told) later rise =
     let after = RiseFrom-item place position told later rise in
-    elim (cases_Bool (first.group == place)) [ inl here ↦ rw here (omega arith, after) | inr other ↦ rw other after ]
+    elim (cases_Bool (first.group == place)) [
+      | inl here ↦ rw here (omega arith, after)
+      | inr other ↦
+          rw other after
+    ]
 
 -- the occurrences of items rise from the first position
 RiseFrom-items : (grammar : Grammar) (place before : ℕ) (items : List Item)
     → RiseFrom before (found_at place (occurrences_after before grammar items))
 RiseFrom-items grammar place before [] = tt
-RiseFrom-items grammar place before (item ∷ items) = RiseFrom-item place before (mentions grammar item)
+RiseFrom-items grammar place before (item ∷ items) =
+    RiseFrom-item place before (mentions grammar item)
     (occurrences_after (before + word_count (item ∷ [])) grammar items)
-    (RiseFrom-lower before (before + word_count (item ∷ [])) _ (omega arith) (RiseFrom-items grammar place (before + word_count (item ∷ [])) items))
+    (RiseFrom-lower before (before + word_count (item ∷ [])) _ (omega arith)
+    (RiseFrom-items grammar place (before + word_count (item ∷ [])) items))
 
 -- the positions of each group's occurrences never decrease
 NeverDecrease-reading : (grammar : Grammar) (reading : Reading) (place : ℕ)
     → NeverDecrease (found_at place (occurrences_of grammar reading))
-NeverDecrease-reading grammar reading place = NeverDecrease-from_rise 0 _ (RiseFrom-items grammar place 0 reading.items)
+NeverDecrease-reading grammar reading place =
+    NeverDecrease-from_rise 0 _ (RiseFrom-items grammar place 0 reading.items)
 
 -- positions in order, of the groups that matches of a reading hold
 pub HavePositionsInOrder-matched : (grammar : Grammar) (reading : Reading) (place : ℕ)
     (signatures : List Signature)
     → HavePositionsInOrder (matched place signatures (occurrences_of grammar reading))
 HavePositionsInOrder-matched grammar reading place [] = tt
-HavePositionsInOrder-matched grammar reading place (signature ∷ signatures) =
-    (NeverDecrease-reading grammar reading place, HavePositionsInOrder-matched grammar reading (place + 1) signatures)
+HavePositionsInOrder-matched grammar reading place (signature ∷ signatures) = (
+  NeverDecrease-reading grammar reading place,
+  HavePositionsInOrder-matched grammar reading (place + 1) signatures,
+)

@@ -11,7 +11,8 @@ use Rattle.std.proofs.lemmas.Bool.{cases_Bool}
 use Rattle.std.proofs.lemmas.Bool.Decides.{nat_tests}
 use Rattle.getopts.specs.Names.{Text}
 use Rattle.getopts.specs.Options.{Signature, Grammar}
-use Rattle.getopts.specs.Reading.{Item, free, long, cluster, item_words, spelled_all, Tail, tail_words}
+use Rattle.getopts.specs.Reading.{Item, free, long, cluster, item_words, spelled_all, Tail}
+use Rattle.getopts.specs.Reading.{tail_words}
 use Rattle.getopts.specs.Reading.{Reading, IsReading, Mention, mentions, Occurrence, at_position}
 use Rattle.getopts.specs.Reading.{word_count, occurrences_after, occurrences_of}
 use Rattle.getopts.specs.Matches.{Found, found_at, matched}
@@ -24,7 +25,8 @@ use Rattle.getopts.proofs.Reading.Turns.{spelled}
 -- the words of items, and those that follow
 pub length-spelled_all : (items : List Item) (more : List Text)
     → length (spelled_all items more) ≡ word_count items + length more
-length-spelled_all items more = ap length (spelled_all-append items [] more) ∙ length-append (spelled_all items []) more
+length-spelled_all items more = ap length (spelled_all-append items [] more)
+    ∙ length-append (spelled_all items []) more
 
 -- the words of an item, and those of the items after it
 pub word_count-cons : (item : Item) (items : List Item)
@@ -41,7 +43,8 @@ spells_word (cluster names end) more = omega arith
 mention-at_position : (before : ℕ) (ms : List Mention)
     → map (λ (o : Occurrence). o.mention) (map (at_position before) ms) ≡ ms
 mention-at_position before [] = refl
-mention-at_position before (m ∷ ms) = ap (λ (others : List Mention). m ∷ others) (mention-at_position before ms)
+mention-at_position before (m ∷ ms) =
+    ap (λ (others : List Mention). m ∷ others) (mention-at_position before ms)
 
 mention-occurrences_after : (before : ℕ) (grammar : Grammar) (items : List Item)
     → map (λ (o : Occurrence). o.mention) (occurrences_after before grammar items)
@@ -59,13 +62,18 @@ mentions_of-items grammar reading = mention-occurrences_after 0 grammar reading.
 
 -- an occurrence, one position higher where it stands after this one
 abbrev raised_after : ℕ → Occurrence → Occurrence
-raised_after position o = record { mention = o.mention; position = one_higher_after position o.position }
+raised_after position o = record {
+  mention = o.mention;
+  position = one_higher_after position o.position;
+}
 
 position-raised_after : (position : ℕ) (os : List Occurrence)
     → map (λ (o : Occurrence). o.position) (map (raised_after position) os)
     ≡ map (one_higher_after position) (map (λ (o : Occurrence). o.position) os)
 position-raised_after position [] = refl
-position-raised_after position (o ∷ os) = ap (λ (ps : List ℕ). one_higher_after position o.position ∷ ps) (position-raised_after position os)
+position-raised_after position (o ∷ os) =
+    ap (λ (ps : List ℕ). one_higher_after position o.position ∷ ps)
+    (position-raised_after position os)
 
 -- mentions that aren't after this position stay where they are
 raised_after-stays : (at position : ℕ) (told : List Mention) → position ≤ at
@@ -93,7 +101,8 @@ occurrences_after-moves grammar at before (item ∷ items) past =
     let next = before + word_count (item ∷ []) in
     let later : next + 1 ≡ before + 1 + word_count (item ∷ []) = omega arith in
     rw (
-      map-append (raised_after at) (map (at_position before) (mentions grammar item)) (occurrences_after next grammar items),
+      map-append (raised_after at) (map (at_position before) (mentions grammar item))
+          (occurrences_after next grammar items),
       raised_after-moves at before (mentions grammar item) past,
       occurrences_after-moves grammar at next items (omega arith),
       later,
@@ -112,7 +121,8 @@ module _ (grammar : Grammar) (item other : Item) (back : List Item)
       let next = before + word_count (item ∷ []) in
       let later : next + 1 ≡ before + word_count (other ∷ []) = omega arith in
       rw (
-        map-append (raised_after before) (map (at_position before) (mentions grammar item)) (occurrences_after next grammar back),
+        map-append (raised_after before) (map (at_position before) (mentions grammar item))
+            (occurrences_after next grammar back),
         raised_after-stays before before (mentions grammar item) (omega arith),
         occurrences_after-moves grammar before next back (omega (arith, spells_word item [])),
         later,
@@ -144,7 +154,8 @@ module _ (grammar : Grammar) (item other : Item) (back : List Item)
       (positions_in grammar (record { items = front ++ item ∷ back; tail = tail }))
   positions_in-one_higher front tail =
       let whole = rw zero-add at (occurrences_after-one_higher front 0) in
-      rw (← whole) (position-raised_after (word_count front) (occurrences_after 0 grammar (front ++ item ∷ back)))
+      rw (← whole) (position-raised_after (word_count front)
+      (occurrences_after 0 grammar (front ++ item ∷ back)))
 
 -- the item of an occurrence, among items with so many words before them
 record IsOfItem (grammar : Grammar) (first : ℕ) (items : List Item)
@@ -161,14 +172,17 @@ IsOfItem-later : (grammar : Grammar) (first : ℕ) (item : Item) (items : List I
     (occurrence : Occurrence) → IsOfItem grammar (first + word_count (item ∷ [])) items occurrence
     → IsOfItem grammar first (item ∷ items) occurrence
 IsOfItem-later grammar first item items occurrence found =
-    let place : first + word_count (item ∷ []) + word_count found.before ≡ first + word_count (item ∷ found.before) =
+    let place : first + word_count (item ∷ []) + word_count found.before
+    ≡ first + word_count (item ∷ found.before) =
     omega (arith, word_count-cons item found.before) in
     record {
       before = item ∷ found.before;
       item = found.item;
       after = found.after;
       items_are = ap (λ (more : List Item). item ∷ more) found.items_are;
-      mentioned = subst (λ n. Contains (map (at_position n) (mentions grammar found.item)) occurrence) place found.mentioned;
+      mentioned =
+          subst (λ n. Contains (map (at_position n) (mentions grammar found.item)) occurrence) place
+          found.mentioned;
     }
 
 -- each occurrence is of an item
@@ -184,7 +198,8 @@ IsOfItem-from_contains grammar first (item ∷ items) occurrence held =
         item = item;
         after = items;
         items_are = refl;
-        mentioned = subst (λ n. Contains (map (at_position n) (mentions grammar item)) occurrence) (sym (add-zero first)) here;
+        mentioned = subst (λ n. Contains (map (at_position n) (mentions grammar item)) occurrence)
+            (sym (add-zero first)) here;
       }
       | inr later ↦ IsOfItem-later grammar first item items occurrence
           (IsOfItem-from_contains grammar (first + word_count (item ∷ [])) items occurrence later)
@@ -194,8 +209,10 @@ IsOfItem-from_contains grammar first (item ∷ items) occurrence held =
 position-mentioned : (position : ℕ) (told : List Mention) (occurrence : Occurrence)
     → Contains (map (at_position position) told) occurrence → occurrence.position ≡ position
 position-mentioned position [] occurrence held = absurd (omega (arith, held.1))
-position-mentioned position (first ∷ told) occurrence (zero, below, is) = ap (λ (o : Occurrence). o.position) (sym is)
-position-mentioned position (first ∷ told) occurrence (suc k, below, is) = position-mentioned position told occurrence (k, omega arith, is)
+position-mentioned position (first ∷ told) occurrence (zero, below, is) =
+    ap (λ (o : Occurrence). o.position) (sym is)
+position-mentioned position (first ∷ told) occurrence (suc k, below, is) =
+    position-mentioned position told occurrence (k, omega arith, is)
 
 -- the first word of an item is the same whatever follows it
 first_word-spelled : (item : Item) (more : List Text)
@@ -212,13 +229,17 @@ PositionsAreWords_lem grammar = record { of_occurrence = stands } where
       → StandsInItem grammar reading words occurrence
   stands reading words occurrence reads held =
       let found = IsOfItem-from_contains grammar 0 reading.items occurrence held in
-      let mentioned : Contains (map (at_position (word_count found.before)) (mentions grammar found.item)) occurrence =
-      subst (λ n. Contains (map (at_position n) (mentions grammar found.item)) occurrence) (zero-add (word_count found.before)) found.mentioned in
-      let here : occurrence.position ≡ word_count found.before = position-mentioned (word_count found.before)
+      let mentioned : Contains (map (at_position (word_count found.before))
+      (mentions grammar found.item)) occurrence =
+      subst (λ n. Contains (map (at_position n) (mentions grammar found.item)) occurrence)
+      (zero-add (word_count found.before)) found.mentioned in
+      let here : occurrence.position ≡ word_count found.before =
+      position-mentioned (word_count found.before)
       (mentions grammar found.item) occurrence mentioned in
       let more = spelled_all found.after (tail_words reading.tail) in
       let words_are : words ≡ spelled_all found.before [] ++ spelled found.item more =
-      sym reads.spells ∙ ap (λ (items : List Item). spelled_all items (tail_words reading.tail)) found.items_are
+      sym reads.spells ∙ ap (λ (items : List Item). spelled_all items (tail_words reading.tail))
+      found.items_are
       ∙ spelled_all-joined found.before (found.item ∷ found.after) (tail_words reading.tail)
       ∙ spelled_all-append found.before [] (spelled found.item more) in
       record {
@@ -227,15 +248,18 @@ PositionsAreWords_lem grammar = record { of_occurrence = stands } where
         after = found.after;
         items_are = found.items_are;
         mentioned = mentioned;
-        first_word = ap (slice_get words) here ∙ ap (λ (ws : List Text). slice_get ws (word_count found.before)) words_are
-            ∙ slice_get-append (spelled_all found.before []) (spelled found.item more) ∙ first_word-spelled found.item more;
+        first_word = ap (slice_get words) here
+            ∙ ap (λ (ws : List Text). slice_get ws (word_count found.before)) words_are
+            ∙ slice_get-append (spelled_all found.before []) (spelled found.item more)
+            ∙ first_word-spelled found.item more;
       }
 
 -- mentions at a position are below what the position is below
 below-mentioned : (count position : ℕ) (told : List Mention) → position < count
     → AllByRecursion (λ o. o.position < count) (map (at_position position) told)
 below-mentioned count position [] below = tt
-below-mentioned count position (first ∷ told) below = (below, below-mentioned count position told below)
+below-mentioned count position (first ∷ told) below =
+    (below, below-mentioned count position told below)
 
 -- the occurrences of items are below the number of words
 below-occurrences_after : (grammar : Grammar) (count before : ℕ) (items : List Item)
@@ -244,10 +268,13 @@ below-occurrences_after : (grammar : Grammar) (count before : ℕ) (items : List
 below-occurrences_after grammar count before [] within = tt
 below-occurrences_after grammar count before (item ∷ items) within =
     let words = word_count-cons item items in
-    AllByRecursion-append (λ o. o.position < count) (map (at_position before) (mentions grammar item))
+    AllByRecursion-append (λ o. o.position < count)
+    (map (at_position before) (mentions grammar item))
     (occurrences_after (before + word_count (item ∷ [])) grammar items)
-    (below-mentioned count before (mentions grammar item) (omega (arith, words, spells_word item [])))
-    (below-occurrences_after grammar count (before + word_count (item ∷ [])) items (omega (arith, words)))
+    (below-mentioned count before (mentions grammar item)
+    (omega (arith, words, spells_word item [])))
+    (below-occurrences_after grammar count (before + word_count (item ∷ [])) items
+    (omega (arith, words)))
 
 -- the occurrences of one group are
 below-found_at : (count place : ℕ) (occurrences : List Occurrence)
@@ -256,7 +283,11 @@ below-found_at : (count place : ℕ) (occurrences : List Occurrence)
 below-found_at count place [] all = tt
 below-found_at count place (first ∷ occurrences) all =
     let later = below-found_at count place occurrences all.1 in
-    elim (cases_Bool (first.mention.group == place)) [ inl here ↦ rw here (all.0, later) | inr other ↦ rw other later ]
+    elim (cases_Bool (first.mention.group == place)) [
+      | inl here ↦
+          rw here (all.0, later)
+      | inr other ↦ rw other later
+    ]
 
 -- the occurrences of a reading are
 below-occurrences_of : (grammar : Grammar) (reading : Reading) (words : List Text)
@@ -264,7 +295,12 @@ below-occurrences_of : (grammar : Grammar) (reading : Reading) (words : List Tex
     → AllByRecursion (λ o. o.position < length words) (occurrences_of grammar reading)
 below-occurrences_of grammar reading words reads =
     below-occurrences_after grammar (length words) 0 reading.items
-    (omega (arith, ap length reads.spells, length-spelled_all reading.items (tail_words reading.tail)))
+    (omega (
+      arith,
+      ap length reads.spells,
+      length-spelled_all reading.items
+          (tail_words reading.tail),
+    ))
 
 -- positions are below the number of words, of the groups that matches of a reading hold
 pub HavePositionsBelow-matched : (grammar : Grammar) (reading : Reading) (words : List Text)

@@ -9,7 +9,8 @@ use Rattle.getopts.specs.Fail.{Fault}
 use Rattle.getopts.specs.Reading.{stop_word, Argument, separate, Item, free, long, cluster}
 use Rattle.getopts.specs.Reading.{argument_words, item_words, spelled_all, IsLawfulItem}
 use Rattle.getopts.specs.Reading.{EndsOrIsDashed, AreWellFollowed, Tail, line_end, stop, rest}
-use Rattle.getopts.specs.Reading.{tail_words, IsLawfulTail, Reading, IsReading, IsFaultAt, IsScanFault}
+use Rattle.getopts.specs.Reading.{tail_words, IsLawfulTail, Reading, IsReading, IsFaultAt}
+use Rattle.getopts.specs.Reading.{IsScanFault}
 use Rattle.getopts.specs.declared.groups.ParsingStyle.{ParsingStyle}
 use Rattle.getopts.proofs.Lists.{AllByRecursion-right}
 use Rattle.getopts.specs.Turn.{Turn, ends, takes, faults}
@@ -37,13 +38,15 @@ module _ (grammar : Grammar) (word : Text) (more : List Text) where
   pub read_tail : (tail : Tail) → turn grammar word more ≡ ends tail
       → read grammar (word ∷ more) ≡ Ok (record { items = []; tail = tail })
   unfolding read
-  read_tail tail e = ap (λ (t : Turn). after_turn t (read_both grammar more).0 (read_both grammar more).1) e
+  read_tail tail e =
+      ap (λ (t : Turn). after_turn t (read_both grammar more).0 (read_both grammar more).1) e
 
   -- a fault
   pub read_error : (fault : Fault) → turn grammar word more ≡ faults fault
       → read grammar (word ∷ more) ≡ Err fault
   unfolding read
-  read_error fault e = ap (λ (t : Turn). after_turn t (read_both grammar more).0 (read_both grammar more).1) e
+  read_error fault e =
+      ap (λ (t : Turn). after_turn t (read_both grammar more).0 (read_both grammar more).1) e
 
 -- the end of the line
 pub read_nil : (grammar : Grammar) → read grammar [] ≡ Ok (record { items = []; tail = line_end })
@@ -55,7 +58,8 @@ pub taken_read : (grammar : Grammar) (words : List Text) (item : Item) (others :
     → TakesItem grammar words item others
     → read grammar words ≡ with_items (item ∷ []) (read grammar others)
 taken_read grammar [] item others taken = absurd taken
-taken_read grammar (word ∷ more) item others taken = read_item grammar word more item taken.0 others taken.1 taken.2
+taken_read grammar (word ∷ more) item others taken =
+    read_item grammar word more item taken.0 others taken.1 taken.2
 
 -- no item before an outcome
 pub with_items-none : (outcome : Result Reading Fault) → outcome ≡ with_items [] outcome
@@ -83,11 +87,13 @@ items_read grammar named (item ∷ items) more lawful followed =
 tail_read : (grammar : Grammar) (tail : Tail) → IsLawfulTail grammar tail
     → read grammar (tail_words tail) ≡ Ok (record { items = []; tail = tail })
 tail_read grammar line_end lawful = read_nil grammar
-tail_read grammar (stop words) lawful = read_tail grammar stop_word words (stop words) (turn_stop grammar words)
+tail_read grammar (stop words) lawful =
+    read_tail grammar stop_word words (stop words) (turn_stop grammar words)
 tail_read grammar (rest []) lawful = absurd lawful
 tail_read grammar (rest (word ∷ words)) lawful =
     read_tail grammar word words (rest (word ∷ words))
-    (turn_free grammar word words lawful.0 ∙ ap (λ (style : ParsingStyle). free_turn style word words) lawful.1)
+    (turn_free grammar word words lawful.0
+    ∙ ap (λ (style : ParsingStyle). free_turn style word words) lawful.1)
 
 -- `read` gives a reading that a line has
 pub reading_read : (grammar : Grammar) → IsNamed grammar → (reading : Reading) (words : List Text)
@@ -110,7 +116,8 @@ spelled_all-append (item ∷ items) xs ys =
 pub spelled_all-joined : (items others : List Item) (more : List Text)
     → spelled_all (items ++ others) more ≡ spelled_all items (spelled_all others more)
 spelled_all-joined [] others more = refl
-spelled_all-joined (item ∷ items) others more = ap (spelled item) (spelled_all-joined items others more)
+spelled_all-joined (item ∷ items) others more =
+    ap (spelled item) (spelled_all-joined items others more)
 
 -- the first word of an item is the same whatever follows it
 pub EndsOrIsDashed-spelled : (item : Item) (words others : List Text)
@@ -135,7 +142,8 @@ followed-append : (items : List Item) (more : List Text) → AreWellFollowed ite
     → EndsOrIsDashed more → AreWellFollowed items more
 followed-append [] more followed dashed = tt
 followed-append (item ∷ items) more followed dashed = (
-  λ bare. subst EndsOrIsDashed (sym (spelled_all-append items [] more)) (ends-append (spelled_all items []) more (followed.0 bare) dashed),
+  λ bare. subst EndsOrIsDashed (sym (spelled_all-append items [] more))
+      (ends-append (spelled_all items []) more (followed.0 bare) dashed),
   followed-append items more followed.1 dashed,
 )
 
@@ -143,15 +151,19 @@ followed-append (item ∷ items) more followed dashed = (
 pub fault_read : (grammar : Grammar) → IsNamed grammar → (words : List Text) (fault : Fault)
     → AreTexts words → IsScanFault grammar words fault → read grammar words ≡ Err fault
 fault_read grammar named words fault texts is =
-    let utf8 : AreTexts (is.word ∷ is.after) = AllByRecursion-right IsUtf8 is.before (is.word ∷ is.after) (subst AreTexts is.words_are texts) in
+    let utf8 : AreTexts (is.word ∷ is.after) =
+    AllByRecursion-right IsUtf8 is.before (is.word ∷ is.after)
+    (subst AreTexts is.words_are texts) in
     let line : words ≡ spelled_all is.items (is.word ∷ is.after) =
     is.words_are ∙ ap (λ (front : List Text). front ++ is.word ∷ is.after) (sym is.reads.spells)
     ∙ sym (spelled_all-append is.items [] (is.word ∷ is.after)) in
     let followed : AreWellFollowed is.items (is.word ∷ is.after) =
-    followed-append is.items (is.word ∷ is.after) is.reads.followed (fault_dashed grammar is.word is.after fault is.fault_at) in
+    followed-append is.items (is.word ∷ is.after) is.reads.followed
+    (fault_dashed grammar is.word is.after fault is.fault_at) in
     ap (read grammar) line
     ∙ items_read grammar named is.items (is.word ∷ is.after) is.reads.items followed
-    ∙ ap (with_items is.items) (read_error grammar is.word is.after fault (fault_turn grammar named is.word is.after fault utf8.0 is.fault_at))
+    ∙ ap (with_items is.items) (read_error grammar is.word is.after fault
+    (fault_turn grammar named is.word is.after fault utf8.0 is.fault_at))
 
 -- The laws of a line: at most one reading, at most one fault, and never both.
 module _ (grammar : Grammar) (named : IsNamed grammar) (words : List Text) where
@@ -203,14 +215,16 @@ fault_step grammar words item others fault begins is = record {
   word = is.word;
   after = is.after;
   items = item ∷ is.items;
-  words_are = begins.spells ∙ ap (spelled item) is.words_are ∙ sym (append_assoc (item_words item) is.before (is.word ∷ is.after));
+  words_are = begins.spells ∙ ap (spelled item) is.words_are
+      ∙ sym (append_assoc (item_words item) is.before (is.word ∷ is.after));
   reads = record {
     spells = ap (spelled item) is.reads.spells;
     items = (begins.lawful, is.reads.items);
     tail = tt;
     followed = (
       λ bare. subst EndsOrIsDashed (sym is.reads.spells)
-          (ends-front is.before (is.word ∷ is.after) (subst EndsOrIsDashed is.words_are (begins.followed bare))),
+          (ends-front is.before (is.word ∷ is.after)
+          (subst EndsOrIsDashed is.words_are (begins.followed bare))),
       is.reads.followed,
     );
   };
@@ -222,13 +236,16 @@ item_sound : (grammar : Grammar) (words : List Text) (item : Item) (others : Lis
     (outcome : Result Reading Fault) → BeginsWith grammar words item others
     → IsSoundOutcome grammar others outcome
     → IsSoundOutcome grammar words (with_items (item ∷ []) outcome)
-item_sound grammar words item others (Ok reading) begins sound = reading_step grammar words item others reading begins sound
-item_sound grammar words item others (Err fault) begins sound = fault_step grammar words item others fault begins sound
+item_sound grammar words item others (Ok reading) begins sound =
+    reading_step grammar words item others reading begins sound
+item_sound grammar words item others (Err fault) begins sound =
+    fault_step grammar words item others fault begins sound
 
 -- a line that is a tail
 tail_sound : (grammar : Grammar) (words : List Text) (tail : Tail) → IsLawfulTail grammar tail
     → tail_words tail ≡ words → IsReading grammar (record { items = []; tail = tail }) words
-tail_sound grammar words tail lawful spells = record { spells = spells; items = tt; tail = lawful; followed = tt }
+tail_sound grammar words tail lawful spells =
+    record { spells = spells; items = tt; tail = lawful; followed = tt }
 
 -- a line whose first word has a fault
 fault_here : (grammar : Grammar) (word : Text) (more : List Text) (fault : Fault)
@@ -267,11 +284,14 @@ both_sound : (grammar : Grammar) → IsNamed grammar → (words : List Text) →
     → IsSoundOutcome grammar words (read_both grammar words).0
     × IsSoundOutcome grammar (drop 1 words) (read_both grammar words).1
 unfolding read_both
-both_sound grammar named [] texts = (tail_sound grammar [] line_end tt refl, tail_sound grammar [] line_end tt refl)
+both_sound grammar named [] texts =
+    (tail_sound grammar [] line_end tt refl, tail_sound grammar [] line_end tt refl)
 both_sound grammar named (word ∷ more) texts =
-    let after : IsSoundOutcome grammar more (read_both grammar more).0 × IsSoundOutcome grammar (drop 1 more)
+    let after : IsSoundOutcome grammar more (read_both grammar more).0
+    × IsSoundOutcome grammar (drop 1 more)
     (read_both grammar more).1 = both_sound grammar named more texts.1 in (
-      after_turn_sound grammar word more (turn grammar word more) (read_both grammar more).0 (read_both grammar more).1
+      after_turn_sound grammar word more (turn grammar word more) (read_both grammar more).0
+          (read_both grammar more).1
           texts.0 (turn_sound grammar named word more) after.0 after.1,
       after.0,
     )
@@ -282,15 +302,17 @@ pub read_sound : (grammar : Grammar) → IsNamed grammar → (words : List Text)
     → IsSoundOutcome grammar words outcome
 unfolding read
 read_sound grammar named words texts outcome e =
-    subst (λ (o : Result Reading Fault). IsSoundOutcome grammar words o) e (both_sound grammar named words texts).0
+    subst (λ (o : Result Reading Fault). IsSoundOutcome grammar words o) e
+    (both_sound grammar named words texts).0
 
 -- a line of texts has a reading or a fault
 pub reading_or_fault : (grammar : Grammar) → IsNamed grammar → (words : List Text) → AreTexts words
     → ((reading : Reading) × IsReading grammar reading words)
     ⊎ ((fault : Fault) × IsScanFault grammar words fault)
-reading_or_fault grammar named words texts = by_outcome (read grammar words) (read_sound grammar named words texts _ refl) where
-  by_outcome : (outcome : Result Reading Fault) → IsSoundOutcome grammar words outcome
-      → ((reading : Reading) × IsReading grammar reading words)
-      ⊎ ((fault : Fault) × IsScanFault grammar words fault)
-  by_outcome (Ok reading) sound = inl (reading, sound)
-  by_outcome (Err fault) sound = inr (fault, sound)
+reading_or_fault grammar named words texts =
+    by_outcome (read grammar words) (read_sound grammar named words texts _ refl) where
+      by_outcome : (outcome : Result Reading Fault) → IsSoundOutcome grammar words outcome
+          → ((reading : Reading) × IsReading grammar reading words)
+          ⊎ ((fault : Fault) × IsScanFault grammar words fault)
+      by_outcome (Ok reading) sound = inl (reading, sound)
+      by_outcome (Err fault) sound = inr (fault, sound)

@@ -10,16 +10,18 @@ use Rattle.std.proofs.lemmas.Str.{length-encode, len_utf8_bounds}
 use Rattle.getopts.specs.Names.{Text}
 use Rattle.getopts.specs.Options.{Grammar}
 use Rattle.getopts.specs.Fail.{Fault, unrecognized_option}
-use Rattle.getopts.specs.Reading.{dash, is_dashed, holds_equals, stop_word, Argument, none, attached}
+use Rattle.getopts.specs.Reading.{dash, is_dashed, holds_equals, stop_word, Argument, none}
+use Rattle.getopts.specs.Reading.{attached}
 use Rattle.getopts.specs.Reading.{separate, Dashes, one, two, End, flags, ends_in, Item, free, long}
 use Rattle.getopts.specs.Reading.{cluster, long_word, attached_argument, argument_words, item_words}
 use Rattle.getopts.specs.Reading.{end_text, end_words, MayStandBefore, FitsLong, FitsEnd, IsFlag}
-use Rattle.getopts.specs.Reading.{IsLawfulEnd, IsLawfulCluster, IsLawfulItem, is_bare, EndsOrIsDashed}
-use Rattle.getopts.specs.Reading.{stop, tail_words, IsLawfulTail, IsLongForm, IsShortForm, dash_text}
-use Rattle.getopts.specs.Reading.{HasAfterFlags}
+use Rattle.getopts.specs.Reading.{IsLawfulEnd, IsLawfulCluster, IsLawfulItem, is_bare}
+use Rattle.getopts.specs.Reading.{EndsOrIsDashed}
+use Rattle.getopts.specs.Reading.{stop, tail_words, IsLawfulTail, IsLongForm, HasAfterFlags}
+use Rattle.getopts.specs.Reading.{dash_text}
 use Rattle.getopts.specs.Reading.{IsFaultAt, unknown_name, unknown_character, unwanted_argument}
 use Rattle.getopts.specs.Reading.{long_unfinished, short_unfinished}
-use Rattle.getopts.specs.Turn.{with_equals, Turn, ends, takes, faults, IsInLongForm}
+use Rattle.getopts.specs.Turn.{with_equals, Turn, ends, takes, faults, IsInLongForm, IsShortForm}
 use Rattle.getopts.specs.Turn.{chosen_long, chosen_end, chosen_turn, named_turn, cut_at_equals}
 use Rattle.getopts.specs.Turn.{long_turn, first_char, byte_turn, cluster_turn}
 use Rattle.getopts.specs.declared.groups.HasArg.{HasArg}
@@ -43,7 +45,8 @@ pub record BeginsWith (grammar : Grammar) (words : List Text) (item : Item) (mor
 
 -- What a turn says of a line that begins with this word is so: its tail, its item or its fault.
 abbrev pub IsSoundTurn : Grammar → Text → List Text → Turn → Type 0
-IsSoundTurn grammar word more (ends tail) = IsLawfulTail grammar tail × (tail_words tail ≡ word ∷ more)
+IsSoundTurn grammar word more (ends tail) = IsLawfulTail grammar tail
+    × (tail_words tail ≡ word ∷ more)
 IsSoundTurn grammar word more (takes item argument) = (others : List Text)
     × (more ≡ argument_words argument ++ others) × BeginsWith grammar (word ∷ more) item others
 IsSoundTurn grammar word more (faults fault) = IsUtf8 word → IsFaultAt grammar word more fault
@@ -81,7 +84,8 @@ module _ (grammar : Grammar) (dashes : Dashes) (word name : Text)
     record {
       spells = ap (λ (w : Text). w ∷ (argument_words argument ++ more)) form.word_is;
       lawful = record {
-        before = before_front grammar.long_only dashes name (with_equals (attached_argument argument)) form.before;
+        before = before_front grammar.long_only dashes name
+            (with_equals (attached_argument argument)) form.before;
         cut_once = plain;
         resolves = (kind, resolved, fits);
       };
@@ -94,14 +98,18 @@ module _ (grammar : Grammar) (dashes : Dashes) (word name : Text)
       → IsInLongForm grammar dashes word (name ++ with_equals argument)
       → grammar.kind name ≡ kind
       → IsSoundTurn grammar word more (named_turn kind dashes name argument more)
-  named_sound None argument more form resolved = λ utf8. unknown_name name argument (long_form argument form) resolved
+  named_sound None argument more form resolved =
+      λ utf8. unknown_name name argument (long_form argument form) resolved
   named_sound (Some No) None more form resolved = takes_long No none more form resolved tt
   named_sound (Some No) (Some argument) more form resolved =
       λ utf8. unwanted_argument name argument (long_form (Some argument) form) resolved
-  named_sound (Some Yes) None [] form resolved = λ utf8. long_unfinished name (long_form None form) resolved refl
-  named_sound (Some Yes) None (next ∷ others) form resolved = takes_long Yes (separate next) others form resolved tt
+  named_sound (Some Yes) None [] form resolved =
+      λ utf8. long_unfinished name (long_form None form) resolved refl
+  named_sound (Some Yes) None (next ∷ others) form resolved =
+      takes_long Yes (separate next) others form resolved tt
   named_sound (Some Maybe) None more form resolved = takes_long Maybe none more form resolved tt
-  named_sound (Some kind) (Some argument) more form resolved = takes_long kind (attached argument) more form resolved tt
+  named_sound (Some kind) (Some argument) more form resolved =
+      takes_long kind (attached argument) more form resolved tt
 
 -- a word in long form, by its text
 long_sound : (grammar : Grammar) (dashes : Dashes) (word text : Text) (more : List Text)
@@ -116,8 +124,10 @@ long_sound grammar dashes word text more form =
 flags_ascii : (grammar : Grammar) → IsNamed grammar → (names : List ℕ)
     → AllByRecursion (IsFlag grammar) names → AllByRecursion (λ byte. byte < 128) names
 flags_ascii grammar named [] each = tt
-flags_ascii grammar named (byte ∷ names) each =
-    (elim (named.ascii byte) [ inl ascii ↦ ascii | inr unknown ↦ cc (each.0, unknown) ], flags_ascii grammar named names each.1)
+flags_ascii grammar named (byte ∷ names) each = (
+  elim (named.ascii byte) [ inl ascii ↦ ascii | inr unknown ↦ cc (each.0, unknown) ],
+  flags_ascii grammar named names each.1,
+)
 
 -- what stands after flags is a text
 IsUtf8-after_flags : (grammar : Grammar) → IsNamed grammar → (word : Text) (bytes text : Text)
@@ -136,7 +146,12 @@ module _ (grammar : Grammar) (word : Text) (bytes : List ℕ)
       → BeginsWith grammar (word ∷ (end_words end ++ more)) (cluster bytes end) more
   begins_cluster end more form last followed = record {
     spells = ap (λ (w : Text). w ∷ (end_words end ++ more)) form.word_is;
-    lawful = record { ordinary = form.ordinary; short_form = form.second; each = each; last = last };
+    lawful = record {
+      ordinary = form.ordinary;
+      short_form = form.second;
+      each = each;
+      last = last;
+    };
     followed = followed;
   }
 
@@ -147,16 +162,22 @@ module _ (grammar : Grammar) (word : Text) (bytes : List ℕ)
       → (is_bare (cluster bytes (ends_in option argument)) ≡ true → EndsOrIsDashed more)
       → IsSoundTurn grammar word (argument_words argument ++ more)
       (takes (cluster bytes (ends_in option argument)) argument)
-  takes_end option kind argument more form resolved fits followed =
-      (more, refl, begins_cluster (ends_in option argument) more form (kind, resolved, fits) followed)
+  takes_end option kind argument more form resolved fits followed = (
+    more,
+    refl,
+    begins_cluster (ends_in option argument) more form
+        (kind, resolved, fits) followed,
+  )
 
   -- what doesn't resolve
   unknown_flag : IsNamed grammar → (byte : ℕ) (text : Text) (more : List Text)
       → IsShortForm grammar word (bytes ++ byte ∷ text) → grammar.kind (byte ∷ []) ≡ None
       → IsUtf8 word → IsFaultAt grammar word more (unrecognized_option (first_char (byte ∷ text)))
   unknown_flag named byte text more form resolved utf8 =
-      let begins = begins_with_char byte text (IsUtf8-after_flags grammar named word bytes (byte ∷ text) form each utf8) in
-      let form_there = subst (λ (t : Text). IsShortForm grammar word (bytes ++ t)) begins.1.text_is form in
+      let begins = begins_with_char byte text
+      (IsUtf8-after_flags grammar named word bytes (byte ∷ text) form each utf8) in
+      let form_there = subst (λ (t : Text). IsShortForm grammar word (bytes ++ t)) begins.1.text_is
+      form in
       rw begins.1.first (unknown_character begins.0 begins.1.rest begins.1.scalar (record {
         bytes = bytes;
         ordinary = form_there.ordinary;
@@ -164,7 +185,9 @@ module _ (grammar : Grammar) (word : Text) (bytes : List ℕ)
         second = form_there.second;
         each = each;
       }) (elim (cases_lt byte 128) [
-        | inl ascii ↦ inr (rw (encode-ascii_byte begins.0 byte text begins.1.rest begins.1.text_is ascii) resolved)
+        | inl ascii ↦
+            inr (rw (encode-ascii_byte begins.0 byte text begins.1.rest begins.1.text_is ascii)
+            resolved)
         | inr wide ↦ inl (length-encode-wide begins.0 byte text begins.1.rest begins.1.text_is wide)
       ]))
 
@@ -174,7 +197,8 @@ module _ (grammar : Grammar) (word : Text) (bytes : List ℕ)
       → grammar.kind (byte ∷ []) ≡ kind
       → (kind ≡ Some No → IsSoundTurn grammar word more after)
       → IsSoundTurn grammar word more (byte_turn kind bytes byte text more after)
-  byte_sound named byte None text more after form resolved flag = unknown_flag named byte text more form resolved
+  byte_sound named byte None text more after form resolved flag =
+      unknown_flag named byte text more form resolved
   byte_sound named byte (Some No) text more after form resolved flag = flag refl
   byte_sound named byte (Some kind) (c ∷ text) more after form resolved flag =
       takes_end byte kind (attached (c ∷ text)) more form resolved (λ e. cc e) (λ bare. cc bare)
@@ -188,11 +212,16 @@ module _ (grammar : Grammar) (word : Text) (bytes : List ℕ)
       }) resolved refl
   byte_sound named byte (Some Yes) [] (next ∷ others) after form resolved flag =
       takes_end byte Yes (separate next) others form resolved tt (λ bare. cc bare)
-  byte_sound named byte (Some Maybe) [] [] after form resolved flag = takes_end byte Maybe none [] form resolved tt (λ bare. tt)
-  byte_sound named byte (Some Maybe) [] (next ∷ others) after form resolved flag = elim (cases_Bool (is_dashed next)) [
-    | inl dashed ↦ rw dashed (takes_end byte Maybe none (next ∷ others) form resolved tt (λ bare. dashed))
-    | inr plain ↦ rw plain (takes_end byte Maybe (separate next) others form resolved plain (λ bare. cc bare))
-  ]
+  byte_sound named byte (Some Maybe) [] [] after form resolved flag =
+      takes_end byte Maybe none [] form resolved tt (λ bare. tt)
+  byte_sound named byte (Some Maybe) [] (next ∷ others) after form resolved flag =
+      elim (cases_Bool (is_dashed next)) [
+        | inl dashed ↦
+            rw dashed (takes_end byte Maybe none (next ∷ others) form resolved tt (λ bare. dashed))
+        | inr plain ↦
+            rw plain (takes_end byte Maybe (separate next) others form resolved plain
+            (λ bare. cc bare))
+      ]
 
 -- a cluster, by the flags that were read and the text that is left
 cluster_sound : (grammar : Grammar) → IsNamed grammar
@@ -200,8 +229,12 @@ cluster_sound : (grammar : Grammar) → IsNamed grammar
     → IsShortForm grammar word (bytes ++ text) → AllByRecursion (IsFlag grammar) bytes
     → IsSoundTurn grammar word more (cluster_turn grammar bytes text more)
 unfolding cluster_turn
-cluster_sound grammar named word bytes [] more form each =
-    (more, refl, begins_cluster grammar word bytes each flags more form (λ e. form.filled (rw e refl)) (λ bare. absurd (false≢true bare)))
+cluster_sound grammar named word bytes [] more form each = (
+  more,
+  refl,
+  begins_cluster grammar word bytes each flags more form
+      (λ e. form.filled (rw e refl)) (λ bare. absurd (false≢true bare)),
+)
 cluster_sound grammar named word bytes (byte ∷ text) more form each =
     byte_sound grammar word bytes each named byte (grammar.kind (byte ∷ [])) text more
     (cluster_turn grammar (bytes ++ byte ∷ []) text more) form refl
@@ -231,7 +264,8 @@ unfolding turn
 turn_long grammar two word [] more form = absurd (form.filled form.word_is)
 turn_long grammar two word (c ∷ text) more form = rw form.word_is refl
 turn_long grammar one word [] more form = absurd (form.filled form.word_is)
-turn_long grammar one word (c ∷ text) more form = rw (form.word_is, form.before.1, form.before.0) refl
+turn_long grammar one word (c ∷ text) more form =
+    rw (form.word_is, form.before.1, form.before.0) refl
 
 -- the turn of a word in short form
 pub turn_short : (grammar : Grammar) (word text : Text) (more : List Text)
@@ -249,13 +283,21 @@ short_dashed grammar word text form = rw form.word_is (is_dashed-text text form.
 free_sound : (grammar : Grammar) (word : Text) (more : List Text) → is_dashed word ≡ false
     → (style : ParsingStyle) → grammar.style ≡ style
     → IsSoundTurn grammar word more (free_turn style word more)
-free_sound grammar word more plain FloatingFrees style =
-    (more, refl, record { spells = refl; lawful = (plain, style); followed = λ bare. absurd (false≢true bare) })
+free_sound grammar word more plain FloatingFrees style = (
+  more,
+  refl,
+  record {
+    spells = refl;
+    lawful = (plain, style);
+    followed = λ bare. absurd (false≢true bare);
+  },
+)
 free_sound grammar word more plain StopAtFirstFree style = ((plain, style), refl)
 
 plain_sound : (grammar : Grammar) (word : Text) (more : List Text) → is_dashed word ≡ false
     → IsSoundTurn grammar word more (turn grammar word more)
-plain_sound grammar word more plain = rw (turn_free grammar word more plain) (free_sound grammar word more plain grammar.style refl)
+plain_sound grammar word more plain =
+    rw (turn_free grammar word more plain) (free_sound grammar word more plain grammar.style refl)
 
 -- the first word of a line
 pub turn_sound : (grammar : Grammar) → IsNamed grammar → (word : Text) (more : List Text)
@@ -282,7 +324,9 @@ turn_sound grammar named (first ∷ second ∷ text) more = elim (cases_Bool (fi
 ] where
   in_long : (dashes : Dashes) (word others : Text) → IsInLongForm grammar dashes word others
       → IsSoundTurn grammar word more (turn grammar word more)
-  in_long dashes word others form = rw (turn_long grammar dashes word others more form) (long_sound grammar dashes word others more form)
+  in_long dashes word others form =
+      rw (turn_long grammar dashes word others more form)
+      (long_sound grammar dashes word others more form)
 
   two_sound : (others : Text)
       → IsSoundTurn grammar (dash ∷ dash ∷ others) more (turn grammar (dash ∷ dash ∷ others) more)
@@ -305,7 +349,8 @@ long_turn_cut grammar dashes name argument more kind plain resolved =
 before_more : (long_only : Bool) (dashes : Dashes) (name : Text) (argument : Option Text)
     → MayStandBefore long_only dashes name
     → MayStandBefore long_only dashes (name ++ with_equals argument)
-before_more long_only one name argument before = (before.0, begins_with_dash-append name argument before.1)
+before_more long_only one name argument before =
+    (before.0, begins_with_dash-append name argument before.1)
 before_more long_only two name argument before = tt
 
 -- the turn of a word in long form, by its name, its kind and its attached argument
@@ -325,7 +370,8 @@ resolved_word : (grammar : Grammar) → IsNamed grammar
     → (dashes : Dashes) (name : Text) (argument : Option Text) (kind : HasArg)
     → grammar.kind name ≡ Some kind
     → long_word dashes name argument ≢ dash_text dashes
-resolved_word grammar named dashes [] argument kind resolved = let empty = named.empty in absurd (cc)
+resolved_word grammar named dashes [] argument kind resolved = let empty =
+    named.empty in absurd (cc)
 resolved_word grammar named one (c ∷ name) argument kind resolved = λ e. cc e
 resolved_word grammar named two (c ∷ name) argument kind resolved = λ e. cc e
 
@@ -345,7 +391,8 @@ pub short_turn_flags : (grammar : Grammar) (word : Text) (names : List ℕ) (tex
     (more : List Text) → IsShortForm grammar word (names ++ text)
     → AllByRecursion (IsFlag grammar) names
     → turn grammar word more ≡ cluster_turn grammar names text more
-short_turn_flags grammar word names text more form each = turn_short grammar word (names ++ text) more form
+short_turn_flags grammar word names text more form each =
+    turn_short grammar word (names ++ text) more form
     ∙ cluster_flags grammar [] names text more each
 
 -- the turn of a word in short form, at a byte after its flags
@@ -424,7 +471,8 @@ pub spelled_turn : (grammar : Grammar) → IsNamed grammar → (item : Item) (mo
 unfolding cluster_turn
 spelled_turn grammar named (free word) more lawful followed = (
   none,
-  turn_free grammar word more lawful.0 ∙ ap (λ (style : ParsingStyle). free_turn style word more) lawful.1,
+  turn_free grammar word more lawful.0
+      ∙ ap (λ (style : ParsingStyle). free_turn style word more) lawful.1,
   refl,
 )
 spelled_turn grammar named (long dashes name argument) more lawful followed =
@@ -432,19 +480,22 @@ spelled_turn grammar named (long dashes name argument) more lawful followed =
     let text = attached_argument argument in
     let word = resolved_word grammar named dashes name text kind.0 kind.1 in (
       argument,
-      long_form_turn grammar (long_word dashes name text) name text (argument_words argument ++ more) (Some kind.0)
+      long_form_turn grammar (long_word dashes name text) name text
+          (argument_words argument ++ more) (Some kind.0)
           (record {
             dashes = dashes;
             before = lawful.before;
             cut_once = lawful.cut_once;
             word_is = refl;
             filled = word;
-          }) kind.1 ∙ ap (chosen_turn (λ a. long dashes name a)) (long_chosen kind.0 name argument more kind.2),
+          }) kind.1 ∙ ap (chosen_turn (λ a. long dashes name a))
+          (long_chosen kind.0 name argument more kind.2),
       refl,
     )
 spelled_turn grammar named (cluster bytes flags) more lawful followed = (
   none,
-  short_turn_flags grammar (dash ∷ (bytes ++ [])) bytes [] more (lawful_short grammar bytes flags lawful) lawful.each,
+  short_turn_flags grammar (dash ∷ (bytes ++ [])) bytes [] more
+      (lawful_short grammar bytes flags lawful) lawful.each,
   refl,
 )
 spelled_turn grammar named (cluster bytes (ends_in option argument)) more lawful followed =
@@ -452,9 +503,11 @@ spelled_turn grammar named (cluster bytes (ends_in option argument)) more lawful
     let text = unwrap_or (attached_argument argument) [] in
     let others = argument_words argument ++ more in (
       argument,
-      short_turn_byte grammar (dash ∷ (bytes ++ option ∷ text)) bytes option text others (Some kind.0)
+      short_turn_byte grammar (dash ∷ (bytes ++ option ∷ text)) bytes option text others
+          (Some kind.0)
           (lawful_short grammar bytes (ends_in option argument) lawful) lawful.each kind.1
-          ∙ byte_turn-end kind.0 bytes option text others _ (λ e. subst (λ (k : HasArg). FitsEnd k argument) e kind.2)
+          ∙ byte_turn-end kind.0 bytes option text others _
+          (λ e. subst (λ (k : HasArg). FitsEnd k argument) e kind.2)
           ∙ ap (chosen_turn (λ a. cluster bytes (ends_in option a)))
           (end_chosen kind.0 (option ∷ []) argument more kind.2 (λ e. followed (rw e refl))),
       refl,
@@ -483,10 +536,18 @@ unknown_turn : (grammar : Grammar) → IsNamed grammar
     → (1 < length (encode_utf8 c)) ⊎ (grammar.kind (encode_utf8 c) ≡ None)
     → turn grammar word more ≡ faults (unrecognized_option (encode_utf8 c))
 unknown_turn grammar named word names c text [] more e utf8 form each unknown =
-    absurd (omega (arith, ap length e, length-append (encode_utf8 c) text, length-encode c, len_utf8_bounds c))
+    absurd (omega (
+      arith,
+      ap length e,
+      length-append (encode_utf8 c) text,
+      length-encode c,
+      len_utf8_bounds c,
+    ))
 unknown_turn grammar named word names c text (byte ∷ others) more e utf8 form each unknown =
-    short_turn_byte grammar word names byte others more None form each (unknown_byte grammar named c byte others text e unknown)
-    ∙ ap (λ (t : Text). faults (unrecognized_option t)) (rw e (first_char-append c text (rw e at utf8)))
+    short_turn_byte grammar word names byte others more None form each
+    (unknown_byte grammar named c byte others text e unknown)
+    ∙ ap (λ (t : Text). faults (unrecognized_option t))
+    (rw e (first_char-append c text (rw e at utf8)))
 
 -- a text that begins with a character isn't empty
 filled-character : (bytes : List ℕ) (c : ℕ) (text : Text) → bytes ++ (encode_utf8 c ++ text) ≢ []

@@ -62,13 +62,15 @@ is_dashed-text (c ∷ text) filled = refl
 
 -- a text after an ASCII byte
 pub IsUtf8-past_ascii : (byte : ℕ) (text : Text) → byte < 128 → IsUtf8 (byte ∷ text) → IsUtf8 text
-IsUtf8-past_ascii byte text ascii utf8 = IsUtf8-past_char (byte ∷ text) text byte utf8 (rw (encode_ascii byte ascii) refl)
+IsUtf8-past_ascii byte text ascii utf8 =
+    IsUtf8-past_char (byte ∷ text) text byte utf8 (rw (encode_ascii byte ascii) refl)
 
 -- a text after ASCII bytes
 pub IsUtf8-past_asciis : (bytes text : Text) → AllByRecursion (λ byte. byte < 128) bytes
     → IsUtf8 (bytes ++ text) → IsUtf8 text
 IsUtf8-past_asciis [] text ascii utf8 = utf8
-IsUtf8-past_asciis (byte ∷ bytes) text ascii utf8 = IsUtf8-past_asciis bytes text ascii.1 (IsUtf8-past_ascii byte (bytes ++ text) ascii.0 utf8)
+IsUtf8-past_asciis (byte ∷ bytes) text ascii utf8 =
+    IsUtf8-past_asciis bytes text ascii.1 (IsUtf8-past_ascii byte (bytes ++ text) ascii.0 utf8)
 
 -- the first character of a text, by its characters
 first_char-chars : (text : Text) (c : ℕ) (cs : List ℕ) → chars text ≡ c ∷ cs
@@ -94,7 +96,8 @@ begins_with_char byte text (cs, spelled) = from_chars cs spelled.0 spelled.1 whe
     record {
       rest = encodes cs;
       scalar = (and_parts (scalar_test c) (scalars cs) scalar).0;
-      first = first_char-chars (byte ∷ text) c cs (subst (λ (t : Text). chars t ≡ c ∷ cs) e (chars-encodes (c ∷ cs) scalar));
+      first = first_char-chars (byte ∷ text) c cs
+          (subst (λ (t : Text). chars t ≡ c ∷ cs) e (chars-encodes (c ∷ cs) scalar));
       text_is = sym e;
     },
   )
@@ -102,7 +105,9 @@ begins_with_char byte text (cs, spelled) = from_chars cs spelled.0 spelled.1 whe
 -- the first character of a text that begins with a character
 pub first_char-append : (c : ℕ) (rest : Text) → IsUtf8 (encode_utf8 c ++ rest)
     → first_char (encode_utf8 c ++ rest) ≡ encode_utf8 c
-first_char-append c rest utf8 = first_char-chars (encode_utf8 c ++ rest) c (chars rest) (chars_past_char (encode_utf8 c ++ rest) rest c utf8 refl)
+first_char-append c rest utf8 =
+    first_char-chars (encode_utf8 c ++ rest) c (chars rest)
+    (chars_past_char (encode_utf8 c ++ rest) rest c utf8 refl)
 
 -- a character whose first byte is ASCII is that byte alone
 pub encode-ascii_byte : (c byte : ℕ) (more rest : Text) → byte ∷ more ≡ encode_utf8 c ++ rest

@@ -38,7 +38,8 @@ one_dash_turn grammar text more =
 -- the first word of a line
 unfoldable pub turn : Grammar → Text → List Text → Turn
 turn grammar (first ∷ second ∷ text) more = if first == dash
-    then (if second == dash then two_dashes_turn grammar text more else one_dash_turn grammar (second ∷ text) more)
+    then (if second == dash then two_dashes_turn grammar text more else one_dash_turn grammar
+    (second ∷ text) more)
     else free_turn grammar.style (first ∷ second ∷ text) more
 turn grammar word more = free_turn grammar.style word more
 
@@ -57,7 +58,8 @@ after_turn (faults fault) after_one after_two = Err fault
 
 -- the outcomes of a line and of the line without its first word
 unfoldable pub read_both : Grammar → List Text → Result Reading Fault × Result Reading Fault
-read_both grammar [] = (Ok (record { items = []; tail = line_end }), Ok (record { items = []; tail = line_end }))
+read_both grammar [] =
+    (Ok (record { items = []; tail = line_end }), Ok (record { items = []; tail = line_end }))
 read_both grammar (word ∷ more) = (
   after_turn (turn grammar word more) (read_both grammar more).0
       (read_both grammar more).1,

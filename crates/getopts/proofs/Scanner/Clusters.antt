@@ -17,7 +17,8 @@ use Rattle.getopts.proofs.Reading.Steps.{byte_turn-end}
 
 -- the occurrences of flags, all at one position
 abbrev pub flag_occurrences : Grammar → ℕ → List ℕ → List Occurrence
-flag_occurrences grammar position bytes = map (at_position position) (mentions grammar (cluster bytes flags))
+flag_occurrences grammar position bytes =
+    map (at_position position) (mentions grammar (cluster bytes flags))
 
 -- The bytes before this place in a cluster are flags, and their occurrences were added.
 pub record FlagsRead (grammar : Grammar) (position : ℕ) (text : Text) (after : List Text) (at : ℕ)
@@ -53,7 +54,8 @@ module _ (grammar : Grammar) (position : ℕ) (text : Text) (after : List Text) 
     turn_is = before.turn_is ∙ rw (take_all at text past, drop_all at text past) refl;
     used_is = refl;
     no_free = refl;
-    added = before.added ∙ ap (λ bytes. old ++ flag_occurrences grammar position bytes) (take_all at text past);
+    added = before.added ∙ ap (λ bytes. old ++ flag_occurrences grammar position bytes)
+        (take_all at text past);
   }
 
   module _ (at : ℕ) (old new : List Occurrence) (within : at < length text)
@@ -67,8 +69,10 @@ module _ (grammar : Grammar) (position : ℕ) (text : Text) (after : List Text) 
     unfolding cluster_turn
     cluster_turn-byte kind kind_is = before.turn_is
         ∙ ap (λ (t : Text). cluster_turn grammar (take at text) t after) (text_from text at within)
-        ∙ ap (λ (k : Option HasArg). byte_turn k (take at text) (slice_index text at) (drop (at + 1) text) after
-        (cluster_turn grammar (take at text ++ slice_index text at ∷ []) (drop (at + 1) text) after)) kind_is
+        ∙ ap (λ (k : Option HasArg). byte_turn k (take at text) (slice_index text at)
+        (drop (at + 1) text) after
+        (cluster_turn grammar (take at text ++ slice_index text at ∷ [])
+        (drop (at + 1) text) after)) kind_is
 
     -- flags, and an option that ends the cluster
     pub cluster_turn-ends : (kind : HasArg) → kind ≢ No
@@ -96,11 +100,13 @@ module _ (grammar : Grammar) (position : ℕ) (text : Text) (after : List Text) 
         → newer ≡ new ++ at_position position (record { group = group; value = None }) ∷ []
         → FlagsRead grammar position text after (at + 1) old newer
     FlagsRead-more group newer utf8 ascii place flag pushed =
-        let more : take (at + 1) text ≡ take at text ++ slice_index text at ∷ [] = take_more text at 0 within in
+        let more : take (at + 1) text ≡ take at text ++ slice_index text at ∷ [] =
+        take_more text at 0 within in
         record {
           turn_is = cluster_turn-byte (Some No) flag ∙ rw more refl;
           boundary = IsCharBoundary-after_ascii text at utf8 within ascii;
-          added = occurrences_more newer group None place pushed ∙ rw more (simp (append-nil, map-append));
+          added = occurrences_more newer group None place pushed
+              ∙ rw more (simp (append-nil, map-append));
         }
 
     -- flags, and an option that ends the cluster, once its occurrence was added
@@ -114,7 +120,8 @@ module _ (grammar : Grammar) (position : ℕ) (text : Text) (after : List Text) 
       item = cluster (take at text) (ends_in (slice_index text at) chooses.argument);
       argument = chooses.argument;
       turn_is = cluster_turn-ends kind other kind_is
-          ∙ ap (chosen_turn (λ a. cluster (take at text) (ends_in (slice_index text at) a))) chooses.chosen_is;
+          ∙ ap (chosen_turn (λ a. cluster (take at text) (ends_in (slice_index text at) a)))
+          chooses.chosen_is;
       used_is = chooses.used_is;
       no_free = refl;
       added = occurrences_more newer group value place pushed ∙ rw chooses.value_is refl;

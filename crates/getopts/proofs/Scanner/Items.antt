@@ -17,7 +17,12 @@ use Rattle.getopts.proofs.Reading.Steps.{long_turn_cut}
 -- an argument that is chosen, with its value and as many words as it has
 pub Chooses-ok : (argument : Argument)
     → Chooses (Ok argument) (value_of argument) (length (argument_words argument))
-Chooses-ok argument = record { argument = argument; chosen_is = refl; value_is = refl; used_is = refl }
+Chooses-ok argument = record {
+  argument = argument;
+  chosen_is = refl;
+  value_is = refl;
+  used_is = refl;
+}
 
 -- an option that may have an argument takes the one that is attached, where there is one
 pub Chooses-maybe : (name : Text) (value : Option Text) (after : List Text)
@@ -53,7 +58,8 @@ module _ (grammar : Grammar) (dashes : Dashes) (text name : Text) (argument : Op
   AddsItem-long kind group position used value old new kind_is place_is chooses added = record {
     item = long dashes name chooses.argument;
     argument = chooses.argument;
-    turn_is = long_turn-named (Some kind) kind_is ∙ ap (chosen_turn (λ a. long dashes name a)) chooses.chosen_is;
+    turn_is = long_turn-named (Some kind) kind_is
+        ∙ ap (chosen_turn (λ a. long dashes name a)) chooses.chosen_is;
     used_is = chooses.used_is;
     no_free = refl;
     added = added ∙ rw (place_is, chooses.value_is) refl;

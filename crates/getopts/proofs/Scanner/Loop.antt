@@ -42,9 +42,14 @@ occurrences_after-push : (before : ℕ) (grammar : Grammar) (items : List Item) 
     ++ map (at_position (before + word_count items)) (mentions grammar item)
 occurrences_after-push before grammar [] item = simp (append-nil, add-zero)
 occurrences_after-push before grammar (first ∷ items) item =
-    let later : before + word_count (first ∷ []) + word_count items ≡ before + word_count (first ∷ items) =
+    let later : before + word_count (first ∷ []) + word_count items
+    ≡ before + word_count (first ∷ items) =
     omega (arith, word_count-cons first items) in
-    rw (occurrences_after-push (before + word_count (first ∷ [])) grammar items item, later, append_assoc) refl
+    rw (
+      occurrences_after-push (before + word_count (first ∷ [])) grammar items item,
+      later,
+      append_assoc,
+    ) refl
 
 -- at the start no item was read
 pub ReadSoFar-none : (grammar : Grammar) (words : List Text) → ReadSoFar grammar words 0 [] []
@@ -59,7 +64,8 @@ ReadSoFar-none grammar words = record {
 -- what is left of borrowed words from a place on is the word there, and the others
 pub texts_from : (words : List (Bor Text)) (word : Bor Text) (at : ℕ) → at < length words
     → drop at (texts words) ≡ (get_or words at word).now ∷ texts (drop (at + 1) words)
-texts_from words word at within = rw (drop-map (λ (w : Bor Text). w.now) at words, add-one, drop-cons words at word)
+texts_from words word at within =
+    rw (drop-map (λ (w : Bor Text). w.now) at words, add-one, drop-cons words at word)
 
 -- where the words after a stop begin
 pub trailing_after-stop : (start : ℕ) (words : List (Bor Text))
@@ -109,7 +115,8 @@ module _ (grammar : Grammar) (named : IsNamed grammar) (words : List (Bor Text))
         let sound : IsSoundTurn grammar word after (takes item argument) =
         subst (IsSoundTurn grammar word after) said (turn_sound grammar named word after) in
         let next : drop (at + 1 + length used) (texts words) ≡ sound.0 =
-        drop_past (texts words) after word at (length used) left ∙ ap (drop (length used)) sound.1 ∙ drop-append_seam used sound.0 in
+        drop_past (texts words) after word at (length used) left ∙ ap (drop (length used)) sound.1
+        ∙ drop-append_seam used sound.0 in
         record {
           items = before.items ++ item ∷ [];
           reads = before.reads ∙ rw (
@@ -126,7 +133,14 @@ module _ (grammar : Grammar) (named : IsNamed grammar) (words : List (Bor Text))
             ap length sound.2.spells,
             length-append {A = Text},
           );
-          occurrences_are = rw (added, before.occurrences_are, occurrences_after-push 0 grammar before.items item, zero-add, ← before.place) refl;
+          occurrences_are =
+              rw (
+                added,
+                before.occurrences_are,
+                occurrences_after-push 0 grammar before.items item,
+                zero-add,
+                ← before.place,
+              ) refl;
           free_are = rw (freed, before.free_are, free_items-append before.items (item ∷ [])) refl;
         }
 
@@ -135,9 +149,11 @@ module _ (grammar : Grammar) (named : IsNamed grammar) (words : List (Bor Text))
         → grammar.style ≡ FloatingFrees → new_frees ≡ frees ++ (get_or words at d).now ∷ []
         → ReadSoFar grammar (texts words) (at + 1) occurrences new_frees
     ReadSoFar-free new_frees plain floating pushed =
-        subst (λ (next : ℕ). ReadSoFar grammar (texts words) next occurrences new_frees) (add-zero (at + 1))
+        subst (λ (next : ℕ). ReadSoFar grammar (texts words) next occurrences new_frees)
+        (add-zero (at + 1))
         (ReadSoFar-item (free (get_or words at d).now) none occurrences new_frees
-        (turn_free grammar (get_or words at d).now (texts (drop (at + 1) words)) plain ∙ rw floating refl)
+        (turn_free grammar (get_or words at d).now (texts (drop (at + 1) words)) plain
+        ∙ rw floating refl)
         (sym (append-nil occurrences)) pushed)
 
     -- an item that a dashed word begins
@@ -169,14 +185,17 @@ module _ (grammar : Grammar) (named : IsNamed grammar) (words : List (Bor Text))
         → IsReading grammar
         (record { items = before.items; tail = stop (texts (drop (at + 1) words)) }) (texts words)
     IsReading-stop stops = IsReading-ends (stop (texts (drop (at + 1) words)))
-        (ap (λ (w : Text). turn grammar w (texts (drop (at + 1) words))) stops ∙ turn_stop grammar (texts (drop (at + 1) words)))
+        (ap (λ (w : Text). turn grammar w (texts (drop (at + 1) words))) stops
+        ∙ turn_stop grammar (texts (drop (at + 1) words)))
 
     -- a refusal that tells the fault of the word there
     pub Tells-word : (said : Turn) (fail : Fail)
         → turn grammar (get_or words at d).now (texts (drop (at + 1) words)) ≡ said
         → Tells fail (λ fault. said ≡ faults fault)
         → Tells fail (IsScanFault grammar (texts words))
-    Tells-word said fail is told = Tells-weaker fail (λ fault. said ≡ faults fault) (IsScanFault grammar (texts words)) told
+    Tells-word said fail is told =
+        Tells-weaker fail (λ fault. said ≡ faults fault) (IsScanFault grammar (texts words)) told
         (λ fault fails. read_sound grammar named (texts words) are_texts (Err fault)
         (before.reads ∙ ap (with_items before.items)
-        (ap (read grammar) (texts_from words d at within) ∙ read_error grammar _ _ fault (is ∙ fails))))
+        (ap (read grammar) (texts_from words d at within)
+        ∙ read_error grammar _ _ fault (is ∙ fails))))

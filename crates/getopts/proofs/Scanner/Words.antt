@@ -12,7 +12,8 @@ use Rattle.getopts.specs.Reading.{equals_sign, holds_equals}
 pub holds_equals-none : (text : Text) → ((i : ℕ) → i < length text → get_or text i 0 ≢ equals_sign)
     → holds_equals text ≡ false
 holds_equals-none text h = list_any_none (λ c. eqb c equals_sign) text
-    (λ k d l. let here = h k l in let same = get_or_default text k 0 d l in grind (arith, nat_tests))
+    (λ k d l. let here = h k l in let same =
+    get_or_default text k 0 d l in grind (arith, nat_tests))
 
 -- one byte of a text, as a text
 pub slice_range-one : (text : Text) (i : ℕ) → i < length text

@@ -22,7 +22,8 @@ has_room limit run word = nat_le (columns_of (run ++ word ∷ [])) limit
 -- the runs that come of a row begun with the run, and the words after it
 abbrev pub runs_from : ℕ → Run → List Text → List Run
 runs_from limit run [] = run ∷ []
-runs_from limit run (word ∷ words) = cond (has_room limit run word) (runs_from limit (run ++ word ∷ []) words)
+runs_from limit run (word ∷ words) =
+    cond (has_room limit run word) (runs_from limit (run ++ word ∷ []) words)
     (run ∷ runs_from limit (word ∷ []) words)
 
 -- the words, broken by filling row after row
@@ -58,7 +59,8 @@ FitsIn-inside limit front run back has_word fits =
     ⊎_elim
     (λ (one : length (front ++ (run ++ back)) ≡ 1). let alone : length run ≡ 1 =
     omega (arith, length-append front (run ++ back), length-append run back) in inl alone)
-    (λ (within : columns_of (front ++ (run ++ back)) ≤ limit). let narrower : columns_of run ≤ limit =
+    (λ (within : columns_of (front ++ (run ++ back)) ≤ limit).
+    let narrower : columns_of run ≤ limit =
     omega (arith, columns_of-inside front run back) in inr narrower)
     fits
 
@@ -78,7 +80,8 @@ tight-cons limit run word words ((first ∷ more) ∷ runs) has_word fits long i
     record {
       fitting = record {
         all_words = ap (λ (rest : List Text). run ++ rest) is.fitting.all_words;
-        nonempty = All-cons (λ run. 0 < length run) run ((first ∷ more) ∷ runs) has_word is.fitting.nonempty;
+        nonempty = All-cons (λ run. 0 < length run) run
+            ((first ∷ more) ∷ runs) has_word is.fitting.nonempty;
         fits = All-cons (FitsIn limit) run ((first ∷ more) ∷ runs) fits is.fitting.fits;
       };
       tight = (rw same long, is.tight);
@@ -102,16 +105,20 @@ runs_from-tight limit run [] has_word fits = record {
   };
   tight = tt;
 }
-runs_from-tight limit run (word ∷ words) has_word fits = elim (cases_Bool (has_room limit run word)) [
-  | inl taken ↦
-      let longer : 0 < length (run ++ word ∷ []) = omega (arith, length-append run (word ∷ [])) in
-      let rest = runs_from-tight limit (run ++ word ∷ []) words longer (inr (leb-true _ _ taken)) in
-      rw (runs_from-taken limit run word words taken) (rw append_assoc at rest)
-  | inr refused ↦
-      rw (runs_from-refused limit run word words refused)
-      (tight-cons limit run word words _ has_word fits (refused_does_not_fit limit run word has_word refused)
-      (runs_from-tight limit (word ∷ []) words (omega arith) (inl refl)))
-]
+runs_from-tight limit run (word ∷ words) has_word fits =
+    elim (cases_Bool (has_room limit run word)) [
+      | inl taken ↦
+          let longer : 0 < length (run ++ word ∷ []) =
+          omega (arith, length-append run (word ∷ [])) in
+          let rest = runs_from-tight limit (run ++ word ∷ []) words longer
+          (inr (leb-true _ _ taken)) in
+          rw (runs_from-taken limit run word words taken) (rw append_assoc at rest)
+      | inr refused ↦
+          rw (runs_from-refused limit run word words refused)
+          (tight-cons limit run word words _ has_word fits
+          (refused_does_not_fit limit run word has_word refused)
+          (runs_from-tight limit (word ∷ []) words (omega arith) (inl refl)))
+    ]
 
 pub runs_of-tight : (limit : ℕ) (words : List Text)
     → IsTightBreaking limit words (runs_of limit words)
@@ -123,7 +130,8 @@ runs_of-tight limit [] = record {
   };
   tight = tt;
 }
-runs_of-tight limit (word ∷ words) = runs_from-tight limit (word ∷ []) words (omega arith) (inl refl)
+runs_of-tight limit (word ∷ words) =
+    runs_from-tight limit (word ∷ []) words (omega arith) (inl refl)
 
 -- ---- of any tight breaking
 
@@ -168,14 +176,16 @@ nothing_after limit front (word ∷ middle) rest words run ((first ∷ more) ∷
     let same : first ≡ word = cc in
     absurd (is.tight.0 (rw same (FitsIn-inside limit front (run ++ word ∷ []) middle
     (omega (arith, length-append run (word ∷ [])))
-    (subst (λ (inner : Run). FitsIn limit (front ++ inner)) (sym (append_assoc run (word ∷ []) middle)) fits))))
+    (subst (λ (inner : Run). FitsIn limit (front ++ inner))
+    (sym (append_assoc run (word ∷ []) middle)) fits))))
 
 -- the first run, where a fitting run begins with it, is that run
 first_same : (limit : ℕ) (words rest : List Text) (run other : Run) (runs : List Run)
     → IsTightBreaking limit words (run ∷ runs) → FitsIn limit other
     → Within run (words_in runs) other rest → (run ≡ other) × (words_in runs ≡ rest)
 first_same limit words rest run other runs is fits within =
-    let none = nothing_after limit [] within.0 rest words run runs is (subst (FitsIn limit) within.1 fits) within.2 in (
+    let none = nothing_after limit [] within.0 rest words run runs is
+    (subst (FitsIn limit) within.1 fits) within.2 in (
       sym (within.1 ∙ ap (λ (middle : Run). run ++ middle) none ∙ append-nil run),
       within.2 ∙ ap (λ (middle : Run). middle ++ rest) none,
     )
@@ -202,17 +212,21 @@ tight_once limit words (run ∷ runs) (other ∷ others) is also =
     let fits = All-head (FitsIn limit) run runs is.fitting.fits in
     let fit = All-head (FitsIn limit) other others also.fitting.fits in
     let first : (run ≡ other) × (words_in runs ≡ words_in others) = ⊎_elim
-    (λ (w : Within run (words_in runs) other (words_in others)). first_same limit words _ run other runs is fit w)
+    (λ (w : Within run (words_in runs) other (words_in others)).
+    first_same limit words _ run other runs is fit w)
     (λ (w : Within other (words_in others) run (words_in runs)).
     let same = first_same limit words _ other run others also fits w in (sym same.0, sym same.1))
-    (cuts run (words_in runs) other (words_in others) (is.fitting.all_words ∙ sym also.fitting.all_words)) in
+    (cuts run (words_in runs) other (words_in others) (is.fitting.all_words
+    ∙ sym also.fitting.all_words)) in
     let later = tight_once limit (words_in others) runs others
-    (tight-tail limit words _ run runs is first.1) (tight-tail limit words _ other others also refl) in
+    (tight-tail limit words _ run runs is first.1)
+    (tight-tail limit words _ other others also refl) in
     cc
 
 pub runs_of-only : (limit : ℕ) (words : List Text) (others : List Run)
     → IsTightBreaking limit words others → others ≡ runs_of limit words
-runs_of-only limit words others tight = tight_once limit words others _ tight (runs_of-tight limit words)
+runs_of-only limit words others tight =
+    tight_once limit words others _ tight (runs_of-tight limit words)
 
 -- a tight breaking has no more runs than any fitting breaking, also of words that begin earlier
 few_runs : (limit : ℕ) (front words : List Text) (runs others : List Run)
@@ -229,12 +243,22 @@ few_runs limit front words (run ∷ runs) (other ∷ others) is fitting =
     let left = tight-tail limit words _ run runs is refl in
     ⊎_elim
     (λ (w : Within other (words_in others) (front ++ run) (words_in runs)).
-    omega (arith, few_runs limit w.0 _ runs others left (fitting-tail limit _ _ other others fitting w.2)))
+    omega (
+      arith,
+      few_runs limit w.0 _ runs others left
+          (fitting-tail limit _ _ other others fitting w.2),
+    ))
     (λ (w : Within (front ++ run) (words_in runs) other (words_in others)).
-    let fits = subst (FitsIn limit) (w.1 ∙ append_assoc front run w.0) (All-head (FitsIn limit) other others fitting.fits) in
+    let fits = subst (FitsIn limit) (w.1 ∙ append_assoc front run w.0)
+    (All-head (FitsIn limit) other others fitting.fits) in
     let none = nothing_after limit front w.0 _ words run runs is fits w.2 in
-    let rest : words_in others ≡ words_in runs = sym (w.2 ∙ ap (λ (middle : Run). middle ++ words_in others) none) in
-    omega (arith, few_runs limit [] _ runs others left (fitting-tail limit _ _ other others fitting rest)))
+    let rest : words_in others ≡ words_in runs =
+    sym (w.2 ∙ ap (λ (middle : Run). middle ++ words_in others) none) in
+    omega (
+      arith,
+      few_runs limit [] _ runs others left
+          (fitting-tail limit _ _ other others fitting rest),
+    ))
     (cuts other (words_in others) (front ++ run) (words_in runs)
     (fitting.all_words ∙ ap (λ (words : List Text). front ++ words) (sym is.fitting.all_words)
     ∙ sym (append_assoc front run (words_in runs))))

@@ -29,7 +29,8 @@ rows_of-push : (limit : ℕ) (lines : List Text) (line : Text) (runs : List Run)
     → rows_of limit (lines ++ line ∷ []) ≡ rows_of limit lines ++ rows
 rows_of-push limit lines line runs rows tight rows_are =
     simp (map-append, flat_map-append, append-nil) refl
-    ∙ ap (λ (runs : List Run). rows_of limit lines ++ map text_of runs) (sym (runs_of-only limit (words_of line) runs tight))
+    ∙ ap (λ (runs : List Run). rows_of limit lines ++ map text_of runs)
+    (sym (runs_of-only limit (words_of line) runs tight))
     ∙ ap (λ (rows : List Text). rows_of limit lines ++ rows) (sym rows_are)
 
 -- The text has grown by the rows of the lines so far, and the flag tells whether there is any.
@@ -59,8 +60,10 @@ lines_add limit separator lines line begun now_begun old text new_text so_far ad
       text_is =
           adds.3
           ∙ ap (λ begun. text ++ continued begun separator more) so_far.begun_is
-          ∙ ap (λ (text : Text). text ++ continued (nat_lt 0 (length rows)) separator more) so_far.text_is
-          ∙ append_assoc old (joined separator rows) (continued (nat_lt 0 (length rows)) separator more)
+          ∙ ap (λ (text : Text). text ++ continued (nat_lt 0 (length rows)) separator more)
+          so_far.text_is
+          ∙ append_assoc old (joined separator rows)
+          (continued (nat_lt 0 (length rows)) separator more)
           ∙ ap (λ (added : Text). old ++ added) (sym (joined-append separator rows more))
           ∙ ap (λ (rows : List Text). old ++ joined separator rows) (sym all);
     }
@@ -98,10 +101,13 @@ lines_end limit separator desc lines begun old text so_far all = (
 pub rows_only : (limit : ℕ) (desc : Text) (rows : List Text) → IsDescriptionRows limit desc rows
     → rows ≡ rows_of limit (lines_of desc)
 rows_only limit desc rows are =
-    let only : (words : List Text) (runs : List Run) → IsTightBreaking limit words runs → runs ≡ runs_of limit words = runs_of-only limit in
-    let each = all_zip_weaker (IsTightBreaking limit) (λ words runs. runs ≡ runs_of limit words) only
+    let only : (words : List Text) (runs : List Run) → IsTightBreaking limit words runs
+    → runs ≡ runs_of limit words = runs_of-only limit in
+    let each = all_zip_weaker (IsTightBreaking limit)
+    (λ words runs. runs ≡ runs_of limit words) only
     (map words_of (lines_of desc)) are.breakings are.each_line in
-    are.rows_are ∙ ap (λ (breakings : List (List Run)). map text_of (flat_map (λ runs. runs) breakings))
+    are.rows_are
+    ∙ ap (λ (breakings : List (List Run)). map text_of (flat_map (λ runs. runs) breakings))
     (AllZip-map (runs_of limit) (map words_of (lines_of desc)) are.breakings each)
 
 -- its rows are exactly these
@@ -118,7 +124,9 @@ pub rows_fewest : (limit : ℕ) (desc : Text) (rows : List Text) → IsDescripti
 rows_fewest limit desc rows are_rows = record {
   breakings = are_rows.breakings;
   each_line = all_zip_weaker (IsTightBreaking limit) (IsFewestBreaking limit)
-      (λ words runs tight. subst (IsFewestBreaking limit words) (sym (runs_of-only limit words runs tight))
-      (runs_of-is_fewest limit words)) (map words_of (lines_of desc)) are_rows.breakings are_rows.each_line;
+      (λ words runs tight. subst (IsFewestBreaking limit words)
+      (sym (runs_of-only limit words runs tight))
+      (runs_of-is_fewest limit words)) (map words_of (lines_of desc)) are_rows.breakings
+      are_rows.each_line;
   rows_are = are_rows.rows_are;
 }

@@ -16,7 +16,8 @@ use Rattle.getopts.proofs.Wrapping.Texts.{joined-longer, joined-next, continued-
 -- one more word at the end of a run: its columns and its text
 columns_of-push : (run : Run) (word : Text) → 0 < length run
     → columns_of (run ++ word ∷ []) ≡ columns_of run + (1 + width_of word)
-columns_of-push run word has_word = omega (arith, sum_by-append width_of run (word ∷ []), length-append run (word ∷ []))
+columns_of-push run word has_word =
+    omega (arith, sum_by-append width_of run (word ∷ []), length-append run (word ∷ []))
 
 text_of-push : (run : Run) (word : Text) → 0 < length run
     → text_of (run ++ word ∷ []) ≡ text_of run ++ 32 ∷ word
@@ -44,7 +45,12 @@ pub adds_none : (limit : ℕ) (separator line : List ℕ) (begun : Bool) (text :
     → words_of line ≡ [] → AddsLine limit separator line begun begun text text
 adds_none limit separator line begun text none = (
   [],
-  ([], subst (λ (words : List Text). IsTightBreaking limit words []) (sym none) (runs_of-tight limit []), refl),
+  (
+    [],
+    subst (λ (words : List Text). IsTightBreaking limit words []) (sym none)
+        (runs_of-tight limit []),
+    refl,
+  ),
   sym (or-false begun),
   sym (ap (λ (more : List ℕ). text ++ more) (nothing begun) ∙ append-nil text),
 )
@@ -88,14 +94,16 @@ module _ {limit : ℕ} {separator line start text : List ℕ} {columns : ℕ} {r
             taken.1
             ∙ ap (λ (text : List ℕ). text ++ 32 ∷ word) so_far.text_is
             ∙ append_assoc start (joined separator (rows ++ text_of run ∷ [])) (32 ∷ word)
-            ∙ ap (λ (row : List ℕ). start ++ row) (sym (joined-longer separator rows (text_of run) (32 ∷ word)))
+            ∙ ap (λ (row : List ℕ). start ++ row)
+            (sym (joined-longer separator rows (text_of run) (32 ∷ word)))
             ∙ ap (λ (row : List ℕ). start ++ joined separator (rows ++ row ∷ []))
             (sym (text_of-push run word so_far.has_word));
         columns_are = omega (arith, so_far.columns_are);
         utf8 = next.0;
         to_come =
             ap (λ (runs : List Run). rows ++ map text_of runs)
-            (sym (ap (runs_from limit run) next.1 ∙ runs_from-taken limit run word (words_of after) room))
+            (sym (ap (runs_from limit run) next.1
+            ∙ runs_from-taken limit run word (words_of after) room))
             ∙ so_far.to_come;
       }
 
@@ -109,7 +117,8 @@ module _ {limit : ℕ} {separator line start text : List ℕ} {columns : ℕ} {r
       let rows = so_far.rows in
       let run = so_far.run in
       let pushed = columns_of-push run word so_far.has_word in
-      let refused : has_room limit run word ≡ false = lt-leb _ _ (omega (arith, so_far.columns_are)) in
+      let refused : has_room limit run word ≡ false =
+      lt-leb _ _ (omega (arith, so_far.columns_are)) in
       record {
         rows = rows ++ text_of run ∷ [];
         run = word ∷ [];
@@ -118,13 +127,16 @@ module _ {limit : ℕ} {separator line start text : List ℕ} {columns : ℕ} {r
             made.1
             ∙ ap (λ (text : List ℕ). text ++ (separator ++ word)) so_far.text_is
             ∙ append_assoc start (joined separator (rows ++ text_of run ∷ [])) (separator ++ word)
-            ∙ ap (λ (row : List ℕ). start ++ row) (sym (joined-next separator rows (text_of run) word));
+            ∙ ap (λ (row : List ℕ). start ++ row)
+            (sym (joined-next separator rows (text_of run) word));
         columns_are = omega (arith, sum_by-cons width_of word []);
         utf8 = next.0;
         to_come =
-            append_assoc rows (text_of run ∷ []) (map text_of (runs_from limit (word ∷ []) (words_of after)))
+            append_assoc rows (text_of run ∷ [])
+            (map text_of (runs_from limit (word ∷ []) (words_of after)))
             ∙ ap (λ (runs : List Run). rows ++ map text_of runs)
-            (sym (ap (runs_from limit run) next.1 ∙ runs_from-refused limit run word (words_of after) refused))
+            (sym (ap (runs_from limit run) next.1
+            ∙ runs_from-refused limit run word (words_of after) refused))
             ∙ so_far.to_come;
       }
 
@@ -133,7 +145,8 @@ module _ {limit : ℕ} {separator line start text : List ℕ} {columns : ℕ} {r
       → start ≡ old ++ parting begun separator → AddsLine limit separator line begun true old text
   rows_finish begun old none start_is =
       let rows = so_far.rows ++ text_of so_far.run ∷ [] in
-      let some : 0 < length rows = omega (arith, length-append so_far.rows (text_of so_far.run ∷ [])) in (
+      let some : 0 < length rows =
+      omega (arith, length-append so_far.rows (text_of so_far.run ∷ [])) in (
         rows,
         (
           runs_of limit (words_of line),

@@ -31,8 +31,10 @@ joined-append separator [] more = refl
 joined-append separator (text ∷ texts) more =
     ap (λ (rest : List ℕ). text ++ rest)
     (flat_map-append (λ (text : List ℕ). separator ++ text) texts more)
-    ∙ sym (append_assoc text (flat_map (λ (text : List ℕ). separator ++ text) texts) (flat_map (λ (text : List ℕ). separator ++ text) more))
-    ∙ ap (λ begun. joined separator (text ∷ texts) ++ continued begun separator more) (sym (lt-ltb 0 (length (text ∷ texts)) (omega arith)))
+    ∙ sym (append_assoc text (flat_map (λ (text : List ℕ). separator ++ text) texts)
+    (flat_map (λ (text : List ℕ). separator ++ text) more))
+    ∙ ap (λ begun. joined separator (text ∷ texts) ++ continued begun separator more)
+    (sym (lt-ltb 0 (length (text ∷ texts)) (omega arith)))
 
 -- one text more
 continued-one : (begun : Bool) (separator text : List ℕ)
@@ -44,7 +46,8 @@ pub joined-push : (separator : List ℕ) (texts : List (List ℕ)) (text : List 
     → joined separator (texts ++ text ∷ [])
     ≡ joined separator texts ++ (parting (nat_lt 0 (length texts)) separator ++ text)
 joined-push separator texts text = joined-append separator texts (text ∷ [])
-    ∙ ap (λ (last : List ℕ). joined separator texts ++ last) (continued-one (nat_lt 0 (length texts)) separator text)
+    ∙ ap (λ (last : List ℕ). joined separator texts ++ last)
+    (continued-one (nat_lt 0 (length texts)) separator text)
 
 -- the last text grows
 pub joined-longer : (separator : List ℕ) (texts : List (List ℕ)) (text more : List ℕ)
@@ -57,7 +60,8 @@ pub joined-next : (separator : List ℕ) (texts : List (List ℕ)) (text next : 
     → joined separator ((texts ++ text ∷ []) ++ next ∷ [])
     ≡ joined separator (texts ++ text ∷ []) ++ (separator ++ next)
 joined-next separator texts text next =
-    let some : nat_lt 0 (length (texts ++ text ∷ [])) ≡ true = grind (arith, nat_tests, length-append) in
+    let some : nat_lt 0 (length (texts ++ text ∷ [])) ≡ true =
+    grind (arith, nat_tests, length-append) in
     joined-push separator (texts ++ text ∷ []) next
     ∙ ap (λ begun. joined separator (texts ++ text ∷ []) ++ (parting begun separator ++ next)) some
 
@@ -65,7 +69,8 @@ joined-next separator texts text next =
 pub continued-some : (begun : Bool) (separator : List ℕ) (texts : List (List ℕ)) → 0 < length texts
     → parting begun separator ++ joined separator texts ≡ continued begun separator texts
 continued-some begun separator [] some = absurd (omega arith)
-continued-some true separator (text ∷ texts) some = sym (append_assoc separator text (flat_map (λ (text : List ℕ). separator ++ text) texts))
+continued-some true separator (text ∷ texts) some =
+    sym (append_assoc separator text (flat_map (λ (text : List ℕ). separator ++ text) texts))
 continued-some false separator (text ∷ texts) some = refl
 
 -- ---- rows hold no line end
@@ -93,7 +98,8 @@ solid_line (c ∷ cs) solid = (solid_character c solid.0, solid_line cs solid.1)
 -- the pieces between white space have none
 onto_first_solid : (c : ℕ) (pieces : List (List ℕ)) → is_whitespace c ≡ false
     → All (NonePass is_whitespace) pieces → All (NonePass is_whitespace) (onto_first c pieces)
-onto_first_solid c [] solid all = All-cons (NonePass is_whitespace) (c ∷ []) [] (solid, tt) (All-nil (NonePass is_whitespace))
+onto_first_solid c [] solid all =
+    All-cons (NonePass is_whitespace) (c ∷ []) [] (solid, tt) (All-nil (NonePass is_whitespace))
 onto_first_solid c (piece ∷ pieces) solid all = All-cons (NonePass is_whitespace)
     (c ∷ piece) pieces (solid, All-head (NonePass is_whitespace) piece pieces all)
     (All-tail (NonePass is_whitespace) piece pieces all)
@@ -107,7 +113,8 @@ pieces_solid (c ∷ cs) =
     (λ solid. onto_first_solid c pieces solid (pieces_solid cs))
 
 ascii_fails : (byte : ℕ) → (byte < 128 → EndsNone byte) → EndsNone byte
-ascii_fails byte low = ⊎_elim (λ (ascii : byte < 128). low ascii) (λ (high : 128 ≤ byte). grind (arith, nat_tests)) (cases_lt byte 128)
+ascii_fails byte low = ⊎_elim (λ (ascii : byte < 128). low ascii)
+    (λ (high : 128 ≤ byte). grind (arith, nat_tests)) (cases_lt byte 128)
 
 -- a word is one line
 piece_line : (piece : List ℕ) → 0 < length piece → NonePass is_whitespace piece
@@ -147,8 +154,10 @@ runs_lines : (runs : List Run) → All (λ run. 0 < length run) runs
 runs_lines [] begun all = All-nil IsLine
 runs_lines (run ∷ runs) begun all =
     All-cons IsLine (text_of run) (map text_of runs)
-    (run_line run (All-head (λ (run : Run). 0 < length run) run runs begun) (all_before IsLine run (flat_map (λ run. run) runs) all))
-    (runs_lines runs (All-tail (λ (run : Run). 0 < length run) run runs begun) (all_after IsLine run (flat_map (λ run. run) runs) all))
+    (run_line run (All-head (λ (run : Run). 0 < length run) run runs begun)
+    (all_before IsLine run (flat_map (λ run. run) runs) all))
+    (runs_lines runs (All-tail (λ (run : Run). 0 < length run) run runs begun)
+    (all_after IsLine run (flat_map (λ run. run) runs) all))
 
 -- each row of a description is one line
 breakings_lines : (limit : ℕ) (lines : List (List ℕ)) (breakings : List (List Run))
@@ -160,7 +169,8 @@ breakings_lines limit (line ∷ lines) [] all = absurd all
 breakings_lines limit (line ∷ lines) (runs ∷ breakings) all =
     rw (map-append text_of runs (flat_map (λ runs. runs) breakings))
     (All-append IsLine (map text_of runs) (map text_of (flat_map (λ runs. runs) breakings))
-    (runs_lines runs all.0.fitting.nonempty (subst (All IsLine) (sym all.0.fitting.all_words) (words_lines line)))
+    (runs_lines runs all.0.fitting.nonempty
+    (subst (All IsLine) (sym all.0.fitting.all_words) (words_lines line)))
     (breakings_lines limit lines breakings all.1))
 
 rows_lines : (limit : ℕ) (desc : List ℕ) (rows : List (List ℕ)) → IsDescriptionRows limit desc rows
@@ -176,18 +186,25 @@ no_carriage_return text line =
     let last = get_or text (length text - 1) 0 in
     let within : length text - 1 < length text = (let some = line.0 in omega arith) in
     cond-false (last == 13) (take (length text - 1) text) text
-    (or_parts (last == 10) (last == 13) (All-get_or EndsNone text (length text - 1) 0 within line.1)).1
+    (or_parts (last == 10) (last == 13)
+    (All-get_or EndsNone text (length text - 1) 0 within line.1)).1
 
 no_line_feed : (text : List ℕ) → IsLine text → All (λ byte. (byte == 10) ≡ false) text
 unfolding IsLine
-no_line_feed text line = All-weaker EndsNone (λ byte. (byte == 10) ≡ false) (λ byte none. (or_parts (byte == 10) (byte == 13) none).0) text line.1
+no_line_feed text line =
+    All-weaker EndsNone (λ byte. (byte == 10) ≡ false)
+    (λ byte none. (or_parts (byte == 10) (byte == 13) none).0) text line.1
 
 split_joined : (text : List ℕ) (texts : List (List ℕ)) → All IsLine (text ∷ texts)
     → slice_split (λ byte. byte == 10) (joined (10 ∷ []) (text ∷ texts)) ≡ text ∷ texts
-split_joined text [] all = rw (append-nil text) (slice_split_none (λ byte. byte == 10) text (no_line_feed text (All-head IsLine text [] all)))
+split_joined text [] all =
+    rw (append-nil text) (slice_split_none (λ byte. byte == 10) text
+    (no_line_feed text (All-head IsLine text [] all)))
 split_joined text (next ∷ texts) all =
-    slice_split_at (λ byte. byte == 10) text 10 (joined (10 ∷ []) (next ∷ texts)) (no_line_feed text (All-head IsLine text (next ∷ texts) all)) refl
-    ∙ ap (λ (rest : List (List ℕ)). text ∷ rest) (split_joined next texts (All-tail IsLine text (next ∷ texts) all))
+    slice_split_at (λ byte. byte == 10) text 10 (joined (10 ∷ []) (next ∷ texts))
+    (no_line_feed text (All-head IsLine text (next ∷ texts) all)) refl
+    ∙ ap (λ (rest : List (List ℕ)). text ∷ rest)
+    (split_joined next texts (All-tail IsLine text (next ∷ texts) all))
 
 parts_lines : (texts : List (List ℕ)) → All IsLine texts → lines_of_parts texts ≡ texts
 unfolding IsLine
@@ -195,8 +212,10 @@ parts_lines [] all = refl
 parts_lines (text ∷ []) all =
     let some = (All-head IsLine text [] all).0 in
     cond-false _ _ _ (ne_eqb (length text) 0 (λ none. omega arith))
-parts_lines (text ∷ next ∷ texts) all = ap (λ (first : List ℕ). first ∷ lines_of_parts (next ∷ texts))
-    (no_carriage_return text (All-head IsLine text (next ∷ texts) all)) ∙ ap (λ (rest : List (List ℕ)). text ∷ rest)
+parts_lines (text ∷ next ∷ texts) all =
+    ap (λ (first : List ℕ). first ∷ lines_of_parts (next ∷ texts))
+    (no_carriage_return text (All-head IsLine text (next ∷ texts) all))
+    ∙ ap (λ (rest : List (List ℕ)). text ∷ rest)
     (parts_lines (next ∷ texts) (All-tail IsLine text (next ∷ texts) all))
 
 -- the lines of rows that are joined by line ends are the rows
@@ -206,4 +225,5 @@ lines_joined limit desc rows are_rows = of_lines rows (rows_lines limit desc row
   where
     of_lines : (texts : List (List ℕ)) → All IsLine texts → lines (joined (10 ∷ []) texts) ≡ texts
     of_lines [] all = refl
-    of_lines (text ∷ texts) all = ap lines_of_parts (split_joined text texts all) ∙ parts_lines (text ∷ texts) all
+    of_lines (text ∷ texts) all = ap lines_of_parts (split_joined text texts all)
+        ∙ parts_lines (text ∷ texts) all

@@ -57,7 +57,8 @@ each_is_the_only {X} {Y} R (x ∷ xs) (y ∷ ys) all = λ other. (
     same_as : IsTheOnly (AllZip R xs) ys → (other : List Y) → AllZip R (x ∷ xs) other
         → other ≡ y ∷ ys
     same_as rest [] each = absurd each
-    same_as rest (z ∷ zs) each = let first = (all.0 z).0 each.0 in let more = (rest zs).0 each.1 in cc
+    same_as rest (z ∷ zs) each = let first = (all.0 z).0 each.0 in let more =
+        (rest zs).0 each.1 in cc
 
 -- ---- groups, one after the other
 
@@ -68,7 +69,8 @@ pub group_more : (groups : List Group) (place : ℕ) (group : Group)
 group_more groups place group is =
     let at : slice_get groups place ≡ Some group = sym is in
     take_more groups place group (slice_get_within groups place group at)
-    ∙ ap (λ (last : Group). take place groups ++ last ∷ []) (get_or_from_slice_get groups place group group at)
+    ∙ ap (λ (last : Group). take place groups ++ last ∷ [])
+    (get_or_from_slice_get groups place group group at)
 
 -- whether a group has a short name
 abbrev pub has_short : Group → Bool
@@ -79,8 +81,10 @@ pub group_signature : (groups : List Group) (place : ℕ) (signature : Signature
     → Some signature ≡ option_map (λ (group : Group). group.signature) (slice_get groups place)
     → (group : Group) × (slice_get groups place ≡ Some group) × (signature ≡ group.signature)
 group_signature [] place signature is = cc is
-group_signature (group ∷ groups) zero signature is = (group, refl, same_Some signature group.signature is)
-group_signature (group ∷ groups) (suc place) signature is = group_signature groups place signature is
+group_signature (group ∷ groups) zero signature is =
+    (group, refl, same_Some signature group.signature is)
+group_signature (group ∷ groups) (suc place) signature is =
+    group_signature groups place signature is
 
 -- whether any group has a short name, with one more group
 pub any_short_more : (groups : List Group) (place : ℕ) (group : Group)
@@ -103,7 +107,8 @@ text_more separator texts place old so_far parted new text count so_far_is parte
     new_is
     ∙ ap (λ (parted : Text). parted ++ text) (parted_is
     ∙ ap (λ (so_far : Text). so_far ++ parting (nat_lt 0 place) separator) so_far_is
-    ∙ ap (λ place. (old ++ joined separator texts) ++ parting (nat_lt 0 place) separator) (sym count))
+    ∙ ap (λ place. (old ++ joined separator texts) ++ parting (nat_lt 0 place) separator)
+    (sym count))
     ∙ simp append_assoc refl
     ∙ ap (λ (added : Text). old ++ added) (sym (joined-push separator texts text))
 
@@ -134,7 +139,8 @@ pub row_added : (long_only among_shorts : Bool) (group : Group) (old headed padd
     → AddsTheOnly (IsUsageRow long_only among_shorts group) old new
 row_added long_only among_shorts group old headed padded new headed_is padded_is adds =
     let own = head long_only among_shorts group in
-    let own_is : drop (length old) headed ≡ own = ap (drop (length old)) headed_is ∙ drop_at old own _ refl in (
+    let own_is : drop (length old) headed ≡ own = ap (drop (length old)) headed_is
+    ∙ drop_at old own _ refl in (
       row_text own adds.0,
       made_of_the_only (IsDescriptionRows 54 group.description) (row_text own) adds.0 _
           (λ others. rows_exactly 54 group.description adds.0 others adds.1) refl,
@@ -148,7 +154,8 @@ row_added long_only among_shorts group old headed padded new headed_is padded_is
 -- the only rows of the groups before a place, in order
 abbrev pub AreRowsBefore : Declared → ℕ → List Text → Type 0
 AreRowsBefore options place rows =
-    AllZip (λ group row. IsTheOnly (IsUsageRow options.long_only (any_short options.groups) group) row)
+    AllZip (λ group row. IsTheOnly (IsUsageRow options.long_only (any_short options.groups) group)
+    row)
     (take place options.groups) rows
 
 -- one more row
@@ -161,9 +168,11 @@ pub rows_more : (options : Declared) (place : ℕ) (group : Borrowed)
     → AreRowsBefore options (place + 1) (rows ++ row ∷ [])
 rows_more options place group is long_only among_shorts long_only_is among_shorts_is rows
     row each only =
-    let Only : Group → Text → Type 0 = λ group row. IsTheOnly (IsUsageRow options.long_only (any_short options.groups) group) row in
+    let Only : Group → Text → Type 0 =
+    λ group row. IsTheOnly (IsUsageRow options.long_only (any_short options.groups) group) row in
     rw (group_more options.groups place (group_view group) is)
-    (all_zipped_more Only (take place options.groups) rows (group_view group) row each (rw (long_only_is, among_shorts_is) at only))
+    (all_zipped_more Only (take place options.groups) rows (group_view group) row each
+    (rw (long_only_is, among_shorts_is) at only))
 
 -- with the last one these are the only usage rows
 pub rows_all : (options : Declared) (place : ℕ) (rows : List Text) → length options.groups ≤ place
@@ -185,4 +194,5 @@ pub record RowsInText (options : Declared) (place : ℕ) (old text : Text) : Typ
 pub text_is_the_only : (options : Declared) (brief : Text) (rows : List Text) (text : Text)
     → IsTheOnly (AreUsageRows options) rows → text ≡ usage_text brief rows
     → IsTheOnly (IsUsageText options brief) text
-text_is_the_only options brief rows text only made = made_of_the_only (AreUsageRows options) (usage_text brief) rows text only made
+text_is_the_only options brief rows text only made =
+    made_of_the_only (AreUsageRows options) (usage_text brief) rows text only made

@@ -7,8 +7,8 @@ use Rattle.getopts.specs.Options.{Grammar, MayBeDeclared, names_of, grammar_of}
 use Rattle.getopts.specs.Held.Table.{IsTableOf}
 use Rattle.getopts.specs.Canon.{Content}
 use Rattle.getopts.specs.Reading.{Dashes, is_dashed, stop_word, Occurrence, Reading, IsReading}
-use Rattle.getopts.specs.Reading.{occurrences_of, free_words, trailing_start, IsShortForm}
-use Rattle.getopts.specs.Turn.{IsInLongForm}
+use Rattle.getopts.specs.Reading.{occurrences_of, free_words, trailing_start}
+use Rattle.getopts.specs.Turn.{IsInLongForm, IsShortForm}
 use Rattle.getopts.specs.declared.occurrences.Occurrence.{Occurrence as Held}
 use Rattle.getopts.specs.declared.scan.Line.{Line}
 use Rattle.getopts.specs.declared.scan.Scanner.{Scanner}

@@ -22,7 +22,8 @@ twin answer                  prints the cases on its standard input as rows, wit
 twin choose SEED COUNT LEAST of so many cases of a seed prints at least LEAST that show all pairs of kinds
 twin count ROWS              prints how many cases and answers of each kind there are
 twin compare OURS THEIRS     the same of two files of the same cases; status 1 where an answer differs
-twin check ROWS              answers rows that have their answers beside them; status 1 where one differs
+twin check ROWS [WORD..]     answers rows that have their answers beside them; status 1 where one differs. Lines of
+                             these words are passed over
 twin panics                  prints what each call says that panics";
 
 fn number(word: Option<&String>) -> u64 {
@@ -71,7 +72,7 @@ fn main() -> ExitCode {
             }
         }
         Some("check") => {
-            if !check::check(&text_of(words.get(1))) {
+            if !check::check(&text_of(words.get(1)), &words[2..]) {
                 return ExitCode::FAILURE;
             }
         }

@@ -30,7 +30,8 @@ counted groups found index place count is within asked =
 plain_past : (groups : List Group) (place : ℕ) → length groups ≤ place
     → not (holds_equals (main_at groups place)) ≡ true
 plain_past groups place past =
-    ap (λ o. not (holds_equals (option_map_or (λ (group : Group). main_name group.signature.names) o [])))
+    ap (λ o. not
+    (holds_equals (option_map_or (λ (group : Group). main_name group.signature.names) o [])))
     (slice_get_past groups place past)
 
 pub returns-then-holds_equals : goal.returns-then-holds_equals
@@ -45,7 +46,8 @@ returns-then-holds_equals c =
           c.count.result c.requires.index (omega arith) c.count.ensures,
       c.if-count-gt0.true,
     ) in
-    sym (list_all-fails_by_group (λ group. not (holds_equals (main_at groups group))) c.loop-place.place
+    sym (list_all-fails_by_group (λ group. not (holds_equals (main_at groups group)))
+    c.loop-place.place
     c.args.read.now.line.found (ap not holds) some)
 
 pub loop-place-preserved : goal.loop-place-preserved
@@ -53,12 +55,15 @@ loop-place-preserved c =
     let groups = c.args.groups.now in
     let found = c.args.read.now.line.found in
     let place = c.loop-place.place in
-    let counted = counted groups found c.args.read.now.index place c.count.result c.requires.index (omega arith) c.count.ensures in
-    let passes : ℕ → Type 0 = λ group. 0 < length (found_at group found) → not (holds_equals (main_at groups group)) ≡ true in
+    let counted = counted groups found c.args.read.now.index place c.count.result c.requires.index
+    (omega arith) c.count.ensures in
+    let passes : ℕ → Type 0 = λ group. 0 < length (found_at group found)
+    → not (holds_equals (main_at groups group)) ≡ true in
     let last : passes place = elim c.else-count-gt0.branch [
       | else-count-gt0-via-then-count-gt0+else-holds_equals w ↦ λ some. ap not
           (sym (w.holds_equals.ensures ∙ ap holds_equals w.main.ensures) ∙ w.if-holds_equals.false)
-      | else-count-gt0-via-else-count-gt0 w ↦ λ some. absurd (omega (arith, counted, some, w.if-count-gt0.false))
+      | else-count-gt0-via-else-count-gt0 w ↦
+          λ some. absurd (omega (arith, counted, some, w.if-count-gt0.false))
     ] in
     below_more passes place c.loop-place.invariant last
 
@@ -66,7 +71,8 @@ pub returns : goal.returns
 returns c =
     let groups = c.args.groups.now in
     let found = c.args.read.now.line.found in
-    sym (list_all-by_group (λ group. not (holds_equals (main_at groups group))) found (λ group some. elim (cases_lt group (length groups)) [
+    sym (list_all-by_group (λ group. not (holds_equals (main_at groups group))) found
+    (λ group some. elim (cases_lt group (length groups)) [
       | inl within ↦ c.loop-place.invariant group (omega arith) some
       | inr past ↦ plain_past groups group (omega arith)
     ]))

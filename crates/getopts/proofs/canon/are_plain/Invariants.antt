@@ -6,5 +6,6 @@ use Rattle.getopts.specs.Canon.{main_at}
 use Rattle.getopts.proofs.canon.are_plain.Given as goal
 
 abbrev pub invariant-loop-place : goal.invariant-loop-place
-invariant-loop-place l = (group : ℕ) → group < l.place → 0 < length (found_at group l.read.line.found)
+invariant-loop-place l = (group : ℕ) → group < l.place
+    → 0 < length (found_at group l.read.line.found)
     → not (holds_equals (main_at l.groups group)) ≡ true

@@ -11,23 +11,29 @@ use Rattle.getopts.proofs.canon.canonical_line.Goals as goal
 
 pub main-main-requires : goal.main-main-requires
 main-main-requires c =
-    AllByRecursion-at (λ (o : Occurrence). o.mention.group < length c.args.groups.now) c.args.line.found c.loop-place.place
+    AllByRecursion-at (λ (o : Occurrence). o.mention.group < length c.args.groups.now)
+    c.args.line.found c.loop-place.place
     (occurrence_view c.at-occurrence.result) c.requires c.at-occurrence.ensures
 
 pub loop-place-preserved : goal.loop-place-preserved
 loop-place-preserved c =
     let groups = c.args.groups.now in
     let found = c.args.line.found in
-    let words_of = λ (os : List Occurrence). map (canonical_word groups) (map (λ (o : Occurrence). o.mention) os) in
+    let words_of = λ (os : List Occurrence). map (canonical_word groups)
+    (map (λ (o : Occurrence). o.mention) os) in
     let occurrence = occurrence_view c.at-occurrence.result in
-    let word : string_bytes c.in_ok-canonical_word.field-0 ≡ canonical_word groups occurrence.mention =
-    c.in_ok-canonical_word.ensures ∙ ap (λ (main : Text). long_word two main occurrence.mention.value) c.main-main.ensures in
+    let word : string_bytes c.in_ok-canonical_word.field-0
+    ≡ canonical_word groups occurrence.mention =
+    c.in_ok-canonical_word.ensures
+    ∙ ap (λ (main : Text). long_word two main occurrence.mention.value) c.main-main.ensures in
     let more : words_of (take (c.loop-place.place + 1) found) ≡ words_of
     (take c.loop-place.place found) ++ canonical_word groups occurrence.mention ∷ [] =
     ap words_of (take-get found c.loop-place.place occurrence c.at-occurrence.ensures)
     ∙ ap (map (canonical_word groups)) (map-append (λ (o : Occurrence). o.mention)
     (take c.loop-place.place found) (occurrence ∷ []))
-    ∙ map-append (canonical_word groups) (map (λ (o : Occurrence). o.mention) (take c.loop-place.place found)) (occurrence.mention ∷ []) in
+    ∙ map-append (canonical_word groups)
+    (map (λ (o : Occurrence). o.mention) (take c.loop-place.place found))
+    (occurrence.mention ∷ []) in
     ap (map string_bytes) c.in_ok-push.ensures.items
     ∙ map-append string_bytes c.loop-place.words.items _
     ∙ (λ i. c.loop-place.invariant i ++ word i ∷ []) ∙ sym more

@@ -7,7 +7,8 @@ use Rattle.getopts.proofs.canon.canonical_line.Given as goal
 -- the words so far are those of the occurrences so far
 abbrev pub invariant-loop-place : goal.invariant-loop-place
 invariant-loop-place l =
-    map string_bytes l.words.items ≡ map (canonical_word l.groups) (map (λ (o : Occurrence). o.mention) (take l.place l.found))
+    map string_bytes l.words.items ≡ map (canonical_word l.groups)
+    (map (λ (o : Occurrence). o.mention) (take l.place l.found))
 
 -- the words so far are those of the occurrences, the stop, and the free words so far
 abbrev pub invariant-loop-word : goal.invariant-loop-word

@@ -9,5 +9,6 @@ pub returns : goal.returns
 returns c = record {
   reading_laws = λ options may. keeps_laws options may;
   line_laws = λ options may. KeepsLineLaws-lawful options may;
-  holds_same = λ options may. OneContentHoldsSame_lem options (AcceptedExactlyWhen-options options may);
+  holds_same = λ options may. OneContentHoldsSame_lem options
+      (AcceptedExactlyWhen-options options may);
 }

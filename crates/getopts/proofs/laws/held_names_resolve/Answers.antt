@@ -9,9 +9,11 @@ pub returns : goal.returns
 returns c =
     let groups = c.args.matches.now.groups in
     let names = held_names groups in
-    let lawful = AllByRecursion-map IsLawfullyNamed (λ group. group.signature.names) groups c.are_held_lawfully.ensures in
+    let lawful = AllByRecursion-map IsLawfullyNamed
+    (λ group. group.signature.names) groups c.are_held_lawfully.ensures in
     record {
-      main_name = λ name place held resolved at. resolution-main_name names name place held resolved at;
+      main_name = λ name place held resolved at. resolution-main_name names name place held resolved
+          at;
       one_byte = OneByteIsShort-lawful names lawful;
       empty = resolution-nil names lawful;
     }

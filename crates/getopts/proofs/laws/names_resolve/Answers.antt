@@ -9,9 +9,11 @@ pub returns : goal.returns
 returns c =
     let groups = c.args.options.now.groups in
     let names = names_of groups in
-    let lawful = AllByRecursion-map IsLawfullyNamed (λ group. group.signature.names) groups c.groups-groups.ensures.declared.named in
+    let lawful = AllByRecursion-map IsLawfullyNamed
+    (λ group. group.signature.names) groups c.groups-groups.ensures.declared.named in
     record {
-      main_name = λ name place held resolved at. resolution-main_name names name place held resolved at;
+      main_name = λ name place held resolved at. resolution-main_name names name place held resolved
+          at;
       one_byte = OneByteIsShort-lawful names lawful;
       empty = resolution-nil names lawful;
       declared = c.groups-groups.ensures.declared;

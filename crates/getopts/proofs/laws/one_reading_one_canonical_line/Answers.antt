@@ -16,7 +16,8 @@ returns c =
     let declared = c.groups-groups.ensures.declared in
     record {
       one_reading = OneReading-options options declared;
-      one_reading_in_each = λ style long_only. OneReading-options (with_setting options style long_only) declared;
+      one_reading_in_each = λ style long_only. OneReading-options
+          (with_setting options style long_only) declared;
       accepted = AcceptedExactlyWhen-options options declared;
       refused = RefusedExactlyWhen-options options declared;
       one_answer = HaveOneAnswer-options options declared;

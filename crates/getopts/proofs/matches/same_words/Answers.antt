@@ -6,4 +6,5 @@ use Rattle.std.specs.String.{string_bytes}
 use Rattle.getopts.proofs.matches.same_words.Goals as goal
 
 pub returns : goal.returns
-returns c = rw (pointwise-map string_bytes (pointwise ◌==◌) c.args.words.now c.args.others.now) c.eq.ensures
+returns c = rw (pointwise-map string_bytes (pointwise ◌==◌) c.args.words.now c.args.others.now)
+    c.eq.ensures

@@ -10,7 +10,8 @@ use Rattle.getopts.specs.declared.groups.Occur.{Occur}
 use Rattle.getopts.proofs.Parsing.Counts.{KeepsCounts-more, IsCountFault-at, length-found_at}
 use Rattle.getopts.proofs.Parsing.Counts.{length-matched, signature-there}
 use Rattle.getopts.proofs.Parsing.Faults.{Tells-weaker}
-use Rattle.getopts.proofs.Held.Signatures.{length-signatures_of, kinds-signatures_of, main-signatures_of}
+use Rattle.getopts.proofs.Held.Signatures.{length-signatures_of, kinds-signatures_of}
+use Rattle.getopts.proofs.Held.Signatures.{main-signatures_of}
 use Rattle.getopts.proofs.parse.check_counts.Goals as goal
 
 pub returns-clause-ok : goal.returns-clause-ok
@@ -27,32 +28,45 @@ loop-place-preserved c =
     let signatures = signatures_of c.args.groups.now in
     let kinds = c.kinds_at.result in
     let count = c.count-count.result in
-    let there = signature-there signatures c.loop-place.place kinds (c.kinds_at.ensures ∙ kinds-signatures_of c.args.groups.now c.loop-place.place) in
+    let there = signature-there signatures c.loop-place.place kinds (c.kinds_at.ensures
+    ∙ kinds-signatures_of c.args.groups.now c.loop-place.place) in
     let counted : count ≡ length (found_at c.loop-place.place c.args.read.now.line.found) =
-    c.count-count.ensures ∙ ap (λ (ix : List (List ℕ)). length (unwrap_or (slice_get ix c.loop-place.place) []))
-    c.requires.index ∙ length-found_at (length c.args.groups.now) c.args.read.now.line.found c.loop-place.place (omega arith) in
-    let fits : FitsCount kinds.occurrence count = c.fits_count.ensures.0 c.if-not-fits_count.false in
-    KeepsCounts-more signatures c.args.read.now.line.found c.loop-place.place there.0 there.1 c.loop-place.invariant count counted
+    c.count-count.ensures
+    ∙ ap (λ (ix : List (List ℕ)). length (unwrap_or (slice_get ix c.loop-place.place) []))
+    c.requires.index ∙ length-found_at (length c.args.groups.now) c.args.read.now.line.found
+    c.loop-place.place (omega arith) in
+    let fits : FitsCount kinds.occurrence count =
+    c.fits_count.ensures.0 c.if-not-fits_count.false in
+    KeepsCounts-more signatures c.args.read.now.line.found c.loop-place.place there.0 there.1
+    c.loop-place.invariant count counted
     (subst (λ (occurrence : Occur). FitsCount occurrence count) (sym there.2) fits)
 
 pub returns-then-not-fits_count-clause-err : goal.returns-then-not-fits_count-clause-err
 returns-then-not-fits_count-clause-err c =
-    let there = signature-there (signatures_of c.args.groups.now) c.loop-place.place c.kinds_at.result
+    let there = signature-there (signatures_of c.args.groups.now) c.loop-place.place
+    c.kinds_at.result
     (c.kinds_at.ensures ∙ kinds-signatures_of c.args.groups.now c.loop-place.place) in
     let count = c.count-count.result in
     let counted : count ≡ length (found_at c.loop-place.place c.args.read.now.line.found) =
-    c.count-count.ensures ∙ ap (λ (ix : List (List ℕ)). length (unwrap_or (slice_get ix c.loop-place.place) []))
-    c.requires.index ∙ length-found_at (length c.args.groups.now) c.args.read.now.line.found c.loop-place.place (omega arith) in
+    c.count-count.ensures
+    ∙ ap (λ (ix : List (List ℕ)). length (unwrap_or (slice_get ix c.loop-place.place) []))
+    c.requires.index ∙ length-found_at (length c.args.groups.now) c.args.read.now.line.found
+    c.loop-place.place (omega arith) in
     let main : c.main.result.now ≡ main_name there.0.names =
     c.main.ensures ∙ main-signatures_of c.args.groups.now c.loop-place.place
-    ∙ ap (λ group. option_map_or (λ (signature : Signature). main_name signature.names) group []) there.1 in
+    ∙ ap (λ group. option_map_or (λ (signature : Signature). main_name signature.names) group [])
+    there.1 in
     let broken : ¬ (FitsCount there.0.occurrence count) =
     λ fits. absurd (cc (
-      c.fits_count.ensures.1 (subst (λ (occurrence : Occur). FitsCount occurrence count) there.2 fits),
+      c.fits_count.ensures.1 (subst (λ (occurrence : Occur). FitsCount occurrence count) there.2
+          fits),
       c.if-not-fits_count.true,
     )) in
     Tells-weaker c.count_fault.result (λ fault. fault ≡ count_fault c.main.result.now count)
-    (IsCountFault (matched 0 (signatures_of c.args.groups.now) c.args.read.now.line.found)) c.count_fault.ensures
-    (λ fault told. IsCountFault-at (signatures_of c.args.groups.now) c.args.read.now.line.found c.loop-place.place there.0 there.1
+    (IsCountFault (matched 0 (signatures_of c.args.groups.now) c.args.read.now.line.found))
+    c.count_fault.ensures
+    (λ fault told. IsCountFault-at (signatures_of c.args.groups.now) c.args.read.now.line.found
+    c.loop-place.place there.0 there.1
     c.loop-place.invariant count counted fault broken
-    (told ∙ ap (λ (text : Text). count_fault text count) main ∙ ap (count_fault (main_name there.0.names)) counted))
+    (told ∙ ap (λ (text : Text). count_fault text count) main
+    ∙ ap (count_fault (main_name there.0.names)) counted))

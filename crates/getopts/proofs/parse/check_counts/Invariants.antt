@@ -5,4 +5,5 @@ use Rattle.getopts.specs.Matches.{matched, KeepsCounts}
 use Rattle.getopts.proofs.parse.check_counts.Given as goal
 
 abbrev pub invariant-loop-place : goal.invariant-loop-place
-invariant-loop-place l = KeepsCounts (take l.place (matched 0 (signatures_of l.groups) l.read.line.found))
+invariant-loop-place l =
+    KeepsCounts (take l.place (matched 0 (signatures_of l.groups) l.read.line.found))

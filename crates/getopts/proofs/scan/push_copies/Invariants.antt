@@ -6,4 +6,5 @@ use Rattle.getopts.proofs.scan.push_copies.Given as goal
 
 abbrev pub invariant-loop-word : goal.invariant-loop-word
 invariant-loop-word l =
-    map string_bytes l.copies.items ≡ map string_bytes l.fn.copies.items ++ texts (take l.word-index l.words)
+    map string_bytes l.copies.items ≡ map string_bytes l.fn.copies.items
+    ++ texts (take l.word-index l.words)

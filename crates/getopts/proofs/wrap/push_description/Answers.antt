@@ -16,14 +16,17 @@ loop-line-preserved c =
     subst (λ lines. LinesSoFar c.args.lim c.args.separator.now lines c.in_ok-begun.begun
     (string_bytes c.args.text.now) (string_bytes c.push_line.new.text)) (sym
     (map-append (λ line. line.now) c.loop-line.yielded (c.in-Some.line ∷ [])))
-    (lines_add c.args.lim c.args.separator.now lines c.in-Some.line.now _ _ _ _ _ c.loop-line.invariant c.in_ok-begun.ensures)
+    (lines_add c.args.lim c.args.separator.now lines c.in-Some.line.now _ _ _ _ _
+    c.loop-line.invariant c.in_ok-begun.ensures)
 
 -- the lines that `split` gave are all the lines
 pub returns : goal.returns
 returns c =
     let start = c.into_iter-line-iterator.ensures.into_iter_gives in
     let split = c.split-line-items.ensures in
-    let all = YieldsList-from_str_split 10 c.args.desc.now (lit< tt) (ap split_text start ∙ split.text)
+    let all = YieldsList-from_str_split 10 c.args.desc.now (lit< tt) (ap split_text start
+    ∙ split.text)
     (ap split_has_more start ∙ split.has_more) (ap split_pattern start ∙ split.pattern) in
-    let each = YieldsList-end all c.loop-line.yielded _ c.loop-line.yielded_by _ _ c.in-None.is c.next.ensures.steps in
+    let each = YieldsList-end all c.loop-line.yielded _ c.loop-line.yielded_by _ _ c.in-None.is
+    c.next.ensures.steps in
     lines_end c.args.lim c.args.separator.now c.args.desc.now _ _ _ _ c.loop-line.invariant each.0

@@ -30,8 +30,14 @@ returns-in-UnexpectedArgument-UnexpectedArgument-clause-answer c =
 
 pub returns-in_default-4 : goal.returns-in_default-4
 returns-in_default-4 c =
-    record { answer = same_fail-is _ c.args.self.now c.args.other.now (search rules); same = search rules }
+    record {
+      answer = same_fail-is _ c.args.self.now c.args.other.now (search rules);
+      same = search rules;
+    }
 
 pub returns-in_default-5 : goal.returns-in_default-5
 returns-in_default-5 c =
-    record { answer = same_fail-is _ c.args.self.now c.args.other.now (search rules); same = search rules }
+    record {
+      answer = same_fail-is _ c.args.self.now c.args.other.now (search rules);
+      same = search rules;
+    }

@@ -26,4 +26,8 @@ returns c =
     ) in
     let at = slice_get-read records c.args.place c.index.result.now within
     (λ d. get_or_read records c.args.place c.index.result.now within c.index.ensures d) in
-    rw (← c.self.view_is, groups_from-at (string_bytes c.self.inside.text) 0 records c.args.place, at) refl
+    rw (
+      ← c.self.view_is,
+      groups_from-at (string_bytes c.self.inside.text) 0 records c.args.place,
+      at,
+    ) refl

@@ -7,4 +7,8 @@ use Rattle.getopts.proofs.groups.Groups.len.Goals as goal
 pub returns-clause-len : goal.returns-clause-len
 returns-clause-len c =
     rw (← c.self.view_is)
-    (omega (arith, length-groups_from (string_bytes c.self.inside.text) 0 c.self.inside.records.items))
+    (omega (
+      arith,
+      length-groups_from (string_bytes c.self.inside.text) 0
+          c.self.inside.records.items,
+    ))

@@ -6,13 +6,16 @@ use Rattle.getopts.proofs.groups.Groups.name.Goals as goal
 
 pub returns-then-place-len : goal.returns-then-place-len
 returns-then-place-len c =
-    sym (name_at-past c.args.self.now c.args.number (omega (arith, c.len.ensures.len, c.if-place-len.true)))
+    sym (name_at-past c.args.self.now c.args.number
+    (omega (arith, c.len.ensures.len, c.if-place-len.true)))
 
 pub returns-then-number-eq0 : goal.returns-then-number-eq0
 returns-then-number-eq0 c =
-    sym (name_at-short c.args.self.now c.args.number (signature_view c.signature.result) (sym c.signature.ensures) c.if-number-eq0.true)
+    sym (name_at-short c.args.self.now c.args.number (signature_view c.signature.result)
+    (sym c.signature.ensures) c.if-number-eq0.true)
 
 pub returns-else-number-eq0 : goal.returns-else-number-eq0
 returns-else-number-eq0 c =
-    sym (name_at-long c.args.self.now c.args.number (signature_view c.signature.result) (sym c.signature.ensures)
+    sym (name_at-long c.args.self.now c.args.number (signature_view c.signature.result)
+    (sym c.signature.ensures)
     (omega (arith, c.if-number-eq0.false)))

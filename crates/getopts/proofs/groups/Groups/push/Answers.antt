@@ -25,14 +25,18 @@ added c = record {
 
 -- the group that is added
 abbrev group : goal.After-push_reserved → Group
-group c = group_of c.args.short.now c.args.long.now c.args.desc.now c.args.hint.now c.args.kinds.kind c.args.kinds.occurrence
+group c = group_of c.args.short.now c.args.long.now c.args.desc.now c.args.hint.now
+    c.args.kinds.kind c.args.kinds.occurrence
 
 items : (c : goal.After-push_reserved)
     → c.push_reserved.new.self.items ≡ c.self.inside.records.items ++ added c ∷ []
-items c = c.push_reserved.ensures.items ∙ ap (λ (records : List GroupRecord). records ++ added c ∷ []) (elim c.if-is_empty.branch [
-  | then-is_empty+in_ok-reserve+in_ok-reserve-2 w ↦ rw w.self-inside-is w.in_ok-reserve.ensures.items
-  | else-is_empty+in_ok-reserve-3+in_ok-reserve-4 w ↦ rw w.self-inside-is w.in_ok-reserve-3.ensures.items
-])
+items c = c.push_reserved.ensures.items
+    ∙ ap (λ (records : List GroupRecord). records ++ added c ∷ []) (elim c.if-is_empty.branch [
+      | then-is_empty+in_ok-reserve+in_ok-reserve-2 w ↦
+          rw w.self-inside-is w.in_ok-reserve.ensures.items
+      | else-is_empty+in_ok-reserve-3+in_ok-reserve-4 w ↦
+          rw w.self-inside-is w.in_ok-reserve-3.ensures.items
+    ])
 
 pushed : (c : goal.After-push_reserved)
     → let text = string_bytes c.push_reserved-desc_end.new.texts in
@@ -41,11 +45,16 @@ pushed : (c : goal.After-push_reserved)
     ≡ groups_from (string_bytes c.self.inside.text) 0 c.self.inside.records.items ++ group c ∷ [])
 pushed c =
     rw (items c)
-    (groups_pushed (string_bytes c.self.inside.text) c.args.short.now c.args.long.now c.args.hint.now c.args.desc.now
-    (string_bytes c.push_reserved-short_end.new.texts) (string_bytes c.push_reserved-long_end.new.texts)
-    (string_bytes c.push_reserved-hint_end.new.texts) (string_bytes c.push_reserved-desc_end.new.texts)
-    (grind (arith, common_steps)) (grind (arith, common_steps)) (grind (arith, common_steps)) (grind (arith, common_steps))
-    (added c) c.push_reserved-short_end.ensures.end c.push_reserved-long_end.ensures.end c.push_reserved-hint_end.ensures.end
+    (groups_pushed (string_bytes c.self.inside.text) c.args.short.now c.args.long.now
+    c.args.hint.now c.args.desc.now
+    (string_bytes c.push_reserved-short_end.new.texts)
+    (string_bytes c.push_reserved-long_end.new.texts)
+    (string_bytes c.push_reserved-hint_end.new.texts)
+    (string_bytes c.push_reserved-desc_end.new.texts)
+    (grind (arith, common_steps)) (grind (arith, common_steps)) (grind (arith, common_steps))
+    (grind (arith, common_steps))
+    (added c) c.push_reserved-short_end.ensures.end c.push_reserved-long_end.ensures.end
+    c.push_reserved-hint_end.ensures.end
     c.push_reserved-desc_end.ensures.end c.utf8.short c.utf8.long c.utf8.hint c.utf8.desc
     c.self.inside.records.items c.self.invariant.cut)
 
@@ -56,10 +65,12 @@ invariant_of-self-2 c =
       cut = (pushed c).0;
       declared = record {
         named = rw same
-            (AllByRecursion-append (λ (g : Group). IsLawfullyNamed g.signature.names) _ (group c ∷ [])
+            (AllByRecursion-append (λ (g : Group). IsLawfullyNamed g.signature.names) _
+            (group c ∷ [])
             c.self.invariant.declared.named (c.requires, tt));
         shorts = rw same
-            (AllByRecursion-append (λ (g : Group). Rattle.std.specs.Str.IsUtf8 g.signature.names.short) _ (group c ∷ [])
+            (AllByRecursion-append (λ (g : Group). Rattle.std.specs.Str.IsUtf8
+            g.signature.names.short) _ (group c ∷ [])
             c.self.invariant.declared.shorts (c.utf8.short, tt));
       };
     }

@@ -19,8 +19,10 @@ tested : (c : After-ne) → c.ne.result
     ≡ not (option_eq same_signature (slice_get (signatures_of c.args.self.now) c.loop-place.place)
     (slice_get (signatures_of c.args.other.now) c.loop-place.place))
 tested c =
-    let here = c.signature.ensures ∙ sym (slice_get-map (λ (g : Group). g.signature) c.args.self.now c.loop-place.place) in
-    let there = c.signature-in-loop-place.ensures ∙ sym (slice_get-map (λ (g : Group). g.signature) c.args.other.now c.loop-place.place) in
+    let here = c.signature.ensures
+    ∙ sym (slice_get-map (λ (g : Group). g.signature) c.args.self.now c.loop-place.place) in
+    let there = c.signature-in-loop-place.ensures
+    ∙ sym (slice_get-map (λ (g : Group). g.signature) c.args.other.now c.loop-place.place) in
     c.ne.ensures ∙ ap not (λ i. option_eq same_signature (here i) (there i))
 
 pub returns-then-ne : goal.returns-then-ne
@@ -29,9 +31,13 @@ returns-then-ne c =
     let os = signatures_of c.args.other.now in
     elim (cases_Bool (pointwise same_signature ks os)) [
       | inl same ↦
-          let alike = ap (λ xs. slice_get xs c.loop-place.place) ((pointwise_decides same_signature-decides ks os).0 same) in
-          let passes = (options_decide same_signature same_signature-decides (slice_get ks c.loop-place.place) (slice_get os c.loop-place.place)).1 alike in
-          absurd (false≢true (sym (not-true _ (sym (tested (goal.at.returns-then-ne c).After-ne) ∙ c.if-ne.true)) ∙ passes))
+          let alike = ap (λ xs. slice_get xs c.loop-place.place)
+          ((pointwise_decides same_signature-decides ks os).0 same) in
+          let passes =
+          (options_decide same_signature same_signature-decides (slice_get ks c.loop-place.place)
+          (slice_get os c.loop-place.place)).1 alike in
+          absurd (false≢true (sym (not-true _ (sym (tested (goal.at.returns-then-ne c).After-ne)
+          ∙ c.if-ne.true)) ∙ passes))
       | inr differ ↦ sym differ
     ]
 
@@ -43,7 +49,8 @@ loop-place-preserved c = λ k within.
       | inr past ↦
           let here : c.loop-place.place ≡ k = omega arith in
           ap (λ n. slice_get (signatures_of c.args.self.now) n) (sym here)
-          ∙ (options_decide same_signature same_signature-decides _ _).0 (not-false _ (sym (tested before) ∙ c.if-ne.false))
+          ∙ (options_decide same_signature same_signature-decides _ _).0
+          (not-false _ (sym (tested before) ∙ c.if-ne.false))
           ∙ ap (λ n. slice_get (signatures_of c.args.other.now) n) here
     ]
 
@@ -51,7 +58,9 @@ pub returns : goal.returns
 returns c =
     let ks = signatures_of c.args.self.now in
     let os = signatures_of c.args.other.now in
-    let long : length ks ≡ length os = length-map c.args.self.now (λ (g : Group). g.signature) ∙ omega arith
+    let long : length ks ≡ length os = length-map c.args.self.now (λ (g : Group). g.signature)
+    ∙ omega arith
     ∙ sym (length-map c.args.other.now (λ (g : Group). g.signature)) in
     sym ((pointwise_decides same_signature-decides ks os).1 (same_by_places ks os long
-    (λ k within. c.loop-place.invariant k (omega (arith, within, length-map c.args.self.now (λ (g : Group). g.signature))))))
+    (λ k within. c.loop-place.invariant k
+    (omega (arith, within, length-map c.args.self.now (λ (g : Group). g.signature))))))

@@ -4,13 +4,15 @@ use Rattle.std.proofs.lemmas.Str.{IsUtf8-string_bytes, IsCharBoundary-start}
 use Rattle.std.specs.String.{string_bytes}
 use Rattle.std.proofs.lemmas.List.{get_or_read}
 use Rattle.getopts.proofs.Lists.{slice_get-read}
-use Rattle.getopts.proofs.Held.Groups.{start_at, record_within, groups_from-at, AreEndsOf, AreEndsOf-at}
+use Rattle.getopts.proofs.Held.Groups.{start_at, record_within, groups_from-at, AreEndsOf}
+use Rattle.getopts.proofs.Held.Groups.{AreEndsOf-at}
 use Rattle.getopts.proofs.groups.Groups.signature.Goals as goal
 use Rattle.getopts.proofs.groups.Groups.signature.Goals.{After-deref-2}
 
 pub index-group-requires : goal.index-group-requires
 index-group-requires c =
-    let within = record_within _ _ c.self.inside.records.items _ _ c.self.view_is c.requires in omega (arith, within)
+    let within = record_within _ _ c.self.inside.records.items _ _ c.self.view_is c.requires in
+    omega (arith, within)
 
 record_at : (c : After-deref-2)
     → slice_get c.self.inside.records.items c.args.place ≡ Some c.index-group.result.now
@@ -29,7 +31,8 @@ ends : (c : After-deref-2)
 ends c = let text = string_bytes c.self.inside.text in
     subst (λ start. AreEndsOf text start c.index-group.result.now) (starts c)
     (AreEndsOf-at text 0 c.self.inside.records.items c.args.place c.index-group.result.now
-    (IsCharBoundary-start text (IsUtf8-string_bytes c.self.inside.text)) c.self.invariant.cut.in_order
+    (IsCharBoundary-start text (IsUtf8-string_bytes c.self.inside.text))
+    c.self.invariant.cut.in_order
     c.self.invariant.cut.between_characters (record_at c))
 
 pub start_of-start-requires : goal.start_of-start-requires
@@ -47,15 +50,18 @@ pub range-short-requires-clause-end_boundary : goal.range-short-requires-clause-
 range-short-requires-clause-end_boundary c = rw c.deref-2.ensures (ends c).short.1
 
 pub range-long-requires-clause-start_le_end : goal.range-long-requires-clause-start_le_end
-range-long-requires-clause-start_le_end c = (ends (goal.at.range-long-requires-clause-start_le_end c).After-deref-2).long.0
+range-long-requires-clause-start_le_end c =
+    (ends (goal.at.range-long-requires-clause-start_le_end c).After-deref-2).long.0
 
 pub range-long-requires-clause-start_boundary : goal.range-long-requires-clause-start_boundary
 range-long-requires-clause-start_boundary c =
-    λ _. rw c.deref-3.ensures (ends (goal.at.range-long-requires-clause-start_boundary c).After-deref-2).short.1
+    λ _. rw c.deref-3.ensures
+    (ends (goal.at.range-long-requires-clause-start_boundary c).After-deref-2).short.1
 
 pub range-long-requires-clause-end_boundary : goal.range-long-requires-clause-end_boundary
 range-long-requires-clause-end_boundary c =
-    rw c.deref-3.ensures (ends (goal.at.range-long-requires-clause-end_boundary c).After-deref-2).long.1
+    rw c.deref-3.ensures
+    (ends (goal.at.range-long-requires-clause-end_boundary c).After-deref-2).long.1
 
 pub returns : goal.returns
 returns c =

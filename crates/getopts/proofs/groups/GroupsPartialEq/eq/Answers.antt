@@ -15,4 +15,10 @@ returns-then-eq c =
 
 pub returns-else-eq : goal.returns-else-eq
 returns-else-eq c =
-    rw (← c.self.view_is, ← c.other.view_is, ← same_groups _ _ _ _ c.self.invariant.cut c.other.invariant.cut, ← c.eq.ensures, c.if-eq.false)
+    rw (
+      ← c.self.view_is,
+      ← c.other.view_is,
+      ← same_groups _ _ _ _ c.self.invariant.cut c.other.invariant.cut,
+      ← c.eq.ensures,
+      c.if-eq.false,
+    )

@@ -3,4 +3,6 @@ use Rattle.getopts.proofs.Held.Matches.{AreHeldLawfully-matched}
 use Rattle.getopts.proofs.matches.MatchedGroups.are_lawful.Goals as goal
 
 pub returns : goal.returns
-returns c = rw (← c.self.view_is) (AreHeldLawfully-matched 0 c.self.inside.groups c.self.inside.found c.may_be_declared.ensures.named)
+returns c =
+    rw (← c.self.view_is) (AreHeldLawfully-matched 0 c.self.inside.groups c.self.inside.found
+    c.may_be_declared.ensures.named)

@@ -6,10 +6,13 @@ use Rattle.getopts.proofs.matches.MatchedGroups.occurrences_at.Goals.{After-plac
 
 places_are : (c : After-places)
     → c.places.result.now ≡ held_places c.self.inside.groups c.self.inside.found c.args.place
-places_are c = c.places.ensures ∙ ap (λ (index : List (List ℕ)). unwrap_or (slice_get index c.args.place) []) c.self.invariant.index
+places_are c = c.places.ensures
+    ∙ ap (λ (index : List (List ℕ)). unwrap_or (slice_get index c.args.place) [])
+    c.self.invariant.index
 
 pub of-requires : goal.of-requires
-of-requires c = rw (places_are c) (held_places-within c.self.inside.groups c.self.inside.found c.args.place)
+of-requires c =
+    rw (places_are c) (held_places-within c.self.inside.groups c.self.inside.found c.args.place)
 
 pub returns : goal.returns
 returns c =

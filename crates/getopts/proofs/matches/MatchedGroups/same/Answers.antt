@@ -14,7 +14,8 @@ use Rattle.getopts.proofs.matches.MatchedGroups.same.Goals.{After-same_signature
 signatures : (c : After-same_signatures)
     → pointwise same_signature (map (λ (group : MatchedGroup). group.signature) c.args.self.now)
     (map (λ (group : MatchedGroup). group.signature) c.args.other.now)
-    ≡ pointwise same_signature (signatures_of c.self.inside.groups) (signatures_of c.other.inside.groups)
+    ≡ pointwise same_signature (signatures_of c.self.inside.groups)
+    (signatures_of c.other.inside.groups)
 signatures c = rw (
   ← c.self.view_is,
   ← c.other.view_is,
@@ -24,16 +25,19 @@ signatures c = rw (
 
 as_many : (c : After-same_signatures) → length c.args.self.now ≡ length c.self.inside.groups
 as_many c = ap (λ (groups : List MatchedGroup). length groups) (sym c.self.view_is)
-    ∙ length-matched 0 (signatures_of c.self.inside.groups) c.self.inside.found ∙ length-signatures_of c.self.inside.groups
+    ∙ length-matched 0 (signatures_of c.self.inside.groups) c.self.inside.found
+    ∙ length-signatures_of c.self.inside.groups
 
 pub returns-then-not-same_signatures : goal.returns-then-not-same_signatures
 returns-then-not-same_signatures c = sym (differ_signature c.args.self.now c.args.other.now
-    (signatures (goal.at.returns-then-not-same_signatures c).After-same_signatures ∙ sym c.same_signatures.ensures ∙ c.if-not-same_signatures.true))
+    (signatures (goal.at.returns-then-not-same_signatures c).After-same_signatures
+    ∙ sym c.same_signatures.ensures ∙ c.if-not-same_signatures.true))
 
 pub returns-then-not-same : goal.returns-then-not-same
 returns-then-not-same c =
     sym (differ_found c.args.self.now c.args.other.now c.loop-place.place
-    ((λ i. pointwise same_found (sym c.occurrences_at.ensures i) (sym c.occurrences_at-in-loop-place.ensures i))
+    ((λ i. pointwise same_found (sym c.occurrences_at.ensures i)
+    (sym c.occurrences_at-in-loop-place.ensures i))
     ∙ sym c.same.ensures ∙ c.if-not-same.true))
 
 pub returns : goal.returns

@@ -6,4 +6,5 @@ use Rattle.getopts.specs.Same.{same_found}
 use Rattle.getopts.proofs.matches.MatchedGroups.same.Given as goal
 
 abbrev pub invariant-loop-place : goal.invariant-loop-place
-invariant-loop-place l = (k : ℕ) → k < l.place → pointwise same_found (found_in l.self k) (found_in l.other k) ≡ true
+invariant-loop-place l = (k : ℕ) → k < l.place
+    → pointwise same_found (found_in l.self k) (found_in l.other k) ≡ true

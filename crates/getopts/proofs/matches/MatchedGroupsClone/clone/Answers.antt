@@ -8,7 +8,8 @@ use Rattle.getopts.proofs.matches.MatchedGroupsClone.clone.Goals as goal
 pub invariant_of-result : goal.invariant_of-result
 invariant_of-result c =
     let groups : c.in_ok-clone.field-0 ≡ c.self.inside.groups = c.in_ok-clone.ensures.cases in
-    let table : c.in_ok-clone-2.field-0.entries.items ≡ c.self.inside.table.entries.items = c.in_ok-clone-2.ensures.same in
+    let table : c.in_ok-clone-2.field-0.entries.items ≡ c.self.inside.table.entries.items =
+    c.in_ok-clone-2.ensures.same in
     let found : c.in_ok-clone-3.field-0 ≡ c.self.inside.found = c.in_ok-clone-3.ensures.cases in
     let index : c.in_ok-clone-4.field-0 ≡ c.self.inside.index = c.in_ok-clone-4.ensures.cases in
     record {

@@ -4,5 +4,6 @@ use Rattle.getopts.proofs.matches.Matches.first_among.Given as goal
 
 -- the names that are left have the value that all of them have
 abbrev pub invariant-loop-name : goal.invariant-loop-name
-invariant-loop-name g l = first_value_among l.self.groups (map g.T.AsStr.text (drop l.name-index l.names))
+invariant-loop-name g l =
+    first_value_among l.self.groups (map g.T.AsStr.text (drop l.name-index l.names))
     ≡ first_value_among l.self.groups (map g.T.AsStr.text l.names)

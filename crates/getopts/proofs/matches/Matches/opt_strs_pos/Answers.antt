@@ -9,7 +9,9 @@ use Rattle.getopts.proofs.matches.Matches.opt_strs_pos.Goals as goal
 pub returns-clause-texts : goal.returns-clause-texts
 returns-clause-texts c =
     let found : c.occurrences_of.result ≡ found_of c.args.self.now.groups c.args.name.now =
-    c.occurrences_of.ensures ∙ ap (λ (matches : Matched). found_of matches.groups c.args.name.now) c.self.view_is in
+    c.occurrences_of.ensures
+    ∙ ap (λ (matches : Matched). found_of matches.groups c.args.name.now) c.self.view_is in
     IfOk-weaker _ _ _
-    (λ (pairs : Vec (ℕ × String Global) Global) same. texts_of_held_pairs pairs.items c.occurrences_of.result same ∙ ap values_of found)
+    (λ (pairs : Vec (ℕ × String Global) Global) same.
+    texts_of_held_pairs pairs.items c.occurrences_of.result same ∙ ap values_of found)
     c.pairs.ensures

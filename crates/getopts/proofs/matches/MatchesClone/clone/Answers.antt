@@ -7,7 +7,8 @@ use Rattle.getopts.proofs.matches.MatchesClone.clone.Goals as goal
 pub returns : goal.returns
 returns c =
     let groups : c.in_ok-clone-2.field-0 ≡ c.self.inside.held = c.in_ok-clone-2.ensures.cases in
-    let free = map-alike string_bytes c.self.inside.free.items c.in_ok-clone.field-0.items c.in_ok-clone.ensures.cases.0 in
+    let free = map-alike string_bytes c.self.inside.free.items c.in_ok-clone.field-0.items
+    c.in_ok-clone.ensures.cases.0 in
     record {
       same =
           (λ i. record {

@@ -25,9 +25,11 @@ added : (c : goal.After-push_reserved)
     ≡ with_values (string_bytes c.self.inside.values) c.self.inside.records.items
     ++ record_view (last c, c.unwrap_or-value.result.now) ∷ [])
 added c =
-    let ends : c.packed.result / 2 ≡ length (string_bytes c.push_value.new.values) = grind (arith, common_steps) in
+    let ends : c.packed.result / 2 ≡ length (string_bytes c.push_value.new.values) =
+    grind (arith, common_steps) in
     with_values-push (string_bytes c.self.inside.values) c.unwrap_or-value.result.now
-    (string_bytes c.push_value.new.values) c.self.inside.records.items c.push_reserved.new.self.items (last c)
+    (string_bytes c.push_value.new.values) c.self.inside.records.items
+    c.push_reserved.new.self.items (last c)
     (grind (arith, common_steps))
     (c.push_reserved.ensures.items ∙ ap (λ items. items ++ last c ∷ []) c.reserve.ensures.items)
     ends c.unwrap_or-value.utf8 c.self.invariant
@@ -44,7 +46,8 @@ pub returns : goal.returns
 returns c =
     let has = c.packed.ensures.value ∙ c.is_some.ensures in
     let text = c.unwrap_or-value.ensures in
-    let value : (record_view (last c, c.unwrap_or-value.result.now)).mention.value ≡ option_copied c.args.occurrence.value =
+    let value : (record_view (last c, c.unwrap_or-value.result.now)).mention.value
+    ≡ option_copied c.args.occurrence.value =
     (λ i. cond (has i) (Some (text i).now) None) ∙ value_seen c.args.occurrence.value _ in
     (added c).1 ∙ (λ i. c.self.view_is i ++ record {
       mention = record { group = c.args.occurrence.group; value = value i };

@@ -8,7 +8,8 @@ use Rattle.getopts.proofs.occurrences.Occurrences.at.Goals as goal
 
 pub offset_bounds-self-inside-nth : goal.offset_bounds-self-inside-nth
 offset_bounds-self-inside-nth c =
-    let within = place_within _ _ c.self.invariant _ _ c.self.view_is c.requires in omega (arith, within, c.self.told)
+    let within = place_within _ _ c.self.invariant _ _ c.self.view_is c.requires in omega
+    (arith, within, c.self.told)
 
 pub bounds-self-inside-nth : goal.bounds-self-inside-nth
 bounds-self-inside-nth c = place_within _ _ c.self.invariant _ _ c.self.view_is c.requires

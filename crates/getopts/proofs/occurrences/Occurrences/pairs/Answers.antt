@@ -5,4 +5,6 @@ use Rattle.getopts.proofs.Held.Occurrences.{pairs-more}
 use Rattle.getopts.proofs.occurrences.Occurrences.pairs.Goals as goal
 
 pub loop-nth-preserved : goal.loop-nth-preserved
-loop-nth-preserved c = let more = pairs-more c.args.self.now c.loop-nth.nth (Some c.at.result) (sym c.at.ensures) in grind (arith, common_steps)
+loop-nth-preserved c = let more =
+    pairs-more c.args.self.now c.loop-nth.nth (Some c.at.result) (sym c.at.ensures) in grind
+    (arith, common_steps)

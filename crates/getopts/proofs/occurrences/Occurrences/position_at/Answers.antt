@@ -8,7 +8,8 @@ use Rattle.getopts.proofs.occurrences.Occurrences.position_at.Goals as goal
 
 pub offset_bounds-self-inside-nth : goal.offset_bounds-self-inside-nth
 offset_bounds-self-inside-nth c =
-    let within = place_within _ _ c.self.invariant _ _ c.self.view_is c.requires in omega (arith, within, c.self.told)
+    let within = place_within _ _ c.self.invariant _ _ c.self.view_is c.requires in omega
+    (arith, within, c.self.told)
 
 pub bounds-self-inside-nth : goal.bounds-self-inside-nth
 bounds-self-inside-nth c = place_within _ _ c.self.invariant _ _ c.self.view_is c.requires
@@ -20,5 +21,6 @@ returns c =
     rw (← c.self.view_is)
     (c.position_at.ensures ∙ position-part _
     ∙ ap (option_map (λ (found : Found). found.position))
-    (sym (founds-at c.self.inside.found.now c.self.inside.places.now c.self.invariant c.args.nth place
+    (sym (founds-at c.self.inside.found.now c.self.inside.places.now c.self.invariant c.args.nth
+    place
     (slice_get-get_or c.self.inside.places.now c.args.nth 0 within))))

@@ -6,4 +6,5 @@ use Rattle.getopts.proofs.occurrences.OccurrencesIterIterator.next.Goals as goal
 pub returns-clause-steps : goal.returns-clause-steps
 returns-clause-steps c =
     rw (← c.self.view_is)
-    (drop-next c.self.inside.occurrences c.self.inside.next (held_found c.at-occurrence.result) c.at-occurrence.ensures)
+    (drop-next c.self.inside.occurrences c.self.inside.next
+    (held_found c.at-occurrence.result) c.at-occurrence.ensures)

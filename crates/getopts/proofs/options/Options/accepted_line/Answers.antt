@@ -15,7 +15,8 @@ returns-in_err-read-clause-refused c =
     let left = err_from_is_err_and c.from_residual.result c.from_residual.ensures.1 in
     rw (left.1, left.2)
     (Tells-weaker c.in_err-read.field-0.0 (HasNoReading c.args.self.now (texts c.args.words.now))
-    (IsRefused c.args.self.now (texts c.args.words.now)) c.in_err-read.ensures.refused (λ fault is. inl is))
+    (IsRefused c.args.self.now (texts c.args.words.now)) c.in_err-read.ensures.refused
+    (λ fault is. inl is))
 
 pub check_counts-requires : goal.check_counts-requires
 check_counts-requires c = rw (c.groups.ensures.groups) c.in_ok-read.ensures.read.of_groups
@@ -23,9 +24,11 @@ check_counts-requires c = rw (c.groups.ensures.groups) c.in_ok-read.ensures.read
 pub returns-in_err-check_counts-clause-refused : goal.returns-in_err-check_counts-clause-refused
 returns-in_err-check_counts-clause-refused c =
     let line = c.in_ok-read.read.line in
-    let left = err_from_is_err_and c.from_residual-in_err-check_counts.result c.from_residual-in_err-check_counts.ensures.1 in
+    let left = err_from_is_err_and c.from_residual-in_err-check_counts.result
+    c.from_residual-in_err-check_counts.ensures.1 in
     rw (left.1, left.2)
-    (Tells-weaker c.in_err-check_counts.field-0.0 (IsCountFault (matched 0 (signatures_of c.args.self.now.groups) line.found))
+    (Tells-weaker c.in_err-check_counts.field-0.0
+    (IsCountFault (matched 0 (signatures_of c.args.self.now.groups) line.found))
     (IsRefused c.args.self.now (texts c.args.words.now))
     (rw c.groups.ensures.groups at c.in_err-check_counts.ensures.err)
     (λ fault is. inr (record {
@@ -34,7 +37,8 @@ returns-in_err-check_counts-clause-refused c =
         free = map string_bytes line.free.items;
         trailing_start = line.trailing_start;
       };
-      read = HasReading-line c.args.self.now (texts c.args.words.now) c.in_ok-read.read c.in_ok-read.ensures.read;
+      read = HasReading-line c.args.self.now (texts c.args.words.now) c.in_ok-read.read
+          c.in_ok-read.ensures.read;
       breaks = is;
     })))
 

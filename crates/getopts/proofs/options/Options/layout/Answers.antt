@@ -12,13 +12,16 @@ pub loop-place-preserved : goal.loop-place-preserved
 loop-place-preserved c =
     let groups = c.groups-groups.result.now in
     let place = c.loop-place.place in
-    let there = group_signature groups place (signature_view c.signature.result) c.signature.ensures in
+    let there = group_signature groups place (signature_view c.signature.result)
+    c.signature.ensures in
     any_short_more groups place there.0 there.1 c.loop-place.any_short _ c.loop-place.invariant
     (ap (λ (empty : Bool). c.loop-place.any_short || not empty) c.is_empty.ensures
-    ∙ ap (λ (signature : Signature). c.loop-place.any_short || not (is_empty signature.names.short)) there.2)
+    ∙ ap (λ (signature : Signature). c.loop-place.any_short || not (is_empty signature.names.short))
+    there.2)
 
 -- all groups were asked
 pub returns-clause-any_short : goal.returns-clause-any_short
 returns-clause-any_short c =
     c.loop-place.invariant
-    ∙ ap any_short (take_all c.loop-place.place c.groups-groups.result.now (omega arith) ∙ c.groups-groups.ensures.groups)
+    ∙ ap any_short (take_all c.loop-place.place c.groups-groups.result.now (omega arith)
+    ∙ c.groups-groups.ensures.groups)

@@ -17,13 +17,15 @@ returns-clause-accepted g c =
     let run = c.in_ok-words.ensures in
     let words = c.deref.ensures.value ∙ run.3 in
     IfOk-weaker c.parse_words.result _
-    (λ (matches : Matched). WholeRun g.I.Iterator.next_gives c.args.args (λ run. Accepts c.args.self.now run.items matches))
+    (λ (matches : Matched). WholeRun g.I.Iterator.next_gives c.args.args
+    (λ run. Accepts c.args.self.now run.items matches))
     (λ matches accepted. (
       run.0,
       run.1,
       run.2,
       Accepts-accepted c.args.self.now (run.0).items matches
-          (subst (λ (ws : List (Bor Text)). IsAccepted c.args.self.now (texts ws) matches) words accepted),
+          (subst (λ (ws : List (Bor Text)). IsAccepted c.args.self.now (texts ws) matches) words
+          accepted),
     ))
     c.parse_words.ensures.accepted
 
@@ -31,10 +33,18 @@ pub returns-clause-refused : goal.returns-clause-refused
 returns-clause-refused g c =
     let run = c.in_ok-words.ensures in
     let words = c.deref.ensures.value ∙ run.3 in
-    IfErr-weaker c.parse_words.result (λ (fail : Fail). Tells fail (IsRefused c.args.self.now (texts c.deref.result.now)))
-    (λ (fail : Fail). Tells fail (λ fault. WholeRun g.I.Iterator.next_gives c.args.args (λ run. IsRefused c.args.self.now (texts run.items) fault)))
+    IfErr-weaker c.parse_words.result
+    (λ (fail : Fail). Tells fail (IsRefused c.args.self.now (texts c.deref.result.now)))
+    (λ (fail : Fail). Tells fail (λ fault. WholeRun g.I.Iterator.next_gives c.args.args
+    (λ run. IsRefused c.args.self.now (texts run.items) fault)))
     (λ fail told. Tells-weaker fail (IsRefused c.args.self.now (texts c.deref.result.now))
     (λ (fault : Fault). WholeRun g.I.Iterator.next_gives c.args.args
     (λ run. IsRefused c.args.self.now (texts run.items) fault)) told
-    (λ fault refused. (run.0, run.1, run.2, subst (λ (ws : List (Bor Text)). IsRefused c.args.self.now (texts ws) fault) words refused)))
+    (λ fault refused. (
+      run.0,
+      run.1,
+      run.2,
+      subst
+          (λ (ws : List (Bor Text)). IsRefused c.args.self.now (texts ws) fault) words refused,
+    )))
     c.parse_words.ensures.refused

@@ -21,7 +21,8 @@ loop-place-preserved c =
     omega (arith, ap (λ (groups : List Group). length groups) c.groups-groups.ensures.groups) in
     let count : length texts ≡ place = simp length-map (length-take-le place groups within) in
     rw (
-      group_more groups place (group_view c.get.result) (rw c.groups-groups.ensures.groups at c.get.ensures),
+      group_more groups place (group_view c.get.result)
+          (rw c.groups-groups.ensures.groups at c.get.ensures),
       map-append option_text (take place groups) (group_view c.get.result ∷ []),
     )
     (text_more (codes " ") texts place _ _ _ _ (option_text (group_view c.get.result)) count
@@ -33,5 +34,6 @@ returns c =
     let all : length c.args.self.now.groups ≤ c.loop-place.place =
     omega (arith, ap (λ (groups : List Group). length groups) c.groups-groups.ensures.groups) in
     c.loop-place.invariant
-    ∙ ap (λ (groups : List Group). string_bytes c.args.text.now ++ joined (codes " ") (map option_text groups))
+    ∙ ap (λ (groups : List Group). string_bytes c.args.text.now
+    ++ joined (codes " ") (map option_text groups))
     (take_all c.loop-place.place c.args.self.now.groups all)

@@ -5,4 +5,5 @@ use Rattle.getopts.proofs.options.Options.push_options.Given as goal
 
 -- the options of the groups so far stand in the text
 abbrev pub invariant-loop-place : goal.invariant-loop-place
-invariant-loop-place l = string_bytes l.text ≡ string_bytes l.fn.text ++ joined (codes " ") (map option_text (take l.place l.self.groups))
+invariant-loop-place l = string_bytes l.text ≡ string_bytes l.fn.text
+    ++ joined (codes " ") (map option_text (take l.place l.self.groups))

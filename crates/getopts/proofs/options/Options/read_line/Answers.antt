@@ -19,11 +19,14 @@ scan-requires c = record {
 
 pub returns-in_err-line-clause-refused : goal.returns-in_err-line-clause-refused
 returns-in_err-line-clause-refused c =
-    let left = err_from_is_err_and c.from_residual-in_err-line.result c.from_residual-in_err-line.ensures.1 in
+    let left = err_from_is_err_and c.from_residual-in_err-line.result
+    c.from_residual-in_err-line.ensures.1 in
     rw (left.1, left.2)
-    (Tells-weaker c.in_err-line.field-0.0 (IsScanFault (grammar_of c.args.self.now) (texts c.args.words.now))
+    (Tells-weaker c.in_err-line.field-0.0
+    (IsScanFault (grammar_of c.args.self.now) (texts c.args.words.now))
     (HasNoReading c.args.self.now (texts c.args.words.now)) c.in_err-line.ensures.err
-    (HasNoReading-fault c.args.self.now c.groups-groups.ensures.declared (texts c.args.words.now) c.are_texts.ensures))
+    (HasNoReading-fault c.args.self.now c.groups-groups.ensures.declared
+    (texts c.args.words.now) c.are_texts.ensures))
 
 pub returns-clause-read : goal.returns-clause-read
 returns-clause-read c = record {

@@ -13,7 +13,11 @@ pub returns-else-eq-2-clause-answer : goal.returns-else-eq-2-clause-answer
 returns-else-eq-2-clause-answer c = grind (arith, common_steps)
 
 pub returns-then-eq-2-clause-same : goal.returns-then-eq-2-clause-same
-returns-then-eq-2-clause-same c = Decides-at _ _ (returns-then-eq-2-clause-answer c) (same_options-decides c.args.self.now c.args.other.now)
+returns-then-eq-2-clause-same c =
+    Decides-at _ _ (returns-then-eq-2-clause-answer c)
+    (same_options-decides c.args.self.now c.args.other.now)
 
 pub returns-else-eq-2-clause-same : goal.returns-else-eq-2-clause-same
-returns-else-eq-2-clause-same c = Decides-at _ _ (returns-else-eq-2-clause-answer c) (same_options-decides c.args.self.now c.args.other.now)
+returns-else-eq-2-clause-same c =
+    Decides-at _ _ (returns-else-eq-2-clause-answer c)
+    (same_options-decides c.args.self.now c.args.other.now)

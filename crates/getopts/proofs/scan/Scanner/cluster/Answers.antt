@@ -15,26 +15,36 @@ use Rattle.getopts.proofs.Scanner.Clusters.{text_from}
 use Rattle.getopts.proofs.scan.Scanner.cluster.Goals as goal
 
 pub names-init : goal.names-init
-names-init c = FlagsRead-none (scanner_grammar c.args.self.now) c.args.position c.args.text.now _ c.args.found.now c.utf8.text
+names-init c = FlagsRead-none (scanner_grammar c.args.self.now) c.args.position c.args.text.now _
+    c.args.found.now c.utf8.text
 
 pub returns-in-None-clause-err : goal.returns-in-None-clause-err
 returns-in-None-clause-err c =
-    let first = c.first_character-name.ensures ∙ ap first_char (c.range_from.ensures.value ∙ text_from c.args.text.now c.names.at (omega arith)) in
+    let first = c.first_character-name.ensures
+    ∙ ap first_char (c.range_from.ensures.value
+    ∙ text_from c.args.text.now c.names.at (omega arith)) in
     Tells-one c.unrecognized_option.result (unrecognized_option c.first_character-name.result.now)
-    (λ fault. cluster_turn (scanner_grammar c.args.self.now) [] c.args.text.now (texts c.args.after.now) ≡ faults fault)
+    (λ fault. cluster_turn (scanner_grammar c.args.self.now) [] c.args.text.now
+    (texts c.args.after.now) ≡ faults fault)
     c.unrecognized_option.ensures
-    (cluster_turn-byte _ c.args.position c.args.text.now _ c.names.at _ _ (omega arith) c.names.invariant None c.in-None.ensures.option
+    (cluster_turn-byte _ c.args.position c.args.text.now _ c.names.at _ _
+    (omega arith) c.names.invariant None c.in-None.ensures.option
     ∙ ap (λ name. faults (unrecognized_option name)) (sym first))
 
 pub range_from-requires-in-Some : goal.range_from-requires-in-Some
-range_from-requires-in-Some c = λ _. IsCharBoundary-after_ascii c.args.text.now c.names.at c.utf8.text (omega arith) c.in-Some.ensures.ascii
+range_from-requires-in-Some c =
+    λ _. IsCharBoundary-after_ascii c.args.text.now c.names.at c.utf8.text
+    (omega arith) c.in-Some.ensures.ascii
 
 pub returns-in-Some-clause-ok : goal.returns-in-Some-clause-ok
 returns-in-Some-clause-ok c =
     let option = c.in-Some.ensures.option in
-    AddsItem-ends _ c.args.position c.args.text.now _ c.names.at _ _ (omega arith) c.names.invariant c.in-Some.group c.in-Some.kind
-    (option_copied c.in_ok-value-in-Some.value) c.in_ok-value-in-Some.used _ option.1 (search rules) option.2
-    (rw (option.0, c.range_from-in-Some.ensures.value) at c.in_ok-value-in-Some.ensures.ok) c.in_ok-push-in-Some.ensures
+    AddsItem-ends _ c.args.position c.args.text.now _ c.names.at _ _
+    (omega arith) c.names.invariant c.in-Some.group c.in-Some.kind
+    (option_copied c.in_ok-value-in-Some.value) c.in_ok-value-in-Some.used _ option.1
+    (search rules) option.2
+    (rw (option.0, c.range_from-in-Some.ensures.value) at c.in_ok-value-in-Some.ensures.ok)
+    c.in_ok-push-in-Some.ensures
 
 pub returns-in_err-value-in-Some-clause-err : goal.returns-in_err-value-in-Some-clause-err
 returns-in_err-value-in-Some-clause-err c =
@@ -44,18 +54,23 @@ returns-in_err-value-in-Some-clause-err c =
     let bytes = take c.names.at c.args.text.now in
     let byte = slice_index c.args.text.now c.names.at in
     rw (left.1, left.2) (Tells-weaker c.in_err-value-in-Some.field-0.0 _
-    (λ fault. cluster_turn (scanner_grammar c.args.self.now) [] c.args.text.now (texts c.args.after.now) ≡ faults fault)
+    (λ fault. cluster_turn (scanner_grammar c.args.self.now) [] c.args.text.now
+    (texts c.args.after.now) ≡ faults fault)
     (rw (option.0, c.range_from-in-Some.ensures.value) at c.in_err-value-in-Some.ensures.err)
-    (λ fault told. cluster_turn-ends _ c.args.position c.args.text.now _ c.names.at _ _ (omega arith) c.names.invariant
+    (λ fault told. cluster_turn-ends _ c.args.position c.args.text.now _ c.names.at _ _
+    (omega arith) c.names.invariant
     c.in-Some.kind (search rules) option.2
     ∙ ap (chosen_turn (λ a. cluster bytes (ends_in byte a))) told))
 
 pub names-preserved : goal.names-preserved
 names-preserved c =
     let option = c.in-Some-default-default-No.ensures.option in
-    FlagsRead-more _ c.args.position c.args.text.now _ c.names.at _ _ (omega arith) c.names.invariant
+    FlagsRead-more _ c.args.position c.args.text.now _ c.names.at _ _
+    (omega arith) c.names.invariant
     c.in-Some-default-default-No.group _ c.utf8.text c.in-Some-default-default-No.ensures.ascii
-    option.1 (rw c.in-Some-default-default-No.field-0-2-is at option.2) c.in_ok-push-in-Some-default-default-No.ensures
+    option.1 (rw c.in-Some-default-default-No.field-0-2-is at option.2)
+    c.in_ok-push-in-Some-default-default-No.ensures
 
 pub returns-clause-ok : goal.returns-clause-ok
-returns-clause-ok c = AddsItem-flags _ c.args.position c.args.text.now _ c.names.at _ _ (omega arith) c.names.invariant
+returns-clause-ok c = AddsItem-flags _ c.args.position c.args.text.now _ c.names.at _ _
+    (omega arith) c.names.invariant

@@ -26,11 +26,15 @@ returns-in_err-place c =
 pub kinds_at-requires : goal.kinds_at-requires
 kinds_at-requires c =
     let groups = c.groups-groups.result.now in
-    let within = resolution_within (names_of groups) c.args.name.now c.in_ok-place.place (sym c.in_ok-place.ensures) in
+    let within = resolution_within (names_of groups) c.args.name.now c.in_ok-place.place
+    (sym c.in_ok-place.ensures) in
     omega (arith, within, length-map groups (λ (group : Group). group.signature.names))
 
 pub returns : goal.returns
 returns c =
     let there = rw c.groups-groups.ensures.groups at c.in_ok-place.ensures in
-    let kinds = rw c.groups-groups.ensures.groups at c.kinds_at.ensures in
-    (sym there, rw (← there) (sym (ap (option_map (λ (k : Kinds). k.kind)) kinds ∙ kind_of-kinds _)))
+    let kinds = rw c.groups-groups.ensures.groups at c.kinds_at.ensures in (
+      sym there,
+      rw (← there) (sym (ap (option_map (λ (k : Kinds). k.kind)) kinds
+          ∙ kind_of-kinds _)),
+    )

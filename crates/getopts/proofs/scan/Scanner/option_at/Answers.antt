@@ -14,14 +14,17 @@ range-name-requires-clause-end_boundary c =
 pub returns-then-not-is_ascii-clause-option : goal.returns-then-not-is_ascii-clause-option
 returns-then-not-is_ascii-clause-option c =
     let wide : 128 ≤ slice_index c.args.text.now c.args.at = grind (arith, common_steps) in
-    wide_unknown c.args.self.now.options.now c.requires.lawful.declared (slice_index c.args.text.now c.args.at) wide
+    wide_unknown c.args.self.now.options.now c.requires.lawful.declared
+    (slice_index c.args.text.now c.args.at) wide
 
 pub returns-in_err-group-clause-option : goal.returns-in_err-group-clause-option
 returns-in_err-group-clause-option c =
-    let name = c.range-name.ensures.value ∙ slice_range-one c.args.text.now c.args.at c.requires.within in
+    let name = c.range-name.ensures.value
+    ∙ slice_range-one c.args.text.now c.args.at c.requires.within in
     rw c.from_residual.ensures (rw name at c.in_err-group.ensures)
 
 pub returns-clause-option : goal.returns-clause-option
 returns-clause-option c =
-    let name = c.range-name.ensures.value ∙ slice_range-one c.args.text.now c.args.at c.requires.within in
+    let name = c.range-name.ensures.value
+    ∙ slice_range-one c.args.text.now c.args.at c.requires.within in
     let option = rw name at c.in_ok-group.ensures in (name, option.0, option.1)

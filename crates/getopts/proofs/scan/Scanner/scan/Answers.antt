@@ -26,7 +26,8 @@ pub items-init : goal.items-init
 items-init c =
     let empty = c.in_ok-reserve.ensures in
     record {
-      read = rw (empty.found, empty.free) (ReadSoFar-none (scanner_grammar c.args.self.now) (texts c.args.words.now));
+      read = rw (empty.found, empty.free)
+          (ReadSoFar-none (scanner_grammar c.args.self.now) (texts c.args.words.now));
       trailing = empty.trailing;
     }
 
@@ -38,7 +39,8 @@ returns-clause-ok c =
       reads = IsReading-tail (scanner_grammar c.args.self.now) (named _ c.requires.lawful)
           c.args.words.now c.requires.texts c.items.at _ _ before line_end
           (ap (read (scanner_grammar c.args.self.now))
-          (drop_all c.items.at (texts c.args.words.now) (omega (arith, length-texts c.args.words.now)))
+          (drop_all c.items.at (texts c.args.words.now)
+          (omega (arith, length-texts c.args.words.now)))
           ∙ read_nil (scanner_grammar c.args.self.now));
       occurrences = before.occurrences_are;
       free = before.free_are ∙ sym (append-nil _);
@@ -50,8 +52,12 @@ returns-then-stops-clause-ok c =
     let stops : c.args.self.now.options.now.style ≡ StopAtFirstFree = search rules in
     let before = c.items.invariant.read in
     record {
-      reading = record { items = before.items; tail = rest (drop c.items.at (texts c.args.words.now)) };
-      reads = IsReading-rest _ (named _ c.requires.lawful) c.args.words.now c.requires.texts c.items.at _ _ before _
+      reading = record {
+        items = before.items;
+        tail = rest (drop c.items.at (texts c.args.words.now));
+      };
+      reads = IsReading-rest _ (named _ c.requires.lawful) c.args.words.now c.requires.texts
+          c.items.at _ _ before _
           (omega arith) c.in-Free.ensures stops;
       occurrences = before.occurrences_are;
       free = rw (
@@ -68,30 +74,43 @@ returns-in-Stop-clause-ok c =
     let before = c.items.invariant.read in
     let after = take-drop c.args.words.now (c.items.at + 1) in
     record {
-      reading = record { items = before.items; tail = stop (texts (drop (c.items.at + 1) c.args.words.now)) };
-      reads = IsReading-stop _ (named _ c.requires.lawful) c.args.words.now c.requires.texts c.items.at _ _ before _
+      reading = record {
+        items = before.items;
+        tail = stop (texts (drop (c.items.at + 1) c.args.words.now));
+      };
+      reads = IsReading-stop _ (named _ c.requires.lawful) c.args.words.now c.requires.texts
+          c.items.at _ _ before _
           (omega arith) c.in-Stop.ensures;
       occurrences = before.occurrences_are;
       free = rw (c.in_ok-push_copies-in-Stop.ensures, after, before.free_are);
       trailing =
-          let start : c.len.result ≡ length (free_items before.items) = c.len.ensures ∙ c.items.line.free.ok.0
+          let start : c.len.result ≡ length (free_items before.items) = c.len.ensures
+          ∙ c.items.line.free.ok.0
           ∙ sym (length-map c.items.line.free.items string_bytes) ∙ ap length before.free_are in
           rw (c.then_some-line.ensures, c.is_empty.ensures, after, start)
-          (trailing_after-stop (length (free_items before.items)) (drop (c.items.at + 1) c.args.words.now));
+          (trailing_after-stop (length (free_items before.items))
+          (drop (c.items.at + 1) c.args.words.now));
     }
 
 pub returns-in_err-long-in-Long-clause-err : goal.returns-in_err-long-in-Long-clause-err
 returns-in_err-long-in-Long-clause-err c =
-    let left = err_from_is_err_and c.from_residual-in_err-long-in-Long.result c.from_residual-in_err-long-in-Long.ensures.1 in
-    rw (left.1, left.2) (Tells-word _ (named _ c.requires.lawful) c.args.words.now c.requires.texts c.items.at _ _
-    c.items.invariant.read _ (omega arith) _ c.in_err-long-in-Long.field-0.0 (turn_long _ _ _ _ _ c.in-Long.ensures.1)
-    (rw (take-drop c.args.words.now (c.items.at + 1)) at c.in_err-long-in-Long.ensures.err c.in-Long.ensures.0))
+    let left = err_from_is_err_and c.from_residual-in_err-long-in-Long.result
+    c.from_residual-in_err-long-in-Long.ensures.1 in
+    rw (left.1, left.2) (Tells-word _ (named _ c.requires.lawful) c.args.words.now c.requires.texts
+    c.items.at _ _
+    c.items.invariant.read _ (omega arith) _ c.in_err-long-in-Long.field-0.0
+    (turn_long _ _ _ _ _ c.in-Long.ensures.1)
+    (rw (take-drop c.args.words.now (c.items.at + 1)) at c.in_err-long-in-Long.ensures.err
+    c.in-Long.ensures.0))
 
 pub returns-in_err-at-in-Cluster-clause-err : goal.returns-in_err-at-in-Cluster-clause-err
 returns-in_err-at-in-Cluster-clause-err c =
-    let left = err_from_is_err_and c.from_residual-in_err-at-in-Cluster.result c.from_residual-in_err-at-in-Cluster.ensures.1 in
-    rw (left.1, left.2) (Tells-word _ (named _ c.requires.lawful) c.args.words.now c.requires.texts c.items.at _ _
-    c.items.invariant.read _ (omega arith) _ c.in_err-at-in-Cluster.field-0.0 (turn_short _ _ _ _ c.in-Cluster.ensures)
+    let left = err_from_is_err_and c.from_residual-in_err-at-in-Cluster.result
+    c.from_residual-in_err-at-in-Cluster.ensures.1 in
+    rw (left.1, left.2) (Tells-word _ (named _ c.requires.lawful) c.args.words.now c.requires.texts
+    c.items.at _ _
+    c.items.invariant.read _ (omega arith) _ c.in_err-at-in-Cluster.field-0.0
+    (turn_short _ _ _ _ c.in-Cluster.ensures)
     (rw (take-drop c.args.words.now (c.items.at + 1)) at c.in_err-at-in-Cluster.ensures.err))
 
 pub overflow_add-at-in-Long-2 : goal.overflow_add-at-in-Long-2
@@ -108,23 +127,30 @@ pub items-preserved-in_ok-push_copy-in-Free : goal.items-preserved-in_ok-push_co
 items-preserved-in_ok-push_copy-in-Free c =
     let floating : c.args.self.now.options.now.style ≡ FloatingFrees = search rules in
     record {
-      read = ReadSoFar-free _ (named _ c.requires.lawful) c.args.words.now c.requires.texts c.items.at _ _
-          c.items.invariant.read _ (omega arith) _ c.in-Free.ensures floating c.in_ok-push_copy-in-Free.ensures;
+      read = ReadSoFar-free _ (named _ c.requires.lawful) c.args.words.now c.requires.texts
+          c.items.at _ _
+          c.items.invariant.read _ (omega arith) _ c.in-Free.ensures floating
+          c.in_ok-push_copy-in-Free.ensures;
       trailing = c.items.invariant.trailing;
     }
 
 pub items-preserved-in_ok-long-in-Long : goal.items-preserved-in_ok-long-in-Long
 items-preserved-in_ok-long-in-Long c = record {
-  read = ReadSoFar-added _ (named _ c.requires.lawful) c.args.words.now c.requires.texts c.items.at _ _
-      c.items.invariant.read _ (omega arith) _ c.in_ok-long-in-Long.field-0 _ (turn_long _ _ _ _ _ c.in-Long.ensures.1)
-      (rw (take-drop c.args.words.now (c.items.at + 1)) at c.in_ok-long-in-Long.ensures.ok c.in-Long.ensures.0);
+  read = ReadSoFar-added _ (named _ c.requires.lawful) c.args.words.now c.requires.texts c.items.at
+      _ _
+      c.items.invariant.read _ (omega arith) _ c.in_ok-long-in-Long.field-0 _
+      (turn_long _ _ _ _ _ c.in-Long.ensures.1)
+      (rw (take-drop c.args.words.now (c.items.at + 1)) at c.in_ok-long-in-Long.ensures.ok
+      c.in-Long.ensures.0);
   trailing = c.items.invariant.trailing;
 }
 
 pub items-preserved : goal.items-preserved
 items-preserved c = record {
-  read = ReadSoFar-added _ (named _ c.requires.lawful) c.args.words.now c.requires.texts c.items.at _ _
-      c.items.invariant.read _ (omega arith) _ c.in_ok-at-in-Cluster.field-0 _ (turn_short _ _ _ _ c.in-Cluster.ensures)
+  read = ReadSoFar-added _ (named _ c.requires.lawful) c.args.words.now c.requires.texts c.items.at
+      _ _
+      c.items.invariant.read _ (omega arith) _ c.in_ok-at-in-Cluster.field-0 _
+      (turn_short _ _ _ _ c.in-Cluster.ensures)
       (rw (take-drop c.args.words.now (c.items.at + 1)) at c.in_ok-at-in-Cluster.ensures.ok);
   trailing = c.items.invariant.trailing;
 }

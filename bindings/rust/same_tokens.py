@@ -1,0 +1,90 @@
+#!/usr/bin/env python3
+"""Checks that Rust is a crate in Rattle with whole constructs left out, and reads none of `erase.py`.
+
+    bindings/rust/same_tokens.py SOURCE FOLDER
+
+The tokens of FOLDER/X.rs have to be those of SOURCE/X.rt in order, but for the renames below and for constructs that
+mean nothing when a program runs: each begins with a word of `WHOLE`, and goes to the end that stands beside it. Comments
+and white space aren't looked at.
+"""
+
+import re
+import sys
+from pathlib import Path
+
+# What begins a construct, and what ends it: brackets that close, or a sign outside brackets.
+WHOLE = [(r"(requires|ensures)( \w+)? {", "}"), (r"ghost", ";,"), (r"impl (< .*? > )?(Model|Drop) for .*? {", "}")]
+WHOLE += [(r"# (! )?\[ (tactic|derive \( Drop \) \])", "]"), (r"use std :: marker :: Model", ";")]
+WHOLE += [(r"(# \[ cfg \( test \) \] mod tests|mod laws|pub use laws)", ";"), (r"[+:,] Drop(?= [>,)])", ""), (r"Drop ,", ""), (r",(?= \))", ",")]
+CALLS = "push push_str sort_by clone".split()
+RENAMED = {word: "try_" + word for word in CALLS}
+RENAMED |= {"reserve": "try_grow", "reserve_exact": "try_grow_exact", "with_capacity": "of_capacity"}
+RENAMED |= {"String :: new": "String :: empty", "Vec :: new": "Vec :: empty", "String :: from_str": "String :: copy_of"}
+RENAMED |= {"vec ! [ in": "list ! [ in", "impl Clone for": "impl TryClone for"}
+RENAMED |= {"fmt < W : fmt :: Write >": "fmt", "fmt :: Formatter < W >": "fmt :: Formatter < '_ >"}
+PATHS = {"crate ::": "super ::", "std :: alloc": "crate :: alloc", "unicode_width": "crate :: width"}
+PATHS |= {"std :: convert": "crate :: convert"}
+# Of the crates but the library.
+HOST = {"resize": "try_resize", "extend_from_slice": "try_extend_from_slice", "str :: from_utf8": "std :: str :: from_utf8"}
+HOST |= {"format !": "text !", "write !": "add !", "writeln !": "add_line !", "fn main": "pub fn main"}
+HOST |= {f"std :: {name}": f"crate :: host :: {name}" for name in ("alloc", "env", "io")} | {"crate ::": "super ::"}
+HOST |= {f"{name} ::": f"crate :: {name} ::" for name in ("getopts", "getopts_bytes")}
+TOKEN = r"""//.*|r#"[\s\S]*?"#|b?"(?:\\[\s\S]|[^"\\])*"|b?'(?:\\.[^']*|[^\\'])'|'\w+|\w+|::|\S"""
+
+
+def tokens(path):
+    return [word for word in re.findall(TOKEN, path.read_text(encoding="utf-8")) if word[:2] != "//"]
+
+
+def end_of(source, at, end):
+    """The place after a construct that begins at a place and ends so."""
+    depth = 0
+    for place in range(at, len(source)):
+        depth += (source[place] in "({[") - (source[place] in ")}]")
+        if depth == 0 and source[place] in end:
+            return place + 1
+    return len(source)
+
+
+def differs(source, rust, names, imports):
+    """The place in the source where the two are no longer the same, if there is one."""
+    at = to = 0
+    if rust[: len(imports)] == imports:
+        to = len(imports)
+    while at < len(source):
+        ahead = " ".join(source[at : at + 40])
+        for old, new in sorted(names.items(), key=lambda names: -len(names[0])):
+            if (ahead + " ").startswith(old + " ") and rust[to : to + len(new.split())] == new.split():
+                at, to = at + len(old.split()), to + len(new.split())
+                break
+        else:
+            whole = next((whole for whole in WHOLE if re.match(whole[0] + r"(?!\w)", ahead)), None)
+            if to < len(rust) and source[at] == rust[to] and not (whole and source[at] not in "+:,"):
+                at, to = at + 1, to + 1
+            elif whole:
+                at = end_of(source, at, whole[1]) if whole[1] else at + 2
+            else:
+                return at
+    return None if to == len(rust) else at
+
+
+def main(source, folder):
+    library = Path(source).resolve().parent.name == "getopts"
+    names = {**RENAMED, **(PATHS if library else HOST)}
+    imports = f"use crate :: {'fallible' if library else 'host'} :: * ;".split()
+    paths = sorted(Path(folder).glob("*.rs"))
+    there = {path.stem for path in Path(source).glob("*.rt")} - {"lib", "main", "laws", "tests"} | {"mod"}
+    wrong = len(there ^ {path.stem for path in paths})
+    for path in paths:
+        of = path.with_suffix(".rt").name if path.stem != "mod" else "main.rt"
+        of = Path(source) / of if (Path(source) / of).exists() else Path(source) / "lib.rt"
+        tokens_there = tokens(of)
+        at = differs(tokens_there, tokens(path), names, imports)
+        if at is not None:
+            wrong += 1
+            print(f"{path}: it isn't the source at '{' '.join(tokens_there[at : at + 8])}'")
+    return 1 if wrong else 0
+
+
+if __name__ == "__main__":
+    sys.exit(main(*sys.argv[1:]))

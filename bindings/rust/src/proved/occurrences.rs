@@ -1,0 +1,284 @@
+// What bindings/rust/erase.py leaves of crates/getopts/src/occurrences.rt: change that file, not this one.
+//! What a line gives: its options with their values, held together, and those of one group.
+
+use crate::fallible::*;
+
+use crate::alloc::{AllocError, Global};
+
+/// One option that the words give: the place of its group, the index of its item's first word, and its
+/// value.
+#[derive(Clone, Copy)]
+pub(crate) struct Occurrence<'w> {
+    pub group: usize,
+    pub position: usize,
+    pub value: Option<&'w str>,
+}
+
+/// One option that a line gives. One number says where the values of the line end up to this option's
+/// own, and whether it has one.
+#[derive(Clone, Copy, Debug)]
+pub(crate) struct OccurrenceRecord {
+    pub group: usize,
+    pub position: usize,
+    packed: usize,
+}
+
+impl OccurrenceRecord {
+    /// Where the values end, up to this option's own.
+    #[inline(always)]
+    fn values_end(&self) -> usize {
+        self.packed / 2
+    }
+
+    /// Whether it has a value.
+    #[inline(always)]
+    fn has_value(&self) -> bool {
+        self.packed % 2 == 1
+    }
+}
+
+/// Where the values of the options before a place end.
+#[inline(always)]
+fn values_start(records: &[OccurrenceRecord], place: usize) -> usize {
+    if place == 0 {
+        return 0;
+    }
+    records[place - 1].values_end()
+}
+
+/// Where the values end and whether an option has one, as one number. A text has less than 2^63
+/// bytes, so there is room for both.
+#[inline(always)]
+fn packed(end: usize, has_value: bool) -> usize {
+    if has_value { 2 * end + 1 } else { 2 * end }
+}
+
+/// The bytes reserved for each option once one has a value, so that short values need no second request.
+const VALUE_BYTES: usize = 8;
+/// The most bytes that `VALUE_BYTES` reserves.
+const MOST_BYTES: usize = 8192;
+
+/// Adds a value, the first with room for so many.
+#[inline(always)]
+fn push_value(values: &mut String, value: &str, room: usize) -> Result<(), AllocError> {
+    if value.is_empty() {
+        return Ok(());
+    }
+    if values.is_empty() {
+        values.try_grow(room.saturating_mul(VALUE_BYTES).min(MOST_BYTES))?;
+    }
+    values.try_push_str(value)
+}
+
+/// The options that a line gives, in order, and their values as one text.
+#[derive(Debug)]
+pub(crate) struct LineOccurrences {
+    pub records: Vec<OccurrenceRecord>,
+    values: String,
+}
+
+impl LineOccurrences {
+    /// No options, with room for so many.
+    pub(crate) fn of_capacity(alloc: Global, room: usize) -> Result<LineOccurrences, AllocError> {
+        Ok(LineOccurrences {
+            records: Vec::of_capacity(alloc, room)?,
+            values: String::empty(alloc),
+        })
+    }
+
+    /// Makes room for so many options more.
+    pub(crate) fn try_grow(&mut self, room: usize) -> Result<(), AllocError> {
+        self.records.try_grow_exact(room)
+    }
+
+    pub(crate) fn len(&self) -> usize {
+        self.records.len()
+    }
+
+    /// The occurrence at a place.
+    #[inline(always)]
+    pub(crate) fn at(&self, place: usize) -> Occurrence<'_> {
+        let held = self.records[place];
+        let value = if held.has_value() {
+            Some(&self.values[values_start(&self.records, place)..held.values_end()])
+        } else {
+            None
+        };
+        Occurrence {
+            group: held.group,
+            position: held.position,
+            value,
+        }
+    }
+
+    /// The position of the occurrence at a place, of which no value is read.
+    #[inline]
+    pub(crate) fn position_at(&self, place: usize) -> usize {
+        self.records[place].position
+    }
+
+    /// Adds an occurrence as the last.
+    #[inline(always)]
+    pub(crate) fn try_push(&mut self, occurrence: Occurrence<'_>) -> Result<(), AllocError> {
+        self.records.try_grow(1)?;
+        let value = occurrence.value.unwrap_or("");
+        push_value(&mut self.values, value, self.records.capacity())?;
+        self.records.push_reserved(OccurrenceRecord {
+            group: occurrence.group,
+            position: occurrence.position,
+            packed: packed(self.values.len(), occurrence.value.is_some()),
+        });
+        Ok(())
+    }
+}
+
+impl TryClone for LineOccurrences {
+    fn try_clone(&self) -> Result<LineOccurrences, AllocError> {
+        Ok(LineOccurrences {
+            records: self.records.try_clone()?,
+            values: self.values.try_clone()?,
+        })
+    }
+}
+
+/// The occurrences of one option group, in the order of the line, lent by the matches.
+///
+/// `Matches::occurrences_at` returns them. No text is copied. They can be gone over:
+///
+/// ```text
+/// for (position, value) in matches.occurrences_at(place) { .. }
+/// ```
+#[derive(Debug)]
+pub struct Occurrences<'m> {
+    found: &'m LineOccurrences,
+    places: &'m [usize],
+}
+
+impl<'m> Occurrences<'m> {
+    /// The occurrences of a line at these places.
+    #[inline]
+    pub(crate) fn of(found: &'m LineOccurrences, places: &'m [usize]) -> Occurrences<'m> {
+        Occurrences { found, places }
+    }
+
+    /// How many they are.
+    #[inline]
+    pub fn len(&self) -> usize {
+        self.places.len()
+    }
+
+    /// Whether there are none.
+    pub fn is_empty(&self) -> bool {
+        self.len() == 0
+    }
+
+    /// The position of one of them, counted from 0, and its value if it has one. Past the last there is
+    /// none.
+    #[inline]
+    pub fn get(&self, nth: usize) -> Option<(usize, Option<&'m str>)> {
+        if nth < self.len() {
+            Some(self.at(nth))
+        } else {
+            None
+        }
+    }
+
+    /// The position and the value of one that is there.
+    #[inline]
+    fn at(&self, nth: usize) -> (usize, Option<&'m str>) {
+        let occurrence = self.found.at(self.places[nth]);
+        (occurrence.position, occurrence.value)
+    }
+
+    /// The position of one that is there, of which no value is read.
+    fn position_at(&self, nth: usize) -> usize {
+        self.found.position_at(self.places[nth])
+    }
+
+    pub(crate) fn positions(&self, alloc: Global) -> Result<Vec<usize>, AllocError> {
+        let mut positions = Vec::of_capacity(alloc, self.len())?;
+        for nth in 0..self.len() {
+            positions.try_push(self.position_at(nth))?;
+        }
+        Ok(positions)
+    }
+
+    pub(crate) fn values(&self, alloc: Global) -> Result<Vec<String>, AllocError> {
+        let mut values = Vec::empty(alloc);
+        for nth in 0..self.len() {
+            if let (_, Some(value)) = self.at(nth) {
+                values.try_push(String::copy_of(alloc, value)?)?;
+            }
+        }
+        Ok(values)
+    }
+
+    pub(crate) fn pairs(&self, alloc: Global) -> Result<Vec<(usize, String)>, AllocError> {
+        let mut pairs = Vec::empty(alloc);
+        for nth in 0..self.len() {
+            if let (position, Some(value)) = self.at(nth) {
+                pairs.try_push((position, String::copy_of(alloc, value)?))?;
+            }
+        }
+        Ok(pairs)
+    }
+
+    /// The value of the first occurrence.
+    pub(crate) fn first_value(&self) -> Option<&'m str> {
+        let (_, value) = self.get(0)?;
+        value
+    }
+
+    /// The value of the first occurrence, or this text where that has none.
+    pub(crate) fn first_value_or(&self, fallback: &'m str) -> Option<&'m str> {
+        let (_, value) = self.get(0)?;
+        Some(value.unwrap_or(fallback))
+    }
+
+    /// Whether two groups have occurrences of the same positions and values in the same order.
+    #[inline]
+    pub(crate) fn same(&self, other: &Occurrences<'_>) -> bool {
+        if self.len() != other.len() {
+            return false;
+        }
+        for nth in 0..self.len() {
+            if self.get(nth) != other.get(nth) {
+                return false;
+            }
+        }
+        true
+    }
+}
+
+impl<'m> IntoIterator for Occurrences<'m> {
+    type Item = (usize, Option<&'m str>);
+
+    type IntoIter = OccurrencesIter<'m>;
+
+    fn into_iter(self) -> OccurrencesIter<'m> {
+        OccurrencesIter {
+            occurrences: self,
+            next: 0,
+        }
+    }
+}
+
+/// The occurrences of one option group that are still to come, each with its position and its value.
+#[derive(Debug)]
+pub struct OccurrencesIter<'m> {
+    occurrences: Occurrences<'m>,
+    next: usize,
+}
+
+impl<'m> Iterator for OccurrencesIter<'m> {
+    type Item = (usize, Option<&'m str>);
+
+    fn next(&mut self) -> Option<(usize, Option<&'m str>)> {
+        if self.next >= self.occurrences.len() {
+            return None;
+        }
+        let occurrence = self.occurrences.at(self.next);
+        self.next += 1;
+        Some(occurrence)
+    }
+}

@@ -1,0 +1,118 @@
+// What bindings/rust/erase.py leaves of crates/getopts/src/parse.rt: change that file, not this one.
+//! Reading a line: its words are scanned, and then its counts are checked.
+
+use crate::fallible::*;
+
+use super::fail::Fail;
+use super::groups::{Groups, Occur};
+use super::index::Index;
+use super::matches::{Matches, ReadLine};
+use super::options::Options;
+use super::scan::{FIRST_ROOM, Scanner, are_texts};
+use super::table::Table;
+use crate::alloc::{AllocError, Global};
+
+impl Options {
+    /// Reads the words of a line, without the program's own name.
+    ///
+    /// Every list of words is one of three things, and only one: it has a reading that keeps the counts,
+    /// and the result is what that reading gives; it has a reading that breaks them, and the result is the
+    /// fault of the first option, in order of definition, that is missing or came too often; or it has no
+    /// reading, and the result is the first fault in the order of the words. `Fail::OutOfMemory` comes
+    /// where memory was refused, in place of any other result. A refusal gives no matches, and the options
+    /// stay as they are.
+    ///
+    /// With an option `o`/`output` that needs an argument, `["-ofile", "x"]`, `["-o", "file", "x"]` and
+    /// `["--output=file", "x"]` all give `output` the value `file`, and the free word `x`.
+    ///
+    /// The Rust crate has no such call: its `parse` takes an iterator.
+    pub fn parse_words(&self, alloc: Global, words: &[&str]) -> super::Result {
+        let accepted = self.accepted_line(alloc, words)?;
+        Ok(Matches::of_line(self.groups().try_clone()?, accepted))
+    }
+
+    /// Reads the words of a line, as `parse_words` does, whatever their counts.
+    ///
+    /// It is for a program that prints its help also where a required option is missing: it calls this
+    /// first, prints its help where the help option was given, and then calls `parse_words`. The result is
+    /// `Ok` exactly where the words have a reading. Then the matches are what that reading gives, though a
+    /// required option may be missing and an option that may come once may have come again. The faults of
+    /// the words themselves come as from `parse_words`. The Rust crate has no such call.
+    pub fn parse_ignoring_counts(&self, alloc: Global, words: &[&str]) -> super::Result {
+        let read = self.read_line(alloc, words)?;
+        Ok(Matches::of_line(self.groups().try_clone()?, read))
+    }
+
+    /// Reads the words of a line, as `parse_words` does, over the items of an iterator.
+    ///
+    /// The iterator has to end; `words.iter().copied()` of a list of words does. All its items are taken
+    /// before any result but `Fail::OutOfMemory`. The Rust crate takes words that may be no UTF-8, and refuses
+    /// those.
+    pub fn parse<'a, I: Iterator<Item = &'a str>>(&self, alloc: Global, args: I) -> super::Result {
+        let words = words_from(alloc, args)?;
+        self.parse_words(alloc, &words)
+    }
+
+    /// Reads a line, and checks its counts.
+    pub(crate) fn accepted_line(&self, alloc: Global, words: &[&str]) -> Result<ReadLine, Fail> {
+        let read = self.read_line(alloc, words)?;
+        check_counts(alloc, self.groups(), &read)?;
+        Ok(read)
+    }
+
+    /// Reads a line, whatever its counts.
+    fn read_line(&self, alloc: Global, words: &[&str]) -> Result<ReadLine, Fail> {
+        are_texts(words);
+        let groups = self.groups();
+        let table = Table::of(alloc, groups)?;
+        let scanner = Scanner {
+            options: self,
+            table: &table,
+        };
+        let line = scanner.scan(alloc, words)?;
+        let index = Index::of(alloc, groups.len(), &line.found)?;
+        Ok(ReadLine { table, line, index })
+    }
+}
+
+/// The words that an iterator gives, in order. Each request for memory that fails is reported.
+pub(crate) fn words_from<'a, I: Iterator<Item = &'a str>>(
+    alloc: Global,
+    args: I,
+) -> Result<Vec<&'a str>, AllocError> {
+    let room = args.size_hint().0.min(FIRST_ROOM);
+    let mut words = Vec::of_capacity(alloc, room)?;
+    for word in args {
+        words.try_push(word)?;
+    }
+    Ok(words)
+}
+
+/// Checks how often the options of a line came, group by group in order of definition.
+fn check_counts(alloc: Global, groups: &Groups, read: &ReadLine) -> Result<(), Fail> {
+    for place in 0..groups.len() {
+        let count = read.index.count(place);
+        if !fits_count(groups.kinds_at(place).occurrence, count) {
+            return Err(count_fault(alloc, groups.main(place), count));
+        }
+    }
+    Ok(())
+}
+
+/// Whether an option may come so many times.
+fn fits_count(occurrence: Occur, count: usize) -> bool {
+    match occurrence {
+        Occur::Req => count == 1,
+        Occur::Optional => count <= 1,
+        Occur::Multi => true,
+    }
+}
+
+/// The fault of an option that came so many times.
+fn count_fault(alloc: Global, main: &str, count: usize) -> Fail {
+    if count == 0 {
+        Fail::option_missing(alloc, main)
+    } else {
+        Fail::option_duplicated(alloc, main)
+    }
+}

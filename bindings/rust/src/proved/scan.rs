@@ -1,0 +1,300 @@
+// What bindings/rust/erase.py leaves of crates/getopts/src/scan.rt: change that file, not this one.
+//! Reading words as items, from the first to the last.
+
+use crate::fallible::*;
+
+use super::fail::Fail;
+use super::groups::{HasArg, ParsingStyle};
+use super::occurrences::{LineOccurrences, Occurrence};
+use super::options::Options;
+use super::table::Table;
+use crate::alloc::{AllocError, Global};
+
+/// The first capacity of a list of words, and of what words give, at most: an iterator may give fewer than it
+/// promises. More words than that are counted before the first is read.
+pub(crate) const FIRST_ROOM: usize = 1024;
+
+/// A `&str` is a text.
+fn is_text(word: &str) {}
+
+/// Each word is UTF-8, as its type says: a law to cite, of which nothing is left once built.
+pub fn are_texts(words: &[&str]) {
+    for word in words {
+        is_text(word);
+    }
+}
+
+/// What a line gives.
+pub(crate) struct Line {
+    pub found: LineOccurrences,
+    pub free: Vec<String>,
+    pub trailing_start: Option<usize>,
+}
+
+impl Line {
+    /// A line that gives nothing, with room for so many options and so many free words.
+    pub(crate) fn of_capacity(alloc: Global, room: usize) -> Result<Line, AllocError> {
+        Ok(Line {
+            found: LineOccurrences::of_capacity(alloc, room)?,
+            free: Vec::of_capacity(alloc, room)?,
+            trailing_start: None,
+        })
+    }
+
+    /// Reserves for what many words give. Few words fit in what is there.
+    #[inline(always)]
+    fn try_grow(&mut self, words: &[&str], stops: bool) -> Result<(), AllocError> {
+        if words.len() <= FIRST_ROOM {
+            return Ok(());
+        }
+        self.reserve_many(words, stops)
+    }
+
+    /// Reserves for as many options as there are dashed words, and for as many free words as there are others.
+    // Inlined it would make the scan slower.
+    #[inline(never)]
+    fn reserve_many(&mut self, words: &[&str], stops: bool) -> Result<(), AllocError> {
+        let dashed = dashed_words(words, stops);
+        self.found.try_grow(dashed)?;
+        self.free.try_grow_exact(words.len().saturating_sub(dashed))
+    }
+}
+
+/// The options by which words are read, and the table of their names.
+#[derive(Clone, Copy)]
+pub(crate) struct Scanner<'o> {
+    pub options: &'o Options,
+    pub table: &'o Table,
+}
+
+/// What a word is to a line.
+#[derive(Clone, Copy)]
+pub(crate) enum Shape<'w> {
+    /// It isn't dashed.
+    Free,
+    /// It is `--`.
+    Stop,
+    /// It begins an item in long form, with this text after the dashes.
+    Long(&'w str),
+    /// It begins a cluster, with this text after the dash.
+    Cluster(&'w str),
+}
+
+/// Adds a copy of a word.
+fn push_copy(alloc: Global, copies: &mut Vec<String>, word: &str) -> Result<(), AllocError> {
+    copies.try_push(String::copy_of(alloc, word)?)?;
+    Ok(())
+}
+
+/// Adds copies of words.
+fn push_copies(alloc: Global, copies: &mut Vec<String>, words: &[&str]) -> Result<(), AllocError> {
+    copies.try_grow(words.len())?;
+    for word in words {
+        push_copy(alloc, copies, word)?;
+    }
+    Ok(())
+}
+
+/// The text after a dash at the front.
+fn after_dash(text: &str) -> Option<&str> {
+    if text.is_empty() || text.as_bytes()[0] != b'-' {
+        return None;
+    }
+    Some(&text[1..])
+}
+
+/// The name of a text in long form, and its attached argument. Names are short, so its bytes are
+/// looked at one by one.
+fn name_and_argument(text: &str) -> (&str, Option<&str>) {
+    let bytes = text.as_bytes();
+    for at in 0..bytes.len() {
+        if bytes[at] == b'=' {
+            return (&text[..at], Some(&text[at + 1..]));
+        }
+    }
+    (text, None)
+}
+
+/// Whether a word is dashed: it begins with `-` and goes on.
+fn is_dashed(word: &str) -> bool {
+    match word.as_bytes() {
+        [b'-', _, ..] => true,
+        _ => false,
+    }
+}
+
+/// How many words are dashed, up to where the rest is free. It only says how much to reserve: a wrong
+/// number would cost memory alone.
+fn dashed_words(words: &[&str], stops: bool) -> usize {
+    let mut dashed: usize = 0;
+    'words: for word in words {
+        match word.as_bytes() {
+            [b'-', b'-'] => break 'words,
+            [b'-', _, ..] => dashed = dashed.saturating_add(1),
+            _ if stops => break 'words,
+            _ => {}
+        }
+    }
+    dashed
+}
+
+/// The first character of a text, as a text.
+fn first_character(text: &str) -> &str {
+    match text.chars().next() {
+        Some(character) => &text[..character.len_utf8()],
+        None => text,
+    }
+}
+
+/// The value of an option of kind Yes or Maybe in a cluster, by the rest of its word and the words
+/// after that, and how many of those it uses.
+fn ending<'w>(
+    alloc: Global,
+    kind: HasArg,
+    name: &str,
+    rest: &'w str,
+    after: &[&'w str],
+) -> Result<(Option<&'w str>, usize), Fail> {
+    if !rest.is_empty() {
+        return Ok((Some(rest), 0));
+    }
+    match after.first() {
+        Some(word) if kind == HasArg::Yes || !is_dashed(word) => Ok((Some(*word), 1)),
+        None if kind == HasArg::Yes => Err(Fail::argument_missing(alloc, name)),
+        _ => Ok((None, 0)),
+    }
+}
+
+impl<'o> Scanner<'o> {
+    /// The place and the kind of argument of the option that a name resolves to.
+    fn option(&self, name: &str) -> Option<(usize, HasArg)> {
+        let groups = self.options.groups();
+        let place = self.table.resolve(groups, name)?;
+        Some((place, groups.kinds_at(place).kind))
+    }
+
+    /// Reads an item in long form, by its text after the dashes and the words after its first. Adds
+    /// its occurrence, and returns how many of those words it used.
+    fn long<'w>(
+        &self,
+        alloc: Global,
+        text: &'w str,
+        after: &[&'w str],
+        position: usize,
+        found: &mut LineOccurrences,
+    ) -> Result<usize, Fail> {
+        let (name, argument) = name_and_argument(text);
+        let (group, kind) = match self.option(name) {
+            Some(option) => option,
+            None => return Err(Fail::unrecognized_option(alloc, name)),
+        };
+        let (value, used) = match (kind, argument) {
+            (HasArg::No, None) => (None, 0),
+            (HasArg::No, Some(_)) => return Err(Fail::unexpected_argument(alloc, name)),
+            (HasArg::Yes, None) => match after.first() {
+                Some(word) => (Some(*word), 1),
+                None => return Err(Fail::argument_missing(alloc, name)),
+            },
+            (HasArg::Yes, Some(value)) => (Some(value), 0),
+            (HasArg::Maybe, argument) => (argument, 0),
+        };
+        found.try_push(Occurrence {
+            group,
+            position,
+            value,
+        })?;
+        Ok(used)
+    }
+
+    /// The option that the byte at a place in a cluster names, with that name; only names of one byte
+    /// resolve there.
+    fn option_at<'t>(&self, text: &'t str, at: usize) -> Option<(&'t str, usize, HasArg)> {
+        if !text.as_bytes()[at].is_ascii() {
+            return None;
+        }
+        let name = &text[at..at + 1];
+        let (group, kind) = self.option(name)?;
+        Some((name, group, kind))
+    }
+
+    /// Reads a cluster, by its text after the dash and the words after its first. Adds its occurrences,
+    /// and returns how many of those words it used.
+    fn cluster(
+        &self,
+        alloc: Global,
+        text: &str,
+        after: &[&str],
+        position: usize,
+        found: &mut LineOccurrences,
+    ) -> Result<usize, Fail> {
+        'names: for at in 0..text.len() {
+            match self.option_at(text, at) {
+                None => {
+                    let name = first_character(&text[at..]);
+                    return Err(Fail::unrecognized_option(alloc, name));
+                }
+                Some((_, group, HasArg::No)) => found.try_push(Occurrence {
+                    group,
+                    position,
+                    value: None,
+                })?,
+                Some((name, group, kind)) => {
+                    let (value, used) = ending(alloc, kind, name, &text[at + 1..], after)?;
+                    found.try_push(Occurrence {
+                        group,
+                        position,
+                        value,
+                    })?;
+                    return Ok(used);
+                }
+            }
+        }
+        Ok(0)
+    }
+
+    /// What a word is to a line: in long-only mode one dash is as good as two.
+    fn shape<'w>(&self, word: &'w str) -> Shape<'w> {
+        let text = match after_dash(word) {
+            Some(text) => text,
+            None => return Shape::Free,
+        };
+        match after_dash(text) {
+            Some(long) if long.is_empty() => Shape::Stop,
+            Some(long) => Shape::Long(long),
+            None if text.is_empty() => Shape::Free,
+            None if self.options.is_long_only() => Shape::Long(text),
+            None => Shape::Cluster(text),
+        }
+    }
+
+    /// Reads a line: its items, and what follows the stop or the first free word.
+    pub(crate) fn scan(&self, alloc: Global, words: &[&str]) -> Result<Line, Fail> {
+        let stops = self.options.style() == ParsingStyle::StopAtFirstFree;
+        let mut line = Line::of_capacity(alloc, words.len().min(FIRST_ROOM))?;
+        line.try_grow(words, stops)?;
+        let mut at = 0;
+        'items: while at < words.len() {
+            let after = &words[at + 1..];
+            at = match self.shape(words[at]) {
+                Shape::Free => {
+                    if stops {
+                        push_copies(alloc, &mut line.free, &words[at..])?;
+                        return Ok(line);
+                    }
+                    push_copy(alloc, &mut line.free, words[at])?;
+                    at + 1
+                }
+                Shape::Stop => {
+                    line.trailing_start = (!after.is_empty()).then_some(line.free.len());
+                    push_copies(alloc, &mut line.free, after)?;
+                    return Ok(line);
+                }
+                Shape::Long(text) => at + 1 + self.long(alloc, text, after, at, &mut line.found)?,
+                Shape::Cluster(text) => {
+                    at + 1 + self.cluster(alloc, text, after, at, &mut line.found)?
+                }
+            };
+        }
+        Ok(line)
+    }
+}

@@ -1,0 +1,112 @@
+/* What the program asks of the system, for a static program: its words, errors, signals and memory. Each function does
+ * what Rattle's crates `os` and `libc` declare of it. No proof covers this file.
+ *
+ * It is linked with --wrap=main: the C library calls __wrap_main, and __real_main is the proved program's. */
+#define _DEFAULT_SOURCE
+#include "../c/getopts_c.h"
+
+#include <errno.h>
+#include <signal.h>
+#include <string.h>
+#include <sys/mman.h>
+#include <sys/types.h>
+
+int __real_main(void);
+int __wrap_main(int count, char **words);
+ssize_t rattle_arg(size_t nth, unsigned char *buffer, size_t len);
+int rattle_errno(void);
+void rattle_set_errno(int error);
+void (*__sysv_signal(int number, void (*handler)(int)))(int);
+
+static size_t given;
+static char **given_words;
+
+int __wrap_main(int count, char **words) {
+    given = (size_t)count;
+    given_words = words;
+    return __real_main();
+}
+
+/* Puts a word at the start of a buffer and returns its length: -1 if there is no such word, and -2 if it doesn't fit,
+ * and then the buffer is full. */
+ssize_t rattle_arg(size_t nth, unsigned char *buffer, size_t len) {
+    if (nth >= given)
+        return -1;
+    size_t whole = strlen(given_words[nth]);
+    memcpy(buffer, given_words[nth], whole < len ? whole : len);
+    return whole <= len ? (ssize_t)whole : -2;
+}
+
+int rattle_errno(void) {
+    return errno;
+}
+
+void rattle_set_errno(int error) {
+    errno = error;
+}
+
+/* glibc alone has this name. The program begins by ignoring SIGPIPE, so that a write to a closed pipe fails. */
+void (*__sysv_signal(int number, void (*handler)(int)))(int) {
+    return signal(number, handler);
+}
+
+/* The heap. Each block has 2^class bytes, a head among them, and lies in a chunk that the system gave. A block that was
+ * freed serves the next request of its class. malloc would take more instructions than the rest of the program. */
+struct head {
+    size_t class;
+    struct head *next;
+};
+
+enum { CHUNK = 1 << 18 };
+
+static struct head *freed[64];
+static unsigned char *unused;
+static size_t unused_len;
+
+/* A block of a class, or NULL if there is no memory. */
+static struct head *taken(size_t class) {
+    size_t len = (size_t)1 << class;
+    struct head *head = freed[class];
+    if (head != NULL) {
+        freed[class] = head->next;
+        return head;
+    }
+    if (len > unused_len) {
+        size_t chunk_len = len > CHUNK ? len : CHUNK;
+        void *chunk = mmap(NULL, chunk_len, PROT_READ | PROT_WRITE, MAP_PRIVATE | MAP_ANONYMOUS, -1, 0);
+        if (chunk == MAP_FAILED)
+            return NULL;
+        unused = chunk;
+        unused_len = chunk_len;
+    }
+    head = (struct head *)(void *)unused;
+    head->class = class;
+    unused += len;
+    unused_len -= len;
+    return head;
+}
+
+struct getopts_block rattle_alloc(size_t size, size_t align) {
+    static const char nothing;
+    size_t class = 64 - (size_t)__builtin_clzl((size != 0 ? size : align) + sizeof(struct head) - 1);
+    struct head *head = class < 63 ? taken(class) : NULL;
+    return (struct getopts_block){ head != NULL, head != NULL ? head + 1 : (void *)&nothing };
+}
+
+void rattle_dealloc(void *block) {
+    struct head *head = (struct head *)block - 1;
+    head->next = freed[head->class];
+    freed[head->class] = head;
+}
+
+struct getopts_block rattle_realloc(void *block, size_t kept, size_t size, size_t align) {
+    struct head *head = (struct head *)block - 1;
+    if (size <= ((size_t)1 << head->class) - sizeof *head)
+        return (struct getopts_block){ true, block };
+    struct getopts_block moved = rattle_alloc(size, align);
+    if (moved.ok) {
+        memcpy(moved.block, block, kept);
+        rattle_dealloc(block);
+    }
+    return moved;
+}

@@ -1,0 +1,357 @@
+-- The text that sets variables, as it is written, and the faults of their names.
+use Rattle.std.proofs.Common.{◌≡◌, ◌≢◌, ℕ, Bool, true, false, cond, eqb, List, [], ◌∷◌, ◌++◌, Option, Some, None}
+use Rattle.std.proofs.Common.{refl, sym, ap, subst, ◌∙◌, suc, zero, length, take, drop, map, append_assoc, append-nil}
+use Rattle.std.proofs.Common.{add-one, add-zero, arith, min, get_or, ◌+◌, ◌-◌, ◌^◌, ◌<◌, ◌≤◌}
+use Rattle.std.specs.Prelude.{nat_lt, slice_get, ◌&&◌, ◌||◌}
+use Rattle.std.specs.Borrow.{Bor}
+use Rattle.std.specs.List.{flat_map, list_all, list_any, onto_first, slice_split}
+use Rattle.std.specs.Option.{option_copied, option_or, unwrap_or}
+use Rattle.std.specs.Str.{bytes_eq}
+use Rattle.std.proofs.lemmas.Bool.{eq-eqb}
+use Rattle.std.proofs.lemmas.Bool.Decides.{nat_tests}
+use Rattle.std.proofs.lemmas.List.{at_drop_more, get_or-append-add, get_or_past, length-append, length-map}
+use Rattle.std.proofs.lemmas.List.{length-take-le, take-append-drop, take_more}
+use Rattle.std.proofs.lemmas.List.Concat.{flat_map-append}
+use Rattle.std.proofs.lemmas.List.Folds.{list_all-append, list_all-map}
+use Rattle.std.proofs.lemmas.List.Splits.{length-slice_split}
+use Rattle.getopts.specs.Accessors.{each_value, found_in}
+use Rattle.getopts.specs.Matches.{Found, MatchedGroup}
+use Rattle.getopts.specs.Names.{Text, Names, main_name}
+use Rattle.getopts.specs.Options.{Group, Signature, names_of, signatures_of}
+use Rattle.getopts.specs.Wrap.{lines_of, parting}
+use Rattle.getopts_shell.specs.Held.{group_of_row, groups_of, held_signatures}
+use Rattle.getopts_shell.specs.Quote.{quoted, quoted_words, spaced}
+use Rattle.getopts_shell.specs.Table.{is_passed, line_number}
+use Rattle.getopts_shell.specs.Variables.{all_values, any_has_variable, first_fault, HaveOwnVariables, is_variable}
+use Rattle.getopts_shell.specs.Variables.{is_variable_byte, name_fault, option_lines, setting}
+use Rattle.getopts_shell.specs.Variables.{texts_found, variable, variable_byte, VariableFault, variable_of}
+use Rattle.getopts_shell.specs.declared.row.Row.{Row}
+
+some_lt : (n : ℕ) → true ≡ nat_lt 0 (suc n)
+some_lt n = grind (arith, nat_tests)
+
+-- ---- a name with `_` for each `-`
+
+-- parts, each but the first after `_`
+abbrev after_underscore : Text → Text
+after_underscore part = 95 ∷ part
+
+abbrev pub name_of_parts : List Text → Text
+name_of_parts [] = []
+name_of_parts (part ∷ parts) = part ++ flat_map after_underscore parts
+
+onto_name : (byte : ℕ) (parts : List Text)
+    → name_of_parts (onto_first byte parts) ≡ byte ∷ name_of_parts parts
+onto_name byte [] = refl
+onto_name byte (part ∷ parts) = refl
+
+after_dash : (parts : List Text) → 0 < length parts → name_of_parts ([] ∷ parts) ≡ 95 ∷ name_of_parts parts
+after_dash [] some = absurd (omega arith)
+after_dash (part ∷ parts) some = refl
+
+parts_of_name : (name : Text) → name_of_parts (slice_split (λ b. eqb b 45) name) ≡ map variable_byte name
+parts_of_name [] = refl
+parts_of_name (byte ∷ name) = by_test (parts_of_name name) (eqb byte 45) refl
+  where
+    by_test : name_of_parts (slice_split (λ b. eqb b 45) name) ≡ map variable_byte name
+        → (test : Bool) → eqb byte 45 ≡ test
+        → name_of_parts (slice_split (λ b. eqb b 45) (byte ∷ name)) ≡ map variable_byte (byte ∷ name)
+    by_test rest true is =
+        simp is (after_dash (slice_split (λ b. eqb b 45) name)
+        (omega (arith, length-slice_split (λ b. eqb b 45) name))
+        ∙ ap (λ (text : Text). 95 ∷ text) rest)
+    by_test rest false is =
+        simp is (onto_name byte (slice_split (λ b. eqb b 45) name) ∙ ap (λ (text : Text). byte ∷ text) rest)
+
+-- The text has grown by the parts so far, and the flag tells whether there is any.
+pub record NameSoFar (parts : List Text) (begun : Bool) (old text : Text) : Type 0 where
+  pub begun_is : begun ≡ nat_lt 0 (length parts)
+  pub text_is : text ≡ old ++ name_of_parts parts
+
+pub one_more_name_part : (parts : List Text) (begun : Bool) (part old text : Text) → NameSoFar parts begun old text
+    → NameSoFar (parts ++ part ∷ []) true old (text ++ (parting begun (95 ∷ []) ++ part))
+one_more_name_part [] begun part old text so_far = record {
+  begun_is = refl;
+  text_is = ap (λ (begun : Bool). text ++ (parting begun (95 ∷ []) ++ part)) so_far.begun_is
+      ∙ ap (λ (text : Text). text ++ part) (so_far.text_is ∙ append-nil old)
+      ∙ ap (λ (part : Text). old ++ part) (sym (append-nil part));
+}
+one_more_name_part (first ∷ parts) begun part old text so_far = record {
+  begun_is = some_lt (length (parts ++ part ∷ []));
+  text_is = ap (λ (begun : Bool). text ++ (parting begun (95 ∷ []) ++ part))
+      (so_far.begun_is ∙ sym (some_lt (length parts)))
+      ∙ ap (λ (text : Text). text ++ (95 ∷ part)) so_far.text_is
+      ∙ append_assoc old (first ++ flat_map after_underscore parts) (95 ∷ part)
+      ∙ ap (λ (text : Text). old ++ text)
+      (append_assoc first (flat_map after_underscore parts) (95 ∷ part)
+      ∙ ap (λ (text : Text). first ++ text)
+      (ap (λ (last : Text). flat_map after_underscore parts ++ last) (sym (append-nil (95 ∷ part)))
+      ∙ sym (flat_map-append after_underscore parts (part ∷ []))));
+}
+
+pub all_name_parts : (name : Text) (parts : List Text) (begun : Bool) (old text : Text)
+    → NameSoFar parts begun old text → parts ≡ slice_split (λ b. eqb b 45) name
+    → text ≡ old ++ map variable_byte name
+all_name_parts name parts begun old text so_far all =
+    so_far.text_is ∙ ap (λ (text : Text). old ++ text) (ap name_of_parts all ∙ parts_of_name name)
+
+-- ---- values
+
+-- the value of an occurrence, or the empty text
+pub text_found : (founds : List Found) (nth : ℕ) (found : Found) → slice_get founds nth ≡ Some found
+    → get_or (texts_found founds) nth [] ≡ unwrap_or found.value []
+text_found [] nth found is = cc
+text_found (first ∷ founds) zero found is = ap (λ (o : Option Found). unwrap_or (unwrap_or o first).value []) is
+text_found (first ∷ founds) (suc nth) found is = text_found founds nth found is
+
+pub none_found : (founds : List Found) (nth : ℕ) → slice_get founds nth ≡ None
+    → get_or (texts_found founds) nth [] ≡ []
+none_found [] nth is = refl
+none_found (first ∷ founds) zero is = cc
+none_found (first ∷ founds) (suc nth) is = none_found founds nth is
+
+-- the value of an occurrence that is lent, or the empty text
+pub lent_text : (value : Option (Bor Text)) (other text : Bor Text) → text ≡ unwrap_or value other
+    → other.now ≡ [] → text.now ≡ unwrap_or (option_copied value) []
+lent_text None other text is empty = ap (λ (t : Bor Text). t.now) is ∙ empty
+lent_text (Some value) other text is empty = ap (λ (t : Bor Text). t.now) is
+
+pub length_texts : (founds : List Found) → length (texts_found founds) ≡ length founds
+length_texts founds =
+    length-map (each_value founds) (λ (value : Option Text). unwrap_or value [])
+    ∙ length-map founds (λ (found : Found). found.value)
+
+-- one more word in quotes
+pub quoted_words_more : (texts : List Text) (nth : ℕ) → nth < length texts
+    → quoted_words (take (nth + 1) texts)
+    ≡ quoted_words (take nth texts) ++ (parting (nat_lt 0 nth) (32 ∷ []) ++ quoted (get_or texts nth []))
+quoted_words_more texts nth below = ap quoted_words (take_more texts nth [] below) ∙ by_place texts nth below
+  where
+    by_place : (texts : List Text) (nth : ℕ) → nth < length texts
+        → quoted_words (take nth texts ++ get_or texts nth [] ∷ [])
+        ≡ quoted_words (take nth texts) ++ (parting (nat_lt 0 nth) (32 ∷ []) ++ quoted (get_or texts nth []))
+    by_place [] nth below = absurd (omega arith)
+    by_place (first ∷ texts) zero below = append-nil (quoted first)
+    by_place (first ∷ texts) (suc nth) below =
+        let word = get_or texts nth [] in
+        ap (λ (text : Text). quoted first ++ text)
+        (flat_map-append spaced (take nth texts) (word ∷ [])
+        ∙ ap (λ (text : Text). flat_map spaced (take nth texts) ++ text) (append-nil (spaced word)))
+        ∙ sym (append_assoc (quoted first) (flat_map spaced (take nth texts)) (spaced word))
+        ∙ ap (λ (begun : Bool). (quoted first ++ flat_map spaced (take nth texts))
+        ++ (parting begun (32 ∷ []) ++ quoted word)) (some_lt nth)
+
+-- ---- groups
+
+-- the group at the place of a row
+pub group_at : (groups : List MatchedGroup) (rows : List Row) (place : ℕ) (row : Row)
+    → held_signatures groups ≡ signatures_of (groups_of rows) → slice_get rows place ≡ Some row
+    → slice_get groups place
+    ≡ Some (record { signature = (group_of_row row).signature; found = found_in groups place })
+group_at [] [] place row same is = cc
+group_at [] (other ∷ rows) place row same is = cc
+group_at (group ∷ groups) [] place row same is = cc
+group_at (group ∷ groups) (other ∷ rows) zero row same is =
+    let row_is : other ≡ row = cc in
+    let signature_is : group.signature ≡ (group_of_row other).signature = cc in
+    let makes = λ (signature : Signature).
+    let made : MatchedGroup = record { signature = signature; found = group.found } in made in
+    ap Some (ap makes (signature_is ∙ ap (λ (row : Row). (group_of_row row).signature) row_is))
+group_at (group ∷ groups) (other ∷ rows) (suc place) row same is =
+    let rest : held_signatures groups ≡ signatures_of (groups_of rows) = cc in
+    group_at groups rows place row rest is
+
+-- one more line
+pub lines_more : (line : MatchedGroup → Text) (groups : List MatchedGroup) (place : ℕ) (group : MatchedGroup)
+    → slice_get groups place ≡ Some group
+    → flat_map line (take (place + 1) groups) ≡ flat_map line (take place groups) ++ line group
+lines_more line groups place group is =
+    ap (λ (n : ℕ). flat_map line (take n groups)) (add-one place) ∙ by_place groups place is
+  where
+    by_place : (groups : List MatchedGroup) (place : ℕ) → slice_get groups place ≡ Some group
+        → flat_map line (take (suc place) groups) ≡ flat_map line (take place groups) ++ line group
+    by_place [] place is = cc
+    by_place (first ∷ groups) zero is =
+        let same : first ≡ group = cc in
+        append-nil (line first) ∙ ap line same
+    by_place (first ∷ groups) (suc place) is =
+        ap (λ (text : Text). line first ++ text) (by_place groups place is)
+        ∙ sym (append_assoc (line first) (flat_map line (take place groups)) (line group))
+
+-- ---- lines
+
+-- So many lines were passed, so many options stand in them, and this many are looked for.
+pub record LinesPassed (lines : List Text) (number before place : ℕ) : Type 0 where
+  pub number_is : number ≡ min (length lines) (2 ^ 64 - 1)
+  pub before_is : before ≡ length (option_lines 0 lines)
+  pub below : before ≤ place
+
+option_lines-append : (before : ℕ) (lines others : List Text)
+    → option_lines before (lines ++ others)
+    ≡ option_lines before lines ++ option_lines (before + length lines) others
+option_lines-append before [] others = ap (λ (n : ℕ). option_lines n others) (sym (add-zero before))
+option_lines-append before (line ∷ lines) others =
+    by_test (is_passed line) (option_lines-append (before + 1) lines others
+    ∙ ap (λ (n : ℕ). option_lines (before + 1) lines ++ option_lines n others) next)
+  where
+    next : (before + 1) + length lines ≡ before + length (line ∷ lines)
+    next = omega arith
+
+    by_test : (test : Bool)
+        → option_lines (before + 1) (lines ++ others)
+        ≡ option_lines (before + 1) lines ++ option_lines (before + length (line ∷ lines)) others
+        → cond test (option_lines (before + 1) (lines ++ others))
+        (line_number before ∷ option_lines (before + 1) (lines ++ others))
+        ≡ cond test (option_lines (before + 1) lines) (line_number before ∷ option_lines (before + 1) lines)
+        ++ option_lines (before + length (line ∷ lines)) others
+    by_test true more = more
+    by_test false more = ap (λ (numbers : List ℕ). line_number before ∷ numbers) more
+
+in_parts : (all : List Text) (n : ℕ) (x : Text) → n < length all → x ≡ get_or all n x
+    → all ≡ take n all ++ x ∷ drop (n + 1) all
+in_parts all n x below is =
+    sym (take-append-drop n all)
+    ∙ ap (λ (t : List Text). take n all ++ t) (at_drop_more (λ (t : List Text). t) all n x below
+    ∙ ap (λ (y : Text). y ∷ drop (n + 1) all) (sym is))
+
+pub none_passed : (place : ℕ) → LinesPassed [] 0 0 place
+none_passed place = record { number_is = refl; before_is = refl; below = omega arith }
+
+-- a line more that declares nothing
+pub one_passed : (lines : List Text) (line : Text) (number next before place : ℕ)
+    → LinesPassed lines number before place → next ≡ min (number + 1) (2 ^ 64 - 1) → is_passed line ≡ true
+    → LinesPassed (lines ++ line ∷ []) next before place
+one_passed lines line number next before place so_far next_is passed = record {
+  number_is = omega (arith, so_far.number_is, length-append lines (line ∷ []));
+  before_is = so_far.before_is ∙ ap length (sym (option_lines-append 0 lines (line ∷ []) ∙ rw passed (append-nil _)));
+  below = so_far.below;
+}
+
+-- a line more that declares an option, which isn't the one
+pub option_passed : (lines : List Text) (line : Text) (number next before after place : ℕ) → place < 2 ^ 64
+    → LinesPassed lines number before place → next ≡ min (number + 1) (2 ^ 64 - 1) → is_passed line ≡ false
+    → after ≡ min (before + 1) (2 ^ 64 - 1) → before ≢ place
+    → LinesPassed (lines ++ line ∷ []) next after place
+option_passed lines line number next before after place fits so_far next_is there after_is other = record {
+  number_is = omega (arith, so_far.number_is, length-append lines (line ∷ []));
+  before_is =
+      let numbers = option_lines 0 lines in
+      let last : List ℕ = line_number (0 + length lines) ∷ [] in
+      let all : option_lines 0 (lines ++ line ∷ []) ≡ numbers ++ last =
+      option_lines-append 0 lines (line ∷ []) ∙ rw there refl in
+      omega (arith, so_far.before_is, so_far.below, length-append numbers last, ap length all);
+  below = omega (arith, so_far.below);
+}
+
+-- the line of the option
+pub line_found : (table : Text) (lines : List Text) (line : Text) (number next before place : ℕ)
+    → lines ≡ take (length lines) (lines_of table) → length lines < length (lines_of table)
+    → line ≡ get_or (lines_of table) (length lines) line
+    → LinesPassed lines number before place → next ≡ min (number + 1) (2 ^ 64 - 1) → is_passed line ≡ false
+    → before ≡ place → next ≡ get_or (option_lines 0 (lines_of table)) place 0
+line_found table lines line number next before place lines_are below line_is so_far next_is there here =
+    let others = drop (length lines + 1) (lines_of table) in
+    let numbers = option_lines 0 lines in
+    let more = option_lines ((0 + length lines) + 1) others in
+    let number_at : next ≡ line_number (0 + length lines) = omega (arith, so_far.number_is) in
+    let all : lines_of table ≡ lines ++ line ∷ others =
+    in_parts (lines_of table) (length lines) line below line_is
+    ∙ ap (λ (t : List Text). t ++ line ∷ others) (sym lines_are) in
+    let numbers_are : option_lines 0 (lines_of table) ≡ numbers ++ line_number (0 + length lines) ∷ more =
+    ap (option_lines 0) all ∙ option_lines-append 0 lines (line ∷ others) ∙ rw there refl in
+    let place_is : place ≡ length numbers + 0 = omega (arith, so_far.before_is) in
+    number_at
+    ∙ sym (get_or-append-add numbers (line_number (0 + length lines) ∷ more) 0 0)
+    ∙ ap (λ (n : ℕ). get_or (numbers ++ line_number (0 + length lines) ∷ more) n 0) (sym place_is)
+    ∙ ap (λ (all : List ℕ). get_or all place 0) (sym numbers_are)
+
+-- past the last option
+pub no_line_found : (table : Text) (lines : List Text) (number before place : ℕ) → lines ≡ lines_of table
+    → LinesPassed lines number before place → 0 ≡ get_or (option_lines 0 (lines_of table)) place 0
+no_line_found table lines number before place all so_far =
+    let past : length (option_lines 0 (lines_of table)) ≤ place =
+    omega (arith, so_far.before_is, so_far.below, ap (λ (t : List Text). length (option_lines 0 t)) all) in
+    sym (get_or_past (option_lines 0 (lines_of table)) place 0 past)
+
+-- ---- variables
+
+pub variable_bytes : (prefix name : Text) → list_all is_variable_byte (variable prefix name)
+    ≡ (list_all is_variable_byte prefix && list_all (λ byte. is_variable_byte (variable_byte byte)) name)
+variable_bytes prefix name =
+    list_all-append is_variable_byte prefix (map variable_byte name)
+    ∙ ap (λ (b : Bool). list_all is_variable_byte prefix && b) (list_all-map is_variable_byte variable_byte name)
+
+-- the text for an array of values
+pub array_setting : (name : Text) (arrays : Bool) (founds : List Found) → arrays ≡ true → founds ≢ []
+    → setting name (Some (all_values arrays founds))
+    ≡ name ++ (61 ∷ 40 ∷ (quoted_words (texts_found founds) ++ 41 ∷ []))
+array_setting name arrays [] is some = absurd (some refl)
+array_setting name arrays (found ∷ founds) is some =
+    ap (λ (arrays : Bool). setting name (Some (all_values arrays (found ∷ founds)))) is
+
+same_front : (front name other : Text) → bytes_eq (front ++ name) (front ++ other) ≡ bytes_eq name other
+same_front [] name other = refl
+same_front (byte ∷ front) name other =
+    rw (eq-eqb byte byte refl) (same_front front name other)
+
+-- whether a row makes the variable of names
+pub any_variable : (prefix : Text) (rows : List Row) (names : Names)
+    → any_has_variable prefix (names_of (groups_of rows)) names
+    ≡ list_any (λ row. bytes_eq (map variable_byte (main_name (group_of_row row).signature.names))
+    (map variable_byte (main_name names))) rows
+any_variable prefix [] names = refl
+any_variable prefix (row ∷ rows) names =
+    let part = map variable_byte (main_name (group_of_row row).signature.names) in
+    let own = map variable_byte (main_name names) in
+    ap (λ (test : Bool). test || any_has_variable prefix (names_of (groups_of rows)) names)
+    (same_front prefix part own)
+    ∙ ap (λ (test : Bool). bytes_eq part own || test) (any_variable prefix rows names)
+
+names_of_rows-append : (front back : List Row)
+    → names_of (groups_of (front ++ back)) ≡ names_of (groups_of front) ++ names_of (groups_of back)
+names_of_rows-append [] back = refl
+names_of_rows-append (row ∷ front) back =
+    ap (λ (names : List Names). (group_of_row row).signature.names ∷ names) (names_of_rows-append front back)
+
+-- the fault from a row on: its own, or else that from the next one on
+pub fault_from : (prefix : Text) (lines : List ℕ) (rows : List Row) (place : ℕ) (row : Row) → place < length rows
+    → row ≡ get_or rows place row
+    → first_fault prefix lines (names_of (groups_of (take place rows))) (names_of (groups_of (drop place rows)))
+    ≡ option_or (name_fault prefix (names_of (groups_of (take place rows))) (group_of_row row).signature.names
+    (get_or lines place 0))
+    (first_fault prefix lines (names_of (groups_of (take (place + 1) rows)))
+    (names_of (groups_of (drop (place + 1) rows))))
+fault_from prefix lines rows place row below row_is =
+    let before = names_of (groups_of (take place rows)) in
+    let names = (group_of_row row).signature.names in
+    let others = names_of (groups_of (drop (place + 1) rows)) in
+    let count : length before ≡ place =
+    length-map (groups_of (take place rows)) (λ (group : Group). group.signature.names)
+    ∙ length-map (take place rows) group_of_row ∙ length-take-le place rows (omega arith) in
+    let rest : drop place rows ≡ row ∷ drop (place + 1) rows =
+    at_drop_more (λ (t : List Row). t) rows place row below
+    ∙ ap (λ (r : Row). r ∷ drop (place + 1) rows) (sym row_is) in
+    let more : before ++ names ∷ [] ≡ names_of (groups_of (take (place + 1) rows)) =
+    sym (names_of_rows-append (take place rows) (row ∷ []))
+    ∙ ap (λ (rows : List Row). names_of (groups_of rows))
+    (ap (λ (r : Row). take place rows ++ r ∷ []) row_is ∙ sym (take_more rows place row below)) in
+    ap (λ (rows : List Row). first_fault prefix lines before (names_of (groups_of rows))) rest
+    ∙ ap (λ (n : ℕ). option_or (name_fault prefix before names (get_or lines n 0))
+    (first_fault prefix lines (before ++ names ∷ []) others)) count
+    ∙ ap (λ (front : List Names). option_or (name_fault prefix before names (get_or lines place 0))
+    (first_fault prefix lines front others)) more
+
+-- names without a fault make their own variables
+no_fault : (made again : Bool) (one two : VariableFault) (rest : Option VariableFault)
+    → option_or (cond made (cond again (Some two) None) (Some one)) rest ≡ None
+    → (made ≡ true) × (again ≡ false) × (rest ≡ None)
+no_fault false again one two rest is = absurd cc
+no_fault true true one two rest is = absurd cc
+no_fault true false one two rest is = (refl, refl, is)
+
+pub own_variables : (prefix : Text) (lines : List ℕ) (before names : List Names)
+    → first_fault prefix lines before names ≡ None → HaveOwnVariables prefix before names
+own_variables prefix lines before [] is = tt
+own_variables prefix lines before (names ∷ more) is =
+    let parts = no_fault (is_variable (variable_of prefix names)) (any_has_variable prefix before names) _ _ _ is in
+    (parts.0, parts.1, own_variables prefix lines (before ++ names ∷ []) more parts.2)

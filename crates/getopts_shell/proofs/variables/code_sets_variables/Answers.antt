@@ -1,0 +1,5 @@
+use Rattle.getopts_shell.proofs.Shell.{code_sets}
+use Rattle.getopts_shell.proofs.variables.code_sets_variables.Goals as goal
+
+pub returns : goal.returns
+returns c = code_sets

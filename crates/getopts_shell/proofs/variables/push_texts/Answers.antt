@@ -1,0 +1,21 @@
+use Rattle.std.proofs.Common.{◌++◌, ◌<◌, [], ◌∷◌, ap, ◌∙◌, sym, arith, length, string_bytes, take, append_assoc, get_or}
+use Rattle.std.specs.Prelude.{nat_lt}
+use Rattle.getopts.specs.Names.{Text}
+use Rattle.getopts.specs.Wrap.{parting}
+use Rattle.getopts_shell.specs.Quote.{quoted, quoted_words}
+use Rattle.getopts_shell.specs.Variables.{texts_found}
+use Rattle.getopts_shell.proofs.Assignments.{length_texts, quoted_words_more}
+use Rattle.getopts_shell.proofs.variables.push_texts.Goals as goal
+
+pub loop-nth-preserved : goal.loop-nth-preserved
+loop-nth-preserved c =
+    let texts = texts_found c.args.given.now in
+    let nth = c.loop-nth.nth in
+    let below : nth < length texts = omega (arith, length_texts c.args.given.now, c.len-nth-end.ensures) in
+    c.in_ok-push_word.ensures
+    ∙ ap (λ (word : Text). string_bytes c.loop-nth.text ++ (parting (nat_lt 0 nth) (32 ∷ []) ++ quoted word))
+    c.text_at.ensures
+    ∙ ap (λ (text : Text). text ++ (parting (nat_lt 0 nth) (32 ∷ []) ++ quoted (get_or texts nth [])))
+    c.loop-nth.invariant
+    ∙ append_assoc (string_bytes c.args.text.now) (quoted_words (take nth texts)) _
+    ∙ ap (λ (text : Text). string_bytes c.args.text.now ++ text) (sym (quoted_words_more texts nth below))

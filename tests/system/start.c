@@ -1,0 +1,121 @@
+/* Tests bindings/shell/start.c: that each of its functions does what Rattle's crates `os` and `libc` declare of it. It is
+ * linked with --wrap=main, as a program is, and run with the words "" and "three". */
+#define _DEFAULT_SOURCE
+#include "../../bindings/c/getopts_c.h"
+
+#include <errno.h>
+#include <signal.h>
+#include <stdio.h>
+#include <stdlib.h>
+#include <string.h>
+#include <sys/types.h>
+#include <unistd.h>
+
+ssize_t rattle_arg(size_t nth, unsigned char *buffer, size_t len);
+int rattle_errno(void);
+void rattle_set_errno(int error);
+void (*__sysv_signal(int number, void (*handler)(int)))(int);
+
+static int failed;
+
+static void expect(bool holds, const char *what) {
+    if (!holds && failed++ < 10)
+        printf("FAILED: %s\n", what);
+}
+
+/* Words, in buffers of each length up to some more than they need. */
+static void words(void) {
+    static const char *const given[] = { "", "three" };
+    for (size_t nth = 0; nth < 2; nth++)
+        for (size_t len = 0; len < 8; len++) {
+            unsigned char buffer[9], wanted[9];
+            size_t whole = strlen(given[nth]);
+            memset(buffer, '.', sizeof buffer);
+            memset(wanted, '.', sizeof wanted);
+            memcpy(wanted, given[nth], whole < len ? whole : len);
+            expect(rattle_arg(nth + 1, buffer, len) == (whole <= len ? (ssize_t)whole : -2), "the length of a word");
+            expect(memcmp(buffer, wanted, sizeof buffer) == 0, "a word, or its front in a buffer that is full");
+        }
+    unsigned char none = '.';
+    expect(rattle_arg(3, &none, 1) == -1 && rattle_arg(SIZE_MAX, &none, 1) == -1 && none == '.', "no such word");
+}
+
+static void errors_and_signals(void) {
+    int ends[2];
+    rattle_set_errno(EBADF);
+    expect(rattle_errno() == EBADF && errno == EBADF, "the error that was set");
+    expect(__sysv_signal(SIGPIPE, SIG_IGN) == SIG_DFL && __sysv_signal(SIGPIPE, SIG_IGN) == SIG_IGN, "the handler before");
+    expect(pipe(ends) == 0 && close(ends[0]) == 0, "a pipe");
+    expect(write(ends[1], "x", 1) == -1 && rattle_errno() == EPIPE, "a write to a pipe without reader");
+    close(ends[1]);
+}
+
+/* Blocks that are alive, each with a byte that it is filled with. */
+enum { BLOCKS = 200, TURNS = 200000 };
+
+static struct {
+    unsigned char *at, fill;
+    size_t size;
+} blocks[BLOCKS];
+
+static size_t below(size_t limit) {
+    static uint64_t state = 0x9e3779b97f4a7c15;
+    state ^= state << 13;
+    state ^= state >> 7;
+    state ^= state << 17;
+    return (size_t)(state >> 11) % limit;
+}
+
+static bool is_filled(const unsigned char *at, unsigned char fill, size_t size) {
+    return size == 0 || (at[0] == fill && memcmp(at, at + 1, size - 1) == 0);
+}
+
+/* One block is made, grown, made smaller or freed; it keeps its bytes, and no other changes them. */
+static void turn(void) {
+    size_t nth = below(BLOCKS), size = below(100) > 0 ? below(below(20) > 0 ? 200 : 20000) : below(1000000);
+    unsigned char *old = blocks[nth].at, fill = (unsigned char)below(256);
+    expect(old == NULL || is_filled(old, blocks[nth].fill, blocks[nth].size), "the bytes of a block");
+    if (old != NULL && below(2) == 0) {
+        rattle_dealloc(old);
+        blocks[nth].at = NULL;
+        return;
+    }
+    size_t kept = old == NULL ? 0 : blocks[nth].size < size ? blocks[nth].size : size;
+    struct getopts_block got = old == NULL ? rattle_alloc(size, 16) : rattle_realloc(old, kept, size, 16);
+    expect(got.ok && (uintptr_t)got.block % 16 == 0, "a block");
+    if (!got.ok)
+        return;
+    expect(is_filled(got.block, blocks[nth].fill, kept), "what is kept of a block");
+    memset(got.block, fill, size);
+    blocks[nth].at = got.block, blocks[nth].fill = fill, blocks[nth].size = size;
+}
+
+/* What can't be had is refused, and leaves the block as it was. */
+static void too_much(void) {
+    static const size_t sizes[] = { (size_t)1 << 47, ((size_t)1 << 62) - 16, (size_t)1 << 62, SIZE_MAX / 2 };
+    struct getopts_block block = rattle_alloc(10, 1);
+    memset(block.block, 'x', 10);
+    for (size_t nth = 0; nth < sizeof sizes / sizeof *sizes; nth++) {
+        struct getopts_block none = rattle_alloc(sizes[nth], 16), same = rattle_realloc(block.block, 10, sizes[nth], 16);
+        expect(!none.ok && none.block != NULL && !same.ok && same.block != NULL, "more than there is");
+        expect(is_filled(block.block, 'x', 10), "the block that couldn't grow");
+    }
+    rattle_dealloc(block.block);
+}
+
+int main(void) {
+    words();
+    errors_and_signals();
+    for (size_t nth = 0; nth < TURNS; nth++)
+        turn();
+    too_much();
+    /* What was freed serves again: otherwise this would take a terabyte. */
+    for (size_t nth = 0; nth < 1000000; nth++) {
+        struct getopts_block block = rattle_alloc(1000000, 1);
+        expect(block.ok, "a block that was freed");
+        rattle_dealloc(block.block);
+    }
+    if (failed == 0)
+        puts("as declared");
+    return failed > 0;
+}
