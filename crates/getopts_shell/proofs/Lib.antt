@@ -12,6 +12,7 @@ mod Status
 mod Stubs
 -- one thing is offered at a word
 mod Offers
+mod Fronts
 mod Shell
 mod Assignments
 mod Asked
