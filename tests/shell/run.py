@@ -55,7 +55,7 @@ def run(words, **more):
 
 
 def text_of(rng):
-    """A random text of up to ten characters, of every kind that a word may hold."""
+    """A random word of up to ten characters or bytes, of every kind that a word may hold."""
     chars = []
     for _ in range(rng.choice([0, 1, 1, 2, 3, 5, 10])):
         kind = rng.random()
@@ -65,9 +65,17 @@ def text_of(rng):
             chars.append(chr(rng.randrange(1, 128)))
         elif kind < 0.9:
             chars.append(rng.choice("abcxyz"))
-        else:
-            code = rng.randrange(0xA0, 0x110000)
+        elif kind < 0.94:
+            code = rng.randrange(0x80, 0x110000)
             chars.append(chr(code if not 0xD800 <= code < 0xE000 else 0xE9))
+        elif kind < 0.96:
+            chars.append(chr(rng.randrange(0x80, 0xA0)))
+        elif kind < 0.98:
+            # the marks of bytes
+            chars.append(chr(rng.randrange(0x10FF80, 0x110000)))
+        else:
+            # a byte as it is
+            chars.append(os.fsdecode(bytes([rng.randrange(0x80, 0x100)])))
     return "".join(chars)
 
 
@@ -104,6 +112,14 @@ def line_of(rng):
     return words, options + ["--"] + free
 
 
+def is_text(word):
+    try:
+        word.encode()
+    except UnicodeEncodeError:
+        return False
+    return True
+
+
 def shells():
     found = []
     for shell in SHELLS:
@@ -125,22 +141,26 @@ def random_lines(program, found, room):
         wanted.append(line)
     script = room / "lines"
     script.write_text(
-        "n=0\nwhile [ $n -lt %d ]; do\n    code=$(cat code.$n) || exit\n    eval \"$code\"\n"
-        "    printf '%%s\\0' \"$#\" \"$@\"\n    n=$((n + 1))\ndone\n" % LINES
+        "while read -r n; do\n    code=$(cat code.$n) || exit\n    eval \"$code\"\n"
+        "    printf '%s\\0' \"$#\" \"$@\"\ndone <\"$LIST\"\n"
     )
     for shell in found:
-        done = run(shell + [str(script)], cwd=room)
+        # yash takes no bytes that are no text of its locale.
+        taken = [place for place, line in enumerate(wanted) if shell != ["yash"] or is_text("".join(line))]
+        (room / "list").write_text("".join(f"{place}\n" for place in taken))
+        done = run(shell + [str(script)], cwd=room, env={**os.environ, "LIST": str(room / "list")})
         told = done.stdout.split(b"\0")
         place = 0
-        for number, line in enumerate(wanted):
+        for number in taken:
+            line = [os.fsencode(word) for word in wanted[number]]
             count = int(told[place] or b"-1") if place < len(told) else -1
-            words = [word.decode() for word in told[place + 1 : place + 1 + max(count, 0)]]
+            words = told[place + 1 : place + 1 + max(count, 0)]
             if words != line:
                 fail(f"{' '.join(shell)}: line {number}: {words!r}, not {line!r}; {done.stderr[:200]!r}")
                 break
             place += 1 + count
         else:
-            print(f"{' '.join(shell)}: the words of {LINES} random lines")
+            print(f"{' '.join(shell)}: the words of {len(taken)} random lines")
 
 
 def page_script():
@@ -211,7 +231,7 @@ def by_getopt(words):
     if done.returncode != 0:
         return None
     names = {"-i": "--input", "-o": "--output", "-v": "--verbose", "-c": "--color", "-L": "--L"}
-    told, line, place = shlex.split(done.stdout.decode()), [], 0
+    told, line, place = shlex.split(os.fsdecode(done.stdout)), [], 0
     while told[place] != "--":
         name = names.get(told[place], told[place])
         if name in ("--input", "--output", "--L"):
@@ -242,7 +262,7 @@ def beside_getopt(program):
         if any(word == "--color=" for word in words):
             continue
         done = run([program, "-w", "try", MANY] + words)
-        ours = shlex.split(done.stdout.decode()) if done.returncode == 0 else None
+        ours = shlex.split(os.fsdecode(done.stdout)) if done.returncode == 0 else None
         theirs = by_getopt(words)
         refused += ours is None
         if ours != theirs:
