@@ -10,3 +10,4 @@ mod Line
 mod Status
 mod Shell
 mod Assignments
+mod Asked
