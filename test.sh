@@ -72,7 +72,10 @@ ended() {
 PACKAGES='C compiler:gcc cc:gcc g++:g++ clang:clang ar:binutils nm:binutils objcopy:binutils readelf:binutils
 pkg-config:pkg-config musl-gcc:musl-tools aarch64-linux-gnu-gcc:gcc-aarch64-linux-gnu qemu-aarch64:qemu-user
 valgrind:valgrind shellcheck:shellcheck man:man-db groff:groff mandoc:mandoc dash:dash zsh:zsh ksh93:ksh93u+m mksh:mksh
-yash:yash busybox:busybox-static fish:fish pexpect:python3-pexpect unicode-width:librust-unicode-width-dev'
+yash:yash busybox:busybox-static fish:fish pexpect:python3-pexpect unicode-width:librust-unicode-width-dev
+librust-unicode-width-dev:librust-unicode-width-dev rustc:rustc cargo:cargo wasm32-wasi:libstd-rust-dev-wasm32
+x86_64-pc-windows-gnu:libstd-rust-dev-windows x86_64-w64-mingw32-gcc:gcc-mingw-w64-x86-64 wine64:wine64 node:nodejs
+i686-linux-gnu-gcc:gcc-i686-linux-gnu'
 
 # skipped: each test that was skipped, once, and the packages that have what it says is lacking.
 skipped() {
@@ -81,11 +84,20 @@ skipped() {
     [ -s "$room/skipped" ] || return 0
     echo "== skipped"
     sed 's/^skipped: //' "$room/skipped"
-    sed 's/.*: //' "$room/skipped" >"$room/lacking"
     while IFS=: read -r tools pair; do
-        grep -qwF -- "$tools" "$room/lacking" && packages="$packages $pair"
+        grep -qwF -- "$tools" "$room/skipped" && packages="$packages $pair"
     done < <(tr '\n' ' ' <<<"$PACKAGES" | sed 's/C compiler/C@compiler/' | tr ' @' '\n ')
     [ -z "$packages" ] || echo "these would run with: apt-get install$(tr ' ' '\n' <<<"$packages" | sort -u | tr '\n' ' ')"
+}
+
+# built: when the programs that were run were built, and how many of their sources changed since.
+built() {
+    local crate program
+    for crate in getopts_refused getopts_show getopts_shell; do
+        program=crates/$crate/out/$crate
+        [ ! -x "$program" ] || echo "$crate was built $(date -r "$program" '+%F at %T'), and of its sources and the" \
+            "library's $(find crates/{getopts,$crate}/src -name '*.rt' -newer "$program" | wc -l) changed since"
+    done
 }
 
 # proofs: the gate of the toolchain. What it says is kept, so that others begin once it has proved a crate.
@@ -130,11 +142,11 @@ over_proved() {
             getopts_c getopts_shell
 }
 
-# edits: in a copy, tries the edits of the library.
+# edits: in a copy, tries the edits of the libraries.
 edits() {
     mkdir "$room/copy" &&
         tar --exclude=./.git --exclude=out --exclude=target -c . | tar -C "$room/copy" -x &&
-        bash "$room/copy/tests/must-fail/try.sh" --jobs 1 getopts
+        bash "$room/copy/tests/must-fail/try.sh" --jobs 1 getopts getopts_bytes
 }
 
 room=$(mktemp -d)
@@ -149,7 +161,8 @@ if [ -n "$quick" ]; then
         begin "refused memory" bash tests/memory/run.sh
         begin "the programs and the system" python3 tests/system/run.py
     else
-        echo "skipped: refused memory, and the programs and the system: the whole test builds their programs"
+        echo "skipped: refused memory, and the programs and the system: the whole test builds their programs" |
+            tee -a "$room/said"
     fi
     part "tests and programs of all crates, unproved" bash tests/unproved.sh
 else
@@ -171,7 +184,10 @@ if [ -n "$failed" ]; then
     echo "failed: ${failed#; }"
     exit 1
 fi
-[ -z "$quick" ] || echo "Nothing was proved: 'bash test.sh' proves everything."
+if [ -n "$quick" ]; then
+    built
+    echo "Nothing was proved: 'bash test.sh' proves everything."
+fi
 times >"$room/times"
 processor=$(tail -n 1 "$room/times" | tr ms '  ' | awk '{ printf "%d", 60 * ($1 + $3) + $2 + $4 }')
 echo "all passed after $SECONDS s, with $processor s of processor"

@@ -23,7 +23,11 @@ tests() {
 # large: compares the rows of large inputs, by the program that was built last.
 large() {
     local folder=crates/getopts_vectors status=0
-    [ -x $folder/out/getopts_vectors ] || { echo "passed over: large inputs, until the whole test builds the program"; return; }
+    if [ ! -x $folder/out/getopts_vectors ]; then
+        echo "skipped: large inputs of getopts_vectors: the whole test builds that program" >"$room/skipped"
+        echo "large inputs skipped"
+        return
+    fi
     (cd $folder/data && ../out/getopts_vectors large.rows) >"$room/large" || status=$?
     cmp "$room/large" <(sed -n '/^large.rows/,$p' $folder/stdout) && [ "$status" = "$(cat $folder/status)" ] &&
         echo "large inputs as stored"
@@ -57,7 +61,7 @@ run() {
     fi
 }
 
-touch "$room/passed" "$room/failed"
+touch "$room/passed" "$room/failed" "$room/skipped"
 # The one that takes longest comes first.
 echo "program getopts_vectors" >"$room/tasks"
 for crate in crates/*/; do
@@ -70,6 +74,7 @@ while read -r what crate; do
     run "$what" "$crate" </dev/null &
 done <"$room/tasks"
 wait
+cat "$room/skipped"
 failed=$(wc -l <"$room/failed")
 echo "$(wc -l <"$room/passed") passed, $failed failed"
 [ "$failed" = 0 ]

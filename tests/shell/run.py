@@ -66,7 +66,7 @@ def text_of(rng):
         elif kind < 0.9:
             chars.append(rng.choice("abcxyz"))
         else:
-            code = rng.randrange(0xA0, 0x110000)
+            code = rng.randrange(0x80, 0x110000) if kind < 0.98 else rng.randrange(0x80, 0xA0)
             chars.append(chr(code if not 0xD800 <= code < 0xE000 else 0xE9))
     return "".join(chars)
 
@@ -199,6 +199,10 @@ def examples(shell, path, room):
     done = run(shell + [str(folder / "notes"), "-f", str(notes), "list"], env=env)
     if done.stdout.decode() != "[a] [b] it's\n[a] [b] two\n-x\n":
         fail(f"{' '.join(shell)}: the example notes: {done}")
+    for command in ("add", "list"):
+        done = run(shell + [str(folder / "notes"), "-f", str(notes), command, "--help"], env=env)
+        if done.returncode != 0 or not done.stdout.startswith(f"Usage: notes {command} ".encode()):
+            fail(f"{' '.join(shell)}: the help of the example notes {command}: {done}")
     done = run(shell + [str(folder / "notes"), "-f", str(notes), "list", "--tag"], env=env)
     if done.returncode != 2 or not done.stderr.startswith(b"notes list: Unrecognized option: 'tag'\n"):
         fail(f"{' '.join(shell)}: the example notes, refused: {done}")
@@ -338,12 +342,22 @@ def completion(program, room):
         print("completion in fish")
 
 
-def is_name(name):
-    return name and not name.startswith("-") and not any(c in " |[]=" or c < " " or c == "\x7f" for c in name)
+GAP = "a tab or two spaces have to come before the description"
+SHORT = "a short name has one byte"
+LONG = "a long name has at least two bytes"
+OPEN = "no ']'"
+BYTES = "a name may hold letters, digits, '-', '_', '.', '+', ':' and bytes from 128 on"
+DASHES = "a short name comes after '-', a long one after '--'"
+BRACKETS = "brackets stand around the option or its argument, and dots only after ']'"
+LONG_NAME = re.compile(r"[A-Za-z0-9_.+:\x80-\U0010ffff-]*")
+
+
+def is_short(name):
+    return len(name.encode()) == 1 and not (name in " -|[]=" or name < " " or name == "\x7f")
 
 
 def is_hint(hint):
-    return hint and not any(c in " \t[]" for c in hint)
+    return hint and not any(c in " \t[]" for c in hint) and not hint.endswith("..")
 
 
 def names_of(inside):
@@ -355,9 +369,40 @@ def names_of(inside):
         short, long = "", short
     if (space and not is_hint(hint)) or (bar and not (short and long)) or not (short or long):
         return None
-    lawful = (not short or (len(short) == 2 and short[0] == "-" and is_name(short[1:])))
-    lawful = lawful and (not long or (len(long) > 3 and long.startswith("--") and is_name(long[2:])))
+    lawful = not short or (short[0] == "-" and is_short(short[1:]))
+    lawful = lawful and (not long or (len(long) > 3 and long.startswith("--") and long[2] != "-"
+                                      and LONG_NAME.fullmatch(long[2:])))
     return [name for name in (short[1:], long[2:]) if name] if lawful else None
+
+
+def reason_of(item):
+    """What is wrong with an item that is none, by the first rule of the page that it breaks."""
+    if "[" in item and "]" not in item:
+        return OPEN
+    names, _, rest = re.match(r"(?s)([^ \]]*)([ \]]?)(.*)", item).groups()
+    if " " in rest:
+        return GAP
+    names = names.removeprefix("[")
+    if len(names) < 2 or names[0] != "-":
+        return DASHES
+    if names[1] == "-":
+        long = names[2:]
+    else:
+        short, more = names[1], names[2:]
+        if more and more[0] != "|":
+            return SHORT
+        if not is_short(short):
+            return BYTES
+        if not more:
+            return BRACKETS
+        if not more.startswith("|--"):
+            return DASHES
+        long = more[3:]
+    if len(long.encode()) < 2:
+        return LONG
+    if not LONG_NAME.fullmatch(long):
+        return BYTES
+    return DASHES if long[0] == "-" else BRACKETS
 
 
 def table_fault(table):
@@ -375,7 +420,7 @@ def table_fault(table):
                 break
         names = names_of(inside)
         if names is None:
-            return f"line {number} of the options: {item}"
+            return f"line {number} of the options: {item}: {reason_of(item)}"
         for name in names:
             if name in seen:
                 return f"line {number} of the options: the name '{name}' stands there already"

@@ -14,7 +14,7 @@ use Rattle.getopts_shell.specs.Program.{fault_line, refused_text, table_fault_li
 use Rattle.getopts_shell.specs.Program.{AnswersCompletion, script, no_script}
 use Rattle.getopts_shell.specs.Program.{AnswersScript, usage, completion, help, accepted, variables, refused, ReadsWords}
 use Rattle.getopts_shell.specs.Program.{faulty, no_variables, declared, AnswersFree, asked_fault, variable_fault_line}
-use Rattle.getopts_shell.specs.Program.{refused_own, own_help, accepted_own, OneAnswer}
+use Rattle.getopts_shell.specs.Program.{refused_own, own_help, own_version, accepted_own, OneAnswer}
 use Rattle.getopts_shell.specs.Table.{TableFault}
 use Rattle.getopts_shell.specs.Variables.{VariableFault, variables_code}
 use Rattle.getopts_shell.proofs.Only.{one_table, one_fault, no_fault}
@@ -62,7 +62,7 @@ module _ (parse : (options : Declared) (words : List Text) → AtMostOne (IsPars
       agree (ap done (one_only _ text another is also))
   one_script asked name options words asks (usage text given is) (completion shell other none shell_is also) =
       no_usage asked given none
-  one_script asked name options words asks (usage text given is) (help other reads ask also) =
+  one_script asked name options words asks (usage text given is) (help other reads ask also commands) =
       no_usage asked given reads.0
   one_script asked name options words asks (usage text given is) (accepted line reads none plain also) =
       no_usage asked given reads.0
@@ -75,25 +75,25 @@ module _ (parse : (options : Declared) (words : List Text) → AtMostOne (IsPars
       let both : Some another ≡ Some shell = sym another_is ∙ shell_is in
       let same : another ≡ shell = cc in
       one_completion shell (asks shell none shell_is) is (subst (λ (s : Text). AnswersCompletion s other) same also)
-  one_script asked name options words asks (completion shell answer none shell_is is) (help other reads ask also) =
+  one_script asked name options words asks (completion shell answer none shell_is is) (help other reads ask also commands) =
       no_shell asked shell shell_is reads
   one_script asked name options words asks (completion shell answer none shell_is is)
       (accepted line reads no_help plain also) = no_shell asked shell shell_is reads
   one_script asked name options words asks (completion shell answer none shell_is is)
       (refused fault reads no_help also) = no_shell asked shell shell_is reads
-  one_script asked name options words asks (help text reads ask is) (usage another given also) =
+  one_script asked name options words asks (help text reads ask is commands) (usage another given also) =
       no_usage asked given reads.0
-  one_script asked name options words asks (help text reads ask is) (completion shell other none shell_is also) =
+  one_script asked name options words asks (help text reads ask is commands) (completion shell other none shell_is also) =
       no_shell asked shell shell_is reads
-  one_script asked name options words asks (help text reads ask is) (help another again also_ask also) =
+  one_script asked name options words asks (help text reads ask is commands) (help another again also_ask also others) =
       agree (ap (λ (t : Text). done (help_code t)) (one_only _ text another is also))
-  one_script asked name options words asks (help text reads ask is) (accepted line again none plain also) = absurd (none ask)
-  one_script asked name options words asks (help text reads ask is) (refused fault again none also) = absurd (none ask)
+  one_script asked name options words asks (help text reads ask is commands) (accepted line again none plain also) = absurd (none ask)
+  one_script asked name options words asks (help text reads ask is commands) (refused fault again none also) = absurd (none ask)
   one_script asked name options words asks (accepted line reads no_help plain is) (usage text given also) =
       no_usage asked given reads.0
   one_script asked name options words asks (accepted line reads no_help plain is)
       (completion shell other none shell_is also) = no_shell asked shell shell_is reads
-  one_script asked name options words asks (accepted line reads none plain is) (help text again ask also) = absurd (none ask)
+  one_script asked name options words asks (accepted line reads none plain is) (help text again ask also commands) = absurd (none ask)
   one_script asked name options words asks (accepted line reads none plain is) (accepted another again never simple also) =
       let same : Ok (Some another) ≡ Ok (Some line) =
       canonical options words (Ok (Some another)) (Ok (Some line)) also.written is.written in
@@ -106,7 +106,7 @@ module _ (parse : (options : Declared) (words : List Text) → AtMostOne (IsPars
       no_usage asked given reads.0
   one_script asked name options words asks (refused fault reads no_help is)
       (completion shell other none shell_is also) = no_shell asked shell shell_is reads
-  one_script asked name options words asks (refused fault reads none is) (help text again ask also) = absurd (none ask)
+  one_script asked name options words asks (refused fault reads none is) (help text again ask also commands) = absurd (none ask)
   one_script asked name options words asks (refused fault reads none is) (accepted line again never plain also) =
       let same : Ok (Some line) ≡ Err fault = canonical options words (Ok (Some line)) (Err fault) also.written is in
       absurd cc
@@ -119,7 +119,7 @@ module _ (parse : (options : Declared) (words : List Text) → AtMostOne (IsPars
       no_usage asked given reads.0
   one_script asked name options words asks (completion shell answer none shell_is is)
       (variables prefix matches reads no_help by also sets) = no_shell asked shell shell_is reads
-  one_script asked name options words asks (help text reads ask is)
+  one_script asked name options words asks (help text reads ask is commands)
       (variables prefix matches again none by also sets) = absurd (none ask)
   one_script asked name options words asks (accepted line reads no_help plain is)
       (variables prefix matches again none by also sets) = no_prefix asked prefix by plain
@@ -131,7 +131,7 @@ module _ (parse : (options : Declared) (words : List Text) → AtMostOne (IsPars
   one_script asked name options words asks (variables prefix matches reads no_help by is sets)
       (completion shell other none shell_is also) = no_shell asked shell shell_is reads
   one_script asked name options words asks (variables prefix matches reads none by is sets)
-      (help text again ask also) = absurd (none ask)
+      (help text again ask also commands) = absurd (none ask)
   one_script asked name options words asks (variables prefix matches reads no_help by is sets)
       (accepted line again none plain also) = no_prefix asked prefix by plain
   one_script asked name options words asks (variables prefix matches reads no_help by is sets)
@@ -193,12 +193,11 @@ module _ (parse : (options : Declared) (words : List Text) → AtMostOne (IsPars
   never_both words own fault is also =
       let both : Err fault ≡ Ok own = parse own_options words (Err fault) (Ok own) also is in absurd cc
 
-  help_or_not : {X : Type 0} (words : List Text) (own other : Matched) → IsAccepted own_options words own
-      → IsAccepted own_options words other → is_given own (codes "help") ≡ true
-      → is_given other (codes "help") ≡ false → X
-  help_or_not words own other is also given none =
-      absurd (false≢true (sym none ∙ ap (λ (m : Matched). is_given m (codes "help")) (one_own words own other is also)
-      ∙ given))
+  given_or_not : {X : Type 0} (name : Text) (words : List Text) (own other : Matched)
+      → IsAccepted own_options words own → IsAccepted own_options words other → is_given own name ≡ true
+      → is_given other name ≡ false → X
+  given_or_not name words own other is also given none =
+      absurd (false≢true (sym none ∙ ap (λ (m : Matched). is_given m name) (one_own words own other is also) ∙ given))
 
   -- words have one answer
   pub one_answer : OneAnswer
@@ -208,23 +207,42 @@ module _ (parse : (options : Declared) (words : List Text) → AtMostOne (IsPars
       agree (ap (λ (f : Fault). misused (fault_line (codes "getopts_shell") f)) same_fault)
   one_answer words answer other (refused_own fault is) (own_help own text also given helps) =
       never_both words own fault also is
-  one_answer words answer other (refused_own fault is) (accepted_own own free also none answers) =
+  one_answer words answer other (refused_own fault is) (own_version own also none given) =
+      never_both words own fault also is
+  one_answer words answer other (refused_own fault is) (accepted_own own free also none no_version answers) =
       never_both words own fault also is
   one_answer words answer other (own_help own text is given helps) (refused_own fault also) =
       never_both words own fault is also
   one_answer words answer other (own_help own text is given helps) (own_help again another also again_given help_again) =
       agree (ap done (one_only _ text another helps help_again))
-  one_answer words answer other (own_help own text is given helps) (accepted_own again free also none answers) =
-      help_or_not words own again is also given none
-  one_answer words answer other (accepted_own own free is none answers) (refused_own fault also) =
+  one_answer words answer other (own_help own text is given helps) (own_version again also none version) =
+      given_or_not (codes "help") words own again is also given none
+  one_answer words answer other (own_help own text is given helps)
+      (accepted_own again free also none no_version answers) =
+      given_or_not (codes "help") words own again is also given none
+  one_answer words answer other (own_version own is none version) (refused_own fault also) =
       never_both words own fault is also
-  one_answer words answer other (accepted_own own free is none answers) (own_help again text also given helps) =
-      help_or_not words again own also is given none
-  one_answer words answer other (accepted_own own free is none answers) (accepted_own again of_again also never tell) =
+  one_answer words answer other (own_version own is none version) (own_help again text also given helps) =
+      given_or_not (codes "help") words again own also is given none
+  one_answer words answer other (own_version own is none version) (own_version again also never version_again) =
+      agree refl
+  one_answer words answer other (own_version own is none version)
+      (accepted_own again free also never no_version answers) =
+      given_or_not (codes "version") words own again is also version no_version
+  one_answer words answer other (accepted_own own free is none no_version answers) (refused_own fault also) =
+      never_both words own fault is also
+  one_answer words answer other (accepted_own own free is none no_version answers)
+      (own_help again text also given helps) = given_or_not (codes "help") words again own also is given none
+  one_answer words answer other (accepted_own own free is none no_version answers)
+      (own_version again also never version) =
+      given_or_not (codes "version") words again own also is version no_version
+  one_answer words answer other (accepted_own own free is none no_version answers)
+      (accepted_own again of_again also never no_again tell) =
       one_free (asked_by own) own.free (λ shell no_usage asked. record {
         own = own;
         accepted = is;
         no_help = none;
+        no_version = no_version;
         no_usage = no_usage;
         shell = shell;
         asked = asked;

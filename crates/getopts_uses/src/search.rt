@@ -6,9 +6,47 @@ ghost use Rattle.getopts_uses.specs.declared.search.Refusal.TheVariants.{Line, N
 ghost use Rattle.getopts_uses.specs.Search.{search_options, AreSettingsOf, IsRefusalOf};
 ghost use Rattle.getopts_uses.specs.Search.{IsSearchHelp, AreSearchRows};
 
-use getopts::{Fail, Options};
+use crate::log::options_by;
+use crate::row::Row;
+use getopts::{Fail, HasArg, Occur, Options};
 use std::alloc::{AllocError, AllocFailed, Global};
 use std::num::ParseIntError;
+
+/// The tool's options, as a table: many calls in one function would take its check long.
+const SEARCH: [Row<'static>; 4] = [
+    Row {
+        short: "i",
+        long: "ignore-case",
+        desc: "match either case",
+        hint: "",
+        hasarg: HasArg::No,
+        occur: Occur::Optional,
+    },
+    Row {
+        short: "m",
+        long: "max-count",
+        desc: "stop after NUM",
+        hint: "NUM",
+        hasarg: HasArg::Yes,
+        occur: Occur::Optional,
+    },
+    Row {
+        short: "",
+        long: "color",
+        desc: "colour the matches",
+        hint: "WHEN",
+        hasarg: HasArg::Maybe,
+        occur: Occur::Optional,
+    },
+    Row {
+        short: "h",
+        long: "help",
+        desc: "print this help",
+        hint: "",
+        hasarg: HasArg::No,
+        occur: Occur::Optional,
+    },
+];
 
 /// What the tool does.
 #[derive(Debug, Drop)]
@@ -67,13 +105,7 @@ impl<T: Drop> From<AllocFailed<T>> for Refusal {
 fn options(alloc: Global) -> Result<Options, AllocError>
     ensures { IfOk result (λ options. options ≡ search_options) }
 {
-    let mut options = Options::new(alloc);
-    options
-        .optflag("i", "ignore-case", "match either case")?
-        .optopt("m", "max-count", "stop after NUM", "NUM")?
-        .optflagopt("", "color", "colour the matches", "WHEN")?
-        .optflag("h", "help", "print this help")?;
-    Ok(options)
+    options_by(alloc, &SEARCH)
 }
 
 /// The settings of a line.

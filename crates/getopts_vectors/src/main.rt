@@ -5,7 +5,7 @@
 //! The expected answers are known from outside. Those of `data/rules.rows` and `data/large.rows` are
 //! written by hand, from the rules of the Rust crate and from its tests. Those of
 //! `data/recorded.rows` were written by the Rust crate itself (`tests/differential/record.sh`). What
-//! no row can say is said by the tests of `getopts_uses`.
+//! no row can say is said by the rows of `getopts_uses`.
 //!
 //! # Rows
 //!

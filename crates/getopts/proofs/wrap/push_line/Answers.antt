@@ -19,19 +19,24 @@ pub loop-word-init : goal.loop-word-init
 unfolding width_of
 loop-word-init c =
     let is_line = c.split_whitespace-words.ensures.rest in
-    let utf8 : IsUtf8 (split_whitespace_rest c.split_whitespace-words.result) = subst IsUtf8 (sym is_line) c.utf8.line in
-    let next = words_of-step c.split_whitespace-words.result c.next.new.self c.in-Some.first utf8 c.in-Some.ensures.steps in
+    let utf8 : IsUtf8 (split_whitespace_rest c.split_whitespace-words.result) =
+    subst IsUtf8 (sym is_line) c.utf8.line in
+    let next = words_of-step c.split_whitespace-words.result c.next.new.self c.in-Some.first utf8
+    c.in-Some.ensures.steps in
     rw c.into_iter-word-iterator.ensures.into_iter_gives
     (rows_begin c.args.lim c.args.separator.now c.args.line.now _ _ c.in-Some.first.now _
     (split_whitespace_rest c.next.new.self) (next.0, ap words_of (sym is_line) ∙ next.1)
-    (c.in_ok-push_str.ensures.bytes ∙ ap (λ (text : List ℕ). text ++ c.in-Some.first.now) c.in_ok-push_parting.ensures) c.width-columns.ensures.value)
+    (c.in_ok-push_str.ensures.bytes
+    ∙ ap (λ (text : List ℕ). text ++ c.in-Some.first.now) c.in_ok-push_parting.ensures)
+    c.width-columns.ensures.value)
 
 -- the word joins the row in hand, or ends it and begins one
 pub loop-word-preserved : goal.loop-word-preserved
 loop-word-preserved c =
     let so_far = c.loop-word.invariant in
     let word = c.in-Some-word.word.now in
-    let next = words_of-step c.loop-word.word-iterator c.next-in-loop-word.new.self c.in-Some-word.word so_far.utf8 c.in-Some-word.ensures.steps in
+    let next = words_of-step c.loop-word.word-iterator c.next-in-loop-word.new.self
+    c.in-Some-word.word so_far.utf8 c.in-Some-word.ensures.steps in
     let says = c.in_ok-columns.ensures in
     elim (cases_lt c.args.lim (c.loop-word.columns + (1 + width_of word))) [
       | inl long ↦ rows_end so_far word _ _ _ next long (says.begins long)

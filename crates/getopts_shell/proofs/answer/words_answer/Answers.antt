@@ -2,6 +2,7 @@ use Rattle.std.proofs.Common.{ap, string_bytes, Some, sym, ◌∙◌}
 use Rattle.std.specs.Option.{option_map}
 use Rattle.std.proofs.lemmas.Bool.{false≢true}
 use Rattle.getopts_shell.specs.Program.{help}
+use Rattle.getopts_shell.proofs.Quoting.{help_same}
 use Rattle.getopts_shell.proofs.answer.words_answer.Goals as goal
 
 pub line_answer-requires-clause-no_help : goal.line_answer-requires-clause-no_help
@@ -12,7 +13,7 @@ pub returns-then-asked : goal.returns-in_ok-help_code
 returns-then-asked c =
     let asked = c.in_ok-asked.ensures in
     let code = c.in_ok-help_code.ensures in
-    rw code.2 (help code.0 c.requires.asked (asked.0 c.if-asked.true) code.1)
+    rw code.2 (help code.0 c.requires.asked (asked.0 c.if-asked.true) code.1 (help_same code.0))
 
 pub variables_answer-requires-clause-no_help : goal.variables_answer-requires-clause-no_help
 variables_answer-requires-clause-no_help c =

@@ -24,14 +24,23 @@ returns-clause-ok c = λ dashes.
     (option_copied c.match-kind.used.0) c.match-kind.used.1 = elim c.match-kind.branch [
       | in-No-None w ↦ rw (w.used-is, w.in-No-None.is-0, w.in-No-None.is-1) (Chooses-ok none)
       | in-Yes-None+in-Some-first w ↦
-          rw (w.used-is, w.in-Yes-None.is-0, w.in-Yes-None.is-1, texts-first c.args.after.now w.in-Some-first.word.now (search rules))
+          rw (
+            w.used-is,
+            w.in-Yes-None.is-0,
+            w.in-Yes-None.is-1,
+            texts-first c.args.after.now w.in-Some-first.word.now (search rules),
+          )
           (Chooses-ok (separate w.in-Some-first.word.now.now))
       | in-Yes-Some w ↦
-          rw (w.used-is, w.in-Yes-Some.is-0, w.in-Yes-Some.is-1) (Chooses-ok (attached w.in-Yes-Some.value.now))
-      | in-Maybe-default w ↦ rw (w.used-is, w.in-Maybe-default.is-0) (Chooses-maybe name argument after)
+          rw (w.used-is, w.in-Yes-Some.is-0, w.in-Yes-Some.is-1)
+          (Chooses-ok (attached w.in-Yes-Some.value.now))
+      | in-Maybe-default w ↦ rw (w.used-is, w.in-Maybe-default.is-0)
+          (Chooses-maybe name argument after)
     ] in
-    AddsItem-long (scanner_grammar c.args.self.now) dashes c.args.text.now name argument after cut.text cut.name
-    c.in-Some.option.1 c.in-Some.option.0 c.args.position _ _ _ _ named.1 named.0 chooses c.in_ok-push.ensures
+    AddsItem-long (scanner_grammar c.args.self.now) dashes c.args.text.now name argument after
+    cut.text cut.name
+    c.in-Some.option.1 c.in-Some.option.0 c.args.position _ _ _ _ named.1 named.0 chooses
+    c.in_ok-push.ensures
 
 pub returns-in-None-clause-err : goal.returns-in-None-clause-err
 returns-in-None-clause-err c = λ dashes.
@@ -39,14 +48,16 @@ returns-in-None-clause-err c = λ dashes.
     let cut = c.name_and_argument.ensures in
     Tells-long (scanner_grammar c.args.self.now) dashes c.args.text.now name
     (option_copied c.name_and_argument.result.1) (texts c.args.after.now) cut.text cut.name None
-    c.in-None.ensures c.unrecognized_option.result (unrecognized_option name) refl c.unrecognized_option.ensures
+    c.in-None.ensures c.unrecognized_option.result
+    (unrecognized_option name) refl c.unrecognized_option.ensures
 
 pub returns-in-No-Some-clause-err : goal.returns-in-No-Some-clause-err
 returns-in-No-Some-clause-err c = λ dashes.
     let name = c.name_and_argument.result.0.now in
     let cut = c.name_and_argument.ensures in
     Tells-long (scanner_grammar c.args.self.now) dashes c.args.text.now name
-    (Some c.in-No-Some.field-0-1.now) (texts c.args.after.now) (rw c.in-No-Some.is-1 at cut.text) cut.name
+    (Some c.in-No-Some.field-0-1.now) (texts c.args.after.now)
+    (rw c.in-No-Some.is-1 at cut.text) cut.name
     (Some No) (rw c.in-No-Some.is-0 at c.in-Some.ensures.1) c.unexpected_argument.result
     (unexpected_argument name) refl c.unexpected_argument.ensures
 

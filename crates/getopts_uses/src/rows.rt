@@ -1,0 +1,65 @@
+//! Rows, and what the callers return for each.
+
+mod closures;
+mod faults;
+mod iterators;
+mod values;
+mod wrapped;
+
+use crate::compile::read_job;
+use crate::log::read_log;
+use crate::output::output_of;
+use crate::required::{input_count, input_itself, input_of, verbose_count};
+use crate::search::{help_rows, help_text, read_settings};
+use crate::subcommand::read_command;
+use std::alloc::{AllocError, Global};
+use std::fmt::Debug;
+
+/// Adds what a call returned, and a line end.
+fn push<T: Debug, E: Debug>(text: &mut String, res: &Result<T, E>) -> Result<(), AllocError> {
+    match res {
+        Ok(value) => writeln!(text, "{value:?}"),
+        Err(error) => writeln!(text, "{error:?}"),
+    }
+}
+
+/// Adds a row, and what it returns. The word `''` is the empty one.
+pub fn push_row(alloc: Global, text: &mut String, row: &str) -> Result<(), AllocError> {
+    write!(text, "{row}: ")?;
+    let mut words = Vec::new(alloc);
+    for word in row.split(' ') {
+        words.push(if word == "''" { "" } else { word })?;
+    }
+    match words.split_first() {
+        Some((caller, words)) => push_caller(alloc, text, caller, words),
+        None => Ok(()),
+    }
+}
+
+/// Adds what a caller returns for words.
+fn push_caller(
+    alloc: Global,
+    text: &mut String,
+    caller: &str,
+    words: &[&str],
+) -> Result<(), AllocError> {
+    match caller {
+        "search" => push(text, &read_settings(alloc, words)),
+        "search_help" => push(text, &help_text(alloc)),
+        "search_rows" => push(text, &help_rows(alloc)),
+        "compile" => push(text, &read_job(alloc, words)),
+        "command" => push(text, &read_command(alloc, words)),
+        "log" => push(text, &read_log(alloc, words)),
+        "output" => push(text, &output_of(alloc, words)),
+        "input" => push(text, &input_of(alloc, words)),
+        "input_itself" => push(text, &input_itself(alloc, words)),
+        "input_count" => push(text, &input_count(alloc, words)),
+        "verbose_count" => push(text, &verbose_count(alloc, words)),
+        "fault" => faults::push_faults(alloc, text, words),
+        "unreadable" => values::push_unreadable(alloc, text, words),
+        "closures" => closures::push_texts(alloc, text),
+        "taken" => iterators::push_taken(alloc, text),
+        "promised" => iterators::push_promised(alloc, text),
+        _ => wrapped::push_wrapped(alloc, text, caller, words),
+    }
+}

@@ -1,0 +1,89 @@
+//! Rows of the iterator that `parse` and `canonical` are given.
+
+ghost use Rattle.std.specs.Prelude.{◌-◌, ◌^◌, length};
+ghost use Rattle.std.specs.Iterator.{at_most};
+
+use super::push;
+use getopts::Options;
+use std::alloc::{AllocError, Global};
+use std::cell::Cell;
+
+/// Words, of which some are taken. How many these are stands in a cell too, which others keep.
+#[derive(Drop)]
+struct Counted<'a, 'c> {
+    words: &'a [&'a str],
+    taken: usize,
+    count: &'c Cell<usize>,
+}
+
+impl<'a> Iterator for Counted<'a, '_> {
+    type Item = &'a str;
+
+    ghost remaining = { λ s. at_most (length s.words.now - s.taken) };
+
+    fn next(&mut self) -> Option<&'a str> {
+        let word = self.words.get(self.taken).copied()?;
+        self.taken += 1;
+        self.count.set(self.taken);
+        Some(word)
+    }
+}
+
+/// Three words, of which no option has the first, with a cell that says how many of them are taken.
+fn counting(count: &Cell<usize>) -> Counted<'static, '_> {
+    Counted {
+        words: &["--nope", "x", "y"],
+        taken: 0,
+        count,
+    }
+}
+
+/// Adds which faults come of words, and how many words are taken before each.
+pub fn push_taken(alloc: Global, text: &mut String) -> Result<(), AllocError> {
+    let options = Options::new(alloc);
+    let count = Cell::new(0);
+    let read = options.parse(alloc, counting(&count));
+    write!(text, "{:?} after {}; ", read.err(), count.get())?;
+    count.set(0);
+    let written = options.canonical(alloc, counting(&count));
+    writeln!(text, "{:?} after {}", written.err(), count.get())
+}
+
+/// Words, with the promise of as many as can be counted.
+#[derive(Drop)]
+struct Promising<'a> {
+    words: &'a [&'a str],
+    taken: usize,
+}
+
+impl<'a> Iterator for Promising<'a> {
+    type Item = &'a str;
+
+    ghost remaining = { λ s. at_most (2 ^ 64 - 1 - s.taken) };
+
+    fn next(&mut self) -> Option<&'a str> {
+        let word = self.words.get(self.taken).copied()?;
+        self.taken += 1;
+        Some(word)
+    }
+
+    fn size_hint(&self) -> (usize, Option<usize>) {
+        (usize::MAX - self.taken, None)
+    }
+}
+
+/// Two words, with the promise of more.
+fn two_words() -> Promising<'static> {
+    Promising {
+        words: &["x", "y"],
+        taken: 0,
+    }
+}
+
+/// Adds what comes of two words where more are promised.
+pub fn push_promised(alloc: Global, text: &mut String) -> Result<(), AllocError> {
+    let options = Options::new(alloc);
+    let read = options.parse(alloc, two_words());
+    write!(text, "{:?}, ", read.map(|matches| matches.free))?;
+    push(text, &options.canonical(alloc, two_words()))
+}
