@@ -11,3 +11,4 @@ mod Status
 mod Fronts
 mod Shell
 mod Assignments
+mod Asked

@@ -12,10 +12,11 @@ use Rattle.getopts.specs.Parse.{IsAccepted, IsRefused}
 use Rattle.getopts_shell.specs.Program.{Answer, Asked, asked_by, done, misused, own_options, is_given, help_code}
 use Rattle.getopts_shell.specs.Program.{fault_line, refused_text, table_fault_line, script_options, line_code}
 use Rattle.getopts_shell.specs.Program.{AnswersCompletion, script, no_script}
-use Rattle.getopts_shell.specs.Program.{AnswersScript, usage, completion, help, accepted, refused, ReadsWords}
-use Rattle.getopts_shell.specs.Program.{faulty, declared, AnswersFree, refused_own, own_help, own_version, accepted_own}
-use Rattle.getopts_shell.specs.Program.{OneAnswer}
+use Rattle.getopts_shell.specs.Program.{AnswersScript, usage, completion, help, accepted, variables, refused, ReadsWords}
+use Rattle.getopts_shell.specs.Program.{faulty, no_variables, declared, AnswersFree, asked_fault, variable_fault_line}
+use Rattle.getopts_shell.specs.Program.{refused_own, own_help, own_version, accepted_own, OneAnswer}
 use Rattle.getopts_shell.specs.Table.{TableFault}
+use Rattle.getopts_shell.specs.Variables.{VariableFault, variables_code}
 use Rattle.getopts_shell.proofs.Only.{one_table, one_fault, no_fault}
 
 -- two answers are one, but for their texts where a completion script is asked for
@@ -49,6 +50,9 @@ no_usage asked given none = absurd (false≢true (sym none ∙ given))
 no_shell : {X : Type 0} (asked : Asked) (shell : Text) → asked.complete ≡ Some shell → ReadsWords asked → X
 no_shell asked shell given reads = let both : Some shell ≡ None = sym given ∙ reads.1 in absurd cc
 
+no_prefix : {X : Type 0} (asked : Asked) (prefix : Text) → asked.variables ≡ Some prefix → asked.variables ≡ None → X
+no_prefix asked prefix given none = let both : Some prefix ≡ None = sym given ∙ none in absurd cc
+
 module _ (parse : (options : Declared) (words : List Text) → AtMostOne (IsParseAnswer options words))
     (canonical : (options : Declared) (words : List Text) → AtMostOne (IsCanonicalAnswer options words)) where
   one_script : {Others : Type 0} (asked : Asked) (name : Text) (options : Declared) (words : List Text)
@@ -60,7 +64,7 @@ module _ (parse : (options : Declared) (words : List Text) → AtMostOne (IsPars
       no_usage asked given none
   one_script asked name options words asks (usage text given is) (help other reads ask also commands) =
       no_usage asked given reads.0
-  one_script asked name options words asks (usage text given is) (accepted line reads none also) =
+  one_script asked name options words asks (usage text given is) (accepted line reads none plain also) =
       no_usage asked given reads.0
   one_script asked name options words asks (usage text given is) (refused fault reads none also) =
       no_usage asked given reads.0
@@ -74,7 +78,7 @@ module _ (parse : (options : Declared) (words : List Text) → AtMostOne (IsPars
   one_script asked name options words asks (completion shell answer none shell_is is) (help other reads ask also commands) =
       no_shell asked shell shell_is reads
   one_script asked name options words asks (completion shell answer none shell_is is)
-      (accepted line reads no_help also) = no_shell asked shell shell_is reads
+      (accepted line reads no_help plain also) = no_shell asked shell shell_is reads
   one_script asked name options words asks (completion shell answer none shell_is is)
       (refused fault reads no_help also) = no_shell asked shell shell_is reads
   one_script asked name options words asks (help text reads ask is commands) (usage another given also) =
@@ -83,19 +87,19 @@ module _ (parse : (options : Declared) (words : List Text) → AtMostOne (IsPars
       no_shell asked shell shell_is reads
   one_script asked name options words asks (help text reads ask is commands) (help another again also_ask also others) =
       agree (ap (λ (t : Text). done (help_code t)) (one_only _ text another is also))
-  one_script asked name options words asks (help text reads ask is commands) (accepted line again none also) = absurd (none ask)
+  one_script asked name options words asks (help text reads ask is commands) (accepted line again none plain also) = absurd (none ask)
   one_script asked name options words asks (help text reads ask is commands) (refused fault again none also) = absurd (none ask)
-  one_script asked name options words asks (accepted line reads no_help is) (usage text given also) =
+  one_script asked name options words asks (accepted line reads no_help plain is) (usage text given also) =
       no_usage asked given reads.0
-  one_script asked name options words asks (accepted line reads no_help is)
+  one_script asked name options words asks (accepted line reads no_help plain is)
       (completion shell other none shell_is also) = no_shell asked shell shell_is reads
-  one_script asked name options words asks (accepted line reads none is) (help text again ask also commands) = absurd (none ask)
-  one_script asked name options words asks (accepted line reads none is) (accepted another again never also) =
+  one_script asked name options words asks (accepted line reads none plain is) (help text again ask also commands) = absurd (none ask)
+  one_script asked name options words asks (accepted line reads none plain is) (accepted another again never simple also) =
       let same : Ok (Some another) ≡ Ok (Some line) =
       canonical options words (Ok (Some another)) (Ok (Some line)) also.written is.written in
       let same_line : another ≡ line = cc in
       agree (ap (λ (l : List Text). done (line_code asked l)) same_line)
-  one_script asked name options words asks (accepted line reads none is) (refused fault again never also) =
+  one_script asked name options words asks (accepted line reads none plain is) (refused fault again never also) =
       let same : Ok (Some line) ≡ Err fault = canonical options words (Ok (Some line)) (Err fault) is.written also in
       absurd cc
   one_script asked name options words asks (refused fault reads no_help is) (usage text given also) =
@@ -103,7 +107,7 @@ module _ (parse : (options : Declared) (words : List Text) → AtMostOne (IsPars
   one_script asked name options words asks (refused fault reads no_help is)
       (completion shell other none shell_is also) = no_shell asked shell shell_is reads
   one_script asked name options words asks (refused fault reads none is) (help text again ask also commands) = absurd (none ask)
-  one_script asked name options words asks (refused fault reads none is) (accepted line again never also) =
+  one_script asked name options words asks (refused fault reads none is) (accepted line again never plain also) =
       let same : Ok (Some line) ≡ Err fault = canonical options words (Ok (Some line)) (Err fault) also.written is in
       absurd cc
   one_script asked name options words asks (refused fault reads none is) (refused another again never also) =
@@ -111,17 +115,69 @@ module _ (parse : (options : Declared) (words : List Text) → AtMostOne (IsPars
       let same_fault : another ≡ fault = cc in
       agree (ap (λ (f : Fault). record { text = refused_text options name f; status = 2 }) same_fault)
 
+  one_script asked name options words asks (usage text given is) (variables prefix matches reads none by also sets) =
+      no_usage asked given reads.0
+  one_script asked name options words asks (completion shell answer none shell_is is)
+      (variables prefix matches reads no_help by also sets) = no_shell asked shell shell_is reads
+  one_script asked name options words asks (help text reads ask is commands)
+      (variables prefix matches again none by also sets) = absurd (none ask)
+  one_script asked name options words asks (accepted line reads no_help plain is)
+      (variables prefix matches again none by also sets) = no_prefix asked prefix by plain
+  one_script asked name options words asks (refused fault reads no_help is)
+      (variables prefix matches again none by also sets) =
+      let same : Ok matches ≡ Err fault = parse options words (Ok matches) (Err fault) also is in absurd cc
+  one_script asked name options words asks (variables prefix matches reads none by is sets) (usage text given also) =
+      no_usage asked given reads.0
+  one_script asked name options words asks (variables prefix matches reads no_help by is sets)
+      (completion shell other none shell_is also) = no_shell asked shell shell_is reads
+  one_script asked name options words asks (variables prefix matches reads none by is sets)
+      (help text again ask also commands) = absurd (none ask)
+  one_script asked name options words asks (variables prefix matches reads no_help by is sets)
+      (accepted line again none plain also) = no_prefix asked prefix by plain
+  one_script asked name options words asks (variables prefix matches reads no_help by is sets)
+      (refused fault again none also) =
+      let same : Ok matches ≡ Err fault = parse options words (Ok matches) (Err fault) is also in absurd cc
+  one_script asked name options words asks (variables prefix matches reads none by is sets)
+      (variables other others again never also_by also also_sets) =
+      let both : Some other ≡ Some prefix = sym also_by ∙ by in
+      let same_prefix : other ≡ prefix = cc in
+      let same : Ok others ≡ Ok matches = parse options words (Ok others) (Ok matches) also is in
+      let same_matches : others ≡ matches = cc in
+      agree (ap (λ (p : Text). done (variables_code p asked.arrays others)) same_prefix
+      ∙ ap (λ (m : Matched). done (variables_code prefix asked.arrays m)) same_matches)
+
   one_free : {Others : Type 0} (asked : Asked) (words : List Text) {answer other : Answer} → MayAsk Others asked
       → AnswersFree asked words answer → AnswersFree asked words other → Agree Others answer other
   one_free asked [] asks is also = agree (also ∙ sym is)
   one_free asked (name ∷ []) asks is also = agree (also ∙ sym is)
   one_free asked (name ∷ table ∷ words) asks (faulty fault is) (faulty another also) =
       agree (ap (λ (f : TableFault). misused (table_fault_line f)) (one_fault table fault another is also))
-  one_free asked (name ∷ table ∷ words) asks (faulty fault is) (declared groups other are also) =
+  one_free asked (name ∷ table ∷ words) asks (faulty fault is) (declared groups other are fits also) =
       absurd (no_fault table groups fault are is)
-  one_free asked (name ∷ table ∷ words) asks (declared groups answer are is) (faulty fault also) =
+  one_free asked (name ∷ table ∷ words) asks (faulty fault is) (no_variables groups another are also) =
+      absurd (no_fault table groups fault are is)
+  one_free asked (name ∷ table ∷ words) asks (no_variables groups another are is) (faulty fault also) =
       absurd (no_fault table groups fault are also)
-  one_free asked (name ∷ table ∷ words) asks (declared groups answer are is) (declared others other also_are also) =
+  one_free asked (name ∷ table ∷ words) asks (no_variables groups fault are is)
+      (no_variables others another also_are also) =
+      let both : Some another ≡ Some fault = sym also
+      ∙ ap (asked_fault asked table) (one_table table groups others are also_are) ∙ is in
+      let same : another ≡ fault = cc in
+      agree (ap (λ (f : VariableFault). misused (variable_fault_line f)) same)
+  one_free asked (name ∷ table ∷ words) asks (no_variables groups fault are is)
+      (declared others other also_are fits also) =
+      let both : Some fault ≡ None = sym is
+      ∙ sym (ap (asked_fault asked table) (one_table table groups others are also_are)) ∙ fits in
+      absurd cc
+  one_free asked (name ∷ table ∷ words) asks (declared groups answer are fits is)
+      (no_variables others fault also_are also) =
+      let both : Some fault ≡ None = sym also
+      ∙ ap (asked_fault asked table) (one_table table groups others are also_are) ∙ fits in
+      absurd cc
+  one_free asked (name ∷ table ∷ words) asks (declared groups answer are fits is) (faulty fault also) =
+      absurd (no_fault table groups fault are also)
+  one_free asked (name ∷ table ∷ words) asks (declared groups answer are fits is)
+      (declared others other also_are also_fits also) =
       one_script asked name (script_options asked groups) words asks is
       (subst (λ (gs : List Group). AnswersScript asked name (script_options asked gs) words other)
       (one_table table groups others are also_are) also)
