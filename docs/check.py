@@ -147,6 +147,8 @@ FIGURES = [
      lambda: [stated("tests/differential/record.sh", r"choose 1 (\d+)")]),
     ("bindings/rust/README.md", r"Rust ([\d.]+) or later",
      lambda: re.findall(r'rust-version = "(.*)"', read("bindings/rust/Cargo.toml"))),
+    ("bindings/shell/README.md", r"Rust ([\d.]+) or later",
+     lambda: re.findall(r'rust-version = "(.*)"', read("bindings/shell/Cargo.toml"))),
     ("bench/README.md", r"holds is ([\d.]+) MB here, ([\d.]+) MB in the Rust\s+crate and ([\d.]+) MB",
      lambda: [megabytes("this library"), megabytes("Rust crate"), megabytes("bindings/rust")]),
 ]
@@ -345,7 +347,7 @@ for row in re.findall(r"^\|.*\|$", pages["docs/PROOFS.md"], re.M):
 # ---- names ----
 
 named = set(re.findall(r"`([A-Za-z_][\w-]*)`", pages["docs/GRAMMAR.md"]))
-for crate in ["getopts", "getopts_show", "getopts_c", "getopts_shell"]:
+for crate in ["getopts", "getopts_show", "getopts_bytes", "getopts_c", "getopts_shell"]:
     here = [name for name in tracked if name.startswith(f"crates/{crate}/specs/")]
     # Modules that stand under private clauses alone have their rules in comments.
     order = read(f"crates/{crate}/specs/Lib.antt") if here else ""

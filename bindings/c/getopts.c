@@ -84,8 +84,8 @@ static bool join(struct block *to, char *const *texts, size_t count, size_t len)
     return true;
 }
 
-/* GETOPTS_OK if a text is UTF-8, and else GETOPTS_BAD. The archive checks a text that isn't ASCII: as a program's
- * name, with no buffer for the usage line. */
+/* GETOPTS_OK if a text is UTF-8 below U+10FF80, and else GETOPTS_BAD. The archive checks a text that isn't ASCII: as a
+ * program's name, with no buffer for the usage line. */
 static uint32_t check_text(const char *text) {
     struct getopts_sizes sizes;
     const uint8_t *bytes = (const uint8_t *)text;
@@ -121,7 +121,7 @@ static uint32_t check_row(struct getopts *options, size_t row, char *const *text
         return wrong(options, "table[%zu]: %u is no kind", row, kind);
     for (size_t nth = 0; status == GETOPTS_OK && nth < 4; nth++)
         if ((status = check_text(texts[nth])) == GETOPTS_BAD)
-            return wrong(options, "table[%zu]: the %s isn't UTF-8", row, names[nth]);
+            return wrong(options, "table[%zu]: the %s isn't UTF-8 below U+10FF80", row, names[nth]);
     return status;
 }
 
@@ -157,18 +157,6 @@ struct getopts *getopts_new(const struct getopts_option *table, enum getopts_mod
     return options;
 }
 
-/* The status of words of which one isn't UTF-8. The first such word becomes the name of a fault. */
-static uint32_t blame(size_t count, char *const *words, struct block *to) {
-    uint32_t status = GETOPTS_OK;
-    for (size_t nth = 0; status == GETOPTS_OK && nth < count; nth++)
-        if ((status = check_text(words[nth])) == GETOPTS_BAD) {
-            to->sizes.bytes = strlen(words[nth]);
-            memcpy(to->bytes, words[nth], to->sizes.bytes);
-            return GETOPTS_UNRECOGNIZED_OPTION;
-        }
-    return status == GETOPTS_OK ? GETOPTS_BAD : status;
-}
-
 /* Calls an export with buffers of a guessed size, in which all words fit, and once more if that is too small. */
 static uint32_t ask(const struct getopts *options, getopts_c_reader *call, int given, char *const *words,
     struct block *answer) {
@@ -184,7 +172,7 @@ static uint32_t ask(const struct getopts *options, getopts_c_reader *call, int g
             : call(OPTIONS(options), options->modes & GETOPTS_STOP, options->modes & GETOPTS_LONG_ONLY, count, len,
                 answer->numbers, sizes->numbers, answer->bytes, sizes->bytes, sizes);
     }
-    return status == GETOPTS_BAD && answer->bytes != NULL ? blame(count, words, answer) : status;
+    return status;
 }
 
 /* Copies a text, puts a zero after it, and goes on to what comes next. */

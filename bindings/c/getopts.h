@@ -13,8 +13,9 @@
  *     if (status != GETOPTS_OK) .. getopts_message(options) ..
  *     const char *output = getopts_value(options, "output", 0);
  *
- * The calls keep no pointer to what they are given. Texts and words may hold any bytes but zero, and end with a
- * zero byte. There is no global state. Two threads may call functions on one struct getopts at a time, unless
+ * The calls keep no pointer to what they are given. Texts and words end with a zero byte. Words may hold any other
+ * bytes, and come back as they are, in values, free words, canonical lines and messages. The texts of a table and the
+ * briefs are UTF-8 below U+10FF80: the characters from there on stand for bytes. There is no global state. Two threads may call functions on one struct getopts at a time, unless
  * one of them reads or deletes it.
  *
  * A statically linked program grows by 110 KB at most. */
@@ -63,7 +64,7 @@ struct getopts *getopts_new(const struct getopts_option *table, enum getopts_mod
  * - GETOPTS_OPTION_MISSING, GETOPTS_OPTION_DUPLICATED: a required option is missing, or an option was given more
  *   often than it may. The calls below return what was read, so that a program can look for its help option.
  * - GETOPTS_ARGUMENT_MISSING, GETOPTS_UNRECOGNIZED_OPTION, GETOPTS_UNEXPECTED_ARGUMENT: the words can't be read,
- *   and the calls below return nothing. A word that isn't UTF-8 is an unrecognized option.
+ *   and the calls below return nothing.
  * - GETOPTS_NO_MEMORY: out of memory; what was read before stays.
  * - GETOPTS_BAD: the table is wrong, or one of the words, which are `count`, is NULL; what was read before stays. */
 int getopts_read(struct getopts *options, int count, char *const *words);
@@ -102,7 +103,7 @@ char *const *getopts_free_words(const struct getopts *options);
 int getopts_trailing_start(const struct getopts *options);
 
 /* The help: the brief, and each option with its description. The caller frees it by free(). Returns NULL if out
- * of memory, if the table is wrong or if the brief isn't UTF-8. */
+ * of memory, if the table is wrong or if the brief isn't UTF-8 below U+10FF80. */
 char *getopts_usage(const struct getopts *options, const char *brief);
 
 /* All options in one line, as getopts_usage. */

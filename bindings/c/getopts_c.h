@@ -45,10 +45,14 @@ enum {
 /* After GETOPTS_TOO_SMALL the same request with buffers of these sizes isn't answered so again. So a caller asks
  * with buffers of a guessed size, or with no more than the words take, and then once more. */
 
-/* GETOPTS_BAD is returned if the texts, lengths and kinds aren't those of options with UTF-8 texts and right
- * names, or if the words, the brief or the program's name aren't UTF-8 texts of these lengths, and only then;
- * GETOPTS_NO_MEMORY may come first. A short name has at most one byte, a long name doesn't have exactly one, and
- * not both are empty. */
+/* GETOPTS_BAD is returned if the texts, lengths and kinds aren't those of options with right names, if a text, the
+ * brief or the program's name isn't UTF-8 below U+10FF80, or if the lengths of words or texts don't fit their bytes,
+ * and only then; GETOPTS_NO_MEMORY may come first. A short name has at most one byte, a long name doesn't have exactly
+ * one, and not both are empty.
+ *
+ * Words may hold any bytes. Of a word each byte that is no part of a UTF-8 text below U+10FF80 is read as a character
+ * of its own, which no option has; ASCII is read as it is. Values, free words, canonical lines and the names in faults
+ * come back as the bytes that were given. */
 
 /* The size of an answer: written with every status up to GETOPTS_UNEXPECTED_ARGUMENT, and with
  * GETOPTS_TOO_SMALL. */

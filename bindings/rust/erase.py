@@ -36,7 +36,7 @@ CALLS = {
     "String::new": "String::empty",
     "String::from_str": "String::copy_of",
     "Vec::new": "Vec::empty",
-    "vec![in": "list![in",
+    "vec![in alloc; 0; room]": "Vec::filled(alloc, 0, room)",
     "clone": "try_clone",
     "impl Clone for": "impl TryClone for",
 }
@@ -45,19 +45,50 @@ DISPLAY = {
     "fmt<W: fmt::Write>": "fmt",
     "fmt::Formatter<W>": "fmt::Formatter<'_>",
 }
-# Each crate: its source, where its Rust goes, the modules of laws, and its paths.
+# The calls that the program for shell scripts has besides, by those of its `host.rs`.
+HOST = {
+    "resize": "try_resize",
+    "extend_from_slice": "try_extend_from_slice",
+    "format!": "text!",
+    "write!": "add!",
+    "writeln!": "add_line!",
+    "HostRuntime": "HostRuntime",
+    "std::alloc": "crate::host::alloc",
+    "std::env": "crate::host::env",
+    "std::io": "crate::host::io",
+    "getopts::": "crate::getopts::",
+    "getopts_bytes::": "crate::getopts_bytes::",
+    "crate::": "super::",
+    "str::from_utf8": "std::str::from_utf8",
+}
+# Each crate: its source, where its Rust goes, the modules that are left out, which state theorems or test, what each
+# file imports that calls one of the above, and the renames that are its own.
 CRATES = {
     "getopts": {
         "source": "crates/getopts/src",
         "folder": "bindings/rust/src/proved",
-        "laws": ["laws"],
+        "left_out": ["laws"],
         "imports": "use crate::fallible::*;",
-        "paths": {
+        "names": {
             "crate::": "super::",
             "std::alloc": "crate::alloc",
             "std::convert": "crate::convert",
             "unicode_width": "crate::width",
         },
+    },
+    "getopts_bytes": {
+        "source": "crates/getopts_bytes/src",
+        "folder": "bindings/shell/src/getopts_bytes",
+        "left_out": ["tests"],
+        "imports": "use crate::host::*;",
+        "names": HOST,
+    },
+    "getopts_shell": {
+        "source": "crates/getopts_shell/src",
+        "folder": "bindings/shell/src/program",
+        "left_out": ["laws", "tests"],
+        "imports": "use crate::host::*;",
+        "names": {**HOST, "fn main": "pub fn main"},
     },
 }
 # Words that Rust doesn't have, or has for something else.
@@ -202,7 +233,7 @@ class Eraser:
             return self.bound(at)
         if self.has(at, *words("use std::marker::Model;")):
             return self.delete(at, at + 9)
-        for law in self.crate["laws"]:
+        for law in self.crate["left_out"]:
             if self.has(at, "mod", law, ";"):
                 return self.delete(at, at + 3)
             if self.has(at, "pub", "use", law, ":", ":"):
@@ -231,6 +262,9 @@ class Eraser:
         bracket = at + 2 if self.has(at + 1, "!") else at + 1
         if not self.has(bracket, "["):
             self.stop(at, "no attribute follows it")
+        for left_out in self.crate["left_out"]:
+            if self.has(at, *words(f"#[cfg(test)] mod {left_out};")):
+                return self.delete(at, at + 10)
         if self.has(bracket + 1, "tactic"):
             return self.delete(at, self.close(bracket), whole=False)
         if self.has(bracket + 1, *words("derive(Drop)]")):
@@ -257,31 +291,29 @@ class Eraser:
 
     def rename(self):
         """Renames by the tables, the longest name first, and returns whether any call was renamed."""
-        tables = CALLS, DISPLAY, self.crate["paths"]
-        names = [(words(name), words(new), table is CALLS) for table in tables for name, new in table.items()]
+        tables = {**CALLS, **DISPLAY, **self.crate["names"]}
+        calls = CALLS.keys() | HOST.keys() - {"crate::"}
+        names = [(words(name), new, name in calls) for name, new in tables.items()]
         names.sort(key=lambda name: -len(name[0]))
         at, called = 0, False
         while at < len(self.tokens):
             for name, new, is_call in names:
                 if self.has(at, *name):
-                    self.put(at, len(name), new)
-                    at += len(new) - 1
+                    at += self.put(at, len(name), new) - 1
                     called |= is_call
                     break
             at += 1
         return called
 
     def put(self, at, count, new):
-        """Puts new tokens in the place of so many."""
-        old = self.tokens[at : at + count]
-        place = self.all.index(old[0])
-        made = [Token(kind_of(text), text, "", old[0].line) for text in new]
-        # White space stays before the tokens that stay in their places.
-        for i, token in enumerate(made):
-            token.space = old[i].space if i < len(old) else ""
-        last = self.all.index(old[-1])
-        self.all[place : last + 1] = made
-        self.tokens[at : at + count] = made
+        """Puts new tokens in the place of so many, and returns how many they are."""
+        first, last = self.all.index(self.tokens[at]), self.all.index(self.tokens[at + count - 1])
+        made = tokens_of(new)
+        made[0].space = self.all[first].space
+        for token in made:
+            token.line = self.all[first].line
+        self.all[first : last + 1] = self.tokens[at : at + count] = made
+        return len(made)
 
     def check(self):
         """Stops at what is left and isn't Rust."""
@@ -291,7 +323,7 @@ class Eraser:
         for at, token in enumerate(self.tokens):
             if token.text in NOT_RUST or token.kind == "other" or token.kind == "sign" and token.text not in SIGNS:
                 self.stop(at, "it isn't Rust")
-            if token.text == "in" and self.text(at - 2) == "!" and self.text(at - 3) not in ("list", "text"):
+            if token.text == "in" and self.text(at - 2) == "!" and self.text(at - 3) != "text":
                 self.stop(at, "no macro of this name takes an allocator")
 
     def written(self):
@@ -346,10 +378,6 @@ def broken(chain):
     return f"{indent}{field}\n{indent}    {call}{end}"
 
 
-def kind_of(text):
-    return tokens_of(text)[0].kind
-
-
 def rust_of(path, crate):
     eraser = Eraser(path.relative_to(TOP), path.read_text(encoding="utf-8"), crate)
     eraser.erase()
@@ -366,8 +394,8 @@ def erased(crate):
     """The files of a crate's Rust, by their names."""
     files = {}
     for path in sorted((TOP / crate["source"]).glob("*.rt")):
-        if path.stem not in crate["laws"]:
-            files["mod.rs" if path.stem == "lib" else path.stem + ".rs"] = rust_of(path, crate)
+        if path.stem not in crate["left_out"]:
+            files["mod.rs" if path.stem in ("lib", "main") else path.stem + ".rs"] = rust_of(path, crate)
     return files
 
 

@@ -55,7 +55,7 @@ def run(words, **more):
 
 
 def text_of(rng):
-    """A random text of up to ten characters, of every kind that a word may hold."""
+    """A random word of up to ten characters or bytes, of every kind that a word may hold."""
     chars = []
     for _ in range(rng.choice([0, 1, 1, 2, 3, 5, 10])):
         kind = rng.random()
@@ -65,9 +65,17 @@ def text_of(rng):
             chars.append(chr(rng.randrange(1, 128)))
         elif kind < 0.9:
             chars.append(rng.choice("abcxyz"))
-        else:
-            code = rng.randrange(0xA0, 0x110000)
+        elif kind < 0.94:
+            code = rng.randrange(0x80, 0x110000)
             chars.append(chr(code if not 0xD800 <= code < 0xE000 else 0xE9))
+        elif kind < 0.96:
+            chars.append(chr(rng.randrange(0x80, 0xA0)))
+        elif kind < 0.98:
+            # the marks of bytes
+            chars.append(chr(rng.randrange(0x10FF80, 0x110000)))
+        else:
+            # a byte as it is
+            chars.append(os.fsdecode(bytes([rng.randrange(0x80, 0x100)])))
     return "".join(chars)
 
 
@@ -104,6 +112,14 @@ def line_of(rng):
     return words, options + ["--"] + free
 
 
+def is_text(word):
+    try:
+        word.encode()
+    except UnicodeEncodeError:
+        return False
+    return True
+
+
 def shells():
     found = []
     for shell in SHELLS:
@@ -125,22 +141,26 @@ def random_lines(program, found, room):
         wanted.append(line)
     script = room / "lines"
     script.write_text(
-        "n=0\nwhile [ $n -lt %d ]; do\n    code=$(cat code.$n) || exit\n    eval \"$code\"\n"
-        "    printf '%%s\\0' \"$#\" \"$@\"\n    n=$((n + 1))\ndone\n" % LINES
+        "while read -r n; do\n    code=$(cat code.$n) || exit\n    eval \"$code\"\n"
+        "    printf '%s\\0' \"$#\" \"$@\"\ndone <\"$LIST\"\n"
     )
     for shell in found:
-        done = run(shell + [str(script)], cwd=room)
+        # yash takes no bytes that are no text of its locale.
+        taken = [place for place, line in enumerate(wanted) if shell != ["yash"] or is_text("".join(line))]
+        (room / "list").write_text("".join(f"{place}\n" for place in taken))
+        done = run(shell + [str(script)], cwd=room, env={**os.environ, "LIST": str(room / "list")})
         told = done.stdout.split(b"\0")
         place = 0
-        for number, line in enumerate(wanted):
+        for number in taken:
+            line = [os.fsencode(word) for word in wanted[number]]
             count = int(told[place] or b"-1") if place < len(told) else -1
-            words = [word.decode() for word in told[place + 1 : place + 1 + max(count, 0)]]
+            words = told[place + 1 : place + 1 + max(count, 0)]
             if words != line:
                 fail(f"{' '.join(shell)}: line {number}: {words!r}, not {line!r}; {done.stderr[:200]!r}")
                 break
             place += 1 + count
         else:
-            print(f"{' '.join(shell)}: the words of {LINES} random lines")
+            print(f"{' '.join(shell)}: the words of {len(taken)} random lines")
 
 
 def page_script():
@@ -199,6 +219,10 @@ def examples(shell, path, room):
     done = run(shell + [str(folder / "notes"), "-f", str(notes), "list"], env=env)
     if done.stdout.decode() != "[a] [b] it's\n[a] [b] two\n-x\n":
         fail(f"{' '.join(shell)}: the example notes: {done}")
+    for command in ("add", "list"):
+        done = run(shell + [str(folder / "notes"), "-f", str(notes), command, "--help"], env=env)
+        if done.returncode != 0 or not done.stdout.startswith(f"Usage: notes {command} ".encode()):
+            fail(f"{' '.join(shell)}: the help of the example notes {command}: {done}")
     done = run(shell + [str(folder / "notes"), "-f", str(notes), "list", "--tag"], env=env)
     if done.returncode != 2 or not done.stderr.startswith(b"notes list: Unrecognized option: 'tag'\n"):
         fail(f"{' '.join(shell)}: the example notes, refused: {done}")
@@ -211,7 +235,7 @@ def by_getopt(words):
     if done.returncode != 0:
         return None
     names = {"-i": "--input", "-o": "--output", "-v": "--verbose", "-c": "--color", "-L": "--L"}
-    told, line, place = shlex.split(done.stdout.decode()), [], 0
+    told, line, place = shlex.split(os.fsdecode(done.stdout)), [], 0
     while told[place] != "--":
         name = names.get(told[place], told[place])
         if name in ("--input", "--output", "--L"):
@@ -242,7 +266,7 @@ def beside_getopt(program):
         if any(word == "--color=" for word in words):
             continue
         done = run([program, "-w", "try", MANY] + words)
-        ours = shlex.split(done.stdout.decode()) if done.returncode == 0 else None
+        ours = shlex.split(os.fsdecode(done.stdout)) if done.returncode == 0 else None
         theirs = by_getopt(words)
         refused += ours is None
         if ours != theirs:
@@ -338,12 +362,22 @@ def completion(program, room):
         print("completion in fish")
 
 
-def is_name(name):
-    return name and not name.startswith("-") and not any(c in " |[]=" or c < " " or c == "\x7f" for c in name)
+GAP = "a tab or two spaces have to come before the description"
+SHORT = "a short name has one byte"
+LONG = "a long name has at least two bytes"
+OPEN = "no ']'"
+BYTES = "a name may hold letters, digits, '-', '_', '.', '+', ':' and bytes from 128 on"
+DASHES = "a short name comes after '-', a long one after '--'"
+BRACKETS = "brackets stand around the option or its argument, and dots only after ']'"
+LONG_NAME = re.compile(r"[A-Za-z0-9_.+:\x80-\U0010ffff-]*")
+
+
+def is_short(name):
+    return len(name.encode()) == 1 and not (name in " -|[]=" or name < " " or name == "\x7f")
 
 
 def is_hint(hint):
-    return hint and not any(c in " \t[]" for c in hint)
+    return hint and not any(c in " \t[]" for c in hint) and not hint.endswith("..")
 
 
 def names_of(inside):
@@ -355,9 +389,40 @@ def names_of(inside):
         short, long = "", short
     if (space and not is_hint(hint)) or (bar and not (short and long)) or not (short or long):
         return None
-    lawful = (not short or (len(short) == 2 and short[0] == "-" and is_name(short[1:])))
-    lawful = lawful and (not long or (len(long) > 3 and long.startswith("--") and is_name(long[2:])))
+    lawful = not short or (short[0] == "-" and is_short(short[1:]))
+    lawful = lawful and (not long or (len(long) > 3 and long.startswith("--") and long[2] != "-"
+                                      and LONG_NAME.fullmatch(long[2:])))
     return [name for name in (short[1:], long[2:]) if name] if lawful else None
+
+
+def reason_of(item):
+    """What is wrong with an item that is none, by the first rule of the page that it breaks."""
+    if "[" in item and "]" not in item:
+        return OPEN
+    names, _, rest = re.match(r"(?s)([^ \]]*)([ \]]?)(.*)", item).groups()
+    if " " in rest:
+        return GAP
+    names = names.removeprefix("[")
+    if len(names) < 2 or names[0] != "-":
+        return DASHES
+    if names[1] == "-":
+        long = names[2:]
+    else:
+        short, more = names[1], names[2:]
+        if more and more[0] != "|":
+            return SHORT
+        if not is_short(short):
+            return BYTES
+        if not more:
+            return BRACKETS
+        if not more.startswith("|--"):
+            return DASHES
+        long = more[3:]
+    if len(long.encode()) < 2:
+        return LONG
+    if not LONG_NAME.fullmatch(long):
+        return BYTES
+    return DASHES if long[0] == "-" else BRACKETS
 
 
 def table_fault(table):
@@ -375,7 +440,7 @@ def table_fault(table):
                 break
         names = names_of(inside)
         if names is None:
-            return f"line {number} of the options: {item}"
+            return f"line {number} of the options: {item}: {reason_of(item)}"
         for name in names:
             if name in seen:
                 return f"line {number} of the options: the name '{name}' stands there already"

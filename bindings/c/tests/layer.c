@@ -30,10 +30,13 @@ static void wrong_rows_are_named(void) {
         { { "a", NULL, NULL, NULL, (enum getopts_kind)7 }, "table[1]: 7 is no kind" },
         { { "a", NULL, NULL, NULL, (enum getopts_kind)12 }, "table[1]: 12 is no kind" },
         { { "\xc3\xa9", NULL, NULL, NULL, GETOPTS_NO }, "table[1]: short name '\u00e9' has 2 bytes" },
-        { { "\xff", NULL, NULL, NULL, GETOPTS_NO }, "table[1]: the short name isn't UTF-8" },
-        { { "a", "\xff\xff", NULL, NULL, GETOPTS_NO }, "table[1]: the long name isn't UTF-8" },
-        { { "a", "ab", "\xff", NULL, GETOPTS_YES }, "table[1]: the hint isn't UTF-8" },
-        { { "a", "ab", NULL, "\xc3", GETOPTS_NO }, "table[1]: the description isn't UTF-8" },
+        { { "\xff", NULL, NULL, NULL, GETOPTS_NO }, "table[1]: the short name isn't UTF-8 below U+10FF80" },
+        { { "a", "\xff\xff", NULL, NULL, GETOPTS_NO }, "table[1]: the long name isn't UTF-8 below U+10FF80" },
+        { { "a", "ab", "\xff", NULL, GETOPTS_YES }, "table[1]: the hint isn't UTF-8 below U+10FF80" },
+        { { "a", "ab", NULL, "\xc3", GETOPTS_NO }, "table[1]: the description isn't UTF-8 below U+10FF80" },
+        { { "a", "\xf4\x8f\xbe\x80", NULL, NULL, GETOPTS_NO }, "table[1]: the long name isn't UTF-8 below U+10FF80" },
+        { { "a", "ab", NULL, "\xf4\x8f\xbf\xbf", GETOPTS_NO }, "table[1]: the description isn't UTF-8 below U+10FF80" },
+        { { "a", "\xf4\x8f\xbd\xbf", "\u00e9", NULL, GETOPTS_YES }, "" },
         { { "a", "\u00e9", "\u00e9", "\u00e9", GETOPTS_MAYBE + GETOPTS_MULTI }, "" },
         { { "a", NULL, NULL, NULL, (enum getopts_kind)0 }, "" },
     };
@@ -152,11 +155,42 @@ static void numbers_are_checked(void) {
     getopts_delete(options);
 }
 
+/* Words of any bytes come back as they were given, in every place. */
+static void bytes_come_back(void) {
+    static const char *const words[] = {
+        "\xff.txt", "caf\xe9", "a\x80", "\xe2\x82", "\xe2\x82\xc3\xa9", "\xf0\x90\x8d", "\xc0\x80", "\xed\xa0\x80",
+        "\xf4\x90\x80\x80", "\xf4\x8f\xbe\x80", "\xf4\x8f\xbf\xbf", "\xf4\x8f\xbd\xbf", "\xc2\x80\xc2\x9f", "\u65e5\xff\u672c",
+        "-\xff", "=\xff=",
+    };
+    struct getopts *options = getopts_new(required, GETOPTS_ORDINARY);
+    for (size_t nth = 0; nth < sizeof words / sizeof *words; nth++) {
+        char joined[32], wanted[64], *line_words[] = { joined, "--", (char *)words[nth], NULL }, **line;
+        snprintf(joined, sizeof joined, "-o%s", words[nth]);
+        expect(getopts_read(options, 3, line_words) == GETOPTS_OK, "words of any bytes");
+        expect(strcmp(getopts_value(options, "output", 0), words[nth]) == 0, "a value of any bytes");
+        expect(strcmp(getopts_free_words(options)[0], words[nth]) == 0, "a free word of any bytes");
+        snprintf(wanted, sizeof wanted, "--output=%s", words[nth]);
+        expect(getopts_canonical(options, 3, line_words, &line) == GETOPTS_OK && strcmp(line[0], wanted) == 0
+            && strcmp(line[2], words[nth]) == 0, "a canonical line of any bytes");
+        free(line);
+        char *unknown[] = { joined, NULL };
+        snprintf(joined, sizeof joined, "--x%s", words[nth]);
+        snprintf(wanted, sizeof wanted, "Unrecognized option: 'x%.*s'", (int)strcspn(words[nth], "="), words[nth]);
+        expect(getopts_read(options, 1, unknown) == GETOPTS_UNRECOGNIZED_OPTION, "a name of any bytes");
+        expect(strcmp(getopts_message(options), wanted) == 0, "its message");
+    }
+    char *shorts[] = { "-\xff", NULL };
+    expect(getopts_read(options, 1, shorts) == GETOPTS_UNRECOGNIZED_OPTION, "a short name of any byte");
+    expect(strcmp(getopts_message(options), "Unrecognized option: '\xff'") == 0, "its message");
+    getopts_delete(options);
+}
+
 /* Random tables, as the layer and the archive call them. */
 static size_t random_tables(size_t count) {
     /* The first six are right in most places. */
     static const char *const texts[] = {
         "", "", "a", "a", "ab", "verbose", "\u00e9", "\xff", "\xc3", "\xa9", "a\xff", "\xed\xa0\x80", "\u65e5",
+        "\xf4\x8f\xbf\xbf",
     };
     size_t bad = 0;
     for (unsigned long nth = 1, state = 88172645463325252; nth <= count; nth++) {
@@ -192,6 +226,7 @@ int main(void) {
     no_kind_is_a_flag();
     counts_are_no_reason_to_forget();
     numbers_are_checked();
+    bytes_come_back();
     size_t bad = random_tables(TABLES);
     expect(bad > 0 && bad < TABLES, "random tables of both sorts");
     if (!failed)

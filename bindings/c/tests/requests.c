@@ -172,10 +172,10 @@ static void cut(size_t *len, size_t most) {
 }
 
 static void break_texts(struct told *told) {
-    static const char *const not_utf8[] = {
-        "\xff", "\xc3", "\xed\xa0\x80", "\xc0\x80", "\xf4\x90\x80\x80", "\x80",
+    static const char *const no_texts[] = {
+        "\xff", "\xc3", "\xed\xa0\x80", "\xc0\x80", "\xf4\x90\x80\x80", "\x80", "\xf4\x8f\xbe\x80", "\xf4\x8f\xbf\xbf",
     };
-    const char *bad = PICK(not_utf8);
+    const char *bad = PICK(no_texts);
     size_t one = below(told->count + 1), two = below(told->count + 1), half = (size_t)1 << 63;
     switch (below(7)) {
     case 0:
@@ -228,8 +228,8 @@ static void broken(struct request *request) {
         }
 }
 
-/* Whether some bytes are UTF-8. */
-static bool is_utf8(const uint8_t *text, size_t len) {
+/* Whether some bytes are UTF-8 below U+10FF80. */
+static bool is_text(const uint8_t *text, size_t len) {
     for (size_t nth = 0; nth < len;) {
         uint32_t first = text[nth++], code = first;
         size_t more = first < 0x80 ? 0 : first < 0xe0 ? 1 : first < 0xf0 ? 2 : 3;
@@ -242,17 +242,17 @@ static bool is_utf8(const uint8_t *text, size_t len) {
                 return false;
             code = code << 6 | (text[nth] & 0x3f);
         }
-        if (code < least[more] || code > 0x10ffff || (code >= 0xd800 && code < 0xe000))
+        if (code < least[more] || code > 0x10ff7f || (code >= 0xd800 && code < 0xe000))
             return false;
     }
     return true;
 }
 
-/* Whether the lengths part the bytes into UTF-8 texts. */
-static bool are_texts(const struct told *told) {
+/* Whether the lengths part the bytes, into such texts or into any words. */
+static bool are_parts(const struct told *told, bool texts) {
     size_t from = 0;
     for (size_t nth = 0; nth < told->count; from += told->lens[nth++])
-        if (told->lens[nth] > told->len - from || !is_utf8(told->bytes + from, told->lens[nth]))
+        if (told->lens[nth] > told->len - from || (texts && !is_text(told->bytes + from, told->lens[nth])))
             return false;
     return from == told->len;
 }
@@ -264,7 +264,7 @@ static bool reads_words(const struct request *request) {
 /* By the rules of getopts_c.h: whether something lawful is what the request says. */
 static bool is_lawful(const struct request *request) {
     const struct told *told = &request->texts;
-    if (told->count != 4 * request->kinds_len || !are_texts(told))
+    if (told->count != 4 * request->kinds_len || !are_parts(told, true))
         return false;
     for (size_t group = 0; group < request->kinds_len; group++) {
         size_t short_len = told->lens[4 * group], long_len = told->lens[4 * group + 1];
@@ -273,8 +273,8 @@ static bool is_lawful(const struct request *request) {
             return false;
     }
     if (reads_words(request))
-        return are_texts(&request->words);
-    return request->export == ROWS || is_utf8(request->start.bytes, request->start.len);
+        return are_parts(&request->words, false);
+    return request->export == ROWS || is_text(request->start.bytes, request->start.len);
 }
 
 /* The room for an answer. */

@@ -121,9 +121,9 @@ fn char_len(first: u8) -> usize
     ensures { result ≡ suc (continuation_len first) }
 {
     match first {
-        0..128 => 1,
-        128..224 => 2,
-        224..240 => 3,
+        0..=127 => 1,
+        128..=223 => 2,
+        224..=239 => 3,
         _ => 4,
     }
 }

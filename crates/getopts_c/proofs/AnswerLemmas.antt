@@ -5,7 +5,6 @@ use Rattle.std.proofs.Common.{append-nil, ◌∙◌, arith}
 use Rattle.std.proofs.lemmas.List.{length-map, take_more, flat_map_more}
 use Rattle.std.proofs.lemmas.Option.{none-some, slice_get_within, get_or_from_slice_get}
 use Rattle.std.proofs.lemmas.Option.{slice_get-get_or}
-use Rattle.std.specs.String.{string_bytes}
 use Rattle.std.specs.List.{flat_map}
 use Rattle.std.specs.Prelude.{◌≢◌, ◌<◌, ◌≤◌, ◌⊎◌, ⊤, Bool, Result, Ok, Err, IfOk, IfErr, OnOk, IsOk}
 use Rattle.std.specs.Prelude.{IsOkAnd, IsErrOf, Option, Some, None, MatchOption, IsSomeAnd}
@@ -28,7 +27,8 @@ use Rattle.getopts_c.specs.declared.answer.Answer.{Answer}
 use Rattle.getopts_c.specs.declared.answer.Sizes.{Sizes}
 use Rattle.getopts_c.specs.declared.request.Refusal.{Refusal}
 use Rattle.getopts_c.specs.declared.request.Refusal.TheVariants.{Bad}
-use Rattle.getopts_c.specs.Answer.{fault_name}
+use Rattle.getopts_bytes.specs.Marks.{bytes_of}
+use Rattle.getopts_c.specs.Answer.{name_given}
 use Rattle.getopts_c.specs.Answer.{IsAnswer, Give, HaveFault, given, refused, all_names, four_names}
 use Rattle.getopts_c.specs.Answer.{fault_status}
 use Rattle.getopts_c.specs.Answer.{matches_bytes, matches_numbers, optional_number, place_number}
@@ -45,8 +45,8 @@ given_answer matches names_are is are =
 -- the answer to refused words
 pub refused_answer : {counts : Bool} {options : Declared} {words : List Text} {status : ℕ}
     {numbers : List ℕ} {bytes : Text} (fault : Fault) → HaveFault counts options words fault
-    → (status ≡ fault_status fault) × (numbers ≡ length (fault_name fault) ∷ [])
-    × (bytes ≡ fault_name fault) → IsAnswer counts options words status numbers bytes
+    → (status ≡ fault_status fault) × (numbers ≡ length (name_given fault) ∷ [])
+    × (bytes ≡ name_given fault) → IsAnswer counts options words status numbers bytes
 refused_answer fault is are = rw (are.0, are.1, are.2) (refused fault is)
 
 -- what follows from what a refusal tells of a fault, where it tells one
@@ -128,7 +128,7 @@ as_many_groups options groups are =
 -- the canonical line of words that have one
 pub written_line : {options : Declared} {words line : List Text} {status : ℕ} {numbers : List ℕ}
     {bytes : Text} → IsCanonicalLine options words line → status ≡ fine_status
-    → numbers ≡ text_numbers line → bytes ≡ concatenated line
+    → numbers ≡ text_numbers (map bytes_of line) → bytes ≡ concatenated (map bytes_of line)
     → IsLineOf options words status numbers bytes
 written_line {line = line} is status_is numbers_are bytes_are =
     rw (status_is, numbers_are, bytes_are) (written line is)
@@ -142,8 +142,8 @@ no_line is numbers_are bytes_are = rw (numbers_are, bytes_are) (unwritable is)
 -- the answer where refused words have no canonical line
 pub refused_line : {options : Declared} {words : List Text} {status : ℕ} {numbers : List ℕ}
     {bytes : Text} (fault : Fault) → IsRefused options words fault
-    → (status ≡ fault_status fault) × (numbers ≡ length (fault_name fault) ∷ [])
-    × (bytes ≡ fault_name fault) → IsLineOf options words status numbers bytes
+    → (status ≡ fault_status fault) × (numbers ≡ length (name_given fault) ∷ [])
+    × (bytes ≡ name_given fault) → IsLineOf options words status numbers bytes
 refused_line fault is are = rw (are.0, are.1, are.2) (unaccepted fault is)
 
 -- the status of a fault is below that of want of memory
@@ -171,16 +171,16 @@ module _ {SaysOptions SaysTexts : Type 0} {IsSuchAnswer : ℕ → List ℕ → T
       → (new.sizes.numbers ≤ length old.numbers) × (new.sizes.bytes ≤ length old.bytes))
       → (status < memory_status → IsOkAnd answer (λ answer. (status ≡ answer.status)
       × FillsFront answer.body.numbers.items new.numbers new.sizes.numbers
-      × FillsFront (string_bytes answer.body.bytes) new.bytes new.sizes.bytes))
+      × FillsFront answer.body.bytes.items new.bytes new.sizes.bytes))
       → (status ≡ room_status
       → (length old.numbers < new.sizes.numbers) ⊎ (length old.bytes < new.sizes.bytes))
       → (status ≡ room_status → IsOkAnd answer (λ answer.
       (new.sizes.numbers ≡ length answer.body.numbers.items)
-      × (new.sizes.bytes ≡ length (string_bytes answer.body.bytes))))
+      × (new.sizes.bytes ≡ length answer.body.bytes.items)))
       → (status ≢ memory_status → status ≢ bad_status → IsOk answer)
       → (status ≡ bad_status → IsErrOf answer Bad)
       → IfOk answer (λ answer.
-      IsSuchAnswer answer.status answer.body.numbers.items (string_bytes answer.body.bytes))
+      IsSuchAnswer answer.status answer.body.numbers.items answer.body.bytes.items)
       → OnOk answer (SaysOptions × SaysTexts)
       → IfErr answer (λ refusal. refusal ≡ Bad → (¬ SaysOptions) ⊎ (¬ SaysTexts))
       → IsReply SaysOptions SaysTexts IsSuchAnswer status old new

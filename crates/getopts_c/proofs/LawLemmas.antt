@@ -12,7 +12,10 @@ use Rattle.getopts.specs.declared.groups.Occur.{Occur}
 use Rattle.getopts.specs.declared.groups.HasArg.TheVariants.{Yes, No, Maybe}
 use Rattle.getopts.specs.declared.groups.Occur.TheVariants.{Req, Optional, Multi}
 use Rattle.getopts_c.specs.Request.{concatenated, IsCut, IsRequest, group_number, group_texts}
-use Rattle.getopts_c.specs.Request.{kind_number, style_of, SayOptions}
+use Rattle.getopts_bytes.specs.Marks.{text_of}
+use Rattle.getopts_bytes.proofs.Chars.{plain}
+use Rattle.getopts_bytes.proofs.Texts.{plain_stays}
+use Rattle.getopts_c.specs.Request.{ArePlain, kind_number, style_of, SayOptions}
 
 -- fronts of one length are the same, and so is what follows them
 pub same_front : {A : Type 0} (front other rest left : List A) → front ++ rest ≡ other ++ left
@@ -115,6 +118,18 @@ pub request_once : {bytes : Text} {lens kinds : List ℕ} {stop long_only : Bool
     → IsRequest bytes lens kinds stop long_only others → options ≡ others
 request_once is other = sym (request_is_from is) ∙ request_is_from other
 
+-- texts without marks are UTF-8
+pub plain_texts : (words : List Text) → ArePlain words → AreTexts words
+plain_texts [] are = tt
+plain_texts (word ∷ words) are = ((plain word are.0).utf8, plain_texts words are.1)
+
+-- words that are texts without marks are their own texts
+pub plain_words : (words : List Text) → ArePlain words → map text_of words ≡ words
+plain_words [] are = refl
+plain_words (word ∷ words) are =
+    ap (λ (w : Text). w ∷ map text_of words) (plain_stays word (plain word are.0))
+    ∙ ap (λ (ws : List Text). word ∷ ws) (plain_words words are.1)
+
 -- the short names among UTF-8 texts are UTF-8
 shorts_are : (groups : List Group) → AreTexts (flat_map group_texts groups)
     → AllByRecursion (λ group. IsUtf8 group.signature.names.short) groups
@@ -128,4 +143,8 @@ pub request_declared : {bytes : Text} {lens kinds : List ℕ} {stop long_only : 
     → MayBeDeclared options.groups
 request_declared said options is =
     subst (λ (declared : Declared). MayBeDeclared declared.groups) (request_once said.options_are is)
-    (record { named = said.named; shorts = shorts_are said.options.groups said.utf8 })
+    (record {
+      named = said.named;
+      shorts = shorts_are said.options.groups
+          (plain_texts (flat_map group_texts said.options.groups) said.plain);
+    })

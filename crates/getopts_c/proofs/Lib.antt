@@ -2,4 +2,5 @@ mod AnswerLemmas
 mod BadLemmas
 mod LawLemmas
 mod ReadBackLemmas
+mod LineLemmas
 mod RequestLemmas

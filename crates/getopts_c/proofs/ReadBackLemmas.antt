@@ -10,7 +10,8 @@ use Rattle.getopts.specs.Fail.{Fault, argument_missing, unrecognized_option, opt
 use Rattle.getopts.specs.Fail.{option_duplicated, unexpected_argument}
 use Rattle.getopts.specs.Matches.{Found, Matched, MatchedGroup}
 use Rattle.getopts.specs.Names.{Text}
-use Rattle.getopts_c.specs.Answer.{fault_name}
+use Rattle.getopts_bytes.specs.Marks.{bytes_of}
+use Rattle.getopts_c.specs.Answer.{fault_given, found_given, name_given}
 use Rattle.getopts_c.proofs.LawLemmas.{cut_once, same_front}
 use Rattle.getopts_c.specs.Answer.{AreAlike, fault_status, found_bytes, found_numbers, group_bytes}
 use Rattle.getopts_c.specs.Answer.{group_numbers, matches_bytes, matches_numbers, optional_number}
@@ -53,34 +54,40 @@ founds_back : (founds others : List Found) (rest left : List ℕ) (more after : 
     → length founds ≡ length others
     → flat_map found_numbers founds ++ rest ≡ flat_map found_numbers others ++ left
     → flat_map found_bytes founds ++ more ≡ flat_map found_bytes others ++ after
-    → (founds ≡ others) × (rest ≡ left) × (more ≡ after)
+    → (map found_given founds ≡ map found_given others) × (rest ≡ left) × (more ≡ after)
 founds_back [] [] rest left more after count numbers bytes = (refl, numbers, bytes)
 founds_back [] (other ∷ others) rest left more after count numbers bytes = absurd (omega arith)
 founds_back (found ∷ founds) [] rest left more after count numbers bytes = absurd (omega arith)
 founds_back (found ∷ founds) (other ∷ others) rest left more after count numbers bytes =
-    let whole : found.position ∷ optional_number (option_map length found.value)
+    let whole : found.position ∷ optional_number (option_map length (found_given found).value)
     ∷ (flat_map found_numbers founds ++ rest)
-    ≡ other.position ∷ optional_number (option_map length other.value)
+    ≡ other.position ∷ optional_number (option_map length (found_given other).value)
     ∷ (flat_map found_numbers others ++ left) = numbers in
     let position : found.position ≡ other.position = cc in
-    let size : optional_number (option_map length found.value) ≡ optional_number (option_map length other.value) = cc in
+    let size : optional_number (option_map length (found_given found).value)
+    ≡ optional_number (option_map length (found_given other).value) = cc in
     let behind : flat_map found_numbers founds ++ rest ≡ flat_map found_numbers others ++ left = cc in
-    let value = value_back found.value other.value
+    let value = value_back (found_given found).value (found_given other).value
     (flat_map found_bytes founds ++ more) (flat_map found_bytes others ++ after) size
     (sym (append_assoc (found_bytes found) (flat_map found_bytes founds) more) ∙ bytes
     ∙ append_assoc (found_bytes other) (flat_map found_bytes others) after) in
     let follow = founds_back founds others rest left more after (omega arith) behind value.1 in
-    let first : found ≡ other = ap (λ (n : ℕ). record { position = n; value = found.value }) position
-    ∙ ap (λ (v : Option Text). record { position = other.position; value = v }) value.0 in
-    (ap (λ (f : Found). f ∷ founds) first ∙ ap (λ (fs : List Found). other ∷ fs) follow.0, follow.1, follow.2)
+    let first : found_given found ≡ found_given other =
+    ap (λ (n : ℕ). record { position = n; value = (found_given found).value }) position
+    ∙ ap (λ (v : Option Text). record { position = other.position; value = v }) value.0 in (
+      ap (λ (f : Found). f ∷ map found_given founds) first
+          ∙ ap (λ (fs : List Found). found_given other ∷ fs) follow.0,
+      follow.1,
+      follow.2,
+    )
 
 -- the occurrences of as many groups, from their numbers and their bytes, and what follows them
 groups_back : (groups others : List MatchedGroup) (rest left : List ℕ) (more after : Text)
     → length groups ≡ length others
     → flat_map group_numbers groups ++ rest ≡ flat_map group_numbers others ++ left
     → flat_map group_bytes groups ++ more ≡ flat_map group_bytes others ++ after
-    → (map (λ (group : MatchedGroup). group.found) groups
-    ≡ map (λ (group : MatchedGroup). group.found) others) × (rest ≡ left) × (more ≡ after)
+    → (map (λ (group : MatchedGroup). map found_given group.found) groups
+    ≡ map (λ (group : MatchedGroup). map found_given group.found) others) × (rest ≡ left) × (more ≡ after)
 groups_back [] [] rest left more after count numbers bytes = (refl, numbers, bytes)
 groups_back [] (other ∷ others) rest left more after count numbers bytes = absurd (omega arith)
 groups_back (group ∷ groups) [] rest left more after count numbers bytes = absurd (omega arith)
@@ -98,8 +105,8 @@ groups_back (group ∷ groups) (other ∷ others) rest left more after count num
     (sym (append_assoc (group_bytes group) (flat_map group_bytes groups) more) ∙ bytes
     ∙ append_assoc (group_bytes other) (flat_map group_bytes others) after) in
     let follow = groups_back groups others rest left more after (omega arith) first.1 first.2 in (
-      ap (λ (fs : List Found). fs ∷ map (λ (group : MatchedGroup). group.found) groups) first.0
-          ∙ ap (λ (lists : List (List Found)). other.found ∷ lists) follow.0,
+      ap (λ (fs : List Found). fs ∷ map (λ (group : MatchedGroup). map found_given group.found) groups) first.0
+          ∙ ap (λ (lists : List (List Found)). map found_given other.found ∷ lists) follow.0,
       follow.1,
       follow.2,
     )
@@ -112,24 +119,22 @@ texts_back words others numbers bytes =
     let own : IsCut (concatenated words) (map length words) words = record { bytes_are = refl; lens_are = refl } in
     cut_once own (record { bytes_are = bytes; lens_are = lens })
 
--- the free words and the trailing start, from their numbers and the words' bytes
-free_back : (matches others : Matched)
-    → text_numbers matches.free ++ optional_number matches.trailing_start ∷ []
-    ≡ text_numbers others.free ++ optional_number others.trailing_start ∷ []
-    → concatenated matches.free ≡ concatenated others.free
-    → (matches.free ≡ others.free) × (matches.trailing_start ≡ others.trailing_start)
-free_back matches others numbers bytes =
-    let whole : length matches.free ∷ (map length matches.free ++ optional_number matches.trailing_start ∷ [])
-    ≡ length others.free ∷ (map length others.free ++ optional_number others.trailing_start ∷ []) = numbers in
-    let count : length matches.free ≡ length others.free = cc in
-    let rest : map length matches.free ++ optional_number matches.trailing_start ∷ []
-    ≡ map length others.free ++ optional_number others.trailing_start ∷ [] = cc in
-    let split = same_front (map length matches.free) (map length others.free) _ _ rest
-    (length-map matches.free length ∙ count ∙ sym (length-map others.free length)) in
-    let start : optional_number matches.trailing_start ≡ optional_number others.trailing_start =
+-- words and a number after them, from their numbers and the words' bytes
+free_back : (free others : List Text) (start begin : Option ℕ)
+    → text_numbers free ++ optional_number start ∷ [] ≡ text_numbers others ++ optional_number begin ∷ []
+    → concatenated free ≡ concatenated others → (free ≡ others) × (start ≡ begin)
+free_back free others start begin numbers bytes =
+    let whole : length free ∷ (map length free ++ optional_number start ∷ [])
+    ≡ length others ∷ (map length others ++ optional_number begin ∷ []) = numbers in
+    let count : length free ≡ length others = cc in
+    let rest : map length free ++ optional_number start ∷ []
+    ≡ map length others ++ optional_number begin ∷ [] = cc in
+    let split = same_front (map length free) (map length others) _ _ rest
+    (length-map free length ∙ count ∙ sym (length-map others length)) in
+    let after : optional_number start ≡ optional_number begin =
     let e = split.1 in cc in (
-      texts_back matches.free others.free (let lens = split.0 in cc) bytes,
-      optional_back matches.trailing_start others.trailing_start start,
+      texts_back free others (let lens = split.0 in cc) bytes,
+      optional_back start begin after,
     )
 
 -- what matches tell, from their numbers and their bytes
@@ -138,22 +143,23 @@ pub matches_back : (names : List Text) (matches others : Matched)
     → matches_bytes matches ≡ matches_bytes others → AreAlike names matches others
 matches_back names matches others numbers bytes =
     let behind : Matched → List ℕ = λ m. (length m.groups ∷ flat_map group_numbers m.groups)
-    ++ (text_numbers m.free ++ optional_number m.trailing_start ∷ []) in
+    ++ (text_numbers (map bytes_of m.free) ++ optional_number m.trailing_start ∷ []) in
     let named = same_front (map (place_number matches.groups) names)
     (map (place_number others.groups) names) (behind matches) (behind others) numbers
     (length-map names (place_number matches.groups) ∙ sym (length-map names (place_number others.groups))) in
     let whole : length matches.groups ∷ (flat_map group_numbers matches.groups
-    ++ (text_numbers matches.free ++ optional_number matches.trailing_start ∷ []))
+    ++ (text_numbers (map bytes_of matches.free) ++ optional_number matches.trailing_start ∷ []))
     ≡ length others.groups ∷ (flat_map group_numbers others.groups
-    ++ (text_numbers others.free ++ optional_number others.trailing_start ∷ [])) = named.1 in
+    ++ (text_numbers (map bytes_of others.free) ++ optional_number others.trailing_start ∷ [])) = named.1 in
     let count : length matches.groups ≡ length others.groups = cc in
     let rest : flat_map group_numbers matches.groups
-    ++ (text_numbers matches.free ++ optional_number matches.trailing_start ∷ [])
+    ++ (text_numbers (map bytes_of matches.free) ++ optional_number matches.trailing_start ∷ [])
     ≡ flat_map group_numbers others.groups
-    ++ (text_numbers others.free ++ optional_number others.trailing_start ∷ []) = cc in
+    ++ (text_numbers (map bytes_of others.free) ++ optional_number others.trailing_start ∷ []) = cc in
     let found = groups_back matches.groups others.groups _ _
-    (concatenated matches.free) (concatenated others.free) count rest bytes in
-    let free = free_back matches others found.1 found.2 in
+    (concatenated (map bytes_of matches.free)) (concatenated (map bytes_of others.free)) count rest bytes in
+    let free = free_back (map bytes_of matches.free) (map bytes_of others.free)
+    matches.trailing_start others.trailing_start found.1 found.2 in
     record {
       places = places_back matches.groups others.groups names named.0;
       found = found.0;
@@ -169,7 +175,7 @@ fault_from status name =
     else (if status == 3 then option_missing name
     else (if status == 4 then option_duplicated name else unexpected_argument name)))
 
-fault_is : (fault : Fault) → fault_from (fault_status fault) (fault_name fault) ≡ fault
+fault_is : (fault : Fault) → fault_from (fault_status fault) (name_given fault) ≡ fault_given fault
 fault_is (argument_missing name) = refl
 fault_is (unrecognized_option name) = refl
 fault_is (option_missing name) = refl
@@ -178,7 +184,7 @@ fault_is (unexpected_argument name) = refl
 
 -- a fault, from its status and its name
 pub fault_back : (fault other : Fault) → fault_status fault ≡ fault_status other
-    → fault_name fault ≡ fault_name other → fault ≡ other
+    → name_given fault ≡ name_given other → fault_given fault ≡ fault_given other
 fault_back fault other status name =
-    sym (fault_is fault) ∙ ap (λ n. fault_from n (fault_name fault)) status
+    sym (fault_is fault) ∙ ap (λ n. fault_from n (name_given fault)) status
     ∙ ap (fault_from (fault_status other)) name ∙ fault_is other

@@ -13,6 +13,7 @@ use Rattle.getopts.specs.Parse.{IsAccepted, IsRefused, HasReading, HasNoReading}
 use Rattle.getopts.specs.CanonAnswers.{IsWritten as IsCanonicalLine, IsUnwritable}
 use Rattle.getopts.specs.Only.{IsTheOnly}
 use Rattle.getopts.specs.Usage.{AreUsageRows, IsUsageText, short_usage_text}
+use Rattle.getopts_bytes.specs.Marks.{bytes_of, text_of}
 use Rattle.getopts_c.specs.Request.{concatenated, IsCut, IsRequest}
 
 -- the name that a fault tells
@@ -23,6 +24,22 @@ fault_name (option_missing name) = name
 fault_name (option_duplicated name) = name
 fault_name (unexpected_argument name) = name
 
+-- the name that a fault tells, as the bytes that were given
+abbrev pub name_given : Fault → Text
+name_given fault = bytes_of (fault_name fault)
+
+-- the fault that tells its name so
+abbrev pub fault_given : Fault → Fault
+fault_given (argument_missing name) = argument_missing (bytes_of name)
+fault_given (unrecognized_option name) = unrecognized_option (bytes_of name)
+fault_given (option_missing name) = option_missing (bytes_of name)
+fault_given (option_duplicated name) = option_duplicated (bytes_of name)
+fault_given (unexpected_argument name) = unexpected_argument (bytes_of name)
+
+-- an occurrence with its value as the bytes that were given
+abbrev pub found_given : Found → Found
+found_given found = record found { value = option_map bytes_of found.value }
+
 -- a number for one that may be there: one more than it, or nought
 abbrev pub optional_number : Option ℕ → ℕ
 optional_number None = 0
@@ -30,11 +47,12 @@ optional_number (Some number) = number + 1
 
 -- the numbers of an occurrence: its position, and a number for its value's length
 abbrev pub found_numbers : Found → List ℕ
-found_numbers found = found.position ∷ optional_number (option_map length found.value) ∷ []
+found_numbers found =
+    found.position ∷ optional_number (option_map length (found_given found).value) ∷ []
 
 -- the bytes of an occurrence: its value, if it has one
 abbrev pub found_bytes : Found → Text
-found_bytes found = unwrap_or found.value []
+found_bytes found = unwrap_or (found_given found).value []
 
 -- the numbers of a group: how many occurrences it has, and those of each
 abbrev pub group_numbers : MatchedGroup → List ℕ
@@ -71,11 +89,11 @@ text_numbers words = length words ∷ map length words
 abbrev pub matches_numbers : List Text → Matched → List ℕ
 matches_numbers names matches = map (place_number matches.groups) names
     ++ ((length matches.groups ∷ flat_map group_numbers matches.groups)
-    ++ (text_numbers matches.free ++ optional_number matches.trailing_start ∷ []))
+    ++ (text_numbers (map bytes_of matches.free) ++ optional_number matches.trailing_start ∷ []))
 
 -- the bytes of matches: those of the groups, and the free words
 abbrev pub matches_bytes : Matched → Text
-matches_bytes matches = flat_map group_bytes matches.groups ++ concatenated matches.free
+matches_bytes matches = flat_map group_bytes matches.groups ++ concatenated (map bytes_of matches.free)
 
 -- the status of an answer that tells no fault
 abbrev pub fine_status : ℕ
@@ -128,9 +146,9 @@ pub data IsAnswer (counts : Bool) (options : Declared) (line : List Text)
       (matches_numbers (all_names options.groups) matches) (matches_bytes matches)
   refused : (fault : Fault) → HaveFault counts options line fault
       → IsAnswer counts options line (fault_status fault)
-      (length (fault_name fault) ∷ []) (fault_name fault)
+      (length (name_given fault) ∷ []) (name_given fault)
 
--- What a request says: options and a line, and their answer.
+-- What a request says: options and a line of words, and their answer to the texts of the words.
 pub record IsAnswered (counts : Bool) (bytes : Text) (lens kinds : List ℕ) (stop long_only : Bool)
     (words : Text) (word_lens : List ℕ) (status : ℕ) (numbers : List ℕ) (answer : Text)
     : Type 0 where
@@ -138,7 +156,7 @@ pub record IsAnswered (counts : Bool) (bytes : Text) (lens kinds : List ℕ) (st
   pub line : List Text
   pub options_are : IsRequest bytes lens kinds stop long_only options
   pub line_is : IsCut words word_lens line
-  pub answer_is : IsAnswer counts options line status numbers answer
+  pub answer_is : IsAnswer counts options (map text_of line) status numbers answer
 
 -- a buffer's front holds all of these, and the size says how many they are
 pub record FillsFront (all buffer : List ℕ) (size : ℕ) : Type 0 where
@@ -172,13 +190,14 @@ pub record IsRowsOf (bytes : Text) (lens kinds : List ℕ) (long_only : Bool)
 -- line, no numbers where there is none, or those of the fault that the line is refused with.
 pub data IsLineOf (options : Declared) (line : List Text) : ℕ → List ℕ → Text → Type 0 where
   written : (canonical : List Text) → IsCanonicalLine options line canonical
-      → IsLineOf options line fine_status (text_numbers canonical) (concatenated canonical)
+      → IsLineOf options line fine_status
+      (text_numbers (map bytes_of canonical)) (concatenated (map bytes_of canonical))
   unwritable : IsUnwritable options line → IsLineOf options line fine_status [] []
   unaccepted : (fault : Fault) → IsRefused options line fault
       → IsLineOf options line (fault_status fault)
-      (length (fault_name fault) ∷ []) (fault_name fault)
+      (length (name_given fault) ∷ []) (name_given fault)
 
--- What a request says: options and a line, and its canonical line.
+-- What a request says: options and a line of words, and the canonical line of the texts of the words.
 pub record IsCanonicalOf (bytes : Text) (lens kinds : List ℕ) (stop long_only : Bool)
     (words : Text) (word_lens : List ℕ) (status : ℕ) (numbers : List ℕ) (answer : Text)
     : Type 0 where
@@ -186,7 +205,7 @@ pub record IsCanonicalOf (bytes : Text) (lens kinds : List ℕ) (stop long_only 
   pub line : List Text
   pub options_are : IsRequest bytes lens kinds stop long_only options
   pub line_is : IsCut words word_lens line
-  pub answer_is : IsLineOf options line status numbers answer
+  pub answer_is : IsLineOf options (map text_of line) status numbers answer
 
 -- some such answer has so many numbers and so many bytes
 abbrev pub HasSizes : (ℕ → List ℕ → Text → Type 0) → ℕ → ℕ → Type 0
@@ -195,9 +214,11 @@ HasSizes Answers numbers_size bytes_size =
     × (numbers_size ≡ length numbers) × (bytes_size ≡ length bytes)
 
 -- Two matches are alike: each of these names resolves alike, the groups have the same
--- occurrences, and the free words and the trailing start are the same.
+-- occurrences and there are the same free words, as the bytes that were given, and the trailing start is the
+-- same.
 pub record AreAlike (names : List Text) (matches others : Matched) : Type 0 where
   pub places : map (place_of matches.groups) names ≡ map (place_of others.groups) names
-  pub found : map (λ group. group.found) matches.groups ≡ map (λ group. group.found) others.groups
-  pub free : matches.free ≡ others.free
+  pub found : map (λ group. map found_given group.found) matches.groups
+      ≡ map (λ group. map found_given group.found) others.groups
+  pub free : map bytes_of matches.free ≡ map bytes_of others.free
   pub trailing_start : matches.trailing_start ≡ others.trailing_start

@@ -1,7 +1,7 @@
 -- What bytes, lengths and kinds say: texts, and option groups.
 use Rattle.std.specs.Prelude.{◌≡◌, ℕ, ◌+◌, Bool, true, false, List, [], ◌∷◌, length, map}
-use Rattle.std.specs.List.{flat_map}
-use Rattle.getopts.specs.Names.{Text, AreTexts, IsLawfullyNamed}
+use Rattle.std.specs.List.{AllByRecursion, flat_map}
+use Rattle.getopts.specs.Names.{Text, IsLawfullyNamed}
 use Rattle.getopts.specs.Options.{Group, Declared, AreLawfullyNamed}
 use Rattle.getopts.specs.declared.groups.HasArg.{HasArg}
 use Rattle.getopts.specs.declared.groups.Occur.{Occur}
@@ -9,6 +9,7 @@ use Rattle.getopts.specs.declared.groups.ParsingStyle.{ParsingStyle}
 use Rattle.getopts.specs.declared.groups.HasArg.TheVariants.{Yes, No, Maybe}
 use Rattle.getopts.specs.declared.groups.Occur.TheVariants.{Req, Optional, Multi}
 use Rattle.getopts.specs.declared.groups.ParsingStyle.TheVariants.{FloatingFrees, StopAtFirstFree}
+use Rattle.getopts_bytes.specs.Marks.{is_plain}
 
 -- texts one after the other
 abbrev pub concatenated : List Text → Text
@@ -65,11 +66,20 @@ pub record IsRequest (bytes : Text) (lens kinds : List ℕ) (stop long_only : Bo
   pub style_is : options.style ≡ style_of stop
   pub mode_is : options.long_only ≡ long_only
 
--- UTF-8 texts are what these bytes and lengths say
+-- words are what these bytes and lengths say
+pub record SayWords (bytes : Text) (lens : List ℕ) : Type 0 where
+  pub words : List Text
+  pub words_are : IsCut bytes lens words
+
+-- each text is UTF-8, and holds no mark
+abbrev pub ArePlain : List Text → Type 0
+ArePlain words = AllByRecursion (λ word. is_plain word ≡ true) words
+
+-- UTF-8 texts without marks are what these bytes and lengths say
 pub record SayTexts (bytes : Text) (lens : List ℕ) : Type 0 where
   pub words : List Text
   pub words_are : IsCut bytes lens words
-  pub utf8 : AreTexts words
+  pub plain : ArePlain words
 
 -- no lawfully named group has these texts and this number of its kinds
 abbrev pub SayNoGroup : List Text → ℕ → Type 0
@@ -81,9 +91,9 @@ abbrev pub DeclareNoOptions : List (List Text) → List ℕ → Bool → Bool �
 DeclareNoOptions fours kinds stop long_only = (options : Declared)
     → IsDeclaredBy fours kinds stop long_only options → ¬ (AreLawfullyNamed options.groups)
 
--- lawfully named options of UTF-8 texts are what these bytes, lengths and kinds say
+-- lawfully named options of UTF-8 texts without marks are what these bytes, lengths and kinds say
 pub record SayOptions (bytes : Text) (lens kinds : List ℕ) (stop long_only : Bool) : Type 0 where
   pub options : Declared
   pub options_are : IsRequest bytes lens kinds stop long_only options
   pub named : AreLawfullyNamed options.groups
-  pub utf8 : AreTexts (flat_map group_texts options.groups)
+  pub plain : ArePlain (flat_map group_texts options.groups)

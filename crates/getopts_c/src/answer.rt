@@ -1,25 +1,26 @@
 //! What a caller gets: numbers and bytes.
 
-ghost use Rattle.std.specs.Prelude.{◌≡◌, ◌≢◌, ◌⊎◌, false, ◌<◌, ◌≤◌, ◌++◌, ◌∷◌, List, [], map};
+ghost use Rattle.std.specs.Prelude.{◌≡◌, ◌≢◌, ◌⊎◌, false, true, ◌<◌, ◌≤◌, ◌++◌, ◌∷◌, List, [], map};
 ghost use Rattle.std.specs.Prelude.{length, IfErr, IfOk, OnOk, IsErrOf, IsOk, IsOkAnd, IsSomeAnd};
 ghost use Rattle.std.specs.List.{flat_map};
-ghost use Rattle.std.specs.Str.{IsUtf8};
 ghost use Rattle.std.specs.String.{string_bytes};
-ghost use Rattle.getopts.specs.Names.{AreTexts, Text, texts};
+ghost use Rattle.getopts.specs.Names.{Text, texts};
 ghost use Rattle.getopts.specs.Fail.{fault_of, Tells};
 ghost use Rattle.getopts.specs.Holds.{HoldGiven};
 ghost use Rattle.getopts.specs.Accessors.{held_found};
 ghost use Rattle.getopts_c.specs.Held.{SaysOptions, SaysWords, IsAnswerTo, IsLineTo};
-ghost use Rattle.getopts_c.specs.Request.{IsCut, concatenated};
+ghost use Rattle.getopts_bytes.specs.Marks.{bytes_of, is_plain, text_of};
+ghost use Rattle.getopts_c.specs.Request.{ArePlain, IsCut, concatenated};
 ghost use Rattle.getopts_c.specs.Answer.{IsAnswer, IsLineOf, FillsFront, IsRowsOf, IsShortUsageOf};
-ghost use Rattle.getopts_c.specs.Answer.{IsUsageOf, fault_name, all_names, four_names, bad_status};
+ghost use Rattle.getopts_c.specs.Answer.{IsUsageOf, name_given, all_names, four_names, bad_status};
 ghost use Rattle.getopts_c.specs.Answer.{fault_status, fine_status, memory_status, room_status};
 ghost use Rattle.getopts_c.specs.Answer.{found_bytes, found_numbers, group_bytes, group_numbers};
 ghost use Rattle.getopts_c.specs.Answer.{matches_bytes, matches_numbers, optional_number};
 ghost use Rattle.getopts_c.specs.Answer.{place_number, text_numbers, Give, HaveFault};
 
-use crate::request::{Refusal, Request, Words, cut, in_fours, text_of};
+use crate::request::{Refusal, Request, Words, cut, in_fours, lent, text_of, word_texts};
 use getopts::{Fail, Matches, Occurrences, Options};
+use getopts_bytes::push_bytes;
 use std::alloc::{AllocError, Global};
 
 /// How much an answer takes.
@@ -53,7 +54,7 @@ const TOO_SMALL: u32 = 8;
 #[derive(Debug, Drop)]
 pub(crate) struct Body {
     numbers: Vec<usize>,
-    bytes: String,
+    bytes: Vec<u8>,
 }
 
 /// An answer to a request.
@@ -67,22 +68,22 @@ impl Body {
     /// Nothing.
     fn new(alloc: Global) -> Body
         ensures numbers { result.numbers.items ≡ [] }
-        ensures bytes { string_bytes result.bytes ≡ [] }
+        ensures bytes { result.bytes.items ≡ [] }
     {
         Body {
             numbers: Vec::new(alloc),
-            bytes: String::new(alloc),
+            bytes: Vec::new(alloc),
         }
     }
 
     /// Nothing yet, with room for so many numbers and bytes.
     fn with_capacity(alloc: Global, numbers: usize, bytes: usize) -> Result<Body, AllocError>
         ensures numbers { IfOk result (λ body. body.numbers.items ≡ []) }
-        ensures bytes { IfOk result (λ body. string_bytes body.bytes ≡ []) }
+        ensures bytes { IfOk result (λ body. body.bytes.items ≡ []) }
     {
         Ok(Body {
             numbers: Vec::with_capacity(alloc, numbers)?,
-            bytes: String::with_capacity(alloc, bytes)?,
+            bytes: Vec::with_capacity(alloc, bytes)?,
         })
     }
 
@@ -90,19 +91,19 @@ impl Body {
     fn push_text(&mut self, text: &str) -> Result<(), AllocError>
         ensures numbers { OnOk result (self.new.numbers.items
             ≡ self.old.numbers.items ++ length text.now ∷ []) }
-        ensures bytes { OnOk result (string_bytes self.new.bytes
-            ≡ string_bytes self.old.bytes ++ text.now) }
+        ensures bytes { OnOk result (self.new.bytes.items
+            ≡ self.old.bytes.items ++ text.now) }
     {
         self.numbers.push(text.len())?;
-        self.bytes.push_str(text)
+        self.bytes.extend_from_slice(text.as_bytes())
     }
 
     /// Adds texts: how many they are, and each.
     fn push_texts(&mut self, words: &[String]) -> Result<(), AllocError>
         ensures numbers { OnOk result (self.new.numbers.items
             ≡ self.old.numbers.items ++ text_numbers (map string_bytes words.now)) }
-        ensures bytes { OnOk result (string_bytes self.new.bytes
-            ≡ string_bytes self.old.bytes ++ concatenated (map string_bytes words.now)) }
+        ensures bytes { OnOk result (self.new.bytes.items
+            ≡ self.old.bytes.items ++ concatenated (map string_bytes words.now)) }
     {
         self.numbers.push(words.len())?;
         for word in words {
@@ -111,12 +112,38 @@ impl Body {
         Ok(())
     }
 
+    /// Adds a text as the bytes that were given, and their number.
+    fn push_given(&mut self, text: &str) -> Result<(), AllocError>
+        ensures numbers { OnOk result (self.new.numbers.items
+            ≡ self.old.numbers.items ++ length (bytes_of text.now) ∷ []) }
+        ensures bytes { OnOk result (self.new.bytes.items
+            ≡ self.old.bytes.items ++ bytes_of text.now) }
+    {
+        let before = self.bytes.len();
+        push_bytes(&mut self.bytes, text)?;
+        Ok(self.numbers.push(self.bytes.len() - before)?)
+    }
+
+    /// Adds words as the bytes that were given: how many they are, and each.
+    fn push_words(&mut self, words: &[String]) -> Result<(), AllocError>
+        ensures numbers { OnOk result (self.new.numbers.items
+            ≡ self.old.numbers.items ++ text_numbers (map bytes_of (map string_bytes words.now))) }
+        ensures bytes { OnOk result (self.new.bytes.items
+            ≡ self.old.bytes.items ++ concatenated (map bytes_of (map string_bytes words.now))) }
+    {
+        self.numbers.push(words.len())?;
+        for word in words {
+            self.push_given(word.as_str())?;
+        }
+        Ok(())
+    }
+
     /// Adds a number for one that may be there: one more than it, or nought.
     fn push_optional(&mut self, number: Option<usize>) -> Result<(), AllocError>
         ensures numbers { OnOk result (self.new.numbers.items
             ≡ self.old.numbers.items ++ optional_number number ∷ []) }
-        ensures bytes { OnOk result (string_bytes self.new.bytes
-            ≡ string_bytes self.old.bytes) }
+        ensures bytes { OnOk result (self.new.bytes.items
+            ≡ self.old.bytes.items) }
     {
         let number = match number {
             Some(number) => {
@@ -135,8 +162,8 @@ impl Body {
         ensures numbers { OnOk result (self.new.numbers.items
             ≡ self.old.numbers.items ++ map (place_number matches.now.groups)
             (four_names (texts group.now))) }
-        ensures bytes { OnOk result (string_bytes self.new.bytes
-            ≡ string_bytes self.old.bytes) }
+        ensures bytes { OnOk result (self.new.bytes.items
+            ≡ self.old.bytes.items) }
     {
         let [short, long, _, _] = group;
         self.push_optional(matches.opt_place(short))?;
@@ -148,8 +175,8 @@ impl Body {
         ensures numbers { OnOk result (self.new.numbers.items
             ≡ self.old.numbers.items ++ map (place_number matches.now.groups)
             (flat_map four_names (map texts groups.now))) }
-        ensures bytes { OnOk result (string_bytes self.new.bytes
-            ≡ string_bytes self.old.bytes) }
+        ensures bytes { OnOk result (self.new.bytes.items
+            ≡ self.old.bytes.items) }
     {
         for group in groups {
             self.push_places(matches, group)?;
@@ -161,25 +188,25 @@ impl Body {
     fn push_occurrence(&mut self, position: usize, value: Option<&str>) -> Result<(), AllocError>
         ensures numbers { OnOk result (self.new.numbers.items
             ≡ self.old.numbers.items ++ found_numbers (held_found (position, value.entry))) }
-        ensures bytes { OnOk result (string_bytes self.new.bytes
-            ≡ string_bytes self.old.bytes ++ found_bytes (held_found (position, value.entry))) }
+        ensures bytes { OnOk result (self.new.bytes.items
+            ≡ self.old.bytes.items ++ found_bytes (held_found (position, value.entry))) }
     {
         self.numbers.push(position)?;
-        match value {
-            Some(value) => {
-                self.push_optional(Some(value.len()))?;
-                self.bytes.push_str(value)
-            }
-            None => self.push_optional(None),
-        }
+        let Some(value) = value else {
+            return self.push_optional(None);
+        };
+        let before = self.bytes.len();
+        push_bytes(&mut self.bytes, value)?;
+        let len = self.bytes.len() - before;
+        self.push_optional(Some(len))
     }
 
     /// Adds occurrences: how many they are, and each.
     fn push_occurrences(&mut self, occurrences: &Occurrences<'_>) -> Result<(), AllocError>
         ensures numbers { OnOk result (self.new.numbers.items ≡ self.old.numbers.items
             ++ length occurrences.now ∷ flat_map found_numbers occurrences.now) }
-        ensures bytes { OnOk result (string_bytes self.new.bytes
-            ≡ string_bytes self.old.bytes ++ flat_map found_bytes occurrences.now) }
+        ensures bytes { OnOk result (self.new.bytes.items
+            ≡ self.old.bytes.items ++ flat_map found_bytes occurrences.now) }
     {
         self.numbers.push(occurrences.len())?;
         for nth in 0..occurrences.len() {
@@ -195,8 +222,8 @@ impl Body {
         requires { count ≡ length matches.now.groups }
         ensures numbers { OnOk result (self.new.numbers.items ≡ self.old.numbers.items
             ++ length matches.now.groups ∷ flat_map group_numbers matches.now.groups) }
-        ensures bytes { OnOk result (string_bytes self.new.bytes
-            ≡ string_bytes self.old.bytes ++ flat_map group_bytes matches.now.groups) }
+        ensures bytes { OnOk result (self.new.bytes.items
+            ≡ self.old.bytes.items ++ flat_map group_bytes matches.now.groups) }
     {
         self.numbers.push(count)?;
         for place in 0..count {
@@ -214,17 +241,17 @@ impl Answer {
         ensures untouched { memory_status ≤ result →
             (numbers.new ≡ numbers.old) × (bytes.new ≡ bytes.old) }
         ensures sizes_told { (sizes.new.numbers ≡ length self.now.body.numbers.items)
-            × (sizes.new.bytes ≡ length (string_bytes self.now.body.bytes)) }
+            × (sizes.new.bytes ≡ length self.now.body.bytes.items) }
         ensures small { result ≡ room_status →
             (length numbers.old < sizes.new.numbers) ⊎ (length bytes.old < sizes.new.bytes) }
         ensures within { result < memory_status → (sizes.new.numbers ≤ length numbers.old)
             × (sizes.new.bytes ≤ length bytes.old) }
         ensures written { result < memory_status → (result ≡ self.now.status)
             × FillsFront self.now.body.numbers.items numbers.new sizes.new.numbers
-            × FillsFront (string_bytes self.now.body.bytes) bytes.new sizes.new.bytes }
+            × FillsFront self.now.body.bytes.items bytes.new sizes.new.bytes }
     {
         let all_numbers = &self.body.numbers;
-        let all_bytes = self.body.bytes.as_bytes();
+        let all_bytes = &self.body.bytes;
         *sizes = Sizes {
             numbers: all_numbers.len(),
             bytes: all_bytes.len(),
@@ -254,7 +281,7 @@ impl Answer {
             (length numbers.old < sizes.new.numbers) ⊎ (length bytes.old < sizes.new.bytes) }
         ensures sizes_told { result ≡ room_status → IsOkAnd answer (λ answer.
             (sizes.new.numbers ≡ length answer.body.numbers.items)
-            × (sizes.new.bytes ≡ length (string_bytes answer.body.bytes))) }
+            × (sizes.new.bytes ≡ length answer.body.bytes.items)) }
         ensures lawful { result ≢ memory_status → result ≢ bad_status → IsOk answer }
         ensures bad { result ≡ bad_status → IsErrOf answer Refusal.Bad }
         ensures within { result < memory_status → (sizes.new.numbers ≤ length numbers.old)
@@ -262,7 +289,7 @@ impl Answer {
         ensures written { result < memory_status → IsOkAnd answer (λ answer.
             (result ≡ answer.status)
             × FillsFront answer.body.numbers.items numbers.new sizes.new.numbers
-            × FillsFront (string_bytes answer.body.bytes) bytes.new sizes.new.bytes) }
+            × FillsFront answer.body.bytes.items bytes.new sizes.new.bytes) }
     {
         match answer {
             Ok(answer) => answer.handed_out(numbers, bytes, sizes),
@@ -277,11 +304,11 @@ impl Answer {
 #[inline(never)]
 fn of_name(alloc: Global, status: u32, name: &str) -> Result<Answer, AllocError>
     ensures { IfOk result (λ answer. (answer.status ≡ status)
-        × (answer.body.numbers.items ≡ length name.now ∷ [])
-        × (string_bytes answer.body.bytes ≡ name.now)) }
+        × (answer.body.numbers.items ≡ length (bytes_of name.now) ∷ [])
+        × (answer.body.bytes.items ≡ bytes_of name.now)) }
 {
     let mut body = Body::with_capacity(alloc, 1, name.len())?;
-    body.push_text(name)?;
+    body.push_given(name)?;
     Ok(Answer { status, body })
 }
 
@@ -289,8 +316,8 @@ fn of_name(alloc: Global, status: u32, name: &str) -> Result<Answer, AllocError>
 fn refused(alloc: Global, fail: &Fail) -> Result<Answer, AllocError>
     ensures { IfOk result (λ answer. IsSomeAnd (fault_of fail.now) (λ fault.
         (answer.status ≡ fault_status fault)
-        × (answer.body.numbers.items ≡ length (fault_name fault) ∷ [])
-        × (string_bytes answer.body.bytes ≡ fault_name fault))) }
+        × (answer.body.numbers.items ≡ length (name_given fault) ∷ [])
+        × (answer.body.bytes.items ≡ name_given fault))) }
 {
     match fail {
         Fail::ArgumentMissing(name) => of_name(alloc, ARGUMENT_MISSING, name),
@@ -351,14 +378,14 @@ fn accepted(
     ensures { IfOk result (λ answer. (answer.status ≡ fine_status)
         × (answer.body.numbers.items
         ≡ matches_numbers (flat_map four_names (map texts groups.now)) matches.now)
-        × (string_bytes answer.body.bytes ≡ matches_bytes matches.now)) }
+        × (answer.body.bytes.items ≡ matches_bytes matches.now)) }
 {
     let numbers = number_count(matches, groups.len());
     let bytes = byte_count(matches, groups.len(), bytes);
     let mut body = Body::with_capacity(alloc, numbers, bytes)?;
     body.push_all_places(matches, groups)?;
     body.push_groups(matches, groups.len())?;
-    body.push_texts(&matches.free)?;
+    body.push_words(&matches.free)?;
     body.push_optional(matches.free_trailing_start())?;
     Ok(Answer { status: FINE, body })
 }
@@ -390,7 +417,7 @@ fn answer_by(
     requires names { all_names options.now.groups ≡ flat_map four_names (map texts groups.now) }
     requires count { length groups.now ≡ length options.now.groups }
     ensures { IfOk result (λ answer. IsAnswer counts options.now (texts words.entry.items)
-        answer.status answer.body.numbers.items (string_bytes answer.body.bytes)) }
+        answer.status answer.body.numbers.items answer.body.bytes.items) }
 {
     match given(alloc, options, words, counts) {
         Ok(matches) => accepted(alloc, &matches, groups, bytes),
@@ -409,15 +436,42 @@ fn words_by(
     requires names { all_names options.now.groups ≡ flat_map four_names (map texts groups.now) }
     requires count { length groups.now ≡ length options.now.groups }
     ensures answered { IfOk result (λ answer. (line : List Text)
-        × IsCut words.entry.bytes.now words.entry.lens.now line × IsAnswer counts options.now line
-        answer.status answer.body.numbers.items (string_bytes answer.body.bytes)) }
+        × IsCut words.entry.bytes.now words.entry.lens.now line
+        × IsAnswer counts options.now (map text_of line)
+        answer.status answer.body.numbers.items answer.body.bytes.items) }
     ensures status { IfOk result (λ answer. answer.status < memory_status) }
     ensures lawful { OnOk result (SaysWords words.entry) }
     ensures bad { IfErr result (λ refusal. refusal ≡ Refusal.Bad → ¬ (SaysWords words.entry)) }
 {
     let bytes = words.bytes.len();
-    let words = cut(alloc, words.bytes, words.lens)?;
-    Ok(answer_by(alloc, options, groups, words, bytes, counts)?)
+    match cut(alloc, words.bytes, words.lens) {
+        Ok(line) => Ok(answer_by(alloc, options, groups, line, bytes, counts)?),
+        Err(Refusal::Bad) => marked_by(alloc, options, groups, words, counts),
+        Err(Refusal::NoMemory) => Err(Refusal::NoMemory),
+    }
+}
+
+/// The same for words that aren't all texts without marks.
+fn marked_by(
+    alloc: Global,
+    options: &Options,
+    groups: &[[&str; 4]],
+    words: Words<'_>,
+    counts: bool,
+) -> Result<Answer, Refusal>
+    requires names { all_names options.now.groups ≡ flat_map four_names (map texts groups.now) }
+    requires count { length groups.now ≡ length options.now.groups }
+    ensures answered { IfOk result (λ answer. (line : List Text)
+        × IsCut words.entry.bytes.now words.entry.lens.now line
+        × IsAnswer counts options.now (map text_of line)
+        answer.status answer.body.numbers.items answer.body.bytes.items) }
+    ensures status { IfOk result (λ answer. answer.status < memory_status) }
+    ensures lawful { OnOk result (SaysWords words.entry) }
+    ensures bad { IfErr result (λ refusal. refusal ≡ Refusal.Bad → ¬ (SaysWords words.entry)) }
+{
+    let made = word_texts(alloc, words)?;
+    let line = lent(alloc, &made)?;
+    Ok(answer_by(alloc, options, groups, line, words.bytes.len(), counts)?)
 }
 
 /// The answer that tells what words give, by the texts of the request.
@@ -429,7 +483,7 @@ fn answer_from(
     counts: bool,
 ) -> Result<Answer, Refusal>
     requires cut { IsCut request.bytes.now request.lens.now (texts pieces.now) }
-    requires utf8 { AreTexts (texts pieces.now) }
+    requires plain { ArePlain (texts pieces.now) }
     ensures answered { IfOk result (IsAnswerTo counts request.entry words.entry) }
     ensures status { IfOk result (λ answer. answer.status < memory_status) }
     ensures lawful { OnOk result (SaysOptions request.entry × SaysWords words.entry) }
@@ -462,11 +516,11 @@ pub(crate) fn answer_to(
 fn of_text(alloc: Global, text: String) -> Answer
     ensures status { result.status ≡ fine_status }
     ensures numbers { result.body.numbers.items ≡ [] }
-    ensures bytes { string_bytes result.body.bytes ≡ string_bytes text }
+    ensures bytes { result.body.bytes.items ≡ string_bytes text }
 {
     let body = Body {
         numbers: Vec::new(alloc),
-        bytes: text,
+        bytes: text.into_bytes(),
     };
     Answer { status: FINE, body }
 }
@@ -476,13 +530,13 @@ pub(crate) fn usage_of(alloc: Global, request: Request<'_>, brief: &[u8]) -> Res
     requires { request.stop ≡ false }
     ensures usage { IfOk result (λ answer. IsUsageOf
         request.entry.bytes.now request.entry.lens.now request.entry.kinds.now
-        request.entry.long_only brief.now (string_bytes answer.body.bytes)) }
+        request.entry.long_only brief.now answer.body.bytes.items) }
     ensures numbers { IfOk result (λ answer. answer.body.numbers.items ≡ []) }
     ensures fine { IfOk result (λ answer. answer.status ≡ fine_status) }
     ensures status { IfOk result (λ answer. answer.status < memory_status) }
-    ensures lawful { OnOk result (SaysOptions request.entry × IsUtf8 brief.now) }
+    ensures lawful { OnOk result (SaysOptions request.entry × (is_plain brief.now ≡ true)) }
     ensures bad { IfErr result (λ refusal. refusal ≡ Refusal.Bad
-        → (¬ (SaysOptions request.entry)) ⊎ (¬ (IsUtf8 brief.now))) }
+        → (¬ (SaysOptions request.entry)) ⊎ (¬ (is_plain brief.now ≡ true))) }
 {
     let brief = text_of(brief)?;
     let options = request.options(alloc)?;
@@ -500,13 +554,13 @@ pub(crate) fn short_usage_of(
     requires mode { request.long_only ≡ false }
     ensures usage { IfOk result (λ answer. IsShortUsageOf
         request.entry.bytes.now request.entry.lens.now request.entry.kinds.now
-        program.now (string_bytes answer.body.bytes)) }
+        program.now answer.body.bytes.items) }
     ensures numbers { IfOk result (λ answer. answer.body.numbers.items ≡ []) }
     ensures fine { IfOk result (λ answer. answer.status ≡ fine_status) }
     ensures status { IfOk result (λ answer. answer.status < memory_status) }
-    ensures lawful { OnOk result (SaysOptions request.entry × IsUtf8 program.now) }
+    ensures lawful { OnOk result (SaysOptions request.entry × (is_plain program.now ≡ true)) }
     ensures bad { IfErr result (λ refusal. refusal ≡ Refusal.Bad
-        → (¬ (SaysOptions request.entry)) ⊎ (¬ (IsUtf8 program.now))) }
+        → (¬ (SaysOptions request.entry)) ⊎ (¬ (is_plain program.now ≡ true))) }
 {
     let program = text_of(program)?;
     let options = request.options(alloc)?;
@@ -520,10 +574,23 @@ fn of_texts(alloc: Global, words: &[String]) -> Result<Answer, AllocError>
     ensures numbers { IfOk result (λ answer.
         answer.body.numbers.items ≡ text_numbers (map string_bytes words.now)) }
     ensures bytes { IfOk result (λ answer.
-        string_bytes answer.body.bytes ≡ concatenated (map string_bytes words.now)) }
+        answer.body.bytes.items ≡ concatenated (map string_bytes words.now)) }
 {
     let mut body = Body::with_capacity(alloc, words.len().saturating_add(1), 0)?;
     body.push_texts(words)?;
+    Ok(Answer { status: FINE, body })
+}
+
+/// The answer that is words, as the bytes that were given.
+fn of_words(alloc: Global, words: &[String]) -> Result<Answer, AllocError>
+    ensures status { IfOk result (λ answer. answer.status ≡ fine_status) }
+    ensures numbers { IfOk result (λ answer.
+        answer.body.numbers.items ≡ text_numbers (map bytes_of (map string_bytes words.now))) }
+    ensures bytes { IfOk result (λ answer.
+        answer.body.bytes.items ≡ concatenated (map bytes_of (map string_bytes words.now))) }
+{
+    let mut body = Body::with_capacity(alloc, words.len().saturating_add(1), 0)?;
+    body.push_words(words)?;
     Ok(Answer { status: FINE, body })
 }
 
@@ -532,7 +599,7 @@ pub(crate) fn rows_of(alloc: Global, request: Request<'_>) -> Result<Answer, Ref
     requires { request.stop ≡ false }
     ensures rows { IfOk result (λ answer. IsRowsOf
         request.entry.bytes.now request.entry.lens.now request.entry.kinds.now
-        request.entry.long_only answer.body.numbers.items (string_bytes answer.body.bytes)) }
+        request.entry.long_only answer.body.numbers.items answer.body.bytes.items) }
     ensures fine { IfOk result (λ answer. answer.status ≡ fine_status) }
     ensures status { IfOk result (λ answer. answer.status < memory_status) }
     ensures lawful { OnOk result (SaysOptions request.entry) }
@@ -547,10 +614,10 @@ pub(crate) fn rows_of(alloc: Global, request: Request<'_>) -> Result<Answer, Ref
 /// The answer that is the canonical line of words by options, or that there is none.
 fn line_by(alloc: Global, options: &Options, words: &[&str]) -> Result<Answer, AllocError>
     ensures { IfOk result (λ answer. IsLineOf options.now (texts words.now)
-        answer.status answer.body.numbers.items (string_bytes answer.body.bytes)) }
+        answer.status answer.body.numbers.items answer.body.bytes.items) }
 {
     match options.canonical_words(alloc, words) {
-        Ok(Some(line)) => of_texts(alloc, &line),
+        Ok(Some(line)) => of_words(alloc, &line),
         Ok(None) => Ok(Answer {
             status: FINE,
             body: Body::new(alloc),
@@ -562,14 +629,33 @@ fn line_by(alloc: Global, options: &Options, words: &[&str]) -> Result<Answer, A
 /// The answer that tells the canonical line of the words that bytes and lengths say, by options.
 fn line_to(alloc: Global, options: &Options, words: Words<'_>) -> Result<Answer, Refusal>
     ensures answered { IfOk result (λ answer. (line : List Text)
-        × IsCut words.entry.bytes.now words.entry.lens.now line × IsLineOf options.now line
-        answer.status answer.body.numbers.items (string_bytes answer.body.bytes)) }
+        × IsCut words.entry.bytes.now words.entry.lens.now line
+        × IsLineOf options.now (map text_of line)
+        answer.status answer.body.numbers.items answer.body.bytes.items) }
     ensures status { IfOk result (λ answer. answer.status < memory_status) }
     ensures lawful { OnOk result (SaysWords words.entry) }
     ensures bad { IfErr result (λ refusal. refusal ≡ Refusal.Bad → ¬ (SaysWords words.entry)) }
 {
-    let words = cut(alloc, words.bytes, words.lens)?;
-    Ok(line_by(alloc, options, &words)?)
+    match cut(alloc, words.bytes, words.lens) {
+        Ok(line) => Ok(line_by(alloc, options, &line)?),
+        Err(Refusal::Bad) => marked_line(alloc, options, words),
+        Err(Refusal::NoMemory) => Err(Refusal::NoMemory),
+    }
+}
+
+/// The same for words that aren't all texts without marks.
+fn marked_line(alloc: Global, options: &Options, words: Words<'_>) -> Result<Answer, Refusal>
+    ensures answered { IfOk result (λ answer. (line : List Text)
+        × IsCut words.entry.bytes.now words.entry.lens.now line
+        × IsLineOf options.now (map text_of line)
+        answer.status answer.body.numbers.items answer.body.bytes.items) }
+    ensures status { IfOk result (λ answer. answer.status < memory_status) }
+    ensures lawful { OnOk result (SaysWords words.entry) }
+    ensures bad { IfErr result (λ refusal. refusal ≡ Refusal.Bad → ¬ (SaysWords words.entry)) }
+{
+    let made = word_texts(alloc, words)?;
+    let line = lent(alloc, &made)?;
+    Ok(line_by(alloc, options, &line)?)
 }
 
 /// The answer that tells the canonical line of words.

@@ -4,18 +4,18 @@
 //! lawful is what the bytes say; 8 where there was too little room.
 #![tactic(auto)]
 
-ghost use Rattle.std.specs.Prelude.{◌≡◌, ◌≢◌, ⊤, ℕ, Bool, false, List, [], take};
-ghost use Rattle.std.specs.Str.{IsUtf8};
+ghost use Rattle.std.specs.Prelude.{◌≡◌, ◌≢◌, ⊤, ℕ, Bool, false, true, List, [], take};
 ghost use Rattle.getopts.specs.Only.{AtMostOne};
 ghost use Rattle.getopts.specs.Fail.{Fault};
 ghost use Rattle.getopts.specs.Matches.{Matched};
 ghost use Rattle.getopts.specs.Names.{Text};
 ghost use Rattle.getopts.specs.Options.{Declared, MayBeDeclared};
-ghost use Rattle.getopts_c.specs.Request.{IsCut, IsRequest, SayOptions, SayTexts, concatenated};
+ghost use Rattle.getopts_bytes.specs.Marks.{is_plain};
+ghost use Rattle.getopts_c.specs.Request.{IsCut, IsRequest, SayOptions, SayWords, concatenated};
 ghost use Rattle.getopts_c.specs.Answer.{IsAnswered, IsCanonicalOf, IsRowsOf};
 ghost use Rattle.getopts_c.specs.Answer.{IsShortUsageOf, IsUsageOf, AreAlike};
 ghost use Rattle.getopts_c.specs.Reply.{IsReply, IsFine, IsFineText, rooms, byte_rooms};
-ghost use Rattle.getopts_c.specs.Answer.{fault_name, fault_status, matches_bytes, matches_numbers};
+ghost use Rattle.getopts_c.specs.Answer.{fault_given, fault_status, matches_bytes, matches_numbers, name_given};
 ghost use Rattle.getopts_c.specs.Answer.{text_numbers, with_counts, without_counts};
 
 mod answer;
@@ -50,7 +50,7 @@ pub extern "C" fn getopts_c_parse(
 ) -> u32
     ensures { IsReply
         (SayOptions texts.now lens.now kinds.now stop long_only)
-        (SayTexts (take words_len bytes.old) (take words numbers.old))
+        (SayWords (take words_len bytes.old) (take words numbers.old))
         (IsAnswered with_counts texts.now lens.now kinds.now stop long_only
         (take words_len bytes.old) (take words numbers.old))
         result (rooms numbers.old bytes.old sizes.old)
@@ -86,7 +86,7 @@ pub extern "C" fn getopts_c_parse_ignoring_counts(
 ) -> u32
     ensures { IsReply
         (SayOptions texts.now lens.now kinds.now stop long_only)
-        (SayTexts (take words_len bytes.old) (take words numbers.old))
+        (SayWords (take words_len bytes.old) (take words numbers.old))
         (IsAnswered without_counts texts.now lens.now kinds.now stop long_only
         (take words_len bytes.old) (take words numbers.old))
         result (rooms numbers.old bytes.old sizes.old)
@@ -118,7 +118,7 @@ pub extern "C" fn getopts_c_usage(
 ) -> u32
     ensures { IsReply
         (SayOptions texts.now lens.now kinds.now false long_only)
-        (IsUtf8 brief.now)
+        (is_plain brief.now ≡ true)
         (IsFineText (IsUsageOf texts.now lens.now kinds.now long_only brief.now))
         result (byte_rooms bytes.old sizes.old)
         (byte_rooms bytes.new sizes.new) }
@@ -146,7 +146,7 @@ pub extern "C" fn getopts_c_short_usage(
 ) -> u32
     ensures { IsReply
         (SayOptions texts.now lens.now kinds.now false false)
-        (IsUtf8 program.now)
+        (is_plain program.now ≡ true)
         (IsFineText (IsShortUsageOf texts.now lens.now kinds.now program.now))
         result (byte_rooms bytes.old sizes.old)
         (byte_rooms bytes.new sizes.new) }
@@ -213,7 +213,7 @@ pub extern "C" fn getopts_c_canonical(
 ) -> u32
     ensures { IsReply
         (SayOptions texts.now lens.now kinds.now stop long_only)
-        (SayTexts (take words_len bytes.old) (take words numbers.old))
+        (SayWords (take words_len bytes.old) (take words numbers.old))
         (IsCanonicalOf texts.now lens.now kinds.now stop long_only
         (take words_len bytes.old) (take words numbers.old))
         result (rooms numbers.old bytes.old sizes.old)
@@ -248,15 +248,15 @@ pub fn requests_say_one_thing()
 
 /// Numbers and bytes tell one thing at most: a law to cite, which does nothing.
 ///
-/// By the same names they tell the same places, occurrences, free words and trailing start. A status
-/// and a name tell one fault. Texts are those of their numbers and bytes, and have numbers always.
+/// By the same names they tell the same places, occurrences, free words and trailing start, with values and
+/// words as the bytes that were given. A status and a name tell one fault. Texts are those of their numbers and bytes, and have numbers always.
 pub fn answers_say_one_thing()
     ensures matches { (names : List Text) (matches others : Matched)
         → matches_numbers names matches ≡ matches_numbers names others
         → matches_bytes matches ≡ matches_bytes others
         → AreAlike names matches others }
     ensures fault { (fault other : Fault) → fault_status fault ≡ fault_status other
-        → fault_name fault ≡ fault_name other → fault ≡ other }
+        → name_given fault ≡ name_given other → fault_given fault ≡ fault_given other }
     ensures texts { (words others : List Text) → text_numbers words ≡ text_numbers others
         → concatenated words ≡ concatenated others → words ≡ others }
     ensures counted { (words : List Text) → text_numbers words ≢ [] }

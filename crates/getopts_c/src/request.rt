@@ -1,17 +1,19 @@
 //! What a caller hands in: texts as bytes with their lengths.
 
-ghost use Rattle.std.specs.Prelude.{◌≡◌, ◌≢◌, IfErr, IfNone, IfOk, IfSome, OnErr, OnOk};
+ghost use Rattle.std.specs.Prelude.{◌≡◌, ◌≢◌, false, true, IfErr, IfNone, IfOk, IfSome, OnErr, OnOk};
 ghost use Rattle.std.specs.Prelude.{List, [], length, map, take};
 ghost use Rattle.std.specs.List.{AllByRecursion, flat_map};
-ghost use Rattle.std.specs.Str.{IsUtf8};
-ghost use Rattle.getopts.specs.Names.{AreTexts, IsLawfullyNamed, texts};
+ghost use Rattle.std.specs.String.{string_bytes};
+ghost use Rattle.getopts.specs.Names.{IsLawfullyNamed, Text, texts};
 ghost use Rattle.getopts.specs.Options.{AreLawfullyNamed, Group, with_group};
-ghost use Rattle.getopts_c.specs.Held.{Says, SaysOptions};
-ghost use Rattle.getopts_c.specs.Request.{IsCut, IsDeclaredBy, DeclareNoOptions, SayNoGroup};
+ghost use Rattle.getopts_bytes.specs.Marks.{is_plain, text_of};
+ghost use Rattle.getopts_c.specs.Held.{Says, SaysOptions, SaysWords};
+ghost use Rattle.getopts_c.specs.Request.{ArePlain, IsCut, IsDeclaredBy, DeclareNoOptions, SayNoGroup};
 ghost use Rattle.getopts_c.specs.Request.{SayTexts, group_number, group_texts, kind_number};
 ghost use Rattle.getopts_c.specs.declared.request.Refusal.TheVariants.{NoMemory};
 
 use getopts::{HasArg, Occur, Options, ParsingStyle, are_texts, names_lawful};
+use getopts_bytes::{plain_text, push_text};
 use std::alloc::{AllocError, AllocFailed, Global};
 
 /// Why a request has no answer.
@@ -75,26 +77,26 @@ impl<'r> Words<'r> {
     }
 }
 
-/// Bytes as a text.
+/// Bytes as a text, which holds no mark.
 pub(crate) fn text_of(bytes: &[u8]) -> Result<&str, Refusal>
     ensures same { IfOk result (λ text. text.now ≡ bytes.now) }
-    ensures utf8 { OnOk result (IsUtf8 bytes.now) }
-    ensures bad { OnErr result (¬ (IsUtf8 bytes.now)) }
+    ensures plain { OnOk result (is_plain bytes.now ≡ true) }
+    ensures bad { IfErr result (λ refusal. (refusal ≡ Refusal.Bad) × (is_plain bytes.now ≡ false)) }
 {
-    match str::from_utf8(bytes) {
-        Ok(text) => Ok(text),
-        Err(_) => Err(Refusal::Bad),
+    match plain_text(bytes) {
+        Some(text) => Ok(text),
+        None => Err(Refusal::Bad),
     }
 }
 
-/// Bytes as texts of these lengths.
+/// Bytes as texts of these lengths, which hold no mark.
 pub(crate) fn cut<'t>(
     alloc: Global,
     bytes: &'t [u8],
     lens: &[usize],
 ) -> Result<Vec<&'t str>, Refusal>
     ensures cut { IfOk result (λ pieces. IsCut bytes.now lens.now (texts pieces.items)) }
-    ensures utf8 { IfOk result (λ pieces. AreTexts (texts pieces.items)) }
+    ensures plain { IfOk result (λ pieces. ArePlain (texts pieces.items)) }
     ensures bad { IfErr result (λ refusal.
         refusal ≡ Refusal.Bad → ¬ (SayTexts bytes.now lens.now)) }
 {
@@ -113,6 +115,48 @@ pub(crate) fn cut<'t>(
     } else {
         Err(Refusal::Bad)
     }
+}
+
+/// The texts of words.
+pub(crate) fn word_texts(alloc: Global, words: Words<'_>) -> Result<Vec<String>, Refusal>
+    ensures texts { IfOk result (λ made. (line : List Text) × IsCut words.entry.bytes.now words.entry.lens.now line
+        × (map string_bytes made.items ≡ map text_of line)) }
+    ensures bad { IfErr result (λ refusal. refusal ≡ Refusal.Bad → ¬ (SaysWords words.entry)) }
+{
+    let mut rest = words.bytes;
+    let mut made = Vec::with_capacity(alloc, words.lens.len())?;
+    for len in words.lens {
+        let Some((word, after)) = rest.split_at_checked(*len) else {
+            return Err(Refusal::Bad);
+        };
+        made.push(word_text(alloc, word)?)?;
+        rest = after;
+    }
+    if rest.is_empty() {
+        Ok(made)
+    } else {
+        Err(Refusal::Bad)
+    }
+}
+
+/// The text of a word.
+fn word_text(alloc: Global, word: &[u8]) -> Result<String, AllocError>
+    ensures { IfOk result (λ text. string_bytes text ≡ text_of word.now) }
+{
+    let mut text = String::new(alloc);
+    push_text(&mut text, word)?;
+    Ok(text)
+}
+
+/// Texts as words, in order.
+pub(crate) fn lent(alloc: Global, made: &[String]) -> Result<Vec<&str>, AllocError>
+    ensures { IfOk result (λ words. texts words.items ≡ map string_bytes made.now) }
+{
+    let mut words = Vec::with_capacity(alloc, made.len())?;
+    for text in made {
+        words.push(text.as_str())?;
+    }
+    Ok(words)
 }
 
 /// The number of an option that takes no argument. That of how often it comes is added.
@@ -223,7 +267,7 @@ impl<'r> Request<'r> {
     pub(crate) fn texts(&self, alloc: Global) -> Result<Vec<&'r str>, Refusal>
         ensures cut { IfOk result (λ pieces.
             IsCut self.now.bytes.now self.now.lens.now (texts pieces.items)) }
-        ensures utf8 { IfOk result (λ pieces. AreTexts (texts pieces.items)) }
+        ensures plain { IfOk result (λ pieces. ArePlain (texts pieces.items)) }
         ensures bad { IfErr result (λ refusal. refusal ≡ Refusal.Bad
             → ¬ (SayTexts self.now.bytes.now self.now.lens.now)) }
     {
@@ -246,7 +290,7 @@ impl<'r> Request<'r> {
     /// The options of a request, by its texts.
     fn options_from(&self, alloc: Global, pieces: &[&str]) -> Result<Options, Refusal>
         requires cut { IsCut self.now.bytes.now self.now.lens.now (texts pieces.now) }
-        requires utf8 { AreTexts (texts pieces.now) }
+        requires plain { ArePlain (texts pieces.now) }
         ensures request { IfOk result (Says self.now) }
         ensures lawful { OnOk result (SaysOptions self.now) }
         ensures bad { IfErr result (λ refusal. refusal ≡ Refusal.Bad → ¬ (SaysOptions self.now)) }

@@ -1,9 +1,9 @@
 -- Items: what they are made of, in one way each.
 use Rattle.std.proofs.Common.{◌≡◌, ◌≢◌, ℕ, ◌<◌, Bool, true, false, [], ◌∷◌, ◌++◌, length, get_or}
-use Rattle.std.proofs.Common.{Bor, MatchOption, cond, drop, take, Option, Some, None, inl, inr, refl, sym, ap, subst}
+use Rattle.std.proofs.Common.{Bor, MatchOption, cond, eqb, drop, take, Option, Some, None, inl, inr, refl, sym, ap, subst}
 use Rattle.std.proofs.Common.{◌∙◌, arith, append_assoc}
 use Rattle.std.specs.Prelude.{slice_index, ◌&&◌, not}
-use Rattle.std.specs.List.{AllByRecursion, last_or, list_all}
+use Rattle.std.specs.List.{AllByRecursion, ends_with, last_or, list_all}
 use Rattle.std.specs.Option.{option_map_or}
 use Rattle.std.proofs.lemmas.Bool.Decides.{nat_tests}
 use Rattle.std.proofs.lemmas.List.{append_cancel_right}
@@ -295,7 +295,8 @@ one_names names others text are also = by_shape (shape names text are)
 hint_open : (rest : Text) → is_hint (91 ∷ rest) ≡ true → ⊥
 hint_open rest is =
     let some = is_empty-cons 91 rest in
-    let bad : false ≡ true = ap (λ (b : Bool). not b && list_all is_hint_byte (91 ∷ rest)) (sym some) ∙ is in cc
+    let bad : false ≡ true = ap (λ (b : Bool). not b && (list_all is_hint_byte (91 ∷ rest)
+    && not (ends_with eqb (91 ∷ rest) (46 ∷ 46 ∷ [])))) (sym some) ∙ is in cc
 
 -- an argument has one kind and one hint
 pub one_argument : (kind another : HasArg) (hint other : Text) (argument : Option Text)

@@ -8,5 +8,7 @@ mod Plain
 mod Help
 mod Line
 mod Status
+mod Fronts
 mod Shell
 mod Assignments
+mod Asked

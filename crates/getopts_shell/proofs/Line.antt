@@ -9,8 +9,8 @@ use Rattle.getopts.specs.Names.{Text, resolution, EmptyResolvesNot}
 use Rattle.getopts.specs.Options.{Declared, Group, names_of}
 use Rattle.getopts.specs.Reading.{Mention, holds_equals, stop_word}
 use Rattle.getopts_shell.specs.Held.{ArePlainlyNamed}
-use Rattle.getopts_shell.specs.Program.{TellsWords}
-use Rattle.getopts_shell.proofs.Quoting.{words_same}
+use Rattle.getopts_shell.specs.Program.{Asked, TellsWords}
+use Rattle.getopts_shell.proofs.Quoting.{code_same}
 
 -- no main name holds `=`
 plain_main : (groups : List Group) → ArePlainlyNamed groups → (place : ℕ)
@@ -50,10 +50,10 @@ no_stops groups empty (m ∷ mentioned) sound =
     (main_no_stop groups empty m sound.0, no_stops groups empty mentioned sound.1)
 
 -- a canonical line tells the words
-pub tells_words : (options : Declared) (words line : List Text) → EmptyResolvesNot (names_of options.groups)
-    → KeepsLineLaws options → IsWritten options words line → TellsWords options words line
-tells_words options words line empty laws written = record {
-  shell = words_same line;
+pub tells_words : (asked : Asked) (options : Declared) (words line : List Text) → EmptyResolvesNot (names_of options.groups)
+    → KeepsLineLaws options → IsWritten options words line → TellsWords asked options words line
+tells_words asked options words line empty laws written = record {
+  shell = code_same asked line;
   written = written;
   reads_back = laws words line written;
   stop_is_first = no_stops options.groups empty written.content.mentions (laws words line written).sound;

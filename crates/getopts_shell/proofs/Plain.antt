@@ -7,13 +7,22 @@ use Rattle.getopts.specs.Names.{Text, Names, is_empty, main_name}
 use Rattle.getopts.specs.Options.{Group}
 use Rattle.getopts.specs.Reading.{begins_with_dash, holds_equals}
 use Rattle.getopts_shell.specs.Held.{ArePlainlyNamed}
-use Rattle.getopts_shell.specs.Table.{is_name, is_name_byte, Declares, DeclareOptions}
+use Rattle.getopts_shell.specs.Table.{is_long_byte, is_long_name, is_name, is_name_byte, Declares, DeclareOptions}
 use Rattle.std.proofs.lemmas.Bool.{and_parts, or_from}
 use Rattle.std.proofs.lemmas.Bool.Decides.{nat_tests}
 
 -- a byte of a name isn't `=`
 plain_byte : (byte : ℕ) → is_name_byte byte ≡ true → eqb byte 61 ≡ false
 plain_byte byte is = grind (arith, nat_tests)
+
+plain_long_byte : (byte : ℕ) → is_long_byte byte ≡ true → eqb byte 61 ≡ false
+plain_long_byte byte is = grind (arith, nat_tests)
+
+plain_long_bytes : (text : Text) → list_all is_long_byte text ≡ true → holds_equals text ≡ false
+plain_long_bytes [] is = refl
+plain_long_bytes (byte ∷ text) is =
+    let each = and_parts (is_long_byte byte) (list_all is_long_byte text) is in
+    or_from (eqb byte 61) (holds_equals text) (plain_long_byte byte each.0) (plain_long_bytes text each.1)
 
 plain_bytes : (text : Text) → list_all is_name_byte text ≡ true → holds_equals text ≡ false
 plain_bytes [] is = refl
@@ -24,13 +33,14 @@ plain_bytes (byte ∷ text) is =
 plain_name : (text : Text) → is_name text ≡ true → holds_equals text ≡ false
 plain_name text is = plain_bytes text (and_parts (not (begins_with_dash text)) (list_all is_name_byte text) is).1
 
-plain_main : (names : Names) → is_name names.short ≡ true → is_name names.long ≡ true
+plain_main : (names : Names) → is_name names.short ≡ true → is_long_name names.long ≡ true
     → holds_equals (main_name names) ≡ false
 plain_main names short long = by_test (is_empty names.long)
   where
     by_test : (test : Bool) → holds_equals (cond test names.short names.long) ≡ false
     by_test true = plain_name names.short short
-    by_test false = plain_name names.long long
+    by_test false = plain_long_bytes names.long
+        (and_parts (not (begins_with_dash names.long)) (list_all is_long_byte names.long) long).1
 
 plain_each : (lines : List Text) (each : List (Option Group)) → AllZip Declares lines each
     → ArePlainlyNamed (filter_map (λ (d : Option Group). d) each)

@@ -1,15 +1,16 @@
 -- A shell makes of words in quotes the same words.
-use Rattle.std.proofs.Common.{◌≡◌, ℕ, Bool, true, false, eqb, List, [], ◌∷◌, ◌++◌, Some, None}
+use Rattle.std.proofs.Common.{◌≡◌, ℕ, Bool, true, false, cond, eqb, List, [], ◌∷◌, ◌++◌, Some, None}
 use Rattle.std.proofs.Common.{suc, refl, sym, ap, subst, ◌∙◌, ◌<◌, length, append_assoc, append-nil, arith}
 use Rattle.std.specs.List.{flat_map, fold, slice_split, onto_first}
-use Rattle.std.specs.Prelude.{nat_lt}
+use Rattle.std.specs.Prelude.{codes, nat_lt, Option}
 use Rattle.std.proofs.lemmas.Bool.Decides.{nat_tests}
 use Rattle.getopts.specs.Wrap.{parting}
 use Rattle.std.proofs.lemmas.Bool.{eqb-true}
 use Rattle.std.proofs.lemmas.List.Concat.{flat_map-append}
 use Rattle.std.proofs.lemmas.List.Splits.{length-slice_split}
 use Rattle.getopts.specs.Names.{Text}
-use Rattle.getopts_shell.specs.Quote.{outside, quoting, read_byte, words_read}
+use Rattle.getopts_shell.specs.Program.{Asked, code_words, help_code, line_code}
+use Rattle.getopts_shell.specs.Quote.{AreCommands, done, outside, quoting, read_byte, words_read}
 use Rattle.getopts_shell.specs.Quote.{shell_words, quoted_byte, quoted, spaced, quoted_words}
 
 -- a byte of a word in quotes is read as that byte
@@ -47,21 +48,63 @@ read_quoted words word more =
     ap (fold read_byte (quoting words [])) (append_assoc (flat_map quoted_byte word) (39 ∷ []) more)
     ∙ read_quoted_bytes words [] word (39 ∷ more)
 
+-- what parts words ends the last word, and begins none
+abbrev Ends : Text → Type 0
+Ends end = (words : List Text) (word : Option Text)
+    → words_read (fold read_byte (outside words word) end) ≡ Some (done words word)
+
 -- words in quotes, after a space each, are read as these words
-read_spaced : (words : List Text) (word : Text) (others : List Text)
-    → words_read (fold read_byte (outside words (Some word)) (flat_map spaced others))
+read_spaced : (words : List Text) (word : Text) (others : List Text) (end : Text) → Ends end
+    → words_read (fold read_byte (outside words (Some word)) (flat_map spaced others ++ end))
     ≡ Some (words ++ word ∷ others)
-read_spaced words word [] = refl
-read_spaced words word (other ∷ others) =
-    ap words_read (read_quoted (words ++ word ∷ []) other (flat_map spaced others))
-    ∙ read_spaced (words ++ word ∷ []) other others
+read_spaced words word [] end ends = ends words (Some word)
+read_spaced words word (other ∷ others) end ends =
+    ap (λ (text : Text). words_read (fold read_byte (outside words (Some word)) text))
+    (append_assoc (spaced other) (flat_map spaced others) end)
+    ∙ ap words_read (read_quoted (words ++ word ∷ []) other (flat_map spaced others ++ end))
+    ∙ read_spaced (words ++ word ∷ []) other others end ends
     ∙ ap Some (append_assoc words (word ∷ []) (other ∷ others))
+
+-- the same after words that were read
+read_words : (before line : List Text) (end : Text) → Ends end
+    → words_read (fold read_byte (outside before None) (quoted_words line ++ end)) ≡ Some (before ++ line)
+read_words before [] end ends = ends before None
+read_words before (word ∷ words) end ends =
+    ap (λ (text : Text). words_read (fold read_byte (outside before None) text))
+    (append_assoc (quoted word) (flat_map spaced words) end)
+    ∙ ap words_read (read_quoted before word (flat_map spaced words ++ end))
+    ∙ read_spaced before word words end ends
 
 -- a shell makes of words in quotes the same words
 pub words_same : (words : List Text) → shell_words (quoted_words words) ≡ Some words
-words_same [] = refl
-words_same (word ∷ words) =
-    ap words_read (read_quoted [] word (flat_map spaced words)) ∙ read_spaced [] word words
+words_same words = ap shell_words (sym (append-nil (quoted_words words)))
+    ∙ read_words [] words [] (λ words word. refl)
+
+-- and of the code for a line the words that it has to
+pub code_same : (asked : Asked) (line : List Text) → shell_words (line_code asked line) ≡ Some (code_words asked line)
+code_same asked line = by_test asked.words
+  where
+    ends : Ends (10 ∷ [])
+    ends words word = ap Some (append-nil (done words word))
+
+    by_test : (alone : Bool)
+        → shell_words ((cond alone [] (codes "\\set -- ")) ++ (quoted_words line ++ codes "\n"))
+        ≡ Some (cond alone line (codes "set" ∷ codes "--" ∷ line))
+    by_test true = read_words [] line (10 ∷ []) ends
+    by_test false = read_words (codes "set" ∷ codes "--" ∷ []) line (10 ∷ []) ends
+
+-- a shell reads the code of a help as printing it, and the end
+pub help_same : (help : Text)
+    → AreCommands (help_code help) (codes "printf" ∷ codes "%s" ∷ help ∷ []) (codes "exit" ∷ [])
+help_same help = record {
+  first = codes "\\printf %s " ++ quoted help;
+  second = codes "\\exit\n";
+  text_is = refl;
+  words_are = ap (λ (text : Text). words_read (fold read_byte (outside (codes "printf" ∷ codes "%s" ∷ []) None) text))
+      (sym (append-nil (quoted help)))
+      ∙ ap words_read (read_quoted (codes "printf" ∷ codes "%s" ∷ []) help []);
+  others_are = refl;
+}
 
 -- words that are written alike are the same
 pub words_only : (words others : List Text) → quoted_words words ≡ quoted_words others → words ≡ others

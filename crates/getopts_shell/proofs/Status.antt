@@ -3,9 +3,9 @@ use Rattle.std.proofs.Common.{◌≢◌, ◌≤◌, ℕ, List, [], ◌∷◌, sy
 use Rattle.getopts.specs.Names.{Text}
 use Rattle.getopts.specs.Options.{Declared}
 use Rattle.getopts_shell.specs.Program.{Answer, Asked, AnswersCompletion, script, no_script}
-use Rattle.getopts_shell.specs.Program.{AnswersScript, usage, completion, help, accepted, refused}
-use Rattle.getopts_shell.specs.Program.{faulty, declared, AnswersFree, IsStatus}
-use Rattle.getopts_shell.specs.Program.{IsAnswer, refused_own, own_help, accepted_own}
+use Rattle.getopts_shell.specs.Program.{AnswersScript, usage, completion, help, accepted, variables, refused}
+use Rattle.getopts_shell.specs.Program.{faulty, no_variables, declared, AnswersFree, IsStatus}
+use Rattle.getopts_shell.specs.Program.{IsAnswer, refused_own, own_help, own_version, accepted_own}
 
 -- the status of an answer: 0, 2 or 5
 pub record AnswersBy (status : ℕ) : Type 0 where
@@ -32,8 +32,9 @@ of_script : {asked : Asked} {name : Text} {options : Declared} {words : List Tex
     → AnswersScript asked name options words answer → AnswersBy answer.status
 of_script (usage text given is) = is_done
 of_script (completion shell answer none given is) = of_completion is
-of_script (help text reads asks is) = is_done
-of_script (accepted line reads none is) = is_done
+of_script (help text reads asks is commands) = is_done
+of_script (accepted line reads none plain is) = is_done
+of_script (variables prefix matches reads none by is sets) = is_done
 of_script (refused fault reads none is) = is_refused
 
 of_free : (asked : Asked) (words : List Text) (answer : Answer) → AnswersFree asked words answer
@@ -41,10 +42,12 @@ of_free : (asked : Asked) (words : List Text) (answer : Answer) → AnswersFree 
 of_free asked [] answer is = subst (λ (a : Answer). AnswersBy a.status) (sym is) is_misused
 of_free asked (name ∷ []) answer is = subst (λ (a : Answer). AnswersBy a.status) (sym is) is_misused
 of_free asked (name ∷ table ∷ words) answer (faulty fault is) = is_misused
-of_free asked (name ∷ table ∷ words) answer (declared groups other are is) = of_script is
+of_free asked (name ∷ table ∷ words) answer (no_variables groups fault are is) = is_misused
+of_free asked (name ∷ table ∷ words) answer (declared groups other are fits is) = of_script is
 
 -- each answer has one of these
 pub answers_by : (words : List Text) (answer : Answer) → IsAnswer words answer → AnswersBy answer.status
 answers_by words answer (refused_own fault is) = is_misused
 answers_by words answer (own_help own text is given helps) = is_done
-answers_by words answer (accepted_own own other is none answers) = of_free _ own.free other answers
+answers_by words answer (own_version own is none given) = is_done
+answers_by words answer (accepted_own own other is none no_version answers) = of_free _ own.free other answers

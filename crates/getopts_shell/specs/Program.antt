@@ -21,8 +21,8 @@ use Rattle.getopts.specs.declared.groups.HasArg.TheVariants.{Yes, No}
 use Rattle.getopts.specs.declared.groups.Occur.TheVariants.{Optional}
 use Rattle.getopts.specs.declared.groups.ParsingStyle.TheVariants.{FloatingFrees, StopAtFirstFree}
 use Rattle.getopts_bytes.specs.Marks.{bytes_of}
-use Rattle.getopts_shell.specs.Quote.{quoted, quoted_words, shell_words}
-use Rattle.getopts_shell.specs.Table.{DeclaresOptions, IsTableFault, TableFault, no_option, name_twice}
+use Rattle.getopts_shell.specs.Quote.{AreCommands, quoted, quoted_words, shell_words}
+use Rattle.getopts_shell.specs.Table.{DeclaresOptions, IsTableFault, TableFault, no_option, name_twice, reason_of}
 use Rattle.getopts_shell.specs.Variables.{SetsVariables, VariableFault, no_prefix, no_variable, prefix_fault}
 use Rattle.getopts_shell.specs.Variables.{variable_twice, variables_code, with_words}
 
@@ -41,6 +41,7 @@ own_groups =
     ∷ group_of (codes "c") (codes "complete") (codes "write a completion script for bash, zsh or fish")
     (codes "SHELL") Yes Optional
     ∷ group_of (codes "h") (codes "help") (codes "print this help") [] No Optional
+    ∷ group_of [] (codes "version") (codes "print the version") [] No Optional
     ∷ []
 
 -- the program's own options: words from the first free one on are free
@@ -111,7 +112,7 @@ refused_text options name fault =
 -- the line of a fault of a table
 abbrev pub table_fault_line : TableFault → Text
 table_fault_line (no_option number item) = codes "getopts_shell: line "
-    ++ (decimal number ++ (codes " of the options: " ++ (item ++ codes "\n")))
+    ++ (decimal number ++ (codes " of the options: " ++ (item ++ (codes ": " ++ (reason_of item ++ codes "\n")))))
 table_fault_line (name_twice number name) = codes "getopts_shell: line "
     ++ (decimal number ++ (codes " of the options: the name '" ++ (name ++ codes "' stands there already\n")))
 
@@ -130,9 +131,9 @@ abbrev pub IsHelp : Asked → Text → Declared → Text → Type 0
 IsHelp asked name options help =
     IsTheOnly (IsUsageText options (unwrap_or asked.brief (short_usage_text options name))) help
 
--- the code that prints a help, and ends the script
+-- the code that prints a help, and ends the script; no alias stands for a word that begins with `\`
 abbrev pub help_code : Text → Text
-help_code help = codes "printf %s " ++ (quoted help ++ codes "; exit 0\n")
+help_code help = codes "\\printf %s " ++ (quoted help ++ codes "; \\exit\n")
 
 -- whether a kind takes no argument
 abbrev pub is_no : HasArg → Bool
@@ -166,13 +167,17 @@ asked_fault asked table groups = option_and_then
 -- the code that sets a script's words to those of a line, or the words alone
 abbrev pub line_code : Asked → List Text → Text
 line_code asked line =
-    (if asked.words then [] else codes "set -- ") ++ (quoted_words line ++ codes "\n")
+    (if asked.words then [] else codes "\\set -- ") ++ (quoted_words line ++ codes "\n")
 
--- What a canonical line tells: a shell makes of it, as it is written, the same words; it is accepted in
--- both styles and both modes with the content of the words, and says nothing else; and of its words the
--- first that is `--` is the stop.
-pub record TellsWords (options : Declared) (words line : List Text) : Type 0 where
-  pub shell : shell_words (quoted_words line) ≡ Some line
+-- what a shell has to make of it: `set`, `--` and the words of the line, or these alone
+abbrev pub code_words : Asked → List Text → List Text
+code_words asked line = if asked.words then line else codes "set" ∷ codes "--" ∷ line
+
+-- What a canonical line tells: a shell makes of its code, line end and all, the words that it has to; it
+-- is accepted in both styles and both modes with the content of the words, and says nothing else; and of
+-- its words the first that is `--` is the stop.
+pub record TellsWords (asked : Asked) (options : Declared) (words line : List Text) : Type 0 where
+  pub shell : shell_words (line_code asked line) ≡ Some (code_words asked line)
   pub written : IsWritten options words line
   pub reads_back : HasCanonicalLine options written.content
   pub stop_is_first : AllByRecursion (λ m. canonical_word options.groups m ≢ stop_word) written.content.mentions
@@ -201,9 +206,10 @@ pub data AnswersScript (asked : Asked) (name : Text) (options : Declared) (words
   completion : (shell : Text) (answer : Answer) → asked.usage ≡ false → asked.complete ≡ Some shell
       → AnswersCompletion shell answer → AnswersScript asked name options words answer
   help : (help : Text) → ReadsWords asked → AskHelp options words → IsHelp asked name options help
+      → AreCommands (help_code help) (codes "printf" ∷ codes "%s" ∷ help ∷ []) (codes "exit" ∷ [])
       → AnswersScript asked name options words (done (help_code help))
   accepted : (line : List Text) → ReadsWords asked → ¬ (AskHelp options words)
-      → asked.variables ≡ None → TellsWords options words line
+      → asked.variables ≡ None → TellsWords asked options words line
       → AnswersScript asked name options words (done (line_code asked line))
   variables : (prefix : Text) (matches : Matched) → ReadsWords asked → ¬ (AskHelp options words)
       → asked.variables ≡ Some prefix → IsAccepted options words matches
@@ -232,7 +238,7 @@ AnswersFree asked (name ∷ table ∷ words) answer = AnswersTable asked name ta
 AnswersFree asked words answer =
     answer ≡ misused (codes "getopts_shell: a name and a table of options are needed\n")
 
--- The answer to words: the fault of the program's own words, its help, or what these ask for.
+-- The answer to words: the fault of the program's own words, its help or its version, or what these ask for.
 pub data IsAnswer (words : List Text) : Answer → Type 0 where
   refused_own : (fault : Fault) → IsRefused own_options words fault
       → IsAnswer words (misused (fault_line (codes "getopts_shell") fault))
@@ -240,15 +246,18 @@ pub data IsAnswer (words : List Text) : Answer → Type 0 where
       → is_given own (codes "help") ≡ true
       → IsTheOnly (IsUsageText own_options (codes "Usage: getopts_shell [options] NAME TABLE [WORD].."))
       help → IsAnswer words (done help)
+  own_version : (own : Matched) → IsAccepted own_options words own → is_given own (codes "help") ≡ false
+      → is_given own (codes "version") ≡ true → IsAnswer words (done (codes "getopts_shell 0.2.24\n"))
   accepted_own : (own : Matched) (answer : Answer) → IsAccepted own_options words own
-      → is_given own (codes "help") ≡ false → AnswersFree (asked_by own) own.free answer
+      → is_given own (codes "help") ≡ false → is_given own (codes "version") ≡ false → AnswersFree (asked_by own) own.free answer
       → IsAnswer words answer
 
--- The words ask for a completion script, and for no help.
+-- The words ask for a completion script, and for neither help nor the version.
 pub record AskCompletion (words : List Text) : Type 0 where
   pub own : Matched
   pub accepted : IsAccepted own_options words own
   pub no_help : is_given own (codes "help") ≡ false
+  pub no_version : is_given own (codes "version") ≡ false
   pub no_usage : (asked_by own).usage ≡ false
   pub shell : Text
   pub asked : (asked_by own).complete ≡ Some shell
@@ -275,3 +284,13 @@ IsOutput words bytes status = (text : Text)
 abbrev pub ShowsAnswer : Option (List ℕ) → Option (List ℕ) → List Text → ℕ → Type 0
 ShowsAnswer old new words status = (bytes : List ℕ)
     × IsOutput words bytes status × Appends old new bytes
+
+-- what a writer holds has grown by a front of these bytes, or all
+abbrev pub AppendsFront : Option (List ℕ) → Option (List ℕ) → List ℕ → Type 0
+AppendsFront old new bytes = (front rest : List ℕ) × (bytes ≡ front ++ rest) × Appends old new front
+
+-- what a writer holds has grown by a front of the bytes of the text of the answer to these words, which
+-- has such a status
+abbrev pub ShowsFront : Option (List ℕ) → Option (List ℕ) → List Text → (ℕ → Type 0) → Type 0
+ShowsFront old new words IsItsStatus = (bytes : List ℕ) × (status : ℕ) × IsItsStatus status
+    × IsOutput words bytes status × AppendsFront old new bytes

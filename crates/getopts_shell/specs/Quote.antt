@@ -1,5 +1,5 @@
 -- Words in quotes, and what a shell makes of a text of words.
-use Rattle.std.specs.Prelude.{◌==◌, ◌||◌, ℕ, List, [], ◌∷◌, ◌++◌, Option, Some, None}
+use Rattle.std.specs.Prelude.{◌≡◌, ◌==◌, ◌||◌, ◌&&◌, nat_lt, Bool, ℕ, List, [], ◌∷◌, ◌++◌, Option, Some, None}
 use Rattle.std.specs.Prelude.{codes, if◌then◌else◌, fold}
 use Rattle.std.specs.List.{flat_map}
 use Rattle.std.specs.Option.{option_to_list, unwrap_or}
@@ -20,13 +20,23 @@ pub data Progress : Type 0 where
 abbrev pub done : List Text → Option Text → List Text
 done words word = words ++ option_to_list word
 
--- One byte more. Blanks part words, `'..'` is literal, and `\` takes the next byte literally, but for
--- a line end, which it takes away; of any other byte outside quotes nothing is said.
+-- a byte that parts words: a space, a tab or a line end
+abbrev pub parts_words : ℕ → Bool
+parts_words byte = byte == 32 || byte == 9 || byte == 10
+
+-- a byte that is itself outside quotes: a small letter of ASCII, `-` or `%`
+abbrev pub is_itself : ℕ → Bool
+is_itself byte = (nat_lt 96 byte && nat_lt byte 123) || byte == 45 || byte == 37
+
+-- One byte more of one command. Blanks and line ends part words, `'..'` is literal, and `\` takes the next
+-- byte literally, but for a line end, which it takes away; of the other bytes outside quotes only some
+-- are said to be themselves.
 abbrev pub read_byte : Progress → ℕ → Progress
 read_byte (outside words word) byte =
     if byte == 39 then quoting words (unwrap_or word [])
     else (if byte == 92 then escaping words (unwrap_or word [])
-    else (if byte == 32 || byte == 9 then outside (done words word) None else unsaid))
+    else (if parts_words byte then outside (done words word) None
+    else (if is_itself byte then outside words (Some (unwrap_or word [] ++ byte ∷ [])) else unsaid)))
 read_byte (quoting words word) byte =
     if byte == 39 then outside words (Some word) else quoting words (word ++ byte ∷ [])
 read_byte (escaping words word) byte =
@@ -41,6 +51,14 @@ words_read progress = None
 -- the words that a shell makes of a text, where that is said
 abbrev pub shell_words : Text → Option (List Text)
 shell_words text = words_read (fold read_byte (outside [] None) text)
+
+-- A shell reads a text as two commands, of these words: each of them, with `; ` between.
+pub record AreCommands (text : Text) (words others : List Text) : Type 0 where
+  pub first : Text
+  pub second : Text
+  pub text_is : text ≡ first ++ (codes "; " ++ second)
+  pub words_are : shell_words first ≡ Some words
+  pub others_are : shell_words second ≡ Some others
 
 -- ---- words in quotes
 

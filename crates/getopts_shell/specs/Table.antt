@@ -1,8 +1,9 @@
 -- The table of options: what each line of it declares, and which options it declares.
 use Rattle.std.specs.Prelude.{◌≡◌, ◌≢◌, ◌==◌, ◌||◌, ◌&&◌, ◌⊎◌, not, ℕ, ◌+◌, nat_lt, min, ◌-◌, ◌^◌, Bool, true, false}
 use Rattle.std.specs.Prelude.{List, [], ◌∷◌, ◌++◌, Option, Some, None, codes, if◌then◌else◌, slice_index, length}
-use Rattle.std.specs.Prelude.{⊤}
-use Rattle.std.specs.List.{AllByRecursion, AllZip, filter_map, list_all, list_any}
+use Rattle.std.specs.Prelude.{⊤, drop}
+use Rattle.std.specs.Char.{is_ascii_alphanumeric}
+use Rattle.std.specs.List.{AllByRecursion, AllZip, ends_with, filter_map, list_all, list_any}
 use Rattle.std.specs.Option.{option_map_or}
 use Rattle.std.specs.Str.{bytes_eq}
 use Rattle.getopts.specs.Names.{Text, Names, AreLawful, is_empty}
@@ -16,22 +17,31 @@ use Rattle.getopts.specs.declared.groups.Occur.TheVariants.{Req, Optional, Multi
 
 -- ---- names, hints and items
 
--- a byte that a name may hold: no space, no control character, and none of `|`, `[`, `]` and `=`
+-- a byte that a short name may be: no space, no control character, and none of `|`, `[`, `]` and `=`
 abbrev pub is_name_byte : ℕ → Bool
 is_name_byte byte = nat_lt 32 byte && not (byte == 127) && not (byte == 124) && not (byte == 91)
     && not (byte == 93) && not (byte == 61)
 
--- whether a text may be a name: it doesn't begin with `-`, and its bytes may stand in a name
+-- whether a text may be a short name: it doesn't begin with `-`, and its bytes may stand there
 abbrev pub is_name : Text → Bool
 is_name text = not (begins_with_dash text) && list_all is_name_byte text
+
+-- a byte that a long name may hold: a letter, a digit, `-`, `_`, `.`, `+`, `:`, or one from 128 on
+abbrev pub is_long_byte : ℕ → Bool
+is_long_byte byte = is_ascii_alphanumeric byte || byte == 45 || byte == 95 || byte == 46 || byte == 43
+    || byte == 58 || nat_lt 127 byte
+
+-- whether a text may be a long name: it doesn't begin with `-`, and its bytes may stand there
+abbrev pub is_long_name : Text → Bool
+is_long_name text = not (begins_with_dash text) && list_all is_long_byte text
 
 -- a byte that a hint may hold: no space, no tab, no `[` and no `]`
 abbrev pub is_hint_byte : ℕ → Bool
 is_hint_byte byte = not (byte == 32) && not (byte == 9) && not (byte == 91) && not (byte == 93)
 
--- whether a text may be a hint
+-- whether a text may be a hint: it doesn't end in two dots, which come after brackets
 abbrev pub is_hint : Text → Bool
-is_hint text = not (is_empty text) && list_all is_hint_byte text
+is_hint text = not (is_empty text) && (list_all is_hint_byte text && not (ends_with ◌==◌ text (codes "..")))
 
 -- names as they are written: `-s`, `--long` or `-s|--long`
 abbrev pub names_text : Names → Text
@@ -44,7 +54,7 @@ names_text names =
 pub record MayBeNames (short long : Text) : Type 0 where
   pub lawful : AreLawful short long
   pub short_name : is_name short ≡ true
-  pub long_name : is_name long ≡ true
+  pub long_name : is_long_name long ≡ true
 
 -- these names, written so
 pub record AreNames (names : Names) (text : Text) : Type 0 where
@@ -178,6 +188,65 @@ OneTableOneList = (table : Text) (groups others : List Group) → DeclaresOption
     → DeclaresOptions table others → others ≡ groups
 
 -- ---- faults
+
+-- Why a text is no item, in one of these texts. The first that fits counts: no bracket closes one that is
+-- open; a space stands after the argument or the brackets; the names are wrong; or else the brackets are.
+
+-- what stands before the first space or `]`, and after it
+abbrev pub before_end : Text → Text
+before_end [] = []
+before_end (byte ∷ more) = if byte == 32 || byte == 93 then [] else byte ∷ before_end more
+
+abbrev pub after_end : Text → Text
+after_end [] = []
+after_end (byte ∷ more) = if byte == 32 || byte == 93 then more else after_end more
+
+-- whether a text holds a byte
+abbrev pub holds : ℕ → Text → Bool
+holds byte text = list_any (λ other. other == byte) text
+
+-- where the names are right
+abbrev pub brackets_reason : Text
+brackets_reason = codes "brackets stand around the option or its argument, and dots only after ']'"
+
+abbrev pub bytes_reason : Text
+bytes_reason = codes "a name may hold letters, digits, '-', '_', '.', '+', ':' and bytes from 128 on"
+
+abbrev pub dashes_reason : Text
+dashes_reason = codes "a short name comes after '-', a long one after '--'"
+
+-- of a long name
+abbrev pub long_reason : Text → Text
+long_reason long =
+    if nat_lt (length long) 2 then codes "a long name has at least two bytes"
+    else (if not (list_all is_long_byte long) then bytes_reason
+    else (if slice_index long 0 == 45 then dashes_reason else brackets_reason))
+
+-- of a short name, and what follows it
+abbrev pub short_reason : ℕ → Text → Text
+short_reason short more =
+    if not (is_empty more) && not (slice_index more 0 == 124) then codes "a short name has one byte"
+    else (if not (is_name_byte short) then bytes_reason
+    else (if is_empty more then brackets_reason
+    else (if slice_index more 1 == 45 && slice_index more 2 == 45 then long_reason (drop 3 more)
+    else dashes_reason)))
+
+-- of names
+abbrev pub names_reason : Text → Text
+names_reason names =
+    if nat_lt (length names) 2 || not (slice_index names 0 == 45) then dashes_reason
+    else (if slice_index names 1 == 45 then long_reason (drop 2 names)
+    else short_reason (slice_index names 1) (drop 2 names))
+
+-- a text without a `[` that it begins with
+abbrev pub after_bracket : Text → Text
+after_bracket text = if slice_index text 0 == 91 then drop 1 text else text
+
+abbrev pub reason_of : Text → Text
+reason_of item =
+    if holds 91 item && not (holds 93 item) then codes "no ']'"
+    else (if holds 32 (after_end item) then codes "a tab or two spaces have to come before the description"
+    else names_reason (after_bracket (before_end item)))
 
 -- a fault of a table: the number of a line, and its item or a name
 pub data TableFault : Type 0 where

@@ -1,6 +1,6 @@
 //! What the program answers to words.
 
-ghost use Rattle.std.specs.Prelude.{◌≡◌, ◌≢◌, ◌≤◌, ◌⊎◌, ◌++◌, ◌↔◌, ◌&&◌, codes, map, true, false, IsTrue, List};
+ghost use Rattle.std.specs.Prelude.{◌≡◌, ◌≢◌, ◌≤◌, ◌⊎◌, ℕ, ◌++◌, ◌↔◌, ◌&&◌, codes, map, true, false, IsTrue, List};
 ghost use Rattle.std.specs.Prelude.{Option, IfOk, OnOk, Some, None};
 ghost use Rattle.std.specs.Option.{option_map};
 ghost use Rattle.std.specs.Io.KnownBytes.{Appends};
@@ -18,7 +18,7 @@ ghost use Rattle.getopts_shell.specs.Held.{ArePlainlyNamed, asked_of, variable_f
 ghost use Rattle.getopts_shell.specs.Program.{own_groups, own_options, script_options, done, misused};
 ghost use Rattle.getopts_shell.specs.Program.{table_fault_line, fault_line, refused_text};
 ghost use Rattle.getopts_shell.specs.Program.{IsHelp, help_code, AskHelp, is_no, offers_help, line_code};
-ghost use Rattle.getopts_shell.specs.Program.{Asked, asked_by, ReadsWords, AnswersScript};
+ghost use Rattle.getopts_shell.specs.Program.{Asked, asked_by, ReadsWords, AnswersScript, AppendsFront, ShowsFront};
 ghost use Rattle.getopts_shell.specs.Program.{AnswersTable, AnswersFree, IsAnswer, IsOutput, IsStatus, ShowsAnswer};
 ghost use Rattle.getopts_shell.specs.Program.{AnswersCompletion, no_completion};
 ghost use Rattle.getopts_shell.specs.Program.{asked_fault, variable_fault_line};
@@ -26,6 +26,7 @@ ghost use Rattle.getopts_shell.specs.Table.{DeclaresOptions, TableFault, no_opti
 ghost use Rattle.getopts_shell.specs.Held.{with_groups};
 
 use crate::complete::completion;
+use crate::item::reason_of;
 use crate::quote::{push_quoted, push_quoted_words};
 use crate::row::Row;
 use crate::table::{TableError, rows_of};
@@ -35,7 +36,7 @@ use getopts::{Fail, HasArg, Matches, Options, ParsingStyle, names_resolve};
 use getopts_bytes::push_bytes;
 use std::alloc::{AllocError, Global};
 use std::io;
-use std::io::Write;
+use std::io::{ErrorKind, Write};
 
 /// The status where text was written for the script.
 const DONE: u8 = 0;
@@ -50,6 +51,9 @@ const MISUSED: u8 = 5;
 
 /// The line before the options in the program's own help.
 const BRIEF: &str = "Usage: getopts_shell [options] NAME TABLE [WORD]..";
+
+/// What `--version` writes.
+const VERSION: &str = "getopts_shell 0.2.24\n";
 
 /// What is written where a name or a table isn't there.
 const NEEDED: &str = "getopts_shell: a name and a table of options are needed\n";
@@ -101,7 +105,7 @@ struct Script<'s> {
 ///   variables, or that prints the script's help; with `--usage` the help itself, with `--complete` a completion script, with `--help` the program's help
 /// - 2: why the script's words are refused, and its short usage
 /// - 3: out of memory, with nothing written
-/// - 4: a write or a flush failed
+/// - 4: a write or a flush failed, and what was written is a front of the text
 /// - 5: what is wrong with the call: its own words, an unknown shell, a missing table, or a line of it
 pub fn answer<W: Write, E: Write>(alloc: Global, words: &[&str], out: &mut W, err: &mut E) -> u8
     ensures status { IsStatus result }
@@ -111,6 +115,9 @@ pub fn answer<W: Write, E: Write>(alloc: Global, words: &[&str], out: &mut W, er
     ensures refused { (result ≡ 2) ⊎ (result ≡ 5)
         → ShowsAnswer (E.contents err.old) (E.contents err.new) (texts words.now) result }
     ensures refused_only { (result ≡ 2) ⊎ (result ≡ 5) → out.new ≡ out.old }
+    ensures cut { result ≡ 4
+        → ShowsFront (W.contents out.old) (W.contents out.new) (texts words.now) (λ status. status ≡ 0)
+        ⊎ ShowsFront (E.contents err.old) (E.contents err.new) (texts words.now) (λ status. status ≢ 0) }
     ensures one_stream { (out.new ≡ out.old) ⊎ (err.new ≡ err.old) }
     ensures nothing_written { result ≡ 3 → (out.new ≡ out.old) × (err.new ≡ err.old) }
 {
@@ -123,13 +130,18 @@ pub fn answer<W: Write, E: Write>(alloc: Global, words: &[&str], out: &mut W, er
     }
 }
 
-/// Writes an output: on `out` where the status is 0, and else on `err`.
+/// Writes an output: on `out` where the status is 0, and else on `err`. Where that fails, what was written is a
+/// front of it.
 fn write_output<W: Write, E: Write>(output: &Output, out: &mut W, err: &mut E) -> io::Result<()>
     ensures out { OnOk result (output.now.status ≡ 0
         → Appends (W.contents out.old) (W.contents out.new) output.now.bytes.items) }
+    ensures out_front { output.now.status ≡ 0
+        → AppendsFront (W.contents out.old) (W.contents out.new) output.now.bytes.items }
     ensures out_only { output.now.status ≡ 0 → err.new ≡ err.old }
     ensures err { OnOk result (output.now.status ≢ 0
         → Appends (E.contents err.old) (E.contents err.new) output.now.bytes.items) }
+    ensures err_front { output.now.status ≢ 0
+        → AppendsFront (E.contents err.old) (E.contents err.new) output.now.bytes.items }
     ensures err_only { output.now.status ≢ 0 → out.new ≡ out.old }
 {
     if output.status == DONE {
@@ -139,12 +151,27 @@ fn write_output<W: Write, E: Write>(output: &Output, out: &mut W, err: &mut E) -
     }
 }
 
-/// Writes bytes, and flushes them.
+/// Writes bytes, and flushes them. Where that fails, what was written is a front of them.
 fn print<W: Write>(out: &mut W, bytes: &[u8]) -> io::Result<()>
-    ensures { OnOk result (Appends (W.contents out.old) (W.contents out.new) bytes.now) }
+    ensures whole { OnOk result (Appends (W.contents out.old) (W.contents out.new) bytes.now) }
+    ensures front { AppendsFront (W.contents out.old) (W.contents out.new) bytes.now }
 {
-    out.write_all(bytes)?;
-    out.flush()
+    let mut rest = bytes;
+    for _ in 0..u64::MAX {
+        if rest.is_empty() {
+            return out.flush();
+        }
+        match out.write(rest) {
+            Ok(0) => return Err(io::Error::from(ErrorKind::WriteZero)),
+            Ok(count) => rest = &rest[count..],
+            Err(error) => {
+                if error.kind() != ErrorKind::Interrupted {
+                    return Err(error);
+                }
+            }
+        }
+    }
+    Err(io::Error::from(ErrorKind::Interrupted))
 }
 
 /// What the program writes for words: the bytes of its answer's text.
@@ -211,7 +238,8 @@ fn add_own_options(options: &mut Options) -> Result<(), AllocError>
             "write a completion script for bash, zsh or fish",
             "SHELL",
         )?
-        .optflag("h", "help", "print this help")?;
+        .optflag("h", "help", "print this help")?
+        .optflag("", "version", "print the version")?;
     Ok(())
 }
 
@@ -236,6 +264,12 @@ fn own_answer(alloc: Global, options: &Options, own: &Matches) -> Result<Outcome
     if own.opt_present("help") {
         return Ok(Outcome {
             text: options.usage(alloc, BRIEF)?,
+            status: DONE,
+        });
+    }
+    if own.opt_present("version") {
+        return Ok(Outcome {
+            text: String::from_str(alloc, VERSION)?,
             status: DONE,
         });
     }
@@ -301,7 +335,8 @@ fn table_refusal(alloc: Global, error: TableError<'_>) -> Result<String, AllocEr
 {
     match error {
         TableError::NoOption(number, item) => {
-            format!(in alloc; "getopts_shell: line {number} of the options: {item}\n")
+            let reason = reason_of(item);
+            format!(in alloc; "getopts_shell: line {number} of the options: {item}: {reason}\n")
         }
         TableError::NameTwice(number, name) => format!(in alloc;
             "getopts_shell: line {number} of the options: the name '{name}' stands there already\n"
@@ -544,9 +579,9 @@ fn help_code(alloc: Global, script: Script<'_>) -> Result<String, AllocError>
         × (string_bytes text ≡ help_code help)) }
 {
     let help = help_of(alloc, script)?;
-    let mut text = String::from_str(alloc, "printf %s ")?;
+    let mut text = String::from_str(alloc, "\\printf %s ")?;
     push_quoted(&mut text, help.as_str())?;
-    text.push_str("; exit 0\n")?;
+    text.push_str("; \\exit\n")?;
     Ok(text)
 }
 
@@ -611,7 +646,7 @@ fn line_code(alloc: Global, asked: &Asked, line: &[String]) -> Result<String, Al
 {
     let mut text = String::new(alloc);
     if !asked.words {
-        text.push_str("set -- ")?;
+        text.push_str("\\set -- ")?;
     }
     push_quoted_words(&mut text, line)?;
     text.push('\n')?;

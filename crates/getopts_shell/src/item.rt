@@ -1,7 +1,7 @@
 //! Items of a table: the names, the argument and the occurrence of an option.
 
-ghost use Rattle.std.specs.Prelude.{◌≡◌, MatchOption, true, false};
-ghost use Rattle.std.specs.List.{list_all};
+ghost use Rattle.std.specs.Prelude.{◌≡◌, ◌==◌, codes, MatchOption, true, false};
+ghost use Rattle.std.specs.List.{ends_with, list_all};
 ghost use Rattle.std.specs.Option.{option_copied};
 ghost use Rattle.getopts.specs.Names.{Text, Names};
 ghost use Rattle.getopts.specs.Options.{Signature};
@@ -9,6 +9,8 @@ ghost use Rattle.getopts.specs.declared.groups.HasArg.{HasArg as Kind};
 ghost use Rattle.getopts.specs.declared.groups.Occur.{Occur as Occurrence};
 ghost use Rattle.getopts_shell.specs.Held.{group_of_row};
 ghost use Rattle.getopts_shell.specs.Table.{is_name, is_name_byte, is_hint, is_hint_byte, AreNames};
+ghost use Rattle.getopts_shell.specs.Table.{is_long_name, is_long_byte, holds, before_end, after_end, after_bracket};
+ghost use Rattle.getopts_shell.specs.Table.{reason_of, names_reason, short_reason, long_reason};
 ghost use Rattle.getopts_shell.specs.Table.{MayBeNames, IsArgument, HasParts, IsBracketed, IsItem};
 
 use crate::row::Row;
@@ -92,14 +94,14 @@ fn lawful_names<'t>(short: &'t str, long: &'t str) -> Option<(&'t str, &'t str)>
     ensures { MatchOption result (¬ (MayBeNames short.now long.now))
         (λ found. MayBeNames short.now long.now × (found.0.now ≡ short.now) × (found.1.now ≡ long.now)) }
 {
-    if names_lawful(short, long) && is_name(short) && is_name(long) {
+    if names_lawful(short, long) && is_name(short) && is_long_name(long.as_bytes()) {
         Some((short, long))
     } else {
         None
     }
 }
 
-/// Whether a text may be a name.
+/// Whether a text may be a short name.
 fn is_name(text: &str) -> bool
     ensures { result ≡ is_name text.now }
 {
@@ -109,18 +111,42 @@ fn is_name(text: &str) -> bool
     }
 }
 
-/// Whether bytes may stand in a name.
+/// Whether bytes may stand in a short name.
 fn are_name_bytes(bytes: &[u8]) -> bool
     ensures { result ≡ list_all is_name_byte bytes.now }
 {
     bytes.iter().all(|byte| is_name_byte(*byte))
 }
 
-/// Whether a byte may stand in a name.
+/// Whether a byte may stand in a short name.
 fn is_name_byte(byte: u8) -> bool
     ensures { result ≡ is_name_byte byte }
 {
     byte > b' ' && !matches!(byte, 127 | b'|' | b'[' | b']' | b'=')
+}
+
+/// Whether bytes may be a long name.
+fn is_long_name(bytes: &[u8]) -> bool
+    ensures { result ≡ is_long_name bytes.now }
+{
+    match bytes {
+        [b'-', ..] => false,
+        _ => are_long_bytes(bytes),
+    }
+}
+
+/// Whether bytes may stand in a long name.
+fn are_long_bytes(bytes: &[u8]) -> bool
+    ensures { result ≡ list_all is_long_byte bytes.now }
+{
+    bytes.iter().all(|byte| is_long_byte(*byte))
+}
+
+/// Whether a byte may stand in a long name.
+fn is_long_byte(byte: u8) -> bool
+    ensures { result ≡ is_long_byte byte }
+{
+    byte.is_ascii_alphanumeric() || matches!(byte, b'-' | b'_' | b'.' | b'+' | b':') || byte > 127
 }
 
 /// The kind and the hint of an argument, which may not be there.
@@ -157,7 +183,14 @@ fn hinted(kind: HasArg, hint: &str) -> Option<(HasArg, &str)>
 fn is_hint(text: &str) -> bool
     ensures { result ≡ is_hint text.now }
 {
-    !text.is_empty() && are_hint_bytes(text.as_bytes())
+    !text.is_empty() && are_hint_bytes(text.as_bytes()) && !ends_in_dots(text)
+}
+
+/// Whether a text ends in two dots.
+fn ends_in_dots(text: &str) -> bool
+    ensures { result ≡ ends_with ◌==◌ text.now (codes "..") }
+{
+    text.ends_with("..")
 }
 
 /// Whether bytes may stand in a hint.
@@ -172,4 +205,102 @@ fn is_hint_byte(byte: u8) -> bool
     ensures { result ≡ is_hint_byte byte }
 {
     !matches!(byte, b' ' | b'\t' | b'[' | b']')
+}
+
+/// Why names that are right stand in no item.
+const BRACKETS: &str = "brackets stand around the option or its argument, and dots only after ']'";
+/// Why a name is wrong that has a wrong byte.
+const BYTES: &str =
+    "a name may hold letters, digits, '-', '_', '.', '+', ':' and bytes from 128 on";
+/// Why names are wrong that have wrong dashes.
+const DASHES: &str = "a short name comes after '-', a long one after '--'";
+
+/// Why a text is no item.
+pub(crate) fn reason_of(item: &str) -> &'static str
+    ensures { result.now ≡ reason_of item.now }
+{
+    let bytes = item.as_bytes();
+    if holds(bytes, b'[') && !holds(bytes, b']') {
+        return "no ']'";
+    }
+    let (names, rest) = cut_at_end(bytes);
+    if holds(rest, b' ') {
+        return "a tab or two spaces have to come before the description";
+    }
+    names_reason(after_bracket(names))
+}
+
+/// Whether bytes hold a byte.
+fn holds(bytes: &[u8], byte: u8) -> bool
+    ensures { result ≡ holds byte bytes.now }
+{
+    bytes.iter().any(|other| *other == byte)
+}
+
+/// What stands before the first space or `]`, and after it.
+fn cut_at_end(bytes: &[u8]) -> (&[u8], &[u8])
+    ensures before { result.0.now ≡ before_end bytes.now }
+    ensures after { result.1.now ≡ after_end bytes.now }
+{
+    for at in 0..bytes.len() {
+        if bytes[at] == b' ' || bytes[at] == b']' {
+            return (&bytes[..at], &bytes[at + 1..]);
+        }
+    }
+    (bytes, &bytes[bytes.len()..])
+}
+
+/// Bytes without a `[` that they begin with.
+fn after_bracket(bytes: &[u8]) -> &[u8]
+    ensures { result.now ≡ after_bracket bytes.now }
+{
+    match bytes {
+        [b'[', rest @ ..] => rest,
+        _ => bytes,
+    }
+}
+
+/// Why names are wrong, or what they stand in.
+fn names_reason(names: &[u8]) -> &'static str
+    ensures { result.now ≡ names_reason names.now }
+{
+    if names.len() < 2 || names[0] != b'-' {
+        DASHES
+    } else if names[1] == b'-' {
+        long_reason(&names[2..])
+    } else {
+        short_reason(names[1], &names[2..])
+    }
+}
+
+/// The same of a short name, and what follows it.
+fn short_reason(short: u8, more: &[u8]) -> &'static str
+    ensures { result.now ≡ short_reason short more.now }
+{
+    if !more.is_empty() && more[0] != b'|' {
+        "a short name has one byte"
+    } else if !is_name_byte(short) {
+        BYTES
+    } else if more.is_empty() {
+        BRACKETS
+    } else if more.len() > 2 && more[1] == b'-' && more[2] == b'-' {
+        long_reason(&more[3..])
+    } else {
+        DASHES
+    }
+}
+
+/// The same of a long name.
+fn long_reason(long: &[u8]) -> &'static str
+    ensures { result.now ≡ long_reason long.now }
+{
+    if long.len() < 2 {
+        "a long name has at least two bytes"
+    } else if !are_long_bytes(long) {
+        BYTES
+    } else if long[0] == b'-' {
+        DASHES
+    } else {
+        BRACKETS
+    }
 }

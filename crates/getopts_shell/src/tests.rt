@@ -74,10 +74,15 @@ Options:
     -s, --stop          leave all words from the first free one on free
     -l, --long-only     let long names follow one dash too
     -w, --words         write the words alone, without 'set --'
+    -V, --variables PREFIX
+                        set a variable for each option, named PREFIX and its
+                        name
+    -A, --arrays        with --variables, make an array of values
     -u, --usage         write the help of TABLE
     -c, --complete SHELL
                         write a completion script for bash, zsh or fish
     -h, --help          print this help
+        --version       print the version
 ";
 
 const NEEDED: &str = "getopts_shell: a name and a table of options are needed\n";
@@ -105,7 +110,7 @@ Options:
 ";
 
 const HELP_CODE: &str =
-    "printf %s 'Usage: backup -i FILE [-o FILE] [-v].. [-c [WHEN]] [-L DIR].. [-h]
+    "\\printf %s 'Usage: backup -i FILE [-o FILE] [-v].. [-c [WHEN]] [-L DIR].. [-h]
 
 Options:
     -i, --input FILE    read this file
@@ -114,7 +119,7 @@ Options:
     -c, --color [WHEN]  colour the output
     -L DIR              add a folder
     -h, --help          print this help
-'; exit 0
+'; \\exit
 ";
 
 const MISSING: &str = "backup: Required option 'input' missing
@@ -129,16 +134,18 @@ const UNKNOWN: &str = "backup: Unrecognized option: 'nope'
 Usage: backup -i FILE [-o FILE] [-v].. [-c [WHEN]] [-L DIR].. [-h]
 ";
 
-const QUOTED_HELP: &str = "printf %s 'Usage: it'\\''s [-h]
+const QUOTED_HELP: &str = "\\printf %s 'Usage: it'\\''s [-h]
 
 Options:
     -h, --help          print this script'\\''s help
-'; exit 0
+'; \\exit
 ";
 
 /// The program's own options, and how it is called.
-const OWN: [Row<'static>; 10] = [
+const OWN: [Row<'static>; 12] = [
     (&["--help"], OWN_HELP, 0),
+    (&["--version"], "getopts_shell 0.2.24\n", 0),
+    (&["--version", "-h"], OWN_HELP, 0),
     (&["-h", "backup", "no table"], OWN_HELP, 0),
     (
         &["-h", "--nope"],
@@ -202,27 +209,27 @@ const WORDS: [Row<'static>; 21] = [
     ),
     (
         &["backup", TABLE, "-vi", "a b", "x"],
-        "set -- '--verbose' '--input=a b' '--' 'x'\n",
+        "\\set -- '--verbose' '--input=a b' '--' 'x'\n",
         0,
     ),
     (
         &["backup", TABLE, "-i", "it's", "--", "-v", "'"],
-        "set -- '--input=it'\\''s' '--' '-v' ''\\'''\n",
+        "\\set -- '--input=it'\\''s' '--' '-v' ''\\'''\n",
         0,
     ),
     (
         &["backup", TABLE, "x", "-iy", "-c", "z", "-L", "l"],
-        "set -- '--input=y' '--color=z' '--L=l' '--' 'x'\n",
+        "\\set -- '--input=y' '--color=z' '--L=l' '--' 'x'\n",
         0,
     ),
     (
         &["-s", "backup", TABLE, "-iy", "x", "-v"],
-        "set -- '--input=y' '--' 'x' '-v'\n",
+        "\\set -- '--input=y' '--' 'x' '-v'\n",
         0,
     ),
     (
         &["-l", "backup", TABLE, "-input", "y", "-v"],
-        "set -- '--input=y' '--verbose' '--'\n",
+        "\\set -- '--input=y' '--verbose' '--'\n",
         0,
     ),
     (
@@ -233,32 +240,32 @@ const WORDS: [Row<'static>; 21] = [
     (&["-w", "x", ""], "'--'\n", 0),
     (
         &["x", "", "\n", "\\", "$HOME", "\u{e9}"],
-        "set -- '--' '\n' '\\' '$HOME' '\u{e9}'\n",
+        "\\set -- '--' '\n' '\\' '$HOME' '\u{e9}'\n",
         0,
     ),
     (
         &["x", "[--help FILE]", "--help", "a"],
-        "set -- '--help=a' '--'\n",
+        "\\set -- '--help=a' '--'\n",
         0,
     ),
-    (&["x", "[-h]", "-h"], "set -- '--h' '--'\n", 0),
+    (&["x", "[-h]", "-h"], "\\set -- '--h' '--'\n", 0),
     (
         &["-sb", "Do it.", "x", "[--help]", "--help"],
-        "printf %s 'Do it.\n\nOptions:\n    --help              \n'; exit 0\n",
+        "\\printf %s 'Do it.\n\nOptions:\n    --help              \n'; \\exit\n",
         0,
     ),
 ];
 
 /// Tables: what their lines are, and which are refused.
-const TABLES: [Row<'static>; 32] = [
+const TABLES: [Row<'static>; 38] = [
     (
         &["x", "#\n # -a\n\t-a\r\n  [--bc]", "-a", "--bc"],
-        "set -- '--a' '--bc' '--'\n",
+        "\\set -- '--a' '--bc' '--'\n",
         0,
     ),
     (
         &["x", "[-a|--bc D]...\tsay\n", "-ax", "--bc=y"],
-        "set -- '--bc=x' '--bc=y' '--'\n",
+        "\\set -- '--bc=x' '--bc=y' '--'\n",
         0,
     ),
     (
@@ -266,116 +273,124 @@ const TABLES: [Row<'static>; 32] = [
         "U\n\nOptions:\n    -a D                it is so\n    -b                  [x]\n",
         0,
     ),
-    (&["x", "a"], "getopts_shell: line 1 of the options: a\n", 5),
+    (
+        &["x", "a"],
+        "getopts_shell: line 1 of the options: a: a short name comes after '-', a long one after '--'\n",
+        5,
+    ),
     (
         &["x", "\n\n-a  ok\n-b|  no"],
-        "getopts_shell: line 4 of the options: -b|\n",
+        "getopts_shell: line 4 of the options: -b|: a short name comes after '-', a long one after '--'\n",
         5,
     ),
     (
         &["x", "-ab  no"],
-        "getopts_shell: line 1 of the options: -ab\n",
+        "getopts_shell: line 1 of the options: -ab: a short name has one byte\n",
         5,
     ),
     (
         &["x", "--a"],
-        "getopts_shell: line 1 of the options: --a\n",
+        "getopts_shell: line 1 of the options: --a: a long name has at least two bytes\n",
         5,
     ),
     (
         &["x", "--"],
-        "getopts_shell: line 1 of the options: --\n",
+        "getopts_shell: line 1 of the options: --: a long name has at least two bytes\n",
         5,
     ),
-    (&["x", "-"], "getopts_shell: line 1 of the options: -\n", 5),
+    (
+        &["x", "-"],
+        "getopts_shell: line 1 of the options: -: a short name comes after '-', a long one after '--'\n",
+        5,
+    ),
     (
         &["x", "---ab"],
-        "getopts_shell: line 1 of the options: ---ab\n",
+        "getopts_shell: line 1 of the options: ---ab: a short name comes after '-', a long one after '--'\n",
         5,
     ),
     (
         &["x", "-a|-b"],
-        "getopts_shell: line 1 of the options: -a|-b\n",
+        "getopts_shell: line 1 of the options: -a|-b: a short name comes after '-', a long one after '--'\n",
         5,
     ),
     (
         &["x", "-a|--bc|--de"],
-        "getopts_shell: line 1 of the options: -a|--bc|--de\n",
+        "getopts_shell: line 1 of the options: -a|--bc|--de: a name may hold letters, digits, '-', '_', '.', '+', ':' and bytes from 128 on\n",
         5,
     ),
     (
         &["x", "-a|--"],
-        "getopts_shell: line 1 of the options: -a|--\n",
+        "getopts_shell: line 1 of the options: -a|--: a long name has at least two bytes\n",
         5,
     ),
     (
         &["x", "-a|--b"],
-        "getopts_shell: line 1 of the options: -a|--b\n",
+        "getopts_shell: line 1 of the options: -a|--b: a long name has at least two bytes\n",
         5,
     ),
     (
         &["x", "--bc|-a"],
-        "getopts_shell: line 1 of the options: --bc|-a\n",
+        "getopts_shell: line 1 of the options: --bc|-a: a name may hold letters, digits, '-', '_', '.', '+', ':' and bytes from 128 on\n",
         5,
     ),
     (
         &["x", "--b=c"],
-        "getopts_shell: line 1 of the options: --b=c\n",
+        "getopts_shell: line 1 of the options: --b=c: a name may hold letters, digits, '-', '_', '.', '+', ':' and bytes from 128 on\n",
         5,
     ),
     (
         &["x", "-\u{e9}"],
-        "getopts_shell: line 1 of the options: -\u{e9}\n",
+        "getopts_shell: line 1 of the options: -\u{e9}: a short name has one byte\n",
         5,
     ),
     (
         &["x", "[-a"],
-        "getopts_shell: line 1 of the options: [-a\n",
+        "getopts_shell: line 1 of the options: [-a: no ']'\n",
         5,
     ),
     (
         &["x", "-a]"],
-        "getopts_shell: line 1 of the options: -a]\n",
+        "getopts_shell: line 1 of the options: -a]: brackets stand around the option or its argument, and dots only after ']'\n",
         5,
     ),
     (
         &["x", "[-a]."],
-        "getopts_shell: line 1 of the options: [-a].\n",
+        "getopts_shell: line 1 of the options: [-a].: brackets stand around the option or its argument, and dots only after ']'\n",
         5,
     ),
     (
         &["x", "[-a]...."],
-        "getopts_shell: line 1 of the options: [-a]....\n",
+        "getopts_shell: line 1 of the options: [-a]....: brackets stand around the option or its argument, and dots only after ']'\n",
         5,
     ),
     (
         &["x", "-a.."],
-        "getopts_shell: line 1 of the options: -a..\n",
+        "getopts_shell: line 1 of the options: -a..: a short name has one byte\n",
         5,
     ),
     (
         &["x", "[[-a]]"],
-        "getopts_shell: line 1 of the options: [[-a]]\n",
+        "getopts_shell: line 1 of the options: [[-a]]: a short name comes after '-', a long one after '--'\n",
         5,
     ),
     (
         &["x", "-a []"],
-        "getopts_shell: line 1 of the options: -a []\n",
+        "getopts_shell: line 1 of the options: -a []: brackets stand around the option or its argument, and dots only after ']'\n",
         5,
     ),
     (
         &["x", "-a [b"],
-        "getopts_shell: line 1 of the options: -a [b\n",
+        "getopts_shell: line 1 of the options: -a [b: no ']'\n",
         5,
     ),
     (
         &["x", "-a b c"],
-        "getopts_shell: line 1 of the options: -a b c\n",
+        "getopts_shell: line 1 of the options: -a b c: a tab or two spaces have to come before the description\n",
         5,
     ),
     (
         &["x", "-a \tb"],
-        "getopts_shell: line 1 of the options: -a \n",
+        "getopts_shell: line 1 of the options: -a : brackets stand around the option or its argument, and dots only after ']'\n",
         5,
     ),
     (
@@ -395,13 +410,43 @@ const TABLES: [Row<'static>; 32] = [
     ),
     (
         &["x", "-v\n-\n-v\n"],
-        "getopts_shell: line 2 of the options: -\n",
+        "getopts_shell: line 2 of the options: -: a short name comes after '-', a long one after '--'\n",
         5,
     ),
     (
         &["-u", "x", "-\u{7f}"],
-        "getopts_shell: line 1 of the options: -\u{7f}\n",
+        "getopts_shell: line 1 of the options: -\u{7f}: a name may hold letters, digits, '-', '_', '.', '+', ':' and bytes from 128 on\n",
         5,
+    ),
+    (
+        &["x", "[-x|--exclude PATTERN].. leave PATTERN out"],
+        "getopts_shell: line 1 of the options: [-x|--exclude PATTERN].. leave PATTERN out: a tab or two spaces have to come before the description\n",
+        5,
+    ),
+    (
+        &["x", "[-v] verbose"],
+        "getopts_shell: line 1 of the options: [-v] verbose: a tab or two spaces have to come before the description\n",
+        5,
+    ),
+    (
+        &["x", "-s X.."],
+        "getopts_shell: line 1 of the options: -s X..: brackets stand around the option or its argument, and dots only after ']'\n",
+        5,
+    ),
+    (
+        &["x", "--semi;colon"],
+        "getopts_shell: line 1 of the options: --semi;colon: a name may hold letters, digits, '-', '_', '.', '+', ':' and bytes from 128 on\n",
+        5,
+    ),
+    (
+        &["x", "-="],
+        "getopts_shell: line 1 of the options: -=: a name may hold letters, digits, '-', '_', '.', '+', ':' and bytes from 128 on\n",
+        5,
+    ),
+    (
+        &["x", "--\u{e9}.b+c:d_e-1", "--\u{e9}.b+c:d_e-1"],
+        "\\set -- '--\u{e9}.b+c:d_e-1' '--'\n",
+        0,
     ),
 ];
 
@@ -567,7 +612,7 @@ fn declares_a(rt: &(impl Abort + AllocGlobal), line: &str, count: usize) -> Resu
     is_written(
         rt,
         usize::MAX,
-        (&["x", table.as_str(), "-a"], "set -- '--a' '--'\n", 0),
+        (&["x", table.as_str(), "-a"], "\\set -- '--a' '--'\n", 0),
     )
 }
 
@@ -608,13 +653,14 @@ fn long_line_is_read(
 /// The line has a long description, a long name and a long hint, or is no option.
 #[test]
 fn long_lines_are_read(rt: HostRuntime) -> Result<(), Fail> {
-    let help = "printf %s 'U\n\nOptions:\n    -h, --help          ";
-    long_line_is_read(&rt, "-h|--help  ", Some("-h"), (help, "\n'; exit 0\n"), 0)?;
-    long_line_is_read(&rt, "--", None, ("set -- '--", "' '--'\n"), 0)?;
+    let help = "\\printf %s 'U\n\nOptions:\n    -h, --help          ";
+    long_line_is_read(&rt, "-h|--help  ", Some("-h"), (help, "\n'; \\exit\n"), 0)?;
+    long_line_is_read(&rt, "--", None, ("\\set -- '--", "' '--'\n"), 0)?;
     let usage = "x: Argument to option 'a' missing\nUsage: x -a ";
     long_line_is_read(&rt, "-a ", Some("-a"), (usage, "\n"), 2)?;
     let fault = "getopts_shell: line 1 of the options: -";
-    long_line_is_read(&rt, "-", None, (fault, "\n"), 5)?;
+    let reason = ": a short name has one byte\n";
+    long_line_is_read(&rt, "-", None, (fault, reason), 5)?;
     Ok(())
 }
 

@@ -29,7 +29,7 @@ returns-clause-lawful c =
     let is = request_is c.args.pieces.now c.in_ok-groups.groups.now c.requires.cut
     c.in_ok-groups.ensures.same c.in_ok-options.ensures.declared in
     on_ok_weaker c.words_by.result
-    (λ said. (options_said c.requires.cut c.requires.utf8 is c.in_ok-options.ensures.named, said))
+    (λ said. (options_said c.requires.cut c.requires.plain is c.in_ok-options.ensures.named, said))
     c.words_by.ensures.lawful
 
 pub returns-clause-bad : goal.returns-clause-bad

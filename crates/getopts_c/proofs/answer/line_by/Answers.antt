@@ -1,6 +1,7 @@
 use Rattle.std.proofs.Common.{◌∙◌, ap, map, string_bytes}
 use Rattle.std.proofs.lemmas.Result.{IfOk-weaker}
 use Rattle.getopts.specs.Fail.{fault_of}
+use Rattle.getopts_bytes.specs.Marks.{bytes_of}
 use Rattle.getopts_c.specs.Answer.{text_numbers}
 use Rattle.getopts_c.specs.Request.{concatenated}
 use Rattle.getopts_c.proofs.AnswerLemmas.{of_three, written_line, no_line, refused_line, told_fault}
@@ -9,11 +10,11 @@ use Rattle.getopts_c.proofs.answer.line_by.Goals as goal
 pub returns-in-Ok-Some : goal.returns-in-Ok-Some
 returns-in-Ok-Some c =
     let told = (rw c.in-Ok-Some.field-0-is at c.in-Ok-Some.ensures).written in
-    let slice = ap (map string_bytes) c.deref.ensures.value in
-    let are = c.of_texts.ensures in
-    of_three _ _ _ _ c.of_texts.result are.status are.numbers are.bytes
+    let given = ap (map bytes_of) (ap (map string_bytes) c.deref.ensures.value) in
+    let are = c.of_words.ensures in
+    of_three _ _ _ _ c.of_words.result are.status are.numbers are.bytes
     (λ answer status_is numbers_are bytes_are.
-    written_line told status_is (numbers_are ∙ ap text_numbers slice) (bytes_are ∙ ap concatenated slice))
+    written_line told status_is (numbers_are ∙ ap text_numbers given) (bytes_are ∙ ap concatenated given))
 
 pub returns-in-Ok-None : goal.returns-in-Ok-None
 returns-in-Ok-None c =

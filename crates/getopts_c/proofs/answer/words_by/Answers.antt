@@ -1,13 +1,17 @@
-use Rattle.getopts.specs.Names.{texts}
+use Rattle.std.proofs.Common.{◌≡◌, List, map, sym, subst}
+use Rattle.getopts.specs.Names.{Text, texts}
+use Rattle.getopts_bytes.specs.Marks.{text_of}
+use Rattle.getopts_c.specs.Answer.{IsAnswer}
+use Rattle.getopts_c.proofs.LawLemmas.{plain_words}
 use Rattle.getopts_c.proofs.answer.words_by.Goals as goal
 
-pub returns-clause-answered : goal.returns-clause-answered
-returns-clause-answered c =
-    (texts c.in_ok-words.words.items, c.in_ok-words.ensures.cut, c.in_ok-answer_by.ensures)
-
-pub returns-clause-lawful : goal.returns-clause-lawful
-returns-clause-lawful c = record {
-  words = texts c.in_ok-words.words.items;
-  words_are = c.in_ok-words.ensures.cut;
-  utf8 = c.in_ok-words.ensures.utf8;
-}
+pub returns-in_ok-answer_by-in-Ok-clause-answered : goal.returns-in_ok-answer_by-in-Ok-clause-answered
+returns-in_ok-answer_by-in-Ok-clause-answered c =
+    let line = texts c.in-Ok.line.items in
+    let same : line ≡ map text_of line = sym (plain_words line c.in-Ok.ensures.plain) in
+    let answer = c.in_ok-answer_by-in-Ok.field-0 in (
+      line,
+      c.in-Ok.ensures.cut,
+      subst (λ (words : List Text). IsAnswer c.args.counts c.args.options.now words answer.status
+          answer.body.numbers.items answer.body.bytes.items) same c.in_ok-answer_by-in-Ok.ensures,
+    )

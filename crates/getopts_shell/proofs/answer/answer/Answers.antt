@@ -1,4 +1,5 @@
 use Rattle.getopts.specs.Names.{texts}
+use Rattle.getopts_shell.proofs.Fronts.{shows_front}
 use Rattle.getopts_shell.proofs.Status.{answers_by}
 use Rattle.getopts_shell.proofs.answer.answer.Goals as goal
 
@@ -11,3 +12,8 @@ pub returns-in-Ok-write_output-clause-nothing_written : goal.returns-in-Ok-write
 returns-in-Ok-write_output-clause-nothing_written g c =
     let is = c.in-Ok.ensures in λ none.
     absurd ((answers_by (texts c.args.words.now) (record { text = is.0; status = c.in-Ok.output.status }) is.1).memory none)
+
+pub returns-in-Ok-clause-cut : goal.returns-in-Ok-clause-cut
+returns-in-Ok-clause-cut g c = λ _.
+    shows_front _ _ _ _ (texts c.args.words.now) _ c.in-Ok.output.status c.in-Ok.ensures c.write_output.ensures.out_front
+    c.write_output.ensures.err_front

@@ -13,7 +13,7 @@ unreachable-requires c =
 pub returns-in_ok-line_code-in-Ok-Some : goal.returns-in_ok-line_code-in-Ok-Some
 returns-in_ok-line_code-in-Ok-Some c =
     let asked = asked_of c.args.script.asked.now in
-    let tells = tells_words c.args.script.options.now (texts c.args.words.now)
+    let tells = tells_words asked c.args.script.options.now (texts c.args.words.now)
     (map string_bytes c.in-Ok-Some.line.items)
     c.names_resolve.ensures.empty c.in-Ok-Some.ensures.laws
     (rw c.in-Ok-Some.field-0-is at c.in-Ok-Some.ensures.written) in
@@ -21,7 +21,8 @@ returns-in_ok-line_code-in-Ok-Some c =
     (texts c.args.words.now) (record { text = t; status = 0 }))
     (sym (c.in_ok-line_code-in-Ok-Some.ensures
     ∙ ap (λ items. line_code asked (map string_bytes items)) c.deref.ensures.value))
-    (accepted (map string_bytes c.in-Ok-Some.line.items) c.requires.asked c.requires.no_help tells)
+    (accepted (map string_bytes c.in-Ok-Some.line.items) c.requires.asked c.requires.no_help
+    c.requires.no_variables tells)
 
 pub returns-in_ok-refusal-in-Err : goal.returns-in_ok-refusal-in-Err
 returns-in_ok-refusal-in-Err c =

@@ -1,4 +1,6 @@
-use Rattle.std.proofs.Common.{ap}
+use Rattle.std.proofs.Common.{◌≡◌, ◌++◌, ◌∙◌, ap, string_bytes}
+use Rattle.std.specs.Prelude.{codes, decimal}
+use Rattle.getopts.specs.Names.{Text}
 use Rattle.std.proofs.lemmas.Result.{IfOk-weaker}
 use Rattle.getopts_shell.specs.Held.{fault_told}
 use Rattle.getopts_shell.specs.Table.{no_option, name_twice}
@@ -7,7 +9,14 @@ use Rattle.getopts_shell.proofs.answer.table_refusal.Goals as goal
 pub returns-in-NoOption : goal.returns-in-NoOption
 returns-in-NoOption c =
     IfOk-weaker c.format.result _ _
-    (λ text is. (no_option c.in-NoOption.number c.in-NoOption.item.now, ap fault_told c.in-NoOption.is, is))
+    (λ text is.
+    let line = λ (reason : Text). codes "getopts_shell: line " ++ (decimal c.in-NoOption.number
+    ++ (codes " of the options: " ++ (c.in-NoOption.item.now ++ (codes ": " ++ (reason ++ codes "\n"))))) in
+    let text_is : string_bytes text ≡ line c.reason_of-reason.result.now = is in (
+      no_option c.in-NoOption.number c.in-NoOption.item.now,
+      ap fault_told c.in-NoOption.is,
+      text_is ∙ ap line c.reason_of-reason.ensures,
+    ))
     c.format.ensures.ok
 
 pub returns-in-NameTwice : goal.returns-in-NameTwice

@@ -1,7 +1,6 @@
 -- Where the names of the groups so far stand was added.
 use Rattle.std.proofs.Common.{◌≡◌, ◌++◌, map, take}
 use Rattle.std.specs.List.{flat_map}
-use Rattle.std.specs.String.{string_bytes}
 use Rattle.getopts.specs.Names.{texts}
 use Rattle.getopts_c.specs.Answer.{four_names, place_number}
 use Rattle.getopts_c.proofs.answer.Body.push_all_places.Given as goal
@@ -10,4 +9,4 @@ abbrev pub invariant-loop-group : goal.invariant-loop-group
 invariant-loop-group l =
     (l.self.numbers.items ≡ l.initial.self.numbers.items
     ++ map (place_number l.matches.groups) (flat_map four_names (map texts (take l.group-index l.groups))))
-    × (string_bytes l.self.bytes ≡ string_bytes l.initial.self.bytes)
+    × (l.self.bytes.items ≡ l.initial.self.bytes.items)

@@ -1,12 +1,11 @@
 -- The groups so far were added.
 use Rattle.std.proofs.Common.{◌≡◌, ◌++◌, take}
 use Rattle.std.specs.List.{flat_map}
-use Rattle.std.specs.String.{string_bytes}
 use Rattle.getopts_c.specs.Answer.{group_bytes, group_numbers}
 use Rattle.getopts_c.proofs.answer.Body.push_groups.Given as goal
 
 abbrev pub invariant-loop-place : goal.invariant-loop-place
 invariant-loop-place l =
     (l.self.numbers.items ≡ l.initial.self.numbers.items ++ flat_map group_numbers (take l.place l.matches.groups))
-    × (string_bytes l.self.bytes
-    ≡ string_bytes l.initial.self.bytes ++ flat_map group_bytes (take l.place l.matches.groups))
+    × (l.self.bytes.items
+    ≡ l.initial.self.bytes.items ++ flat_map group_bytes (take l.place l.matches.groups))

@@ -1,5 +1,5 @@
 -- One more occurrence was added.
-use Rattle.std.proofs.Common.{ap, ◌∙◌, sym, string_bytes, arith}
+use Rattle.std.proofs.Common.{ap, ◌∙◌, sym, arith}
 use Rattle.std.specs.Option.{option_map}
 use Rattle.getopts.specs.Accessors.{held_found}
 use Rattle.getopts_c.specs.Answer.{found_bytes, found_numbers}
@@ -19,7 +19,7 @@ loop-nth-preserved c =
             occurrence_added found_numbers founds nth _ _ _ _ at c.loop-nth.invariant.0
                 (ap (λ (body : Body). body.numbers.items) w.self-is ∙ w.in_ok-push_occurrence.ensures.numbers),
             occurrence_added found_bytes founds nth _ _ _ _ at c.loop-nth.invariant.1
-                (ap (λ (body : Body). string_bytes body.bytes) w.self-is ∙ w.in_ok-push_occurrence.ensures.bytes),
+                (ap (λ (body : Body). body.bytes.items) w.self-is ∙ w.in_ok-push_occurrence.ensures.bytes),
           )
       | in_default w ↦ absurd (occurrence_there founds nth (omega arith)
           (ap (option_map held_found) (sym w.in_default.is) ∙ c.get.ensures))

@@ -14,7 +14,7 @@ returns-clause-request c =
 pub returns-clause-lawful : goal.returns-clause-lawful
 returns-clause-lawful c =
     of_two c.options_by.result _ _ _ c.options_by.ensures.declared c.options_by.ensures.named
-    (λ options is named. options_said c.requires.cut c.requires.utf8
+    (λ options is named. options_said c.requires.cut c.requires.plain
     (request_is c.args.pieces.now c.in_ok-in_fours.field-0.now c.requires.cut
     c.in_ok-in_fours.ensures.same is) named)
 

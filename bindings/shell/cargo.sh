@@ -1,0 +1,83 @@
+#!/usr/bin/env bash
+# Tests the program that cargo builds from the proved source: beside the static program, and for Windows under wine.
+#
+#     bindings/shell/cargo.sh [COUNT]
+#
+# COUNT is how many random tables and words both answer, 3,000 if it isn't given. CARGO_FLAGS are handed to cargo. What
+# this machine doesn't have is skipped with a line that says so. The last line is 'N passed, M failed, K skipped'.
+set -uo pipefail
+top=$(cd "$(dirname "$0")/../.." && pwd)
+here=$top/bindings/shell
+# shellcheck source=bindings/c/checks.sh
+. "$top/bindings/c/checks.sh"
+export CARGO_TARGET_DIR=$room/target
+read -r -a flags <<<"${CARGO_FLAGS:-}"
+registry=/usr/share/cargo/registry
+if compgen -G "$registry/unicode-width-*" >/dev/null; then
+    printf '[source.crates-io]\nreplace-with = "folder"\n[source.folder]\ndirectory = "%s"\n' "$registry" >"$room/registry.toml"
+    flags=(--config "$room/registry.toml" --offline)
+fi
+
+if has python3; then
+    for pair in getopts_bytes:getopts_bytes getopts_shell:program; do
+        check "the erased ${pair%:*} is that of today" "$top/bindings/rust/erase.py" --check "${pair%:*}"
+        check "its tokens are those of the source" "$top/bindings/rust/same_tokens.py" "$top/crates/${pair%:*}/src" "$here/src/${pair#*:}"
+    done
+else
+    skip "whether the erased source is that of today: there is no python3"
+fi
+if ! has cargo cc; then
+    skip "the program by cargo: there is no cargo, or no cc that it links by"
+    finish
+    exit
+fi
+
+in_crate() { (cd "$here" && cargo "$@"); }
+check "cargo fmt" in_crate fmt --check
+built_without_a_warning() { RUSTFLAGS="-D warnings" in_crate check "${flags[@]}"; }
+check "no warning" built_without_a_warning
+# From a clone, as `cargo install --git` does, where git is there.
+cloned() {
+    tar -C "$top" --exclude=./.git --exclude=out --exclude=target -c bindings/rust bindings/shell | tar -C "$room" -x &&
+        (cd "$room/bindings" && git init -q . && git add -A . && git -c user.name=a -c user.email=a@b commit -q -m a) &&
+        cargo install "${flags[@]/--offline/--quiet}" --git "file://$room/bindings" --root "$room/root" getopts_shell
+}
+if has git; then
+    check "cargo install --git" cloned
+else
+    check "cargo install" cargo install "${flags[@]}" --path "$here" --root "$room/root"
+fi
+ours=$room/root/bin/getopts_shell
+theirs=$here/$(uname -m)/getopts_shell
+
+if [ -x "$theirs" ] && has python3; then
+    says "beside the static program" python3 "$here/beside.py" "${1:-3000}" "$theirs" "$ours"
+else
+    skip "beside the static program: there is no python3, or no bindings/shell/$(uname -m)/getopts_shell"
+fi
+
+# Windows, by Debian's rustc 1.63. What the source has that is newer is switched on there.
+windows=x86_64-pc-windows-gnu
+wine=$(command -v wine64 || command -v wine || compgen -G '/usr/lib/wine/wine64' || true)
+if [ -z "$wine" ] || ! has x86_64-w64-mingw32-gcc /usr/bin/rustc /usr/bin/cargo ||
+    [ ! -d "$(/usr/bin/rustc --print target-libdir --target $windows)" ] || [ ! -f "$room/registry.toml" ]; then
+    skip "Windows: there is no wine, no x86_64-w64-mingw32-gcc, or no rustc with a std for it"
+else
+    on_windows() {
+        # Cargo of that age reads no lock of today.
+        mkdir -p "$room/w" && tar -C "$top/bindings" --exclude=Cargo.lock --exclude=target -c rust shell | tar -C "$room/w" -x &&
+            (cd "$room/w/shell" && mkdir .cargo && cp "$room/registry.toml" .cargo/config.toml &&
+                RUSTC=/usr/bin/rustc RUSTC_BOOTSTRAP=1 RUSTFLAGS='-Zcrate-attr=feature(let_else)' \
+                    CARGO_TARGET_X86_64_PC_WINDOWS_GNU_LINKER=x86_64-w64-mingw32-gcc \
+                    /usr/bin/cargo build --release --offline --ignore-rust-version --target $windows)
+    }
+    if check "the build for Windows" on_windows; then
+        printf '#!/bin/sh\nexec "%s" "%s" "$@"\n' "$wine" "$room/target/$windows/release/getopts_shell.exe" >"$room/by_wine"
+        chmod +x "$room/by_wine"
+        export WINEPREFIX=$room/wine WINEDEBUG=-all
+        # The first run makes wine's folder, and says so.
+        "$room/by_wine" --help >/dev/null 2>&1
+        says "beside the static program, under wine" python3 "$here/beside.py" --texts 40 "$theirs" "$room/by_wine"
+    fi
+fi
+finish

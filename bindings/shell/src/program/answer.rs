@@ -1,0 +1,488 @@
+// What bindings/rust/erase.py leaves of crates/getopts_shell/src/answer.rt: change that file, not this one.
+//! What the program answers to words.
+
+use crate::host::*;
+
+use super::complete::completion;
+use super::quote::{push_quoted, push_quoted_words};
+use super::row::Row;
+use super::table::{TableError, rows_of};
+use super::variables::{VariableError, Variables, variable_error, variables_code};
+use super::words::texts_of;
+use crate::getopts::{Fail, HasArg, Matches, Options, ParsingStyle, names_resolve};
+use crate::getopts_bytes::push_bytes;
+use crate::host::alloc::{AllocError, Global};
+use crate::host::io;
+use crate::host::io::Write;
+
+/// The status where text was written for the script.
+const DONE: u8 = 0;
+/// The status where the script's words were refused, and the fault was written.
+const REFUSED: u8 = 2;
+/// The status where memory was refused.
+pub(crate) const NO_MEMORY: u8 = 3;
+/// The status where a write or a flush failed.
+const NOT_WRITTEN: u8 = 4;
+/// The status where the script calls the program wrongly, and the fault was written.
+const MISUSED: u8 = 5;
+
+/// The line before the options in the program's own help.
+const BRIEF: &str = "Usage: getopts_shell [options] NAME TABLE [WORD]..";
+
+/// What is written where a name or a table isn't there.
+const NEEDED: &str = "getopts_shell: a name and a table of options are needed\n";
+
+/// What the program has to write, and the status that it ends with.
+struct Outcome {
+    text: String,
+    status: u8,
+}
+
+/// The bytes that the program writes, and the status that it ends with.
+struct Output {
+    bytes: Vec<u8>,
+    status: u8,
+}
+
+/// What the program's own words ask for.
+struct Asked {
+    brief: Option<String>,
+    stop: bool,
+    long_only: bool,
+    words: bool,
+    usage: bool,
+    complete: Option<String>,
+    variables: Option<String>,
+    arrays: bool,
+}
+
+/// A script: what is asked for it, its name, its table, and its options, as the rows of the table declare
+/// them.
+#[derive(Clone, Copy)]
+struct Script<'s> {
+    asked: &'s Asked,
+    name: &'s str,
+    table: &'s str,
+    rows: &'s [Row<'s>],
+    options: &'s Options,
+}
+
+/// Reads a script's words by a table of options, and writes what the script does with them.
+///
+/// The words are the program's own options, the script's name, its table and its words. The text is made
+/// whole, then written once and flushed: on `out` where the status is 0, and on `err` where it is 2 or 5.
+///
+/// - 0: code that sets the script's words to those of the canonical line, or, with `--variables`, that sets
+///   variables, or that prints the script's help; with `--usage` the help itself, with `--complete` a completion script, with `--help` the program's help
+/// - 2: why the script's words are refused, and its short usage
+/// - 3: out of memory, with nothing written
+/// - 4: a write or a flush failed
+/// - 5: what is wrong with the call: its own words, an unknown shell, a missing table, or a line of it
+pub fn answer<W: Write, E: Write>(alloc: Global, words: &[&str], out: &mut W, err: &mut E) -> u8 {
+    match output_to(alloc, words) {
+        Ok(output) => match write_output(&output, out, err) {
+            Ok(()) => output.status,
+            Err(_) => NOT_WRITTEN,
+        },
+        Err(_) => NO_MEMORY,
+    }
+}
+
+/// Writes an output: on `out` where the status is 0, and else on `err`.
+fn write_output<W: Write, E: Write>(output: &Output, out: &mut W, err: &mut E) -> io::Result<()> {
+    if output.status == DONE {
+        print(out, &output.bytes)
+    } else {
+        print(err, &output.bytes)
+    }
+}
+
+/// Writes bytes, and flushes them.
+fn print<W: Write>(out: &mut W, bytes: &[u8]) -> io::Result<()> {
+    out.write_all(bytes)?;
+    out.flush()
+}
+
+/// What the program writes for words: the bytes of its answer's text.
+fn output_to(alloc: Global, words: &[&str]) -> Result<Output, AllocError> {
+    let outcome = answer_to(alloc, words)?;
+    let mut bytes = Vec::of_capacity(alloc, outcome.text.len())?;
+    push_bytes(&mut bytes, outcome.text.as_str())?;
+    Ok(Output {
+        bytes,
+        status: outcome.status,
+    })
+}
+
+/// What the program says to words.
+fn answer_to(alloc: Global, words: &[&str]) -> Result<Outcome, AllocError> {
+    let options = own_options(alloc)?;
+    match options.parse_words(alloc, words) {
+        Ok(own) => own_answer(alloc, &options, &own),
+        Err(fail) => Ok(Outcome {
+            text: fault_line(alloc, "getopts_shell", &fail)?,
+            status: MISUSED,
+        }),
+    }
+}
+
+/// The program's own options.
+fn own_options(alloc: Global) -> Result<Options, AllocError> {
+    let mut options = Options::new(alloc);
+    options.parsing_style(ParsingStyle::StopAtFirstFree);
+    add_own_options(&mut options)?;
+    Ok(options)
+}
+
+/// Adds the program's own options.
+fn add_own_options(options: &mut Options) -> Result<(), AllocError> {
+    options
+        .optopt("b", "brief", "begin the help with TEXT", "TEXT")?
+        .optflag(
+            "s",
+            "stop",
+            "leave all words from the first free one on free",
+        )?
+        .optflag("l", "long-only", "let long names follow one dash too")?
+        .optflag("w", "words", "write the words alone, without 'set --'")?
+        .optopt(
+            "V",
+            "variables",
+            "set a variable for each option, named PREFIX and its name",
+            "PREFIX",
+        )?
+        .optflag("A", "arrays", "with --variables, make an array of values")?
+        .optflag("u", "usage", "write the help of TABLE")?
+        .optopt(
+            "c",
+            "complete",
+            "write a completion script for bash, zsh or fish",
+            "SHELL",
+        )?
+        .optflag("h", "help", "print this help")?;
+    Ok(())
+}
+
+/// The line of a refusal's fault, after a name.
+fn fault_line(alloc: Global, name: &str, fail: &Fail) -> Result<String, AllocError> {
+    match fail {
+        Fail::OutOfMemory => Err(AllocError),
+        _ => text!(in alloc; "{name}: {fail}\n"),
+    }
+}
+
+/// The answer to the program's own words, where they are accepted with these matches.
+fn own_answer(alloc: Global, options: &Options, own: &Matches) -> Result<Outcome, AllocError> {
+    if own.opt_present("help") {
+        return Ok(Outcome {
+            text: options.usage(alloc, BRIEF)?,
+            status: DONE,
+        });
+    }
+    let asked = asked_by(alloc, own)?;
+    let words = texts_of(alloc, &own.free)?;
+    free_answer(alloc, &asked, &words)
+}
+
+/// What the program's own words ask for, where they are accepted with these matches.
+fn asked_by(alloc: Global, own: &Matches) -> Result<Asked, AllocError> {
+    Ok(Asked {
+        brief: own.opt_str(alloc, "brief")?,
+        stop: own.opt_present("stop"),
+        long_only: own.opt_present("long-only"),
+        words: own.opt_present("words"),
+        usage: own.opt_present("usage"),
+        complete: own.opt_str(alloc, "complete")?,
+        variables: own.opt_str(alloc, "variables")?,
+        arrays: own.opt_present("arrays"),
+    })
+}
+
+/// The answer to the free words of the program's own.
+fn free_answer(alloc: Global, asked: &Asked, words: &[&str]) -> Result<Outcome, AllocError> {
+    match words {
+        [name, table, words @ ..] => table_answer(alloc, asked, name, table, words),
+        _ => Ok(Outcome {
+            text: String::copy_of(alloc, NEEDED)?,
+            status: MISUSED,
+        }),
+    }
+}
+
+/// The answer to a script's name, its table and its words.
+fn table_answer(
+    alloc: Global,
+    asked: &Asked,
+    name: &str,
+    table: &str,
+    words: &[&str],
+) -> Result<Outcome, AllocError> {
+    match rows_of(alloc, table) {
+        Ok(rows) => declared_answer(alloc, asked, name, table, &rows, words),
+        Err(error) => Ok(Outcome {
+            text: table_refusal(alloc, error)?,
+            status: MISUSED,
+        }),
+    }
+}
+
+/// The line of the fault of a table.
+fn table_refusal(alloc: Global, error: TableError<'_>) -> Result<String, AllocError> {
+    match error {
+        TableError::NoOption(number, item) => {
+            text!(in alloc; "getopts_shell: line {number} of the options: {item}\n")
+        }
+        TableError::NameTwice(number, name) => text!(in alloc;
+            "getopts_shell: line {number} of the options: the name '{name}' stands there already\n"
+        ),
+        TableError::OutOfMemory => Err(AllocError),
+    }
+}
+
+/// The answer to a script's name, the options of its table and its words.
+fn declared_answer(
+    alloc: Global,
+    asked: &Asked,
+    name: &str,
+    table: &str,
+    rows: &[Row<'_>],
+    words: &[&str],
+) -> Result<Outcome, AllocError> {
+    match asked_error(asked, table, rows) {
+        Some(error) => Ok(Outcome {
+            text: variable_refusal(alloc, error)?,
+            status: MISUSED,
+        }),
+        None => rows_answer(alloc, asked, name, table, rows, words),
+    }
+}
+
+/// Why there are no variables where they are asked for.
+fn asked_error<'t>(asked: &'t Asked, table: &'t str, rows: &[Row<'t>]) -> Option<VariableError<'t>> {
+    match &asked.variables {
+        Some(prefix) => {
+            if asked.words {
+                Some(VariableError::WithWords)
+            } else {
+                variable_error(prefix.as_str(), table, rows)
+            }
+        }
+        None => None,
+    }
+}
+
+/// The line of a fault of variables.
+fn variable_refusal(alloc: Global, error: VariableError<'_>) -> Result<String, AllocError> {
+    match error {
+        VariableError::WithWords => text!(in alloc;
+            "getopts_shell: --words and --variables don't go together\n"
+        ),
+        VariableError::NoPrefix(prefix) => {
+            text!(in alloc; "getopts_shell: '{prefix}' makes no variable\n")
+        }
+        VariableError::NoVariable(number, name) => text!(in alloc;
+            "getopts_shell: line {number} of the options: '{name}' makes no variable\n"
+        ),
+        VariableError::VariableTwice(number, name) => text!(in alloc;
+            "getopts_shell: line {number} of the options: '{name}' makes the variable of another option\n"
+        ),
+    }
+}
+
+/// The answer to words by the options of a table.
+fn rows_answer(
+    alloc: Global,
+    asked: &Asked,
+    name: &str,
+    table: &str,
+    rows: &[Row<'_>],
+    words: &[&str],
+) -> Result<Outcome, AllocError> {
+    let options = options_of(alloc, asked, rows)?;
+    let script = Script {
+        asked,
+        name,
+        table,
+        rows,
+        options: &options,
+    };
+    script_answer(alloc, script, words)
+}
+
+/// The options of a table, in the style and the mode that are asked for.
+fn options_of(alloc: Global, asked: &Asked, rows: &[Row<'_>]) -> Result<Options, AllocError> {
+    let mut options = Options::new(alloc);
+    if asked.stop {
+        options.parsing_style(ParsingStyle::StopAtFirstFree);
+    }
+    options.long_only(asked.long_only);
+    add_rows(&mut options, rows)?;
+    Ok(options)
+}
+
+/// Adds the options of a table.
+fn add_rows(options: &mut Options, rows: &[Row<'_>]) -> Result<(), AllocError> {
+    for row in rows {
+        options.add_group(
+            row.short,
+            row.long,
+            row.description,
+            row.hint,
+            row.kind,
+            row.occurrence,
+        )?;
+    }
+    Ok(())
+}
+
+/// The answer for a script and its words.
+fn script_answer(alloc: Global, script: Script<'_>, words: &[&str]) -> Result<Outcome, AllocError> {
+    if script.asked.usage {
+        return Ok(Outcome {
+            text: help_of(alloc, script)?,
+            status: DONE,
+        });
+    }
+    match &script.asked.complete {
+        Some(shell) => completion_answer(alloc, shell.as_str(), script),
+        None => words_answer(alloc, script, words),
+    }
+}
+
+/// The help of a script.
+fn help_of(alloc: Global, script: Script<'_>) -> Result<String, AllocError> {
+    match &script.asked.brief {
+        Some(brief) => script.options.usage(alloc, brief.as_str()),
+        None => {
+            let brief = script.options.short_usage(alloc, script.name)?;
+            script.options.usage(alloc, brief.as_str())
+        }
+    }
+}
+
+/// The answer of a completion script, or that there is none for this shell.
+fn completion_answer(alloc: Global, shell: &str, script: Script<'_>) -> Result<Outcome, AllocError> {
+    match completion(alloc, shell, script.name, script.rows)? {
+        Some(text) => Ok(Outcome { text, status: DONE }),
+        None => Ok(Outcome {
+            text: text!(in alloc; "getopts_shell: no completion for '{shell}'\n")?,
+            status: MISUSED,
+        }),
+    }
+}
+
+/// The answer to the words of a script: the code that prints its help where they ask for it, and else what
+/// they are.
+fn words_answer(alloc: Global, script: Script<'_>, words: &[&str]) -> Result<Outcome, AllocError> {
+    let asked = asks_help(alloc, script, words)?;
+    if asked {
+        return Ok(Outcome {
+            text: help_code(alloc, script)?,
+            status: DONE,
+        });
+    }
+    match &script.asked.variables {
+        Some(prefix) => variables_answer(alloc, script, prefix.as_str(), words),
+        None => line_answer(alloc, script, words),
+    }
+}
+
+/// Whether the words ask for help.
+fn asks_help(alloc: Global, script: Script<'_>, words: &[&str]) -> Result<bool, AllocError> {
+    let offered = offers_help(script.rows);
+    if !offered {
+        return Ok(false);
+    }
+    match script.options.parse_ignoring_counts(alloc, words) {
+        Ok(matches) => Ok(has_help(&matches)),
+        Err(fail) => not_asked(&fail),
+    }
+}
+
+/// Words that have no reading don't ask for help. An error comes where the refusal tells that memory was
+/// refused.
+fn not_asked(fail: &Fail) -> Result<bool, AllocError> {
+    match fail {
+        Fail::OutOfMemory => Err(AllocError),
+        _ => Ok(false),
+    }
+}
+
+/// Whether matches have an option called `help`.
+fn has_help(matches: &Matches) -> bool {
+    matches.opt_defined("help") && matches.opt_present("help")
+}
+
+/// Whether one of the rows is called `help`, and takes no argument.
+fn offers_help(rows: &[Row<'_>]) -> bool {
+    rows.iter()
+        .any(|row| row.long == "help" && matches!(row.kind, HasArg::No))
+}
+
+/// The code that prints the help of a script, and ends it.
+fn help_code(alloc: Global, script: Script<'_>) -> Result<String, AllocError> {
+    let help = help_of(alloc, script)?;
+    let mut text = String::copy_of(alloc, "printf %s ")?;
+    push_quoted(&mut text, help.as_str())?;
+    text.try_push_str("; exit 0\n")?;
+    Ok(text)
+}
+
+/// The answer to words that don't ask for help: the canonical line of accepted words, or the first fault.
+fn line_answer(alloc: Global, script: Script<'_>, words: &[&str]) -> Result<Outcome, AllocError> {
+    names_resolve(script.options);
+    match script.options.canonical_words(alloc, words) {
+        Ok(Some(line)) => Ok(Outcome {
+            text: line_code(alloc, script.asked, &line)?,
+            status: DONE,
+        }),
+        Ok(None) => unreachable!(),
+        Err(fail) => Ok(Outcome {
+            text: refusal(alloc, script, &fail)?,
+            status: REFUSED,
+        }),
+    }
+}
+
+/// The answer to words that don't ask for help, by variables: the code that sets them, or the first fault.
+fn variables_answer(
+    alloc: Global,
+    script: Script<'_>,
+    prefix: &str,
+    words: &[&str],
+) -> Result<Outcome, AllocError> {
+    let variables = Variables {
+        prefix,
+        arrays: script.asked.arrays,
+    };
+    match script.options.parse_words(alloc, words) {
+        Ok(matches) => Ok(Outcome {
+            text: variables_code(alloc, variables, script.rows, &matches)?,
+            status: DONE,
+        }),
+        Err(fail) => Ok(Outcome {
+            text: refusal(alloc, script, &fail)?,
+            status: REFUSED,
+        }),
+    }
+}
+
+/// The code that sets a script's words to those of a line, or the words alone.
+fn line_code(alloc: Global, asked: &Asked, line: &[String]) -> Result<String, AllocError> {
+    let mut text = String::empty(alloc);
+    if !asked.words {
+        text.try_push_str("set -- ")?;
+    }
+    push_quoted_words(&mut text, line)?;
+    text.try_push('\n')?;
+    Ok(text)
+}
+
+/// Why a script's words are refused, and its short usage.
+fn refusal(alloc: Global, script: Script<'_>, fail: &Fail) -> Result<String, AllocError> {
+    let mut text = fault_line(alloc, script.name, fail)?;
+    let usage = script.options.short_usage(alloc, script.name)?;
+    text.try_push_str(usage.as_str())?;
+    text.try_push('\n')?;
+    Ok(text)
+}

@@ -1,0 +1,17 @@
+// What bindings/rust/erase.py leaves of crates/getopts_shell/src/row.rt: change that file, not this one.
+//! A row of a table of options: the option that a line declares.
+
+use crate::host::*;
+
+use crate::getopts::{HasArg, Occur};
+
+/// An option that a line of a table declares, by lawful names.
+#[derive(Clone, Copy)]
+pub struct Row<'t> {
+    pub short: &'t str,
+    pub long: &'t str,
+    pub kind: HasArg,
+    pub occurrence: Occur,
+    pub hint: &'t str,
+    pub description: &'t str,
+}

@@ -1,0 +1,302 @@
+// What bindings/rust/erase.py leaves of crates/getopts_shell/src/variables.rt: change that file, not this one.
+//! Options as variables of a script: the code that sets them, and why a table has none.
+
+use crate::host::*;
+
+use super::quote::{push_quoted, push_quoted_words};
+use super::row::Row;
+use super::table::{declares_nothing, trimmed};
+use crate::getopts::{HasArg, Matches, Occur, Occurrences};
+use crate::host::alloc::{AllocError, Global};
+
+/// How options become variables: what their names begin with, and whether an array holds values.
+#[derive(Clone, Copy)]
+pub(crate) struct Variables<'p> {
+    pub prefix: &'p str,
+    pub arrays: bool,
+}
+
+/// Why there are no variables.
+#[derive(Clone, Copy)]
+pub(crate) enum VariableError<'t> {
+    /// The words alone are asked for too.
+    WithWords,
+    /// The prefix begins no name of a variable.
+    NoPrefix(&'t str),
+    /// The option in the line with this number makes no variable. Holds its main name.
+    NoVariable(usize, &'t str),
+    /// The option in the line with this number makes the variable of one before it. Holds its main name.
+    VariableTwice(usize, &'t str),
+}
+
+/// A shell that runs the code holds what the matches do: a law to cite, which does nothing.
+pub fn code_sets_variables() {}
+
+/// The code that sets a variable for each option of a table, and then the words to the free words.
+pub(crate) fn variables_code(
+    alloc: Global,
+    variables: Variables<'_>,
+    rows: &[Row<'_>],
+    matches: &Matches,
+) -> Result<String, AllocError> {
+    let mut text = String::empty(alloc);
+    for (place, row) in rows.iter().enumerate() {
+        push_line(
+            alloc,
+            &mut text,
+            variables,
+            *row,
+            &matches.occurrences_at(place),
+        )?;
+    }
+    text.try_push_str("\\set -- ")?;
+    push_quoted_words(&mut text, &matches.free)?;
+    text.try_push('\n')?;
+    Ok(text)
+}
+
+/// Adds the line of an option.
+fn push_line(
+    alloc: Global,
+    text: &mut String,
+    variables: Variables<'_>,
+    row: Row<'_>,
+    given: &Occurrences<'_>,
+) -> Result<(), AllocError> {
+    push_setting(alloc, text, variables, row, given)?;
+    text.try_push('\n')
+}
+
+/// Adds the command that sets or removes the variable of an option.
+fn push_setting(
+    alloc: Global,
+    text: &mut String,
+    variables: Variables<'_>,
+    row: Row<'_>,
+    given: &Occurrences<'_>,
+) -> Result<(), AllocError> {
+    let name = main_name(row);
+    match (row.kind, row.occurrence) {
+        (HasArg::No, _) => push_count(alloc, text, variables.prefix, name, given.len()),
+        (_, Occur::Multi) => push_values(alloc, text, variables, name, given),
+        _ => push_first(text, variables.prefix, name, given),
+    }
+}
+
+/// The main name of an option.
+fn main_name<'t>(row: Row<'t>) -> &'t str {
+    if row.long.is_empty() {
+        row.short
+    } else {
+        row.long
+    }
+}
+
+/// Adds how often an option came.
+fn push_count(
+    alloc: Global,
+    text: &mut String,
+    prefix: &str,
+    name: &str,
+    count: usize,
+) -> Result<(), AllocError> {
+    push_variable(text, prefix, name)?;
+    let count = text!(in alloc; "={count}")?;
+    text.try_push_str(count.as_str())
+}
+
+/// Adds the value of an option's first occurrence, or that it has none.
+fn push_first(
+    text: &mut String,
+    prefix: &str,
+    name: &str,
+    given: &Occurrences<'_>,
+) -> Result<(), AllocError> {
+    match given.get(0) {
+        Some((_, value)) => {
+            push_variable(text, prefix, name)?;
+            text.try_push('=')?;
+            push_quoted(text, value.unwrap_or(""))
+        }
+        None => {
+            text.try_push_str("\\unset -v ")?;
+            push_variable(text, prefix, name)
+        }
+    }
+}
+
+/// Adds all values of an option, as an array or as words in quotes.
+fn push_values(
+    alloc: Global,
+    text: &mut String,
+    variables: Variables<'_>,
+    name: &str,
+    given: &Occurrences<'_>,
+) -> Result<(), AllocError> {
+    push_variable(text, variables.prefix, name)?;
+    if !variables.arrays {
+        push_words(alloc, text, given)
+    } else if given.is_empty() {
+        push_no_words(text, variables.prefix, name)
+    } else {
+        push_array(text, given)
+    }
+}
+
+/// Adds all values as words in quotes, which are quoted once more.
+fn push_words(alloc: Global, text: &mut String, given: &Occurrences<'_>) -> Result<(), AllocError> {
+    let mut words = String::empty(alloc);
+    push_texts(&mut words, given)?;
+    text.try_push('=')?;
+    push_quoted(text, words.as_str())
+}
+
+/// Adds an array of no words. `()` would be no array in the Korn shell.
+fn push_no_words(text: &mut String, prefix: &str, name: &str) -> Result<(), AllocError> {
+    text.try_push_str("=(${")?;
+    push_variable(text, prefix, name)?;
+    text.try_push_str("+})")
+}
+
+/// Adds all values as an array.
+fn push_array(text: &mut String, given: &Occurrences<'_>) -> Result<(), AllocError> {
+    text.try_push_str("=(")?;
+    push_texts(text, given)?;
+    text.try_push(')')
+}
+
+/// Adds the values of occurrences as words in quotes, with the empty text for one that has none.
+fn push_texts(text: &mut String, given: &Occurrences<'_>) -> Result<(), AllocError> {
+    for nth in 0..given.len() {
+        push_word(text, nth > 0, text_at(given, nth))?;
+    }
+    Ok(())
+}
+
+/// Adds a word in quotes, after a space where another stands before it.
+fn push_word(text: &mut String, begun: bool, word: &str) -> Result<(), AllocError> {
+    text.try_push_str(if begun { " " } else { "" })?;
+    push_quoted(text, word)
+}
+
+/// The value of one of the occurrences, or the empty text where it has none.
+fn text_at<'m>(given: &Occurrences<'m>, nth: usize) -> &'m str {
+    match given.get(nth) {
+        Some((_, value)) => value.unwrap_or(""),
+        None => "",
+    }
+}
+
+/// Adds the variable of a main name: the prefix, and the name with `_` for each `-`.
+fn push_variable(text: &mut String, prefix: &str, name: &str) -> Result<(), AllocError> {
+    text.try_push_str(prefix)?;
+    let mut begun = false;
+    for part in name.split('-') {
+        push_part(text, begun, part)?;
+        begun = true;
+    }
+    Ok(())
+}
+
+/// Adds a part of a name that holds no `-`, after `_` where another part stands before it.
+fn push_part(text: &mut String, begun: bool, part: &str) -> Result<(), AllocError> {
+    text.try_push_str(if begun { "_" } else { "" })?;
+    text.try_push_str(part)
+}
+
+/// Why a prefix and the options of a table make no variables, if they make none.
+pub(crate) fn variable_error<'t>(
+    prefix: &'t str,
+    table: &'t str,
+    rows: &[Row<'t>],
+) -> Option<VariableError<'t>> {
+    if !is_prefix(prefix) {
+        return Some(VariableError::NoPrefix(prefix));
+    }
+    for place in 0..rows.len() {
+        let name = main_name(rows[place]);
+        if !makes_variable(prefix, name) {
+            return Some(VariableError::NoVariable(option_line(table, place), name));
+        }
+        if any_has_variable(&rows[..place], name) {
+            return Some(VariableError::VariableTwice(option_line(table, place), name));
+        }
+    }
+    None
+}
+
+/// Whether a variable may begin with a text.
+fn is_prefix(prefix: &str) -> bool {
+    prefix.is_empty() || makes_variable(prefix, "")
+}
+
+/// Whether a prefix and a main name make a variable.
+fn makes_variable(prefix: &str, name: &str) -> bool {
+    begins_variable(prefix, name) && are_variable_bytes(prefix) && make_variable_bytes(name)
+}
+
+/// Whether a variable may hold each byte of a text.
+fn are_variable_bytes(text: &str) -> bool {
+    text.bytes().all(is_variable_byte)
+}
+
+/// Whether a variable may hold each byte of a main name, with `_` for each `-`.
+fn make_variable_bytes(name: &str) -> bool {
+    name.bytes()
+        .all(|byte| is_variable_byte(variable_byte(byte)))
+}
+
+/// Whether a prefix and a main name begin with no digit, and not both are empty.
+fn begins_variable(prefix: &str, name: &str) -> bool {
+    match (prefix.as_bytes(), name.as_bytes()) {
+        ([first, ..], _) => !first.is_ascii_digit(),
+        ([], [first, ..]) => !first.is_ascii_digit(),
+        _ => false,
+    }
+}
+
+/// Whether the name of a variable may hold a byte: a letter, a digit or `_`.
+fn is_variable_byte(byte: u8) -> bool {
+    byte.is_ascii_alphanumeric() || byte == b'_'
+}
+
+/// Whether one of the rows makes the variable that a main name makes.
+fn any_has_variable(rows: &[Row<'_>], name: &str) -> bool {
+    rows.iter().any(|row| same_variable(main_name(*row), name))
+}
+
+/// Whether two main names make one variable.
+fn same_variable(name: &str, other: &str) -> bool {
+    let bytes = name.as_bytes();
+    let others = other.as_bytes();
+    if bytes.len() != others.len() {
+        return false;
+    }
+    for at in 0..bytes.len() {
+        if variable_byte(bytes[at]) != variable_byte(others[at]) {
+            return false;
+        }
+    }
+    true
+}
+
+/// A byte of a main name, as it stands in a variable.
+fn variable_byte(byte: u8) -> u8 {
+    if byte == b'-' { b'_' } else { byte }
+}
+
+/// The number of the line of the option at a place, or 0 past the last.
+fn option_line(table: &str, place: usize) -> usize {
+    let mut number = 0usize;
+    let mut before = 0usize;
+    for line in table.split('\n') {
+        number = number.saturating_add(1);
+        if !declares_nothing(trimmed(line)) {
+            if before == place {
+                return number;
+            }
+            before = before.saturating_add(1);
+        }
+    }
+    0
+}
