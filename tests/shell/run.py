@@ -7,7 +7,6 @@ usage: tests/shell/run.py [PROGRAM]
 - The words of random lines come out of `eval` in each shell as the canonical line.
 - getopt(1) reads the same options, values and free words, for tables and words that both take.
 - Tables with one byte changed have the fault that a reader of the rules here finds, or none.
-- Completion offers in bash and fish what it should.
 
 It says which shells it found. What is expected is computed here, by the rules, and not by the program.
 """
@@ -210,7 +209,7 @@ def examples(shell, path, room):
     if done.stdout.decode() != "input: a\noutput: \nverbose: 1\ncolor: never\nfolders:\nfree: x\n":
         fail(f"{' '.join(shell)}: the example backup: {done}")
     done = run(shell + [str(folder / "backup"), "--completion", "fish"], env=env)
-    if done.returncode != 0 or not done.stdout.startswith(b"complete -c 'backup' -s 'i' -l 'input' -r "):
+    if done.returncode != 0 or b"\ncomplete -c 'backup' -f -a " not in done.stdout:
         fail(f"{' '.join(shell)}: the completion of the example backup: {done}")
     notes = room / "notes.txt"
     notes.write_text("")
@@ -219,6 +218,10 @@ def examples(shell, path, room):
     done = run(shell + [str(folder / "notes"), "-f", str(notes), "list"], env=env)
     if done.stdout.decode() != "[a] [b] it's\n[a] [b] two\n-x\n":
         fail(f"{' '.join(shell)}: the example notes: {done}")
+    for command in ("add", "list"):
+        done = run(shell + [str(folder / "notes"), "-f", str(notes), command, "--help"], env=env)
+        if done.returncode != 0 or not done.stdout.startswith(f"Usage: notes {command} ".encode()):
+            fail(f"{' '.join(shell)}: the help of the example notes {command}: {done}")
     done = run(shell + [str(folder / "notes"), "-f", str(notes), "list", "--tag"], env=env)
     if done.returncode != 2 or not done.stderr.startswith(b"notes list: Unrecognized option: 'tag'\n"):
         fail(f"{' '.join(shell)}: the example notes, refused: {done}")
@@ -270,100 +273,22 @@ def beside_getopt(program):
     print(f"beside getopt(1): 500 lines, {refused} refused by both")
 
 
-BASH = r"""
-_complete() {
-    COMP_WORDS=(backup "$@") COMP_CWORD=$# COMP_TYPE=37 COMPREPLY=()
-    _getopts_shell backup "${!#}" "${@:$#-1:1}"
-    printf '%s,' "${COMPREPLY[@]}"
-    echo
-}
-_complete --
-_complete -
-_complete -v --output = x --color --
-_complete -vofile -
-_complete -o -
-_complete --output -
-_complete -- -
-_complete x
-_complete -c --inp
-"""
-ZSH = r"""
-zmodload zsh/zpty
-zpty -b driven "ZDOTDIR=$ROOM TERM=dumb COLUMNS=80 zsh -i"
-typeset said= out=
-wait_for() {
-    integer turns=0
-    while (( turns++ < 100 )); do
-        zpty -rt driven out 2>/dev/null && said+=$out
-        [[ $said == *$1* ]] && return
-        sleep 0.1
-    done
-}
-wait_for '> '
-said=
-zpty -wn driven $'backup --help -v --\t'
-wait_for 'say more'
-print -r -- "$said"
-zpty -d driven
-"""
-BASH_WANTED = """--input,--output,--verbose,--color,--help,
---input,-i,--output,-o,--verbose,-v,--color,-c,-L,--help,-h,
---input,--verbose,--help,
---input,-i,--verbose,-v,--color,-c,-L,--help,-h,
-,
-,
-,
-,
---input,
-"""
+GAP = "a tab or two spaces have to come before the description"
+SHORT = "a short name has one byte"
+LONG = "a long name has at least two bytes"
+OPEN = "no ']'"
+BYTES = "a name may hold letters, digits, '-', '_', '.', '+', ':' and bytes from 128 on"
+DASHES = "a short name comes after '-', a long one after '--'"
+BRACKETS = "brackets stand around the option or its argument, and dots only after ']'"
+LONG_NAME = re.compile(r"[A-Za-z0-9_.+:\x80-\U0010ffff-]*")
 
 
-def completion(program, room):
-    if shutil.which("bash"):
-        code = run([program, "-c", "bash", "backup", TABLE]).stdout.decode()
-        done = run(["bash", "-c", code + BASH])
-        if done.stdout.decode() != BASH_WANTED or done.stderr:
-            fail(f"completion in bash: {done.stdout.decode()}{done.stderr.decode()}")
-        else:
-            print("completion in bash")
-    if shutil.which("zsh") and run(["zsh", "-f", "-c", "zmodload zsh/zpty"]).returncode == 0:
-        (room / "table.zsh").write_bytes(run([program, "-c", "zsh", "backup", TABLE]).stdout)
-        (room / ".zshrc").write_text(f"PS1='> '\nautoload -Uz compinit\ncompinit -u -d {room}/dump\nsource {room}/table.zsh\n")
-        (room / "drive.zsh").write_text(ZSH)
-        done = run(["zsh", "-f", str(room / "drive.zsh")], env={**os.environ, "ROOM": str(room)})
-        offered = sorted(set(re.findall(r"^(-\S+) +-- (.*?) *\r?$", done.stdout.decode(), re.M)))
-        wanted = [("--color", "colour the output"), ("--input", "read this file"),
-                  ("--output", "write to FILE"), ("--verbose", "say more")]
-        if offered != wanted or done.stderr:
-            fail(f"completion in zsh: {offered!r}, {done!r}")
-        else:
-            print("completion in zsh")
-    if shutil.which("fish"):
-        code = run([program, "-c", "fish", "backup", TABLE + "[--it\\'s]  don't \\ stop\n"]).stdout.decode()
-        told = {}
-        for line in ("backup --", "backup --verbose --help --", "backup --output=x -"):
-            done = run(["fish", "--no-config", "-c", code + f"complete -C {shlex.quote(line)}"],
-                       env={**os.environ, "HOME": str(room), "XDG_CONFIG_HOME": str(room)})
-            told[line] = [each for each in done.stdout.decode().splitlines() if each.startswith("-")]
-            if done.stderr:
-                fail(f"completion in fish: {done.stderr!r}")
-        names = ["--color", "--help", "--input", "--it\\'s", "--output", "--verbose"]
-        got = sorted(each.split("\t")[0].rstrip("=") for each in told["backup --"])
-        if [name for name in names if name not in got and name != "--it\\'s"]:
-            fail(f"completion in fish: {told['backup --']}")
-        if any(each.startswith("--help") for each in told["backup --verbose --help --"]):
-            fail(f"completion in fish offers help again: {told}")
-        if not any(each.endswith("say more") for each in told["backup --verbose --help --"]):
-            fail(f"completion in fish lost verbose: {told}")
-        print("completion in fish")
-
-
-def is_name(name):
-    return name and not name.startswith("-") and not any(c in " |[]=" or c < " " or c == "\x7f" for c in name)
+def is_short(name):
+    return len(name.encode()) == 1 and not (name in " -|[]=" or name < " " or name == "\x7f")
 
 
 def is_hint(hint):
-    return hint and not any(c in " \t[]" for c in hint)
+    return hint and not any(c in " \t[]" for c in hint) and not hint.endswith("..")
 
 
 def names_of(inside):
@@ -375,9 +300,40 @@ def names_of(inside):
         short, long = "", short
     if (space and not is_hint(hint)) or (bar and not (short and long)) or not (short or long):
         return None
-    lawful = (not short or (len(short) == 2 and short[0] == "-" and is_name(short[1:])))
-    lawful = lawful and (not long or (len(long) > 3 and long.startswith("--") and is_name(long[2:])))
+    lawful = not short or (short[0] == "-" and is_short(short[1:]))
+    lawful = lawful and (not long or (len(long) > 3 and long.startswith("--") and long[2] != "-"
+                                      and LONG_NAME.fullmatch(long[2:])))
     return [name for name in (short[1:], long[2:]) if name] if lawful else None
+
+
+def reason_of(item):
+    """What is wrong with an item that is none, by the first rule of the page that it breaks."""
+    if "[" in item and "]" not in item:
+        return OPEN
+    names, _, rest = re.match(r"(?s)([^ \]]*)([ \]]?)(.*)", item).groups()
+    if " " in rest:
+        return GAP
+    names = names.removeprefix("[")
+    if len(names) < 2 or names[0] != "-":
+        return DASHES
+    if names[1] == "-":
+        long = names[2:]
+    else:
+        short, more = names[1], names[2:]
+        if more and more[0] != "|":
+            return SHORT
+        if not is_short(short):
+            return BYTES
+        if not more:
+            return BRACKETS
+        if not more.startswith("|--"):
+            return DASHES
+        long = more[3:]
+    if len(long.encode()) < 2:
+        return LONG
+    if not LONG_NAME.fullmatch(long):
+        return BYTES
+    return DASHES if long[0] == "-" else BRACKETS
 
 
 def table_fault(table):
@@ -395,7 +351,7 @@ def table_fault(table):
                 break
         names = names_of(inside)
         if names is None:
-            return f"line {number} of the options: {item}"
+            return f"line {number} of the options: {item}: {reason_of(item)}"
         for name in names:
             if name in seen:
                 return f"line {number} of the options: the name '{name}' stands there already"
@@ -437,7 +393,6 @@ def main():
         page(program, found, room)
         beside_getopt(program)
         changed_tables(program)
-        completion(program, room)
     if failed:
         print(f"{len(failed)} failed")
         sys.exit(1)
