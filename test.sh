@@ -154,6 +154,7 @@ trap 'kill $(jobs -p) 2>/dev/null || true; rm -rf "$room"' EXIT
 
 if [ -n "$quick" ]; then
     begin "the Rust crate" bash bindings/rust/test.sh --quick "$@"
+    begin "the program by cargo" bash bindings/shell/cargo.sh 300
     begin "C" bash bindings/c/test.sh --quick
     begin "the program for shell scripts" bash tests/shell/run.sh
     if [ -x crates/getopts_refused/out/getopts_refused ] && [ -x crates/getopts_show/out/getopts_show ] &&
@@ -170,7 +171,8 @@ else
     begin "edits of the library" edits
     begin "the archives over the proved libraries, and edits over them" once getopts getopts_bytes -- over_proved
     begin "the Rust crate" bash bindings/rust/test.sh "$@"
-    begin "C" bash bindings/c/test.sh
+    begin "the program by cargo" bash bindings/shell/cargo.sh
+    begin "C" once getopts_show -- bash bindings/c/test.sh
     begin "refused memory" once getopts_refused getopts_show getopts_shell -- bash tests/memory/run.sh
     begin "the programs and the system" once getopts_show getopts_shell -- python3 tests/system/run.py
     begin "the program for shell scripts" once getopts_shell -- bash tests/shell/run.sh

@@ -147,6 +147,8 @@ FIGURES = [
      lambda: [stated("tests/differential/record.sh", r"choose 1 (\d+)")]),
     ("bindings/rust/README.md", r"Rust ([\d.]+) or later",
      lambda: re.findall(r'rust-version = "(.*)"', read("bindings/rust/Cargo.toml"))),
+    ("bindings/shell/README.md", r"Rust ([\d.]+) or later",
+     lambda: re.findall(r'rust-version = "(.*)"', read("bindings/shell/Cargo.toml"))),
     ("bench/README.md", r"holds is ([\d.]+) MB here, ([\d.]+) MB in the Rust\s+crate and ([\d.]+) MB",
      lambda: [megabytes("this library"), megabytes("Rust crate"), megabytes("bindings/rust")]),
 ]

@@ -37,7 +37,8 @@ has() {
     done
 }
 
-# The files of rows, with their answers beside them.
+# The files of rows, with their answers beside them, below `top`, which the script that sources this names.
+# shellcheck disable=SC2154
 row_files() {
     printf '%s\n' "$top"/crates/getopts_vectors/data/{rules,recorded}.rows
 }

@@ -339,7 +339,10 @@ elif check "bindings/c/install.sh" env CC="${compilers[0]}" "$here/install.sh" "
         skip "the names of the shared library: there is no nm or no readelf"
     fi
     says "what a program grows by" costs
-    check "the installation for each compiler's target" for_each_target && grep '^without' "$room/said" | sed 's/^/skipped: the installation /'
+    check "the installation for each compiler's target" for_each_target &&
+        while read -r compiler; do
+            skip "the installation for $compiler: it isn't there, or has no C library"
+        done < <(sed -n 's/^without //p' "$room/said")
     check "DESTDIR, --uninstall and --help" uninstalled
 fi
 manual() { [ -z "$(man --warnings -E UTF-8 -l "$here/getopts.3" 2>&1 >/dev/null)" ]; }

@@ -36,7 +36,7 @@ CALLS = {
     "String::new": "String::empty",
     "String::from_str": "String::copy_of",
     "Vec::new": "Vec::empty",
-    "vec![in": "list![in",
+    "vec![in alloc; 0; room]": "Vec::filled(alloc, 0, room)",
     "clone": "try_clone",
     "impl Clone for": "impl TryClone for",
 }
@@ -323,7 +323,7 @@ class Eraser:
         for at, token in enumerate(self.tokens):
             if token.text in NOT_RUST or token.kind == "other" or token.kind == "sign" and token.text not in SIGNS:
                 self.stop(at, "it isn't Rust")
-            if token.text == "in" and self.text(at - 2) == "!" and self.text(at - 3) not in ("list", "text"):
+            if token.text == "in" and self.text(at - 2) == "!" and self.text(at - 3) != "text":
                 self.stop(at, "no macro of this name takes an allocator")
 
     def written(self):

@@ -18,7 +18,7 @@ lacks() {
 }
 
 # part WHAT: says on standard error what is done next, and how long the part before took.
-doing= since=0
+doing='' since=0
 part() {
     [ -z "$doing" ] || echo "tests/memory/run.sh: $doing: $((SECONDS - since)) s" >&2
     doing=$1 since=$SECONDS

@@ -5,12 +5,14 @@
 # An edit names the function that it turns, a file, and texts that stand there once ('old') with those in their place
 # ('new'), each of one or more lines. The function is checked with those that it calls, against its contract as it
 # stands. A function that an edit adds needs an 'ensures': of one without it the prover knows nothing, so any body is
-# refused. Such an edit has also texts that are right in the same place ('right'), and with these the prover has to prove
-# the function. The edits that a line of CRATE/together names are tried in one check: none of their functions calls
-# another of them. With --all those in private/ too, which turn bodies that no public sentence speaks of. With --over the
-# edits of the static library are checked over this proved library. With --plant it plants wrong bodies in each crate
-# instead, and prints what the contracts let through. Everything is done on copies of the repository, N at once (2 if
-# left out). The last line is 'N passed, M failed'.
+# refused. Such an edit, or one that adds a way out, has also texts that are right in the same place ('right'), and with
+# these the prover has to prove the function.
+#
+# The edits that a line of CRATE/together names are tried in one check: none of their functions calls another of them.
+# The right texts of a crate are tried in one. With --all the edits in private/ are tried too, which turn bodies that no
+# public sentence speaks of. With --over the edits of the static library are checked over this proved library. With
+# --plant it plants wrong bodies in each crate instead, and prints what the contracts let through. Everything is done on
+# copies of the repository, N at once (2 if left out). The last line is 'N passed, M failed'.
 set -euo pipefail
 top=$(cd "$(dirname "$0")/../.." && pwd)
 jobs=2 over= all= plant=
@@ -134,8 +136,8 @@ edits_of() {
     fi
     find "$folder" $([ -n "$all" ] || echo -maxdepth 1) -name '*.edit' | sort | while read -r edit; do
         grep -qsw "$(basename "$edit" .edit)" "$together" || echo "try_edits new $edit"
-        ! grep -q '^right:' "$edit" || echo "try_edits right $edit"
     done
+    { grep -l '^right:' "$folder"/*.edit || true; } | xargs -r echo "try_edits right"
 }
 
 # The crates that are tried, and one line for each thing to do.

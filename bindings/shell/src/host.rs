@@ -29,7 +29,7 @@ pub mod env {
 
 /// The names of Rattle's `std::io`.
 pub mod io {
-    pub use std::io::{Result, Write};
+    pub use std::io::*;
 
     /// The standard output.
     pub fn writer(_: &super::HostRuntime) -> std::io::Stdout {
