@@ -7,7 +7,7 @@ use Rattle.getopts.specs.Matches.{Matched, matches_of}
 use Rattle.getopts.specs.Names.{Text}
 use Rattle.getopts.specs.Options.{Declared, Grammar, grammar_of}
 use Rattle.getopts.specs.Parse.{Reads}
-use Rattle.getopts.specs.Reading.{Reading, IsReading, Item, Tail, line_end, stop, rest, stop_word, item_words, spelled_all}
+use Rattle.getopts.specs.Reading.{IsReading, Item, Tail, line_end, stop, rest, stop_word, item_words, spelled_all}
 use Rattle.getopts.specs.Reading.{AreWellFollowed, EndsOrIsDashed, free_items}
 use Rattle.getopts_shell.specs.Completion.{EndsWithTheLine, OptionsComeAtTheLineEnd, is_last_after_stop}
 
