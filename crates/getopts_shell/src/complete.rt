@@ -448,27 +448,13 @@ fn push_name(
     if name.is_empty() {
         return Ok(());
     }
-    let form = format!(in *text.allocator(); "{dashes}{name}")?;
-    push_form(text, word, valued, form.as_str(), description)
-}
-
-/// Adds what is offered of a form of an option.
-fn push_form(
-    text: &mut String,
-    word: &str,
-    valued: bool,
-    form: &str,
-    description: &str,
-) -> Result<(), AllocError>
-    ensures { OnOk result (string_bytes text.new ≡ string_bytes text.old
-        ++ Spec.form_line word.now valued form.now description.now) }
-{
-    if begins_with(form, word) {
+    let mut form = format!(in *text.allocator(); "{dashes}{name}")?;
+    if begins_with(form.as_str(), word) {
         return writeln!(text, "{form}\t{description}");
     }
-    let before_value = format!(in *text.allocator(); "{form}=")?;
-    if valued && begins_with(word, before_value.as_str()) {
-        return text.push_str("value\n");
+    form.push('=')?;
+    if valued && begins_with(word, form.as_str()) {
+        text.push_str("value\n")?;
     }
     Ok(())
 }

@@ -333,7 +333,8 @@ fn push_option(
 ) -> Result<(), AllocError> {
     let valued = takes_argument(row.kind);
     push_name(text, word, valued, "--", row.long, row.description)?;
-    push_one_dash(text, long_only, word, valued, row)?;
+    let one_dash = if long_only { row.long } else { "" };
+    push_name(text, word, valued, "-", one_dash, row.description)?;
     push_name(
         text,
         word,
@@ -342,21 +343,6 @@ fn push_option(
         row.short,
         row.description,
     )
-}
-
-/// Adds what is offered of a long name after one dash, in long-only mode.
-fn push_one_dash(
-    text: &mut String,
-    long_only: bool,
-    word: &str,
-    valued: bool,
-    row: &Row<'_>,
-) -> Result<(), AllocError> {
-    if long_only {
-        push_name(text, word, valued, "-", row.long, row.description)
-    } else {
-        Ok(())
-    }
 }
 
 /// Whether a kind takes an argument.
@@ -376,24 +362,13 @@ fn push_name(
     if name.is_empty() {
         return Ok(());
     }
-    let form = text!(in *text.allocator(); "{dashes}{name}")?;
-    push_form(text, word, valued, form.as_str(), description)
-}
-
-/// Adds what is offered of a form of an option.
-fn push_form(
-    text: &mut String,
-    word: &str,
-    valued: bool,
-    form: &str,
-    description: &str,
-) -> Result<(), AllocError> {
-    if begins_with(form, word) {
+    let mut form = text!(in *text.allocator(); "{dashes}{name}")?;
+    if begins_with(form.as_str(), word) {
         return add_line!(text, "{form}\t{description}");
     }
-    let before_value = text!(in *text.allocator(); "{form}=")?;
-    if valued && begins_with(word, before_value.as_str()) {
-        return text.try_push_str("value\n");
+    form.try_push('=')?;
+    if valued && begins_with(word, form.as_str()) {
+        text.try_push_str("value\n")?;
     }
     Ok(())
 }
