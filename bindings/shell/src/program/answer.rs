@@ -4,6 +4,7 @@
 use crate::host::*;
 
 use super::complete::completion;
+use super::item::reason_of;
 use super::quote::{push_quoted, push_quoted_words};
 use super::row::Row;
 use super::table::{TableError, rows_of};
@@ -13,7 +14,7 @@ use crate::getopts::{Fail, HasArg, Matches, Options, ParsingStyle, names_resolve
 use crate::getopts_bytes::push_bytes;
 use crate::host::alloc::{AllocError, Global};
 use crate::host::io;
-use crate::host::io::Write;
+use crate::host::io::{ErrorKind, Write};
 
 /// The status where text was written for the script.
 const DONE: u8 = 0;
@@ -28,6 +29,9 @@ const MISUSED: u8 = 5;
 
 /// The line before the options in the program's own help.
 const BRIEF: &str = "Usage: getopts_shell [options] NAME TABLE [WORD]..";
+
+/// What `--version` writes.
+const VERSION: &str = "getopts_shell 0.2.24\n";
 
 /// What is written where a name or a table isn't there.
 const NEEDED: &str = "getopts_shell: a name and a table of options are needed\n";
@@ -76,7 +80,7 @@ struct Script<'s> {
 ///   variables, or that prints the script's help; with `--usage` the help itself, with `--complete` a completion script, with `--help` the program's help
 /// - 2: why the script's words are refused, and its short usage
 /// - 3: out of memory, with nothing written
-/// - 4: a write or a flush failed
+/// - 4: a write or a flush failed, and what was written is a front of the text
 /// - 5: what is wrong with the call: its own words, an unknown shell, a missing table, or a line of it
 pub fn answer<W: Write, E: Write>(alloc: Global, words: &[&str], out: &mut W, err: &mut E) -> u8 {
     match output_to(alloc, words) {
@@ -88,7 +92,8 @@ pub fn answer<W: Write, E: Write>(alloc: Global, words: &[&str], out: &mut W, er
     }
 }
 
-/// Writes an output: on `out` where the status is 0, and else on `err`.
+/// Writes an output: on `out` where the status is 0, and else on `err`. Where that fails, what was written is a
+/// front of it.
 fn write_output<W: Write, E: Write>(output: &Output, out: &mut W, err: &mut E) -> io::Result<()> {
     if output.status == DONE {
         print(out, &output.bytes)
@@ -97,10 +102,24 @@ fn write_output<W: Write, E: Write>(output: &Output, out: &mut W, err: &mut E) -
     }
 }
 
-/// Writes bytes, and flushes them.
+/// Writes bytes, and flushes them. Where that fails, what was written is a front of them.
 fn print<W: Write>(out: &mut W, bytes: &[u8]) -> io::Result<()> {
-    out.write_all(bytes)?;
-    out.flush()
+    let mut rest = bytes;
+    for _ in 0..u64::MAX {
+        if rest.is_empty() {
+            return out.flush();
+        }
+        match out.write(rest) {
+            Ok(0) => return Err(io::Error::from(ErrorKind::WriteZero)),
+            Ok(count) => rest = &rest[count..],
+            Err(error) => {
+                if error.kind() != ErrorKind::Interrupted {
+                    return Err(error);
+                }
+            }
+        }
+    }
+    Err(io::Error::from(ErrorKind::Interrupted))
 }
 
 /// What the program writes for words: the bytes of its answer's text.
@@ -159,7 +178,8 @@ fn add_own_options(options: &mut Options) -> Result<(), AllocError> {
             "write a completion script for bash, zsh or fish",
             "SHELL",
         )?
-        .optflag("h", "help", "print this help")?;
+        .optflag("h", "help", "print this help")?
+        .optflag("", "version", "print the version")?;
     Ok(())
 }
 
@@ -176,6 +196,12 @@ fn own_answer(alloc: Global, options: &Options, own: &Matches) -> Result<Outcome
     if own.opt_present("help") {
         return Ok(Outcome {
             text: options.usage(alloc, BRIEF)?,
+            status: DONE,
+        });
+    }
+    if own.opt_present("version") {
+        return Ok(Outcome {
+            text: String::copy_of(alloc, VERSION)?,
             status: DONE,
         });
     }
@@ -230,7 +256,8 @@ fn table_answer(
 fn table_refusal(alloc: Global, error: TableError<'_>) -> Result<String, AllocError> {
     match error {
         TableError::NoOption(number, item) => {
-            text!(in alloc; "getopts_shell: line {number} of the options: {item}\n")
+            let reason = reason_of(item);
+            text!(in alloc; "getopts_shell: line {number} of the options: {item}: {reason}\n")
         }
         TableError::NameTwice(number, name) => text!(in alloc;
             "getopts_shell: line {number} of the options: the name '{name}' stands there already\n"
@@ -422,9 +449,9 @@ fn offers_help(rows: &[Row<'_>]) -> bool {
 /// The code that prints the help of a script, and ends it.
 fn help_code(alloc: Global, script: Script<'_>) -> Result<String, AllocError> {
     let help = help_of(alloc, script)?;
-    let mut text = String::copy_of(alloc, "printf %s ")?;
+    let mut text = String::copy_of(alloc, "\\printf %s ")?;
     push_quoted(&mut text, help.as_str())?;
-    text.try_push_str("; exit 0\n")?;
+    text.try_push_str("; \\exit\n")?;
     Ok(text)
 }
 
@@ -471,7 +498,7 @@ fn variables_answer(
 fn line_code(alloc: Global, asked: &Asked, line: &[String]) -> Result<String, AllocError> {
     let mut text = String::empty(alloc);
     if !asked.words {
-        text.try_push_str("set -- ")?;
+        text.try_push_str("\\set -- ")?;
     }
     push_quoted_words(&mut text, line)?;
     text.try_push('\n')?;
