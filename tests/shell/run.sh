@@ -28,6 +28,7 @@ else
     skip "whether the programs are of the proved source: 'rt ci' has not built it here"
 fi
 check "the shells" python3 "$top/tests/shell/run.py" "$program" && cat "$room/said"
+check "completion in terminals" python3 "$top/tests/shell/complete.py" "$program" && cat "$room/said"
 
 # What a processor that isn't this machine's is asked: each way of calling the program, right and wrong.
 asked() {
@@ -42,6 +43,7 @@ asked() {
     each backup '[-' x
     each --usage backup "$table"
     for shell in bash zsh fish none; do each --complete "$shell" backup "$table"; done
+    each --complete-words bash backup "$table" 1 -v --in
     each backup "$table" -i "$(printf 'x%.0s' {1..100000})"
     each backup '[-v]..  say more' "$(printf -- '-%s' "$(printf 'v%.0s' {1..20000})")"
     # shellcheck disable=SC2046

@@ -1,6 +1,6 @@
 #!/usr/bin/env python3
-"""Runs the built program as a system may: words that are no text, none at all, and long ones; outputs that take
-nothing, little, or fail in the middle; little memory and little stack.
+"""Runs the built program on rows of words, and as a system may: words that are no text, none at all, and long ones;
+outputs that take nothing, little, or fail in the middle; little memory and little stack.
 
 Each run has to end with the status that the README gives, never by a signal that the system didn't send, and has
 to write what the README says. It takes the program that `rt ci` leaves in crates/getopts_show/out, or `rt run`
@@ -98,6 +98,67 @@ def between(room):
     subprocess.run([tools / "clang", *flags, HERE / "between.c", "-o", room / "between.o"], check=True)
     subprocess.run([tools / "ld.lld", "-shared", "-o", room / "between.so", room / "between.o"], check=True)
     return {"LD_PRELOAD": str(room / "between.so")}
+
+
+# Words, the text that they have, and their status: lines of counts, values and free words, then the canonical line.
+HELP = """\
+Usage: getopts_show [options] FILE
+
+Options:
+    -o, --output NAME   set output file name
+    -h, --help          print this help menu
+    -v, --verbose       say more
+    -L DIR              add a folder
+    -c, --color [WHEN]  colour the output
+"""
+
+
+def counts(output="0", verbose="0", folder="0", color="0"):
+    """The lines of the options, each as it is given."""
+    return f"output: {output}\nhelp: 0\nverbose: {verbose}\nL: {folder}\ncolor: {color}\n"
+
+
+def lines(*texts):
+    return "".join(f"{text}\n" for text in texts)
+
+
+ROWS = [
+    (["-h"], HELP, SHOWN),
+    (["-h", "x"], HELP, SHOWN),
+    (["-vo", "x", "--help", "--", "y"], HELP, SHOWN),
+    (["-h", "--nope"], "getopts_show: Unrecognized option: 'nope'\n", REFUSED),
+    (["-h", "-h"], "getopts_show: Option 'help' given more than once\n", REFUSED),
+    (["--output=x.txt", "--verbose", "in.txt"],
+     counts(output="1 @0\noutput @0 = x.txt", verbose="1 @1")
+     + lines("free: in.txt", "line: --output=x.txt", "line: --verbose", "line: --", "line: in.txt"), SHOWN),
+    (["-vvLd", "-c", "auto", "f"],
+     counts(verbose="2 @0 @0", folder="1 @0\nL @0 = d", color="1 @1\ncolor @1 = auto")
+     + lines("free: f", "line: --verbose", "line: --verbose", "line: --L=d", "line: --color=auto", "line: --",
+       "line: f"), SHOWN),
+    (["--color", "x"], counts(color="1 @0") + lines("free: x", "line: --color", "line: --", "line: x"), SHOWN),
+    (["-La", "b", "--L", "c", "-o", "", "--", "-v", ""],
+     counts(output="1 @4\noutput @4 = ", folder="2 @0 @2\nL @0 = a\nL @2 = c")
+     + lines("free: b", "free: -v", "free: ", "line: --L=a", "line: --L=c", "line: --output=", "line: --",
+       "line: b", "line: -v", "line: "), SHOWN),
+    (["-o", "x", "-v"],
+     counts(output="1 @0\noutput @0 = x", verbose="1 @2")
+     + lines("line: --output=x", "line: --verbose", "line: --"), SHOWN),
+    ([], counts() + lines("line: --"), SHOWN),
+    (["--nope"], "getopts_show: Unrecognized option: 'nope'\n", REFUSED),
+    (["-o"], "getopts_show: Argument to option 'o' missing\n", REFUSED),
+    (["--output=x", "--output", "y"], "getopts_show: Option 'output' given more than once\n", REFUSED),
+    (["-o", "x", "--output=y"], "getopts_show: Option 'output' given more than once\n", REFUSED),
+    (["--verbose=much"], "getopts_show: Option 'verbose' does not take an argument\n", REFUSED),
+    (["-vé"], "getopts_show: Unrecognized option: 'é'\n", REFUSED),
+    (["x", "--L"], "getopts_show: Argument to option 'L' missing\n", REFUSED),
+]
+
+
+def rows():
+    """Each row, and one of many words."""
+    many = counts() + "free: free\n" * 200 + "line: --\n" + "line: free\n" * 200
+    for words, text, status in [*ROWS, (["free"] * 200, many, SHOWN)]:
+        ends(f"words {words[:9]}", run(words), status, text.encode())
 
 
 def words_that_are_no_text():
@@ -314,7 +375,7 @@ def main():
     with tempfile.TemporaryDirectory() as folder:
         room = pathlib.Path(folder)
         preload = between(room)
-        parts = [(large_words, preload), (little_memory, preload), (writes_that_take_little_or_fail, preload),
+        parts = [(rows,), (large_words, preload), (little_memory, preload), (writes_that_take_little_or_fail, preload),
                  (words_that_are_no_text,), (no_words, preload), (outputs_that_take_nothing,),
                  (a_file_of_so_many_bytes, room), (little_stack,), (the_static_program, room)]
         with concurrent.futures.ProcessPoolExecutor(4) as apart:

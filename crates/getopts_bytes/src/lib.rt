@@ -60,6 +60,7 @@ pub fn push_text(text: &mut String, word: &[u8]) -> Result<(), AllocError>
 }
 
 /// Adds the bytes of a text.
+#[inline]
 pub fn push_bytes(bytes: &mut Vec<u8>, text: &str) -> Result<(), AllocError>
     ensures { OnOk result (bytes.new.items ≡ bytes.old.items ++ bytes_of text.now) }
 {
@@ -70,11 +71,20 @@ pub fn push_bytes(bytes: &mut Vec<u8>, text: &str) -> Result<(), AllocError>
     }
 }
 
-/// Whether a text holds a mark.
+/// Whether a text holds a mark. ASCII, which most words are, holds none.
+#[inline(always)]
 fn has_marks(text: &str) -> bool
     ensures { result ≡ list_any is_mark (chars text.now) }
 {
-    !text.is_ascii() && text.chars().any(is_mark)
+    !text.is_ascii() && any_is_mark(text)
+}
+
+/// Whether one of the characters of a text is a mark.
+#[inline(never)]
+fn any_is_mark(text: &str) -> bool
+    ensures { result ≡ list_any is_mark (chars text.now) }
+{
+    text.chars().any(is_mark)
 }
 
 /// Whether a character is a mark.
@@ -139,6 +149,7 @@ fn push_mark(text: &mut String, byte: u8) -> Result<(), AllocError>
 }
 
 /// Adds the bytes of a text, character by character.
+#[inline(never)]
 fn push_chars(bytes: &mut Vec<u8>, text: &str) -> Result<(), AllocError>
     ensures { OnOk result (bytes.new.items ≡ bytes.old.items ++ bytes_of text.now) }
 {

@@ -41,7 +41,7 @@ pub never_offered : (options : Declared) (words : List Text) → offers_help opt
 never_offered options words none = (λ bad. cc, λ asks. absurd (false≢true (sym none ∙ asks.2)))
 
 -- words have the matches of one reading
-one_reading : (options : Declared) (words : List Text) (matches others : Matched)
+pub one_reading : (options : Declared) (words : List Text) (matches others : Matched)
     → HasReading options words matches → HasReading options words others → others ≡ matches
 one_reading options words matches others is also =
     let same = (is.only also.reading).0 ((also.only also.reading).1 refl) in
@@ -58,12 +58,17 @@ asked_is options words matches asked read offers is = (
       (sym (one_reading options words matches asks.0 read asks.1)) ∙ asks.3,
 )
 
+-- words that have no reading have no matches of one
+pub never_read : (options : Declared) (words : List Text) (matches : Matched) (fault : Fault)
+    → HasNoReading options words fault → ¬ (HasReading options words matches)
+never_read options words matches fault none read = none.no_reading read.reading ((read.only read.reading).1 refl)
+
 -- words that have no reading don't ask for help
 pub never_asked : (options : Declared) (words : List Text) (fault : Fault)
     → HasNoReading options words fault → (false ≡ true) ↔ AskHelp options words
 never_asked options words fault none = (
   λ bad. cc,
-  λ asks. absurd (none.no_reading asks.1.reading ((asks.1.only asks.1.reading).1 refl)),
+  λ asks. absurd (never_read options words asks.0 fault none asks.1),
 )
 
 -- what a refusal tells, unless it tells that memory was refused

@@ -8,6 +8,10 @@ mod Plain
 mod Help
 mod Line
 mod Status
+-- words in quotes, as each shell reads them
+mod Stubs
+-- one thing is offered at a word
+mod Offers
 mod Fronts
 mod Shell
 mod Assignments

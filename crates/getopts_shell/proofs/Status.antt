@@ -1,10 +1,12 @@
 -- The statuses of answers.
-use Rattle.std.proofs.Common.{◌≢◌, ◌≤◌, ℕ, List, [], ◌∷◌, sym, subst, arith}
+use Rattle.std.proofs.Common.{◌≢◌, ◌≤◌, ℕ, List, [], ◌∷◌, Option, Some, None, sym, subst, arith}
+use Rattle.std.specs.Option.{option_map_or}
 use Rattle.getopts.specs.Names.{Text}
 use Rattle.getopts.specs.Options.{Declared}
-use Rattle.getopts_shell.specs.Program.{Answer, Asked, AnswersCompletion, script, no_script}
-use Rattle.getopts_shell.specs.Program.{AnswersScript, usage, completion, help, accepted, variables, refused}
-use Rattle.getopts_shell.specs.Program.{faulty, no_variables, declared, AnswersFree, IsStatus}
+use Rattle.getopts_shell.specs.Completion.{stub}
+use Rattle.getopts_shell.specs.Program.{Answer, Asked, done, misused, no_completion, AnswersPlace, AnswersNumbered, AnswersOffer, at_place, no_shell, offered, no_place}
+use Rattle.getopts_shell.specs.Program.{AnswersScript, usage, offers, help, accepted, variables, refused}
+use Rattle.getopts_shell.specs.Program.{faulty, completion, no_variables, declared, AnswersFree, IsStatus}
 use Rattle.getopts_shell.specs.Program.{IsAnswer, refused_own, own_help, own_version, accepted_own}
 
 -- the status of an answer: 0, 2 or 5
@@ -24,14 +26,29 @@ is_refused = by_status 2 (omega arith) (λ is. absurd (omega arith)) (λ is. abs
 is_misused : AnswersBy 5
 is_misused = by_status 5 (omega arith) (λ is. absurd (omega arith)) (λ is. absurd (omega arith))
 
-of_completion : {shell : Text} {answer : Answer} → AnswersCompletion shell answer → AnswersBy answer.status
-of_completion (script text has) = is_done
-of_completion (no_script none) = is_misused
+of_completion : (fault : Text) (code : Option Text) → AnswersBy (option_map_or done code (misused fault)).status
+of_completion fault (Some text) = is_done
+of_completion fault None = is_misused
+
+of_place : {options : Declared} {number : Text} {words : List Text} {answer : Answer}
+    → AnswersPlace options number words answer → AnswersBy answer.status
+of_place (offered place text writes within is) = is_done
+of_place (no_place none) = is_misused
+
+of_numbered : (options : Declared) (words : List Text) (answer : Answer)
+    → AnswersNumbered options words answer → AnswersBy answer.status
+of_numbered options [] answer is = of_place is
+of_numbered options (number ∷ words) answer is = of_place is
+
+of_offer : {shell : Text} {options : Declared} {words : List Text} {answer : Answer}
+    → AnswersOffer shell options words answer → AnswersBy answer.status
+of_offer {options = options} {words = words} (at_place answer has is) = of_numbered options words answer is
+of_offer (no_shell none) = is_misused
 
 of_script : {asked : Asked} {name : Text} {options : Declared} {words : List Text} {answer : Answer}
     → AnswersScript asked name options words answer → AnswersBy answer.status
 of_script (usage text given is) = is_done
-of_script (completion shell answer none given is) = of_completion is
+of_script (offers shell answer none given is) = of_offer is
 of_script (help text reads asks is commands) = is_done
 of_script (accepted line reads none plain is) = is_done
 of_script (variables prefix matches reads none by is sets) = is_done
@@ -42,8 +59,10 @@ of_free : (asked : Asked) (words : List Text) (answer : Answer) → AnswersFree 
 of_free asked [] answer is = subst (λ (a : Answer). AnswersBy a.status) (sym is) is_misused
 of_free asked (name ∷ []) answer is = subst (λ (a : Answer). AnswersBy a.status) (sym is) is_misused
 of_free asked (name ∷ table ∷ words) answer (faulty fault is) = is_misused
-of_free asked (name ∷ table ∷ words) answer (no_variables groups fault are is) = is_misused
-of_free asked (name ∷ table ∷ words) answer (declared groups other are fits is) = of_script is
+of_free asked (name ∷ table ∷ words) answer (completion groups shell are given) =
+    of_completion (no_completion shell) (stub shell asked.stop asked.long_only name table)
+of_free asked (name ∷ table ∷ words) answer (no_variables groups fault are none is) = is_misused
+of_free asked (name ∷ table ∷ words) answer (declared groups other are none fits is) = of_script is
 
 -- each answer has one of these
 pub answers_by : (words : List Text) (answer : Answer) → IsAnswer words answer → AnswersBy answer.status

@@ -50,6 +50,7 @@ asked_of asked = record {
   words = asked.words;
   usage = asked.usage;
   complete = option_map string_bytes asked.complete;
+  complete_words = option_map string_bytes asked.complete_words;
   variables = option_map string_bytes asked.variables;
   arrays = asked.arrays;
 }

@@ -4,6 +4,8 @@
 pub mod Quote
 -- the table of options
 pub mod Table
+-- what completes a script's words
+pub mod Completion
 -- options as variables: what a shell does with commands, and the text that sets them
 pub mod Variables
 -- what the program answers

@@ -1,9 +1,9 @@
 -- The program: what it answers to words, and with which status.
 use Rattle.std.specs.Prelude.{◌≡◌, ◌≢◌, ◌≤◌, ◌&&◌, ◌||◌, ℕ, Bool, true, false, List, [], ◌∷◌, ◌++◌, Option}
-use Rattle.std.specs.Prelude.{Some, None, codes, decimal, if◌then◌else◌, ◌⊎◌}
+use Rattle.std.specs.Prelude.{Some, None, codes, decimal, if◌then◌else◌, length, take}
 use Rattle.std.specs.Io.KnownBytes.{Appends}
 use Rattle.std.specs.List.{AllByRecursion, list_any}
-use Rattle.std.specs.Option.{option_and_then, unwrap_or}
+use Rattle.std.specs.Option.{option_and_then, option_map_or, unwrap_or}
 use Rattle.std.specs.Str.{bytes_eq}
 use Rattle.getopts.specs.Accessors.{first_value, found_of, is_present}
 use Rattle.getopts.specs.Canon.{HasCanonicalLine, canonical_word}
@@ -20,6 +20,7 @@ use Rattle.getopts.specs.declared.groups.HasArg.{HasArg}
 use Rattle.getopts.specs.declared.groups.HasArg.TheVariants.{Yes, No}
 use Rattle.getopts.specs.declared.groups.Occur.TheVariants.{Optional}
 use Rattle.getopts.specs.declared.groups.ParsingStyle.TheVariants.{FloatingFrees, StopAtFirstFree}
+use Rattle.getopts_shell.specs.Completion.{IsOffer, WritesNumber, stub, word_at}
 use Rattle.getopts_bytes.specs.Marks.{bytes_of}
 use Rattle.getopts_shell.specs.Quote.{AreCommands, quoted, quoted_words, shell_words}
 use Rattle.getopts_shell.specs.Table.{DeclaresOptions, IsTableFault, TableFault, no_option, name_twice, reason_of}
@@ -39,6 +40,8 @@ own_groups =
     ∷ group_of (codes "A") (codes "arrays") (codes "with --variables, make an array of values") [] No Optional
     ∷ group_of (codes "u") (codes "usage") (codes "write the help of TABLE") [] No Optional
     ∷ group_of (codes "c") (codes "complete") (codes "write a completion script for bash, zsh or fish")
+    (codes "SHELL") Yes Optional
+    ∷ group_of [] (codes "complete-words") (codes "write what may come at word N, where the WORDs are N and words")
     (codes "SHELL") Yes Optional
     ∷ group_of (codes "h") (codes "help") (codes "print this help") [] No Optional
     ∷ group_of [] (codes "version") (codes "print the version") [] No Optional
@@ -64,6 +67,7 @@ pub record Asked : Type 0 where
   pub words : Bool
   pub usage : Bool
   pub complete : Option Text
+  pub complete_words : Option Text
   pub variables : Option Text
   pub arrays : Bool
 
@@ -76,13 +80,14 @@ asked_by own = record {
   words = is_given own (codes "words");
   usage = is_given own (codes "usage");
   complete = value_given own (codes "complete");
+  complete_words = value_given own (codes "complete-words");
   variables = value_given own (codes "variables");
   arrays = is_given own (codes "arrays");
 }
 
--- a script's words are read: neither its help nor its completion is asked for
+-- a script's words are read: neither its help nor what may come is asked for
 abbrev pub ReadsWords : Asked → Type 0
-ReadsWords asked = (asked.usage ≡ false) × (asked.complete ≡ None)
+ReadsWords asked = (asked.usage ≡ false) × (asked.complete_words ≡ None)
 
 -- ---- answers
 
@@ -182,29 +187,52 @@ pub record TellsWords (asked : Asked) (options : Declared) (words line : List Te
   pub reads_back : HasCanonicalLine options written.content
   pub stop_is_first : AllByRecursion (λ m. canonical_word options.groups m ≢ stop_word) written.content.mentions
 
--- whether there are completion scripts for a shell
+-- whether there is completion in a shell
 abbrev pub has_completion : Text → Bool
 has_completion shell = bytes_eq shell (codes "bash") || bytes_eq shell (codes "zsh")
     || bytes_eq shell (codes "fish")
 
--- what is said where there are none
+-- what is said where there is none
 abbrev pub no_completion : Text → Text
 no_completion shell = codes "getopts_shell: no completion for '" ++ (shell ++ codes "'\n")
 
--- the answer of a completion script, of whose text nothing is said, or that there is none for this shell
-pub data AnswersCompletion (shell : Text) : Answer → Type 0 where
-  script : (text : Text) → has_completion shell ≡ true → AnswersCompletion shell (done text)
-  no_script : has_completion shell ≡ false → AnswersCompletion shell (misused (no_completion shell))
+-- the code that completes a script's words in a shell, or that there is none for it
+abbrev pub completion_answer : Asked → Text → Text → Text → Answer
+completion_answer asked shell name table =
+    option_map_or done (stub shell asked.stop asked.long_only name table) (misused (no_completion shell))
 
--- The answer for a script with these options: its help, its completion script, or what its words are. That
+-- what is said of a number that no word has
+abbrev pub no_word : Text → Text
+no_word number = codes "getopts_shell: no word has the number '" ++ (number ++ codes "'\n")
+
+-- What may come at the word with this number, of which 0 is the first and the highest stands after the last.
+pub data AnswersPlace (options : Declared) (number : Text) (words : List Text) : Answer → Type 0 where
+  offered : (place : ℕ) (text : Text) → WritesNumber number place → place ≤ length words
+      → IsOffer options (take place words) (word_at words place) text
+      → AnswersPlace options number words (done text)
+  no_place : ((place : ℕ) → WritesNumber number place → ¬ (place ≤ length words))
+      → AnswersPlace options number words (misused (no_word number))
+
+-- the same, where the number stands before the words; a number that isn't there is no number
+abbrev pub AnswersNumbered : Declared → List Text → Answer → Type 0
+AnswersNumbered options (number ∷ words) answer = AnswersPlace options number words answer
+AnswersNumbered options [] answer = AnswersPlace options [] [] answer
+
+-- the answer to a shell that asks what may come at a word, if there is completion in it
+pub data AnswersOffer (shell : Text) (options : Declared) (words : List Text) : Answer → Type 0 where
+  at_place : (answer : Answer) → has_completion shell ≡ true → AnswersNumbered options words answer
+      → AnswersOffer shell options words answer
+  no_shell : has_completion shell ≡ false → AnswersOffer shell options words (misused (no_completion shell))
+
+-- The answer for a script with these options: its help, what may come at a word, or what its words are. That
 -- is the code that prints its help where they ask for it, and else their canonical line, the code that sets
 -- variables, or the first fault.
 pub data AnswersScript (asked : Asked) (name : Text) (options : Declared) (words : List Text)
     : Answer → Type 0 where
   usage : (help : Text) → asked.usage ≡ true → IsHelp asked name options help
       → AnswersScript asked name options words (done help)
-  completion : (shell : Text) (answer : Answer) → asked.usage ≡ false → asked.complete ≡ Some shell
-      → AnswersCompletion shell answer → AnswersScript asked name options words answer
+  offers : (shell : Text) (answer : Answer) → asked.usage ≡ false → asked.complete_words ≡ Some shell
+      → AnswersOffer shell options words answer → AnswersScript asked name options words answer
   help : (help : Text) → ReadsWords asked → AskHelp options words → IsHelp asked name options help
       → AreCommands (help_code help) (codes "printf" ∷ codes "%s" ∷ help ∷ []) (codes "exit" ∷ [])
       → AnswersScript asked name options words (done (help_code help))
@@ -219,15 +247,18 @@ pub data AnswersScript (asked : Asked) (name : Text) (options : Declared) (words
       → IsRefused options words fault → AnswersScript asked name options words
       (record { text = refused_text options name fault; status = 2 })
 
--- The answer to a script's name, its table and its words: the fault of the table or of its variables, or
--- that for its options.
+-- The answer to a script's name, its table and its words: the fault of the table, the code that completes the
+-- words, the fault of the table's variables, or the answer for the table's options.
 pub data AnswersTable (asked : Asked) (name table : Text) (words : List Text) : Answer → Type 0 where
   faulty : (fault : TableFault) → IsTableFault table fault
       → AnswersTable asked name table words (misused (table_fault_line fault))
+  completion : (groups : List Group) (shell : Text) → DeclaresOptions table groups
+      → asked.complete ≡ Some shell
+      → AnswersTable asked name table words (completion_answer asked shell name table)
   no_variables : (groups : List Group) (fault : VariableFault) → DeclaresOptions table groups
-      → asked_fault asked table groups ≡ Some fault
+      → asked.complete ≡ None → asked_fault asked table groups ≡ Some fault
       → AnswersTable asked name table words (misused (variable_fault_line fault))
-  declared : (groups : List Group) (answer : Answer) → DeclaresOptions table groups
+  declared : (groups : List Group) (answer : Answer) → DeclaresOptions table groups → asked.complete ≡ None
       → asked_fault asked table groups ≡ None
       → AnswersScript asked name (script_options asked groups) words answer
       → AnswersTable asked name table words answer
@@ -252,21 +283,10 @@ pub data IsAnswer (words : List Text) : Answer → Type 0 where
       → is_given own (codes "help") ≡ false → is_given own (codes "version") ≡ false → AnswersFree (asked_by own) own.free answer
       → IsAnswer words answer
 
--- The words ask for a completion script, and for neither help nor the version.
-pub record AskCompletion (words : List Text) : Type 0 where
-  pub own : Matched
-  pub accepted : IsAccepted own_options words own
-  pub no_help : is_given own (codes "help") ≡ false
-  pub no_version : is_given own (codes "version") ≡ false
-  pub no_usage : (asked_by own).usage ≡ false
-  pub shell : Text
-  pub asked : (asked_by own).complete ≡ Some shell
-
--- words have one status and one text, but for the text of a completion script that they ask for
+-- words have one answer: one status and one text
 abbrev pub OneAnswer : Type 0
 OneAnswer = (words : List Text) (answer other : Answer) → IsAnswer words answer → IsAnswer words other
-    → (other.status ≡ answer.status)
-    × ((other.text ≡ answer.text) ⊎ ((answer.status ≡ 0) × AskCompletion words))
+    → other ≡ answer
 
 -- ---- statuses
 

@@ -1,246 +1,84 @@
-//! Completion scripts for bash, zsh and fish.
+//! What completes a script's words: the code for bash, zsh and fish, and what it is answered.
 
-ghost use Rattle.std.specs.Prelude.{◌≡◌, IfOk};
-ghost use Rattle.std.specs.Option.{is_some};
-ghost use Rattle.getopts_shell.specs.Program.{has_completion};
+ghost use Rattle.std.specs.Prelude.{◌≡◌, ◌++◌, ◌∷◌, [], Option, Some, IfOk, OnOk, MatchOption, codes, map};
+ghost use Rattle.std.specs.Prelude.{if◌then◌else◌, nat_eq, length, take, ℕ, ◌≤◌};
+ghost use Rattle.getopts.specs.Wrap.{parting};
+ghost use Rattle.getopts_shell.specs.Quote.{quoted};
+ghost use Rattle.std.specs.List.{flat_map, starts_with};
+ghost use Rattle.std.specs.Option.{option_map};
+ghost use Rattle.std.specs.String.{string_bytes};
+ghost use Rattle.getopts.specs.Accessors.{is_present};
+ghost use Rattle.getopts.specs.Fail.{Fault, fault_of};
+ghost use Rattle.getopts.specs.Matches.{Matched};
+ghost use Rattle.getopts.specs.Names.{Names, Text, main_name, texts};
+ghost use Rattle.getopts.specs.Reading.{begins_with_dash, stop_word};
+ghost use Rattle.getopts_shell.specs.Completion as Spec;
+ghost use Rattle.getopts_shell.specs.Held.{group_of_row, groups_of};
 
 use crate::quote::push_quoted;
 use crate::row::Row;
-use getopts::{HasArg, Occur};
+use getopts::{Fail, HasArg, Matches, Occur, Options};
 use std::alloc::{AllocError, Global};
 
-/// What completes the words of each script in bash, by the lines of its options.
-const BASH: &str = r#"declare -gA _getopts_shell_options
-_getopts_shell() {
-    local rows=${_getopts_shell_options[${1##*/}]} cur=$2 want= word letter short long takes times about
-    local -A takes_of=() main_of=() given=()
-    local -a found=() abouts=()
-    COMPREPLY=()
-    while IFS=' ' read -r short long takes times about; do
-        takes_of[-$short]=$takes main_of[-$short]=$long/$short
-        takes_of[--$long]=$takes main_of[--$long]=$long/$short
-    done <<<"$rows"
-    for word in "${COMP_WORDS[@]:1:COMP_CWORD-1}"; do
-        if [[ $word == = ]]; then want=yes; continue; fi
-        if [[ $want ]]; then want=; continue; fi
-        case $word in
-        --) return ;;
-        --*) given[/${main_of[$word]}]=yes want=${takes_of[$word]#maybe} want=${want#no} ;;
-        -?*)
-            word=${word#-}
-            while [[ $word ]]; do
-                letter=-${word:0:1} word=${word:1}
-                given[/${main_of[$letter]}]=yes
-                case ${takes_of[$letter]} in
-                yes) [[ $word ]] || want=yes; word= ;;
-                maybe) word= ;;
-                esac
-            done
-            ;;
-        esac
+/// What offers words in bash: it reads the words up to the cursor, asks the program, and shows the descriptions
+/// where several options fit.
+const BASH: &str = r#"_getopts_shell_offer() {
+    local line=${COMP_LINE:0:COMP_POINT} words=() at=-1 word rest
+    for word in "${COMP_WORDS[@]:0:COMP_CWORD+1}"; do
+        rest=${line#"${line%%[![:space:]]*}"}
+        if [[ $at == -1 || $rest != "$line" ]]; then at=$((at + 1)); fi
+        words[at]+=${rest:0:${#word}} line=${rest:${#word}}
     done
-    if [[ $want || $cur != -* ]]; then return; fi
-    while IFS=' ' read -r short long takes times about; do
-        if [[ -z $takes || ( $times == once && ${given[/$long/$short]} ) ]]; then continue; fi
-        for word in "--$long" "-$short"; do
-            if [[ $word == "$cur"* && $word != -- && $word != --- ]]; then
-                found+=("$word") abouts+=("$about")
-            fi
-        done
-    done <<<"$rows"
-    if [[ ${#found[@]} -eq 1 || $COMP_TYPE == 37 || $COMP_TYPE == 42 ]]; then
-        COMPREPLY=("${found[@]}")
-    else
-        for letter in "${!found[@]}"; do
-            COMPREPLY+=("${found[letter]}  (${abouts[letter]})")
-        done
-    fi
+    mapfile -t COMPREPLY < <("${@:2}" "$((at - 1))" "${words[@]:1}" 2>/dev/null)
+    if [[ ${COMPREPLY-} == [fv]* ]]; then COMPREPLY=(); compopt -o default; fi
+    line=${words[at]%"$1"}
+    for at in "${!COMPREPLY[@]}"; do
+        rest=${COMPREPLY[at]#*$'\t'} word=${COMPREPLY[at]%%$'\t'*}
+        if [[ ${#COMPREPLY[@]} == 1 || $COMP_TYPE == 37 || $COMP_TYPE == 42 ]]; then rest=; fi
+        COMPREPLY[at]=${word#"$line"}${rest:+  ($rest)}
+    done
 }
 "#;
 
-/// What completes the words of each script in zsh, by the lines of its options.
-const ZSH: &str = r#"typeset -gA _getopts_shell_options
-_getopts_shell() {
-    local rows=${_getopts_shell_options[${words[1]:t}]} want= word letter short long takes times about
-    local -A takes_of main_of given
-    local -a found
-    while IFS=' ' read -r short long takes times about; do
-        takes_of[-$short]=$takes main_of[-$short]=$long/$short
-        takes_of[--$long]=$takes main_of[--$long]=$long/$short
-    done <<<"$rows"
-    for word in "${(@)words[2,CURRENT-1]}"; do
-        if [[ -n $want ]]; then want=; continue; fi
-        case $word in
-        (--) _files; return ;;
-        (--*=*) word=${word%%=*}; given[/$main_of[$word]]=yes ;;
-        (--*) given[/$main_of[$word]]=yes; want=${takes_of[$word]#maybe} want=${want#no} ;;
-        (-?*)
-            word=${word#-}
-            while [[ -n $word ]]; do
-                letter=-$word[1] word=$word[2,-1]
-                given[/$main_of[$letter]]=yes
-                case $takes_of[$letter] in
-                (yes) [[ -n $word ]] || want=yes; word= ;;
-                (maybe) word= ;;
-                esac
-            done
-            ;;
-        esac
-    done
-    if [[ -n $want || $PREFIX != -* ]]; then _files; return; fi
-    if [[ $PREFIX == --*=* ]]; then compset -P '*='; _files; return; fi
-    while IFS=' ' read -r short long takes times about; do
-        if [[ -z $takes || ( $times == once && -n $given[/$long/$short] ) ]]; then continue; fi
-        for word in "--$long" "-$short"; do
-            if [[ $word != -- && $word != --- ]]; then found+=("${word//:/\\:}:$about"); fi
-        done
-    done <<<"$rows"
-    _describe -o option found
+/// What offers words in zsh.
+const ZSH: &str = r#"_getopts_shell_offer() {
+    local -a offers
+    offers=("${(@f)$("$@" "$((CURRENT - 2))" "${(@Q)words[2,CURRENT-1]}" "$PREFIX" 2>/dev/null)}")
+    case $offers[1] in
+    (files) _files ;;
+    (value) compset -P 1 '*='; _files ;;
+    (-*)
+        offers=("${(@)${(@)${(@)offers%$'\t'}//\\/\\\\}//:/\\:}")
+        offers=("${(@)offers/$'\t'/:}")
+        _describe -o option offers
+        ;;
+    esac
 }
 "#;
 
-/// The completion script of a script with this name and these options, if the shell is one of three.
-pub(crate) fn completion(
-    alloc: Global,
-    shell: &str,
-    name: &str,
-    rows: &[Row<'_>],
-) -> Result<Option<String>, AllocError>
-    ensures { IfOk result (λ text. is_some text ≡ has_completion shell.now) }
+/// What offers words in fish.
+const FISH: &str = r#"function _getopts_shell_offer
+    set -l before (commandline -opc); set -e before[1]
+    set -l word (commandline -ct)
+    set -l offers (command $argv (count $before) $before "$word" 2>/dev/null)
+    switch "$offers[1]"
+        case files; __fish_complete_path "$word"
+        case value
+            set -l parts (string split -m 1 = -- "$word")
+            for path in (__fish_complete_path "$parts[2]"); printf '%s=%s\n' $parts[1] $path; end
+        case '-*'; printf '%s\n' $offers
+    end
+end
+"#;
+
+/// Adds a word in quotes, as each of the three shells reads it: a quote and a backslash stand outside quotes,
+/// behind a backslash.
+fn push_stub_quoted(text: &mut String, word: &str) -> Result<(), AllocError>
+    ensures { OnOk result (string_bytes text.new ≡ string_bytes text.old ++ Spec.stub_quoted word.now) }
 {
-    let mut text = String::new(alloc);
-    if shell == "bash" {
-        push_bash(&mut text, name, rows)?;
-    } else if shell == "zsh" {
-        push_zsh(&mut text, name, rows)?;
-    } else if shell == "fish" {
-        push_fish(&mut text, name, rows)?;
-    } else {
-        return Ok(None);
-    }
-    Ok(Some(text))
-}
-
-/// Adds the completion script for bash.
-fn push_bash(text: &mut String, name: &str, rows: &[Row<'_>]) -> Result<(), AllocError> {
-    text.push_str(BASH)?;
-    text.push_str("_getopts_shell_name=")?;
-    push_quoted(text, name)?;
-    text.push_str("\n_getopts_shell_options[$_getopts_shell_name]=")?;
-    push_lines(text, rows)?;
-    text.push_str("\ncomplete -o default -F _getopts_shell -- ")?;
-    push_quoted(text, name)?;
-    text.push('\n')
-}
-
-/// Adds the completion script for zsh.
-fn push_zsh(text: &mut String, name: &str, rows: &[Row<'_>]) -> Result<(), AllocError> {
-    text.push_str(ZSH)?;
-    text.push_str("_getopts_shell_options+=(")?;
-    push_quoted(text, name)?;
-    text.push(' ')?;
-    push_lines(text, rows)?;
-    text.push_str(")\ncompdef _getopts_shell ")?;
-    push_quoted(text, name)?;
-    text.push('\n')
-}
-
-/// Adds the lines of options, in quotes.
-fn push_lines(text: &mut String, rows: &[Row<'_>]) -> Result<(), AllocError> {
-    let mut lines = String::new(*text.allocator());
-    for row in rows {
-        push_line(&mut lines, row)?;
-    }
-    push_quoted(text, lines.as_str())
-}
-
-/// Adds the line of an option: its short and its long name, or `-`, what it takes, how often it may come,
-/// and its description.
-fn push_line(lines: &mut String, row: &Row<'_>) -> Result<(), AllocError> {
-    let short = name_or_dash(row.short);
-    let long = name_or_dash(row.long);
-    let takes = match row.kind {
-        HasArg::Yes => "yes",
-        HasArg::No => "no",
-        HasArg::Maybe => "maybe",
-    };
-    let times = match row.occurrence {
-        Occur::Multi => "many",
-        _ => "once",
-    };
-    let description = row.description;
-    writeln!(lines, "{short} {long} {takes} {times} {description}")
-}
-
-/// A name, or `-` where there is none.
-fn name_or_dash(name: &str) -> &str {
-    if name.is_empty() { "-" } else { name }
-}
-
-/// Adds the completion script for fish.
-fn push_fish(text: &mut String, name: &str, rows: &[Row<'_>]) -> Result<(), AllocError> {
-    for row in rows {
-        push_fish_option(text, name, row)?;
-    }
-    Ok(())
-}
-
-/// Adds the line that completes an option in fish.
-fn push_fish_option(text: &mut String, name: &str, row: &Row<'_>) -> Result<(), AllocError> {
-    text.push_str("complete -c ")?;
-    push_fish_quoted(text, name)?;
-    push_fish_names(text, " -s ", " -l ", row)?;
-    push_fish_takes(text, row.kind)?;
-    push_fish_times(text, row)?;
-    text.push_str(" -d ")?;
-    push_fish_quoted(text, row.description)?;
-    text.push('\n')
-}
-
-/// Adds what tells fish that an option needs an argument.
-fn push_fish_takes(text: &mut String, kind: HasArg) -> Result<(), AllocError> {
-    if kind == HasArg::Yes {
-        text.push_str(" -r")?;
-    }
-    Ok(())
-}
-
-/// Adds what tells fish when to offer an option: always, or where it isn't there yet.
-fn push_fish_times(text: &mut String, row: &Row<'_>) -> Result<(), AllocError> {
-    if row.occurrence == Occur::Multi {
-        return Ok(());
-    }
-    let mut condition = String::from_str(*text.allocator(), "not __fish_contains_opt")?;
-    push_fish_names(&mut condition, " -s ", " ", row)?;
-    text.push_str(" -n ")?;
-    push_fish_quoted(text, condition.as_str())
-}
-
-/// Adds the names of an option, each after its mark.
-fn push_fish_names(
-    text: &mut String,
-    short: &str,
-    long: &str,
-    row: &Row<'_>,
-) -> Result<(), AllocError> {
-    push_fish_name(text, short, row.short)?;
-    push_fish_name(text, long, row.long)
-}
-
-/// Adds a name after its mark, if there is one.
-fn push_fish_name(text: &mut String, mark: &str, name: &str) -> Result<(), AllocError> {
-    if name.is_empty() {
-        return Ok(());
-    }
-    text.push_str(mark)?;
-    push_fish_quoted(text, name)
-}
-
-/// Adds a word in quotes for fish, where a backslash has to stand outside quotes.
-fn push_fish_quoted(text: &mut String, word: &str) -> Result<(), AllocError> {
     let mut begun = false;
     for part in word.split('\\') {
-        push_fish_part(text, begun, part)?;
+        push_part(text, begun, part)?;
         begun = true;
     }
     Ok(())
@@ -248,7 +86,413 @@ fn push_fish_quoted(text: &mut String, word: &str) -> Result<(), AllocError> {
 
 /// Adds a part of a word that holds no backslash in quotes, after a backslash where another part stands before
 /// it.
-fn push_fish_part(text: &mut String, begun: bool, part: &str) -> Result<(), AllocError> {
+fn push_part(text: &mut String, begun: bool, part: &str) -> Result<(), AllocError>
+    ensures { OnOk result (string_bytes text.new
+        ≡ string_bytes text.old ++ (parting begun (codes "\\\\") ++ quoted part.now)) }
+{
     text.push_str(if begun { "\\\\" } else { "" })?;
     push_quoted(text, part)
+}
+
+/// The mark of a name in names of functions.
+fn name_mark(alloc: Global, name: &str) -> Result<String, AllocError>
+    ensures { IfOk result (λ text. string_bytes text ≡ Spec.name_mark name.now) }
+{
+    let mut text = String::new(alloc);
+    let bytes = name.as_bytes();
+    for byte in bytes {
+        let number = *byte;
+        write!(text, "_{number}")?;
+    }
+    Ok(text)
+}
+
+/// A word in quotes.
+fn stub_quoted(alloc: Global, word: &str) -> Result<String, AllocError>
+    ensures { IfOk result (λ text. string_bytes text ≡ Spec.stub_quoted word.now) }
+{
+    let mut text = String::new(alloc);
+    push_stub_quoted(&mut text, word)?;
+    Ok(text)
+}
+
+/// The call that offers words for a script.
+fn offer_call(
+    alloc: Global,
+    shell: &str,
+    stop: bool,
+    long_only: bool,
+    name: &str,
+    table: &str,
+) -> Result<String, AllocError>
+    ensures { IfOk result (λ text. string_bytes text
+        ≡ Spec.offer_call shell.now stop long_only name.now table.now) }
+{
+    let mut text = String::from_str(alloc, "getopts_shell ")?;
+    text.push_str(if stop { "--stop " } else { "" })?;
+    text.push_str(if long_only { "--long-only " } else { "" })?;
+    text.push_str("--complete-words ")?;
+    text.push_str(shell)?;
+    text.push(' ')?;
+    push_stub_quoted(&mut text, name)?;
+    text.push(' ')?;
+    push_stub_quoted(&mut text, table)?;
+    Ok(text)
+}
+
+/// The code that completes the words of a script, if there is one for the shell.
+pub(crate) fn stub(
+    alloc: Global,
+    shell: &str,
+    stop: bool,
+    long_only: bool,
+    name: &str,
+    table: &str,
+) -> Result<Option<String>, AllocError>
+    ensures { IfOk result (λ text. option_map string_bytes text
+        ≡ Spec.stub shell.now stop long_only name.now table.now) }
+{
+    let mark = name_mark(alloc, name)?;
+    let call = offer_call(alloc, shell, stop, long_only, name, table)?;
+    let name = stub_quoted(alloc, name)?;
+    stub_of(alloc, shell, mark.as_str(), call.as_str(), name.as_str())
+}
+
+/// The code of a shell, if it is one of the three.
+fn stub_of(
+    alloc: Global,
+    shell: &str,
+    mark: &str,
+    call: &str,
+    name: &str,
+) -> Result<Option<String>, AllocError>
+    ensures { IfOk result (λ text. option_map string_bytes text
+        ≡ Spec.stub_of shell.now mark.now call.now name.now) }
+{
+    if shell == "bash" {
+        Ok(Some(bash_stub(alloc, mark, call, name)?))
+    } else if shell == "zsh" {
+        Ok(Some(zsh_stub(alloc, mark, call, name)?))
+    } else if shell == "fish" {
+        Ok(Some(fish_stub(alloc, mark, call, name)?))
+    } else {
+        Ok(None)
+    }
+}
+
+/// The code for bash.
+fn bash_stub(alloc: Global, mark: &str, call: &str, name: &str) -> Result<String, AllocError>
+    ensures { IfOk result (λ text. string_bytes text ≡ Spec.bash_stub mark.now call.now name.now) }
+{
+    format!(in alloc;
+        "{BASH}_getopts_shell{mark}() {{ _getopts_shell_offer \"$2\" {call}; }}\ncomplete -F _getopts_shell{mark} -- {name}\n"
+    )
+}
+
+/// The code for zsh.
+fn zsh_stub(alloc: Global, mark: &str, call: &str, name: &str) -> Result<String, AllocError>
+    ensures { IfOk result (λ text. string_bytes text ≡ Spec.zsh_stub mark.now call.now name.now) }
+{
+    format!(in alloc;
+        "{ZSH}_getopts_shell{mark}() {{ _getopts_shell_offer {call}; }}\ncompdef _getopts_shell{mark} {name}\n"
+    )
+}
+
+/// The code for fish.
+fn fish_stub(alloc: Global, mark: &str, call: &str, name: &str) -> Result<String, AllocError>
+    ensures { IfOk result (λ text. string_bytes text ≡ Spec.fish_stub mark.now call.now name.now) }
+{
+    format!(in alloc;
+        "{FISH}function _getopts_shell{mark}; _getopts_shell_offer {call}; end\ncomplete -c {name} -f -a '(_getopts_shell{mark})'\n"
+    )
+}
+
+/// The place that a word writes, if it is at most this.
+pub(crate) fn place_of(word: &str, most: usize) -> Option<usize>
+    ensures { MatchOption result ((place : ℕ) → Spec.WritesNumber word.now place → ¬ (place ≤ most))
+        (λ place. Spec.WritesNumber word.now place × (place ≤ most)) }
+{
+    match word.parse::<usize>() {
+        Ok(place) if place <= most => Some(place),
+        _ => None,
+    }
+}
+
+/// What is offered at a place of words by a script with these options.
+pub(crate) fn offers_at(
+    alloc: Global,
+    options: &Options,
+    long_only: bool,
+    rows: &[Row<'_>],
+    words: &[&str],
+    place: usize,
+) -> Result<String, AllocError>
+    requires rows { options.now.groups ≡ groups_of rows.now }
+    requires mode { options.now.long_only ≡ long_only }
+    requires place { place ≤ length words.now }
+    ensures { IfOk result (λ text. Spec.IsOffer options.now (take place (texts words.now))
+        (Spec.word_at (texts words.now) place) (string_bytes text)) }
+{
+    offers(
+        alloc,
+        options,
+        long_only,
+        rows,
+        &words[..place],
+        word_at(words, place),
+    )
+}
+
+/// The word at a place, or an empty one after the last.
+fn word_at<'w>(words: &[&'w str], place: usize) -> &'w str
+    ensures { result.now ≡ Spec.word_at (texts words.now) place }
+{
+    if place < words.len() {
+        words[place]
+    } else {
+        ""
+    }
+}
+
+/// What is offered at a word of a script with these options, after the words before it: options, or files.
+fn offers(
+    alloc: Global,
+    options: &Options,
+    long_only: bool,
+    rows: &[Row<'_>],
+    before: &[&str],
+    word: &str,
+) -> Result<String, AllocError>
+    requires rows { options.now.groups ≡ groups_of rows.now }
+    requires mode { options.now.long_only ≡ long_only }
+    ensures { IfOk result (λ text.
+        Spec.IsOffer options.now (texts before.now) word.now (string_bytes text)) }
+{
+    if !begins_with_dash(word) {
+        return String::from_str(alloc, "files\n");
+    }
+    match goes_on(alloc, options, before)? {
+        Some(matches) => options_lines(alloc, &matches, long_only, word, rows),
+        None => String::from_str(alloc, "files\n"),
+    }
+}
+
+/// Whether a word begins with `-`.
+fn begins_with_dash(word: &str) -> bool
+    ensures { result ≡ begins_with_dash word.now }
+{
+    matches!(word.as_bytes(), [b'-', ..])
+}
+
+/// The matches of words after which an option may come, if one may.
+fn goes_on(alloc: Global, options: &Options, before: &[&str]) -> Result<Option<Matches>, AllocError>
+    ensures { IfOk result (λ found. MatchOption found
+        ((matches : Matched) → ¬ (Spec.MayGoOn options.now (texts before.now) matches))
+        (Spec.MayGoOn options.now (texts before.now))) }
+{
+    let words = with_stop(alloc, before)?;
+    match options.parse_ignoring_counts(alloc, &words) {
+        Ok(matches) => {
+            if is_last_after_stop(&matches) {
+                Ok(Some(matches))
+            } else {
+                Ok(None)
+            }
+        }
+        Err(fail) => no_matches(&fail),
+    }
+}
+
+/// Words that have no reading have no matches. An error comes where the refusal tells that memory was refused.
+fn no_matches(fail: &Fail) -> Result<Option<Matches>, AllocError>
+    ensures { IfOk result (λ found. (found ≡ None) × (fault : Fault) × (fault_of fail.now ≡ Some fault)) }
+{
+    match fail {
+        Fail::OutOfMemory => Err(AllocError),
+        _ => Ok(None),
+    }
+}
+
+/// Words, and after them a `--` and an empty word.
+fn with_stop<'w>(alloc: Global, before: &[&'w str]) -> Result<Vec<&'w str>, AllocError>
+    ensures { IfOk result (λ words. texts words.items ≡ texts before.now ++ stop_word ∷ [] ∷ []) }
+{
+    let mut words = Vec::new(alloc);
+    words.extend_from_slice(before)?;
+    words.push("--")?;
+    words.push("")?;
+    Ok(words)
+}
+
+/// Whether one free word, the last, stands after a stop.
+fn is_last_after_stop(matches: &Matches) -> bool
+    ensures { result ≡ Spec.is_last_after_stop matches.now }
+{
+    match matches.free_trailing_start() {
+        Some(start) => matches.free.len().saturating_sub(start) == 1,
+        None => false,
+    }
+}
+
+/// What is offered of the options that may come once more.
+fn options_lines(
+    alloc: Global,
+    matches: &Matches,
+    long_only: bool,
+    word: &str,
+    rows: &[Row<'_>],
+) -> Result<String, AllocError>
+    ensures { IfOk result (λ text. string_bytes text
+        ≡ Spec.options_lines matches.now long_only word.now (groups_of rows.now)) }
+{
+    let mut text = String::new(alloc);
+    for row in rows {
+        push_row(&mut text, matches, long_only, word, row)?;
+    }
+    Ok(text)
+}
+
+/// Adds what is offered of an option, if it may come once more.
+fn push_row(
+    text: &mut String,
+    matches: &Matches,
+    long_only: bool,
+    word: &str,
+    row: &Row<'_>,
+) -> Result<(), AllocError>
+    ensures { OnOk result (string_bytes text.new ≡ string_bytes text.old
+        ++ Spec.lines_if_it_may_come matches.now long_only word.now (group_of_row row.now)) }
+{
+    if may_come(matches, row) {
+        push_option(text, long_only, word, row)
+    } else {
+        Ok(())
+    }
+}
+
+/// Whether an option may come once more.
+fn may_come(matches: &Matches, row: &Row<'_>) -> bool
+    ensures { result ≡ Spec.may_come matches.now (group_of_row row.now) }
+{
+    is_multi(row.occurrence) || !is_given(matches, main_name(row))
+}
+
+/// Whether an option may come any number of times.
+fn is_multi(occurrence: Occur) -> bool
+    ensures { result ≡ Spec.is_multi occurrence }
+{
+    matches!(occurrence, Occur::Multi)
+}
+
+/// The main name of a row.
+fn main_name<'t>(row: &Row<'t>) -> &'t str
+    ensures { result.now ≡ main_name (group_of_row row.now).signature.names }
+{
+    if row.long.is_empty() {
+        row.short
+    } else {
+        row.long
+    }
+}
+
+/// Whether matches have an option of this name.
+pub(crate) fn is_given(matches: &Matches, name: &str) -> bool
+    ensures { result ≡ is_present matches.now.groups name.now }
+{
+    matches.opt_defined(name) && matches.opt_present(name)
+}
+
+/// Adds what is offered of an option.
+fn push_option(
+    text: &mut String,
+    long_only: bool,
+    word: &str,
+    row: &Row<'_>,
+) -> Result<(), AllocError>
+    ensures { OnOk result (string_bytes text.new
+        ≡ string_bytes text.old ++ Spec.option_lines long_only word.now (group_of_row row.now)) }
+{
+    let valued = takes_argument(row.kind);
+    push_name(text, word, valued, "--", row.long, row.description)?;
+    push_one_dash(text, long_only, word, valued, row)?;
+    push_name(
+        text,
+        word,
+        long_only && valued,
+        "-",
+        row.short,
+        row.description,
+    )
+}
+
+/// Adds what is offered of a long name after one dash, in long-only mode.
+fn push_one_dash(
+    text: &mut String,
+    long_only: bool,
+    word: &str,
+    valued: bool,
+    row: &Row<'_>,
+) -> Result<(), AllocError>
+    ensures { OnOk result (string_bytes text.new ≡ string_bytes text.old ++ (if long_only
+        then Spec.name_line word.now valued (codes "-") row.now.long.now row.now.description.now else [])) }
+{
+    if long_only {
+        push_name(text, word, valued, "-", row.long, row.description)
+    } else {
+        Ok(())
+    }
+}
+
+/// Whether a kind takes an argument.
+fn takes_argument(kind: HasArg) -> bool
+    ensures { result ≡ Spec.takes_argument kind }
+{
+    !matches!(kind, HasArg::No)
+}
+
+/// Adds what is offered of a name after dashes, if there is such a name.
+fn push_name(
+    text: &mut String,
+    word: &str,
+    valued: bool,
+    dashes: &str,
+    name: &str,
+    description: &str,
+) -> Result<(), AllocError>
+    ensures { OnOk result (string_bytes text.new ≡ string_bytes text.old
+        ++ Spec.name_line word.now valued dashes.now name.now description.now) }
+{
+    if name.is_empty() {
+        return Ok(());
+    }
+    let form = format!(in *text.allocator(); "{dashes}{name}")?;
+    push_form(text, word, valued, form.as_str(), description)
+}
+
+/// Adds what is offered of a form of an option.
+fn push_form(
+    text: &mut String,
+    word: &str,
+    valued: bool,
+    form: &str,
+    description: &str,
+) -> Result<(), AllocError>
+    ensures { OnOk result (string_bytes text.new ≡ string_bytes text.old
+        ++ Spec.form_line word.now valued form.now description.now) }
+{
+    if begins_with(form, word) {
+        return writeln!(text, "{form}\t{description}");
+    }
+    let before_value = format!(in *text.allocator(); "{form}=")?;
+    if valued && begins_with(word, before_value.as_str()) {
+        return text.push_str("value\n");
+    }
+    Ok(())
+}
+
+/// Whether a text begins with another.
+fn begins_with(text: &str, front: &str) -> bool
+    ensures { result ≡ starts_with nat_eq text.now front.now }
+{
+    text.as_bytes().starts_with(front.as_bytes())
 }

@@ -81,6 +81,9 @@ Options:
     -u, --usage         write the help of TABLE
     -c, --complete SHELL
                         write a completion script for bash, zsh or fish
+        --complete-words SHELL
+                        write what may come at word N, where the WORDs are N
+                        and words
     -h, --help          print this help
         --version       print the version
 ";
@@ -178,7 +181,7 @@ const OWN: [Row<'static>; 12] = [
 ];
 
 /// Words of a script.
-const WORDS: [Row<'static>; 21] = [
+const WORDS: [Row<'static>; 26] = [
     (&["-u", "backup", TABLE], HELP, 0),
     (
         &[
@@ -191,7 +194,36 @@ const WORDS: [Row<'static>; 21] = [
         BRIEF_HELP,
         0,
     ),
-    (&["-u", "-c", "tcsh", "backup", TABLE], HELP, 0),
+    (
+        &["-c", "tcsh", "-u", "backup", TABLE],
+        "getopts_shell: no completion for 'tcsh'\n",
+        5,
+    ),
+    (
+        &["--complete-words", "tcsh", "backup", TABLE, "0"],
+        "getopts_shell: no completion for 'tcsh'\n",
+        5,
+    ),
+    (
+        &["--complete-words", "zsh", "backup", TABLE, "2", "x"],
+        "getopts_shell: no word has the number '2'\n",
+        5,
+    ),
+    (
+        &["--complete-words", "zsh", "backup", TABLE],
+        "getopts_shell: no word has the number ''\n",
+        5,
+    ),
+    (
+        &["--complete-words", "fish", "backup", TABLE, "1", "-h", "--"],
+        "--input\tread this file\n--output\twrite to FILE\n--verbose\tsay more\n--color\tcolour the output\n",
+        0,
+    ),
+    (
+        &["--complete-words", "bash", "backup", TABLE, "1", "--", "-"],
+        "files\n",
+        0,
+    ),
     (&["backup", TABLE, "-h"], HELP_CODE, 0),
     (
         &["backup", TABLE, "-o", "a", "-o", "b", "--help", "-h"],

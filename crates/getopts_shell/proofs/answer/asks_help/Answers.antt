@@ -13,10 +13,10 @@ returns-then-not-offered c =
 
 pub returns-in-Ok : goal.returns-in-Ok
 returns-in-Ok c =
-    asked_is c.args.script.options.now (texts c.args.words.now) _ c.has_help.result c.in-Ok.ensures.read
+    asked_is c.args.script.options.now (texts c.args.words.now) _ c.is_given.result c.in-Ok.ensures.read
     (ap (λ groups. offers_help groups) c.requires ∙ offers_rows c.args.script.rows.now
     ∙ sym c.offers_help-offered.ensures ∙ c.if-not-offered.false)
-    c.has_help.ensures
+    c.is_given.ensures
 
 pub returns-in-Err : goal.returns-in-Err
 returns-in-Err c =

@@ -7,18 +7,18 @@ use Rattle.getopts_shell.specs.Table.{DeclaresOptions}
 use Rattle.getopts_shell.proofs.Plain.{plain_options}
 use Rattle.getopts_shell.proofs.answer.table_answer.Goals as goal
 
-pub declared_answer-requires : goal.declared_answer-requires
-declared_answer-requires c = record {
+pub completed_answer-requires : goal.completed_answer-requires
+completed_answer-requires c = record {
   plain = subst (λ rows. ArePlainlyNamed (groups_of rows)) (sym c.deref.ensures.value)
       (plain_options (lines_of c.args.table.now) (groups_of c.in-Ok.rows.items) c.in-Ok.ensures);
 }
 
 pub returns-in-Ok : goal.returns-in-Ok
 returns-in-Ok c =
-    IfOk-weaker c.declared_answer.result _ _
+    IfOk-weaker c.completed_answer.result _ _
     (λ outcome is. is (subst (λ rows. DeclaresOptions c.args.table.now (groups_of rows)) (sym c.deref.ensures.value)
     c.in-Ok.ensures))
-    c.declared_answer.ensures
+    c.completed_answer.ensures
 
 pub returns-in_ok-table_refusal-in-Err : goal.returns-in_ok-table_refusal-in-Err
 returns-in_ok-table_refusal-in-Err c =

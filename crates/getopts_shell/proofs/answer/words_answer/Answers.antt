@@ -9,7 +9,7 @@ pub line_answer-requires-clause-no_help : goal.line_answer-requires-clause-no_he
 line_answer-requires-clause-no_help c =
     λ asks. false≢true (sym c.if-asked.false ∙ c.in_ok-asked.ensures.1 asks)
 
-pub returns-then-asked : goal.returns-in_ok-help_code
+pub returns-then-asked : goal.returns-then-asked
 returns-then-asked c =
     let asked = c.in_ok-asked.ensures in
     let code = c.in_ok-help_code.ensures in

@@ -1,0 +1,31 @@
+use Rattle.std.proofs.Common.{true, [], ◌∷◌, ◌++◌, map, string_bytes, lit<, ap, append-nil, ◌∙◌, subst, sym, refl}
+use Rattle.std.specs.Str.Iter.{split_text, split_has_more, split_pattern}
+use Rattle.std.proofs.lemmas.Iterator.Consumers.{YieldsList-end}
+use Rattle.std.proofs.lemmas.Iterator.Splits.{YieldsList-from_str_split}
+use Rattle.std.proofs.lemmas.List.{map-append}
+use Rattle.getopts.specs.Names.{Text}
+use Rattle.getopts_shell.proofs.Stubs.{QuotedSoFar, one_more_quoted, all_quoted}
+use Rattle.getopts_shell.proofs.complete.push_stub_quoted.Goals as goal
+
+pub loop-part-init : goal.loop-part-init
+loop-part-init c = record { begun_is = refl; text_is = sym (append-nil (string_bytes c.args.text.now)) }
+
+-- one more part
+pub loop-part-preserved : goal.loop-part-preserved
+loop-part-preserved c =
+    let parts = map (λ part. part.now) c.loop-part.yielded in
+    let more = one_more_quoted parts c.loop-part.begun c.in-Some.part.now _ _ c.loop-part.invariant in
+    subst (λ parts. QuotedSoFar parts true (string_bytes c.args.text.now) (string_bytes c.push_part.new.text))
+    (sym (map-append (λ part. part.now) c.loop-part.yielded (c.in-Some.part ∷ [])))
+    (subst (λ (text : Text). QuotedSoFar (parts ++ c.in-Some.part.now ∷ []) true (string_bytes c.args.text.now) text)
+    (sym c.in_ok-push_part.ensures) more)
+
+-- the parts that `split` gave are all the parts
+pub returns : goal.returns
+returns c =
+    let start = c.into_iter-part-iterator.ensures.into_iter_gives in
+    let split = c.split-part-items.ensures in
+    let all = YieldsList-from_str_split 92 c.args.word.now (lit< tt) (ap split_text start ∙ split.text)
+    (ap split_has_more start ∙ split.has_more) (ap split_pattern start ∙ split.pattern) in
+    let each = YieldsList-end all c.loop-part.yielded _ c.loop-part.yielded_by _ _ c.in-None.is c.next.ensures.steps in
+    all_quoted c.args.word.now _ _ _ _ c.loop-part.invariant each.0
