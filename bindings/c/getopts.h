@@ -18,7 +18,7 @@
  * briefs are UTF-8 below U+10FF80: the characters from there on stand for bytes. There is no global state. Two threads may call functions on one struct getopts at a time, unless
  * one of them reads or deletes it.
  *
- * A statically linked program grows by 110 KB at most. */
+ * A statically linked program grows by 120 KB at most. */
 #ifndef GETOPTS_H
 #define GETOPTS_H
 

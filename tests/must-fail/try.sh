@@ -9,10 +9,10 @@
 # these the prover has to prove the function.
 #
 # The edits that a line of CRATE/together names are tried in one check: none of their functions calls another of them.
-# The right texts of a crate are tried in one. With --all the edits in private/ are tried too, which turn bodies that no
-# public sentence speaks of. With --over the edits of the static library are checked over this proved library. With
-# --plant it plants wrong bodies in each crate instead, and prints what the contracts let through. Everything is done on
-# copies of the repository, N at once (2 if left out). The last line is 'N passed, M failed'.
+# 'EDIT:right' stands there for an edit with its right texts. With --all the edits in private/ are tried too, which turn
+# bodies that no public sentence speaks of. With --over the edits of the static library are checked over this proved
+# library. With --plant it plants wrong bodies in each crate instead, and prints what the contracts let through.
+# Everything is done on copies of the repository, N at once (2 if left out). The last line is 'N passed, M failed'.
 set -euo pipefail
 top=$(cd "$(dirname "$0")/../.." && pwd)
 jobs=2 over= all= plant=
@@ -31,13 +31,13 @@ command -v rt >/dev/null || { echo "no rt on the path: the toolchain's bin folde
 room=$(mktemp -d)
 trap 'kill $(jobs -p) 2>/dev/null || true; rm -rf "$room"' EXIT
 
-# apply FOLDER KIND EDIT..: makes edits in a crate's folder, where each of their texts stands once, and prints the function
-# of each. Where KIND is right, a text of that kind takes the place of the new one.
+# apply FOLDER EDIT..: makes edits in a crate's folder, where each of their texts stands once, and prints the function of
+# each. In EDIT:right a right text takes the place of the new one.
 apply() {
     python3 - "$@" <<'PY'
 import re
 import sys
-folder, wanted = sys.argv[1:3]
+folder = sys.argv[1]
 def added(edit, old, new, right):
     functions = dict(re.findall(r"\bfn (\w+)(.*?)(?=\bfn \w|\Z)", new, re.S))
     for name in functions.keys() - set(re.findall(r"\bfn (\w+)", old)):
@@ -50,7 +50,8 @@ def replace(edit, name, old, new):
     if text.count(old) != 1:
         sys.exit(f"{edit}: this doesn't stand once in {name}: {old}")
     open(name, "w", encoding="utf-8").write(text.replace(old, new))
-for edit in sys.argv[3:]:
+for edit in sys.argv[2:]:
+    edit, _, wanted = edit.partition(":")
     function, name, texts, pairs = "", "", {}, []
     for line in open(edit, encoding="utf-8").read().splitlines() + ["end:"]:
         kind, _, rest = line.partition(":")
@@ -67,7 +68,7 @@ for edit in sys.argv[3:]:
     old, new, right = ("\n".join(texts.get(kind, "") for _, texts in pairs) for kind in ("old", "new", "right"))
     added(edit, old, new, right.strip())
     for name, texts in pairs:
-        replace(edit, name, texts["old"], texts.get(wanted, texts["new"]))
+        replace(edit, name, texts["old"], texts.get(wanted or "new", texts["new"]))
     print(function)
 PY
 }
@@ -83,16 +84,16 @@ refusal() {
             grep -F "$proof/" "$said" | grep ": error: " | grep -vE "$names" | sed -n 1p | grep .; }
 }
 
-# try_edits COPY KIND EDIT..: makes these edits of one crate together, and says of each whether the check refuses its
-# function, or proves it where KIND is right.
+# try_edits COPY EDIT..: makes these edits of one crate together, and says of each whether the check refuses its function,
+# or proves it with right texts.
 try_edits() {
-    local copy=$1 kind=$2 crate functions said status=0 at only=()
-    shift 2
+    local copy=$1 crate functions said status=0 at name only=()
+    shift
     crate=${1#"$top"/tests/must-fail/}
     crate=${crate%%/*}
     local folder=$copy/crates/$crate
     cp -a "$folder/src" "$copy/kept"
-    if ! functions=$(apply "$folder" "$kind" "$@" 2>"$copy/said"); then
+    if ! functions=$(apply "$folder" "$@" 2>"$copy/said"); then
         for edit in "$@"; do echo "FAILED: $crate: $(basename "$edit" .edit): $(cat "$copy/said")"; done
     else
         mapfile -t functions <<<"$functions"
@@ -103,13 +104,14 @@ try_edits() {
             (cd "$folder" && rt check --jobs 1 "${only[@]}") >"$copy/said" 2>&1 || status=$?
         fi
         for at in "${!functions[@]}"; do
-            if [ "$kind" = right ] && [ $status = 0 ]; then
-                echo "proved: $crate: $(basename "${@:at+1:1}" .edit): a right body of the same shape"
-            elif [ "$kind" = new ] && [ $status = 1 ] && said=$(refusal "$copy/said" "${functions[at]}"); then
-                echo "refused: $crate: $(basename "${@:at+1:1}" .edit): ${said:0:120}"
+            name=$(basename "${@:at+1:1}") name=${name/.edit/}
+            if [ "${name%:right}" != "$name" ] && grep -q "^fn ${functions[at]}: proved" "$copy/said"; then
+                echo "proved: $crate: $name"
+            elif [ "${name%:right}" = "$name" ] && [ $status = 1 ] && said=$(refusal "$copy/said" "${functions[at]}"); then
+                echo "refused: $crate: $name: ${said:0:120}"
             else
                 said=$(grep -m1 -E "^fn ${functions[at]}: |: error: " "$copy/said" || tail -n 1 "$copy/said")
-                echo "FAILED: $crate: $(basename "${@:at+1:1}" .edit): status $status: ${said:0:300}"
+                echo "FAILED: $crate: $name: status $status: ${said:0:300}"
             fi
         done
     fi
@@ -132,12 +134,12 @@ plant_in() {
 edits_of() {
     local folder=$top/tests/must-fail/$1 together=$top/tests/must-fail/$1/together
     if [ -f "$together" ]; then
-        grep -v '^#' "$together" | sed -e "s|[a-z_][a-z_]*|$folder/&.edit|g" -e 's/^/try_edits new /'
+        grep -v '^#' "$together" | sed -e "s#\([a-z_][a-z_]*\)\(:right\)\{0,1\}#$folder/\1.edit\2#g" -e 's/^/try_edits /'
     fi
     find "$folder" $([ -n "$all" ] || echo -maxdepth 1) -name '*.edit' | sort | while read -r edit; do
-        grep -qsw "$(basename "$edit" .edit)" "$together" || echo "try_edits new $edit"
+        grep -qsE "(^| )$(basename "$edit" .edit)( |\$)" "$together" || echo "try_edits $edit"
+        ! grep -q '^right:' "$edit" || grep -qsw "$(basename "$edit" .edit):right" "$together" || echo "try_edits $edit:right"
     done
-    { grep -l '^right:' "$folder"/*.edit || true; } | xargs -r echo "try_edits right"
 }
 
 # The crates that are tried, and one line for each thing to do.

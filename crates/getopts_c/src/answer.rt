@@ -64,6 +64,18 @@ pub(crate) struct Answer {
     body: Body,
 }
 
+/// Adds the bytes of a text. ASCII, which most texts are, needs no call.
+#[inline(always)]
+fn push_all(bytes: &mut Vec<u8>, text: &str) -> Result<(), AllocError>
+    ensures { OnOk result (bytes.new.items ≡ bytes.old.items ++ bytes_of text.now) }
+{
+    if text.is_ascii() {
+        bytes.extend_from_slice(text.as_bytes())
+    } else {
+        push_bytes(bytes, text)
+    }
+}
+
 impl Body {
     /// Nothing.
     fn new(alloc: Global) -> Body
@@ -120,7 +132,7 @@ impl Body {
             ≡ self.old.bytes.items ++ bytes_of text.now) }
     {
         let before = self.bytes.len();
-        push_bytes(&mut self.bytes, text)?;
+        push_all(&mut self.bytes, text)?;
         Ok(self.numbers.push(self.bytes.len() - before)?)
     }
 
@@ -196,7 +208,7 @@ impl Body {
             return self.push_optional(None);
         };
         let before = self.bytes.len();
-        push_bytes(&mut self.bytes, value)?;
+        push_all(&mut self.bytes, value)?;
         let len = self.bytes.len() - before;
         self.push_optional(Some(len))
     }

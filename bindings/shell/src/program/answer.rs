@@ -3,7 +3,8 @@
 
 use crate::host::*;
 
-use super::complete::completion;
+use super::complete::{is_given, offers_at, place_of, stub};
+use super::item::reason_of;
 use super::quote::{push_quoted, push_quoted_words};
 use super::row::Row;
 use super::table::{TableError, rows_of};
@@ -13,7 +14,7 @@ use crate::getopts::{Fail, HasArg, Matches, Options, ParsingStyle, names_resolve
 use crate::getopts_bytes::push_bytes;
 use crate::host::alloc::{AllocError, Global};
 use crate::host::io;
-use crate::host::io::Write;
+use crate::host::io::{ErrorKind, Write};
 
 /// The status where text was written for the script.
 const DONE: u8 = 0;
@@ -28,6 +29,9 @@ const MISUSED: u8 = 5;
 
 /// The line before the options in the program's own help.
 const BRIEF: &str = "Usage: getopts_shell [options] NAME TABLE [WORD]..";
+
+/// What `--version` writes.
+const VERSION: &str = "getopts_shell 0.2.24\n";
 
 /// What is written where a name or a table isn't there.
 const NEEDED: &str = "getopts_shell: a name and a table of options are needed\n";
@@ -52,6 +56,7 @@ struct Asked {
     words: bool,
     usage: bool,
     complete: Option<String>,
+    complete_words: Option<String>,
     variables: Option<String>,
     arrays: bool,
 }
@@ -73,11 +78,14 @@ struct Script<'s> {
 /// whole, then written once and flushed: on `out` where the status is 0, and on `err` where it is 2 or 5.
 ///
 /// - 0: code that sets the script's words to those of the canonical line, or, with `--variables`, that sets
-///   variables, or that prints the script's help; with `--usage` the help itself, with `--complete` a completion script, with `--help` the program's help
+///   variables, or that prints the script's help; with `--usage` the help itself, with `--complete` the code
+///   that completes words in a shell, with `--complete-words` what may come at a word, with `--help` the
+///   program's help
 /// - 2: why the script's words are refused, and its short usage
 /// - 3: out of memory, with nothing written
-/// - 4: a write or a flush failed
-/// - 5: what is wrong with the call: its own words, an unknown shell, a missing table, or a line of it
+/// - 4: a write or a flush failed, and what was written is a front of the text
+/// - 5: what is wrong with the call: its own words, an unknown shell, a number that no word has, a missing table,
+///   or a line of it
 pub fn answer<W: Write, E: Write>(alloc: Global, words: &[&str], out: &mut W, err: &mut E) -> u8 {
     match output_to(alloc, words) {
         Ok(output) => match write_output(&output, out, err) {
@@ -88,7 +96,8 @@ pub fn answer<W: Write, E: Write>(alloc: Global, words: &[&str], out: &mut W, er
     }
 }
 
-/// Writes an output: on `out` where the status is 0, and else on `err`.
+/// Writes an output: on `out` where the status is 0, and else on `err`. Where that fails, what was written is a
+/// front of it.
 fn write_output<W: Write, E: Write>(output: &Output, out: &mut W, err: &mut E) -> io::Result<()> {
     if output.status == DONE {
         print(out, &output.bytes)
@@ -97,10 +106,24 @@ fn write_output<W: Write, E: Write>(output: &Output, out: &mut W, err: &mut E) -
     }
 }
 
-/// Writes bytes, and flushes them.
+/// Writes bytes, and flushes them. Where that fails, what was written is a front of them.
 fn print<W: Write>(out: &mut W, bytes: &[u8]) -> io::Result<()> {
-    out.write_all(bytes)?;
-    out.flush()
+    let mut rest = bytes;
+    for _ in 0..u64::MAX {
+        if rest.is_empty() {
+            return out.flush();
+        }
+        match out.write(rest) {
+            Ok(0) => return Err(io::Error::from(ErrorKind::WriteZero)),
+            Ok(count) => rest = &rest[count..],
+            Err(error) => {
+                if error.kind() != ErrorKind::Interrupted {
+                    return Err(error);
+                }
+            }
+        }
+    }
+    Err(io::Error::from(ErrorKind::Interrupted))
 }
 
 /// What the program writes for words: the bytes of its answer's text.
@@ -159,7 +182,14 @@ fn add_own_options(options: &mut Options) -> Result<(), AllocError> {
             "write a completion script for bash, zsh or fish",
             "SHELL",
         )?
-        .optflag("h", "help", "print this help")?;
+        .optopt(
+            "",
+            "complete-words",
+            "write what may come at word N, where the WORDs are N and words",
+            "SHELL",
+        )?
+        .optflag("h", "help", "print this help")?
+        .optflag("", "version", "print the version")?;
     Ok(())
 }
 
@@ -179,6 +209,12 @@ fn own_answer(alloc: Global, options: &Options, own: &Matches) -> Result<Outcome
             status: DONE,
         });
     }
+    if own.opt_present("version") {
+        return Ok(Outcome {
+            text: String::copy_of(alloc, VERSION)?,
+            status: DONE,
+        });
+    }
     let asked = asked_by(alloc, own)?;
     let words = texts_of(alloc, &own.free)?;
     free_answer(alloc, &asked, &words)
@@ -193,6 +229,7 @@ fn asked_by(alloc: Global, own: &Matches) -> Result<Asked, AllocError> {
         words: own.opt_present("words"),
         usage: own.opt_present("usage"),
         complete: own.opt_str(alloc, "complete")?,
+        complete_words: own.opt_str(alloc, "complete-words")?,
         variables: own.opt_str(alloc, "variables")?,
         arrays: own.opt_present("arrays"),
     })
@@ -218,7 +255,7 @@ fn table_answer(
     words: &[&str],
 ) -> Result<Outcome, AllocError> {
     match rows_of(alloc, table) {
-        Ok(rows) => declared_answer(alloc, asked, name, table, &rows, words),
+        Ok(rows) => completed_answer(alloc, asked, name, table, &rows, words),
         Err(error) => Ok(Outcome {
             text: table_refusal(alloc, error)?,
             status: MISUSED,
@@ -226,11 +263,28 @@ fn table_answer(
     }
 }
 
+/// The answer to a script's name, the options of its table and its words: the code that completes the words, where
+/// it is asked for, or the answer to the words.
+fn completed_answer(
+    alloc: Global,
+    asked: &Asked,
+    name: &str,
+    table: &str,
+    rows: &[Row<'_>],
+    words: &[&str],
+) -> Result<Outcome, AllocError> {
+    match &asked.complete {
+        Some(shell) => completion_answer(alloc, asked, shell.as_str(), name, table),
+        None => declared_answer(alloc, asked, name, table, rows, words),
+    }
+}
+
 /// The line of the fault of a table.
 fn table_refusal(alloc: Global, error: TableError<'_>) -> Result<String, AllocError> {
     match error {
         TableError::NoOption(number, item) => {
-            text!(in alloc; "getopts_shell: line {number} of the options: {item}\n")
+            let reason = reason_of(item);
+            text!(in alloc; "getopts_shell: line {number} of the options: {item}: {reason}\n")
         }
         TableError::NameTwice(number, name) => text!(in alloc;
             "getopts_shell: line {number} of the options: the name '{name}' stands there already\n"
@@ -343,8 +397,8 @@ fn script_answer(alloc: Global, script: Script<'_>, words: &[&str]) -> Result<Ou
             status: DONE,
         });
     }
-    match &script.asked.complete {
-        Some(shell) => completion_answer(alloc, shell.as_str(), script),
+    match &script.asked.complete_words {
+        Some(shell) => offer_answer(alloc, shell.as_str(), script, words),
         None => words_answer(alloc, script, words),
     }
 }
@@ -360,12 +414,75 @@ fn help_of(alloc: Global, script: Script<'_>) -> Result<String, AllocError> {
     }
 }
 
-/// The answer of a completion script, or that there is none for this shell.
-fn completion_answer(alloc: Global, shell: &str, script: Script<'_>) -> Result<Outcome, AllocError> {
-    match completion(alloc, shell, script.name, script.rows)? {
+/// The code that completes a script's words in a shell, or that there is none for it.
+fn completion_answer(
+    alloc: Global,
+    asked: &Asked,
+    shell: &str,
+    name: &str,
+    table: &str,
+) -> Result<Outcome, AllocError> {
+    match stub(alloc, shell, asked.stop, asked.long_only, name, table)? {
         Some(text) => Ok(Outcome { text, status: DONE }),
+        None => no_completion(alloc, shell),
+    }
+}
+
+/// What is said where there is no completion in a shell.
+fn no_completion(alloc: Global, shell: &str) -> Result<Outcome, AllocError> {
+    Ok(Outcome {
+        text: text!(in alloc; "getopts_shell: no completion for '{shell}'\n")?,
+        status: MISUSED,
+    })
+}
+
+/// Whether there is completion in a shell.
+fn has_completion(shell: &str) -> bool {
+    shell == "bash" || shell == "zsh" || shell == "fish"
+}
+
+/// The answer to a shell that asks what may come at a word: its number stands before the words.
+fn offer_answer(
+    alloc: Global,
+    shell: &str,
+    script: Script<'_>,
+    words: &[&str],
+) -> Result<Outcome, AllocError> {
+    if !has_completion(shell) {
+        return no_completion(alloc, shell);
+    }
+    numbered_answer(alloc, script, words)
+}
+
+/// What may come at a word whose number stands before the words.
+fn numbered_answer(alloc: Global, script: Script<'_>, words: &[&str]) -> Result<Outcome, AllocError> {
+    match words {
+        [number, words @ ..] => place_answer(alloc, script, number, words),
+        [] => place_answer(alloc, script, "", &[]),
+    }
+}
+
+/// What may come at the word with this number.
+fn place_answer(
+    alloc: Global,
+    script: Script<'_>,
+    number: &str,
+    words: &[&str],
+) -> Result<Outcome, AllocError> {
+    match place_of(number, words.len()) {
+        Some(place) => Ok(Outcome {
+            text: offers_at(
+                alloc,
+                script.options,
+                script.asked.long_only,
+                script.rows,
+                words,
+                place,
+            )?,
+            status: DONE,
+        }),
         None => Ok(Outcome {
-            text: text!(in alloc; "getopts_shell: no completion for '{shell}'\n")?,
+            text: text!(in alloc; "getopts_shell: no word has the number '{number}'\n")?,
             status: MISUSED,
         }),
     }
@@ -394,7 +511,7 @@ fn asks_help(alloc: Global, script: Script<'_>, words: &[&str]) -> Result<bool, 
         return Ok(false);
     }
     match script.options.parse_ignoring_counts(alloc, words) {
-        Ok(matches) => Ok(has_help(&matches)),
+        Ok(matches) => Ok(is_given(&matches, "help")),
         Err(fail) => not_asked(&fail),
     }
 }
@@ -408,11 +525,6 @@ fn not_asked(fail: &Fail) -> Result<bool, AllocError> {
     }
 }
 
-/// Whether matches have an option called `help`.
-fn has_help(matches: &Matches) -> bool {
-    matches.opt_defined("help") && matches.opt_present("help")
-}
-
 /// Whether one of the rows is called `help`, and takes no argument.
 fn offers_help(rows: &[Row<'_>]) -> bool {
     rows.iter()
@@ -422,9 +534,9 @@ fn offers_help(rows: &[Row<'_>]) -> bool {
 /// The code that prints the help of a script, and ends it.
 fn help_code(alloc: Global, script: Script<'_>) -> Result<String, AllocError> {
     let help = help_of(alloc, script)?;
-    let mut text = String::copy_of(alloc, "printf %s ")?;
+    let mut text = String::copy_of(alloc, "\\printf %s ")?;
     push_quoted(&mut text, help.as_str())?;
-    text.try_push_str("; exit 0\n")?;
+    text.try_push_str("; \\exit\n")?;
     Ok(text)
 }
 
@@ -471,7 +583,7 @@ fn variables_answer(
 fn line_code(alloc: Global, asked: &Asked, line: &[String]) -> Result<String, AllocError> {
     let mut text = String::empty(alloc);
     if !asked.words {
-        text.try_push_str("set -- ")?;
+        text.try_push_str("\\set -- ")?;
     }
     push_quoted_words(&mut text, line)?;
     text.try_push('\n')?;

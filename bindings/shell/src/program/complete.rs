@@ -1,243 +1,70 @@
 // What bindings/rust/erase.py leaves of crates/getopts_shell/src/complete.rt: change that file, not this one.
-//! Completion scripts for bash, zsh and fish.
+//! What completes a script's words: the code for bash, zsh and fish, and what it is answered.
 
 use crate::host::*;
 
 use super::quote::push_quoted;
 use super::row::Row;
-use crate::getopts::{HasArg, Occur};
+use crate::getopts::{Fail, HasArg, Matches, Occur, Options};
 use crate::host::alloc::{AllocError, Global};
 
-/// What completes the words of each script in bash, by the lines of its options.
-const BASH: &str = r#"declare -gA _getopts_shell_options
-_getopts_shell() {
-    local rows=${_getopts_shell_options[${1##*/}]} cur=$2 want= word letter short long takes times about
-    local -A takes_of=() main_of=() given=()
-    local -a found=() abouts=()
-    COMPREPLY=()
-    while IFS=' ' read -r short long takes times about; do
-        takes_of[-$short]=$takes main_of[-$short]=$long/$short
-        takes_of[--$long]=$takes main_of[--$long]=$long/$short
-    done <<<"$rows"
-    for word in "${COMP_WORDS[@]:1:COMP_CWORD-1}"; do
-        if [[ $word == = ]]; then want=yes; continue; fi
-        if [[ $want ]]; then want=; continue; fi
-        case $word in
-        --) return ;;
-        --*) given[/${main_of[$word]}]=yes want=${takes_of[$word]#maybe} want=${want#no} ;;
-        -?*)
-            word=${word#-}
-            while [[ $word ]]; do
-                letter=-${word:0:1} word=${word:1}
-                given[/${main_of[$letter]}]=yes
-                case ${takes_of[$letter]} in
-                yes) [[ $word ]] || want=yes; word= ;;
-                maybe) word= ;;
-                esac
-            done
-            ;;
-        esac
+/// What offers words in bash: it reads the words up to the cursor, asks the program, and shows the descriptions
+/// where several options fit.
+const BASH: &str = r#"_getopts_shell_offer() {
+    local line=${COMP_LINE:0:COMP_POINT} words=() at=-1 word rest
+    for word in "${COMP_WORDS[@]:0:COMP_CWORD+1}"; do
+        rest=${line#"${line%%[![:space:]]*}"}
+        if [[ $at == -1 || $rest != "$line" ]]; then at=$((at + 1)); fi
+        words[at]+=${rest:0:${#word}} line=${rest:${#word}}
     done
-    if [[ $want || $cur != -* ]]; then return; fi
-    while IFS=' ' read -r short long takes times about; do
-        if [[ -z $takes || ( $times == once && ${given[/$long/$short]} ) ]]; then continue; fi
-        for word in "--$long" "-$short"; do
-            if [[ $word == "$cur"* && $word != -- && $word != --- ]]; then
-                found+=("$word") abouts+=("$about")
-            fi
-        done
-    done <<<"$rows"
-    if [[ ${#found[@]} -eq 1 || $COMP_TYPE == 37 || $COMP_TYPE == 42 ]]; then
-        COMPREPLY=("${found[@]}")
-    else
-        for letter in "${!found[@]}"; do
-            COMPREPLY+=("${found[letter]}  (${abouts[letter]})")
-        done
-    fi
+    mapfile -t COMPREPLY < <("${@:2}" "$((at - 1))" "${words[@]:1}" 2>/dev/null)
+    if [[ ${COMPREPLY-} == [fv]* ]]; then COMPREPLY=(); compopt -o default; fi
+    line=${words[at]%"$1"}
+    for at in "${!COMPREPLY[@]}"; do
+        rest=${COMPREPLY[at]#*$'\t'} word=${COMPREPLY[at]%%$'\t'*}
+        if [[ ${#COMPREPLY[@]} == 1 || $COMP_TYPE == 37 || $COMP_TYPE == 42 ]]; then rest=; fi
+        COMPREPLY[at]=${word#"$line"}${rest:+  ($rest)}
+    done
 }
 "#;
 
-/// What completes the words of each script in zsh, by the lines of its options.
-const ZSH: &str = r#"typeset -gA _getopts_shell_options
-_getopts_shell() {
-    local rows=${_getopts_shell_options[${words[1]:t}]} want= word letter short long takes times about
-    local -A takes_of main_of given
-    local -a found
-    while IFS=' ' read -r short long takes times about; do
-        takes_of[-$short]=$takes main_of[-$short]=$long/$short
-        takes_of[--$long]=$takes main_of[--$long]=$long/$short
-    done <<<"$rows"
-    for word in "${(@)words[2,CURRENT-1]}"; do
-        if [[ -n $want ]]; then want=; continue; fi
-        case $word in
-        (--) _files; return ;;
-        (--*=*) word=${word%%=*}; given[/$main_of[$word]]=yes ;;
-        (--*) given[/$main_of[$word]]=yes; want=${takes_of[$word]#maybe} want=${want#no} ;;
-        (-?*)
-            word=${word#-}
-            while [[ -n $word ]]; do
-                letter=-$word[1] word=$word[2,-1]
-                given[/$main_of[$letter]]=yes
-                case $takes_of[$letter] in
-                (yes) [[ -n $word ]] || want=yes; word= ;;
-                (maybe) word= ;;
-                esac
-            done
-            ;;
-        esac
-    done
-    if [[ -n $want || $PREFIX != -* ]]; then _files; return; fi
-    if [[ $PREFIX == --*=* ]]; then compset -P '*='; _files; return; fi
-    while IFS=' ' read -r short long takes times about; do
-        if [[ -z $takes || ( $times == once && -n $given[/$long/$short] ) ]]; then continue; fi
-        for word in "--$long" "-$short"; do
-            if [[ $word != -- && $word != --- ]]; then found+=("${word//:/\\:}:$about"); fi
-        done
-    done <<<"$rows"
-    _describe -o option found
+/// What offers words in zsh.
+const ZSH: &str = r#"_getopts_shell_offer() {
+    local -a offers
+    offers=("${(@f)$("$@" "$((CURRENT - 2))" "${(@Q)words[2,CURRENT-1]}" "$PREFIX" 2>/dev/null)}")
+    case $offers[1] in
+    (files) _files ;;
+    (value) compset -P 1 '*='; _files ;;
+    (-*)
+        offers=("${(@)${(@)${(@)offers%$'\t'}//\\/\\\\}//:/\\:}")
+        offers=("${(@)offers/$'\t'/:}")
+        _describe -o option offers
+        ;;
+    esac
 }
 "#;
 
-/// The completion script of a script with this name and these options, if the shell is one of three.
-pub(crate) fn completion(
-    alloc: Global,
-    shell: &str,
-    name: &str,
-    rows: &[Row<'_>],
-) -> Result<Option<String>, AllocError> {
-    let mut text = String::empty(alloc);
-    if shell == "bash" {
-        push_bash(&mut text, name, rows)?;
-    } else if shell == "zsh" {
-        push_zsh(&mut text, name, rows)?;
-    } else if shell == "fish" {
-        push_fish(&mut text, name, rows)?;
-    } else {
-        return Ok(None);
-    }
-    Ok(Some(text))
-}
+/// What offers words in fish.
+const FISH: &str = r#"function _getopts_shell_offer
+    set -l before (commandline -opc); set -e before[1]
+    set -l word (commandline -ct)
+    set -l offers (command $argv (count $before) $before "$word" 2>/dev/null)
+    switch "$offers[1]"
+        case files; __fish_complete_path "$word"
+        case value
+            set -l parts (string split -m 1 = -- "$word")
+            for path in (__fish_complete_path "$parts[2]"); printf '%s=%s\n' $parts[1] $path; end
+        case '-*'; printf '%s\n' $offers
+    end
+end
+"#;
 
-/// Adds the completion script for bash.
-fn push_bash(text: &mut String, name: &str, rows: &[Row<'_>]) -> Result<(), AllocError> {
-    text.try_push_str(BASH)?;
-    text.try_push_str("_getopts_shell_name=")?;
-    push_quoted(text, name)?;
-    text.try_push_str("\n_getopts_shell_options[$_getopts_shell_name]=")?;
-    push_lines(text, rows)?;
-    text.try_push_str("\ncomplete -o default -F _getopts_shell -- ")?;
-    push_quoted(text, name)?;
-    text.try_push('\n')
-}
-
-/// Adds the completion script for zsh.
-fn push_zsh(text: &mut String, name: &str, rows: &[Row<'_>]) -> Result<(), AllocError> {
-    text.try_push_str(ZSH)?;
-    text.try_push_str("_getopts_shell_options+=(")?;
-    push_quoted(text, name)?;
-    text.try_push(' ')?;
-    push_lines(text, rows)?;
-    text.try_push_str(")\ncompdef _getopts_shell ")?;
-    push_quoted(text, name)?;
-    text.try_push('\n')
-}
-
-/// Adds the lines of options, in quotes.
-fn push_lines(text: &mut String, rows: &[Row<'_>]) -> Result<(), AllocError> {
-    let mut lines = String::empty(*text.allocator());
-    for row in rows {
-        push_line(&mut lines, row)?;
-    }
-    push_quoted(text, lines.as_str())
-}
-
-/// Adds the line of an option: its short and its long name, or `-`, what it takes, how often it may come,
-/// and its description.
-fn push_line(lines: &mut String, row: &Row<'_>) -> Result<(), AllocError> {
-    let short = name_or_dash(row.short);
-    let long = name_or_dash(row.long);
-    let takes = match row.kind {
-        HasArg::Yes => "yes",
-        HasArg::No => "no",
-        HasArg::Maybe => "maybe",
-    };
-    let times = match row.occurrence {
-        Occur::Multi => "many",
-        _ => "once",
-    };
-    let description = row.description;
-    add_line!(lines, "{short} {long} {takes} {times} {description}")
-}
-
-/// A name, or `-` where there is none.
-fn name_or_dash(name: &str) -> &str {
-    if name.is_empty() { "-" } else { name }
-}
-
-/// Adds the completion script for fish.
-fn push_fish(text: &mut String, name: &str, rows: &[Row<'_>]) -> Result<(), AllocError> {
-    for row in rows {
-        push_fish_option(text, name, row)?;
-    }
-    Ok(())
-}
-
-/// Adds the line that completes an option in fish.
-fn push_fish_option(text: &mut String, name: &str, row: &Row<'_>) -> Result<(), AllocError> {
-    text.try_push_str("complete -c ")?;
-    push_fish_quoted(text, name)?;
-    push_fish_names(text, " -s ", " -l ", row)?;
-    push_fish_takes(text, row.kind)?;
-    push_fish_times(text, row)?;
-    text.try_push_str(" -d ")?;
-    push_fish_quoted(text, row.description)?;
-    text.try_push('\n')
-}
-
-/// Adds what tells fish that an option needs an argument.
-fn push_fish_takes(text: &mut String, kind: HasArg) -> Result<(), AllocError> {
-    if kind == HasArg::Yes {
-        text.try_push_str(" -r")?;
-    }
-    Ok(())
-}
-
-/// Adds what tells fish when to offer an option: always, or where it isn't there yet.
-fn push_fish_times(text: &mut String, row: &Row<'_>) -> Result<(), AllocError> {
-    if row.occurrence == Occur::Multi {
-        return Ok(());
-    }
-    let mut condition = String::copy_of(*text.allocator(), "not __fish_contains_opt")?;
-    push_fish_names(&mut condition, " -s ", " ", row)?;
-    text.try_push_str(" -n ")?;
-    push_fish_quoted(text, condition.as_str())
-}
-
-/// Adds the names of an option, each after its mark.
-fn push_fish_names(
-    text: &mut String,
-    short: &str,
-    long: &str,
-    row: &Row<'_>,
-) -> Result<(), AllocError> {
-    push_fish_name(text, short, row.short)?;
-    push_fish_name(text, long, row.long)
-}
-
-/// Adds a name after its mark, if there is one.
-fn push_fish_name(text: &mut String, mark: &str, name: &str) -> Result<(), AllocError> {
-    if name.is_empty() {
-        return Ok(());
-    }
-    text.try_push_str(mark)?;
-    push_fish_quoted(text, name)
-}
-
-/// Adds a word in quotes for fish, where a backslash has to stand outside quotes.
-fn push_fish_quoted(text: &mut String, word: &str) -> Result<(), AllocError> {
+/// Adds a word in quotes, as each of the three shells reads it: a quote and a backslash stand outside quotes,
+/// behind a backslash.
+fn push_stub_quoted(text: &mut String, word: &str) -> Result<(), AllocError> {
     let mut begun = false;
     for part in word.split('\\') {
-        push_fish_part(text, begun, part)?;
+        push_part(text, begun, part)?;
         begun = true;
     }
     Ok(())
@@ -245,7 +72,333 @@ fn push_fish_quoted(text: &mut String, word: &str) -> Result<(), AllocError> {
 
 /// Adds a part of a word that holds no backslash in quotes, after a backslash where another part stands before
 /// it.
-fn push_fish_part(text: &mut String, begun: bool, part: &str) -> Result<(), AllocError> {
+fn push_part(text: &mut String, begun: bool, part: &str) -> Result<(), AllocError> {
     text.try_push_str(if begun { "\\\\" } else { "" })?;
     push_quoted(text, part)
+}
+
+/// The mark of a name in names of functions.
+fn name_mark(alloc: Global, name: &str) -> Result<String, AllocError> {
+    let mut text = String::empty(alloc);
+    let bytes = name.as_bytes();
+    for byte in bytes {
+        let number = *byte;
+        add!(text, "_{number}")?;
+    }
+    Ok(text)
+}
+
+/// A word in quotes.
+fn stub_quoted(alloc: Global, word: &str) -> Result<String, AllocError> {
+    let mut text = String::empty(alloc);
+    push_stub_quoted(&mut text, word)?;
+    Ok(text)
+}
+
+/// The call that offers words for a script.
+fn offer_call(
+    alloc: Global,
+    shell: &str,
+    stop: bool,
+    long_only: bool,
+    name: &str,
+    table: &str,
+) -> Result<String, AllocError> {
+    let mut text = String::copy_of(alloc, "getopts_shell ")?;
+    text.try_push_str(if stop { "--stop " } else { "" })?;
+    text.try_push_str(if long_only { "--long-only " } else { "" })?;
+    text.try_push_str("--complete-words ")?;
+    text.try_push_str(shell)?;
+    text.try_push(' ')?;
+    push_stub_quoted(&mut text, name)?;
+    text.try_push(' ')?;
+    push_stub_quoted(&mut text, table)?;
+    Ok(text)
+}
+
+/// The code that completes the words of a script, if there is one for the shell.
+pub(crate) fn stub(
+    alloc: Global,
+    shell: &str,
+    stop: bool,
+    long_only: bool,
+    name: &str,
+    table: &str,
+) -> Result<Option<String>, AllocError> {
+    let mark = name_mark(alloc, name)?;
+    let call = offer_call(alloc, shell, stop, long_only, name, table)?;
+    let name = stub_quoted(alloc, name)?;
+    stub_of(alloc, shell, mark.as_str(), call.as_str(), name.as_str())
+}
+
+/// The code of a shell, if it is one of the three.
+fn stub_of(
+    alloc: Global,
+    shell: &str,
+    mark: &str,
+    call: &str,
+    name: &str,
+) -> Result<Option<String>, AllocError> {
+    if shell == "bash" {
+        Ok(Some(bash_stub(alloc, mark, call, name)?))
+    } else if shell == "zsh" {
+        Ok(Some(zsh_stub(alloc, mark, call, name)?))
+    } else if shell == "fish" {
+        Ok(Some(fish_stub(alloc, mark, call, name)?))
+    } else {
+        Ok(None)
+    }
+}
+
+/// The code for bash.
+fn bash_stub(alloc: Global, mark: &str, call: &str, name: &str) -> Result<String, AllocError> {
+    text!(in alloc;
+        "{BASH}_getopts_shell{mark}() {{ _getopts_shell_offer \"$2\" {call}; }}\ncomplete -F _getopts_shell{mark} -- {name}\n"
+    )
+}
+
+/// The code for zsh.
+fn zsh_stub(alloc: Global, mark: &str, call: &str, name: &str) -> Result<String, AllocError> {
+    text!(in alloc;
+        "{ZSH}_getopts_shell{mark}() {{ _getopts_shell_offer {call}; }}\ncompdef _getopts_shell{mark} {name}\n"
+    )
+}
+
+/// The code for fish.
+fn fish_stub(alloc: Global, mark: &str, call: &str, name: &str) -> Result<String, AllocError> {
+    text!(in alloc;
+        "{FISH}function _getopts_shell{mark}; _getopts_shell_offer {call}; end\ncomplete -c {name} -f -a '(_getopts_shell{mark})'\n"
+    )
+}
+
+/// The place that a word writes, if it is at most this.
+pub(crate) fn place_of(word: &str, most: usize) -> Option<usize> {
+    match word.parse::<usize>() {
+        Ok(place) if place <= most => Some(place),
+        _ => None,
+    }
+}
+
+/// What is offered at a place of words by a script with these options.
+pub(crate) fn offers_at(
+    alloc: Global,
+    options: &Options,
+    long_only: bool,
+    rows: &[Row<'_>],
+    words: &[&str],
+    place: usize,
+) -> Result<String, AllocError> {
+    offers(
+        alloc,
+        options,
+        long_only,
+        rows,
+        &words[..place],
+        word_at(words, place),
+    )
+}
+
+/// The word at a place, or an empty one after the last.
+fn word_at<'w>(words: &[&'w str], place: usize) -> &'w str {
+    if place < words.len() {
+        words[place]
+    } else {
+        ""
+    }
+}
+
+/// What is offered at a word of a script with these options, after the words before it: options, or files.
+fn offers(
+    alloc: Global,
+    options: &Options,
+    long_only: bool,
+    rows: &[Row<'_>],
+    before: &[&str],
+    word: &str,
+) -> Result<String, AllocError> {
+    if !begins_with_dash(word) {
+        return String::copy_of(alloc, "files\n");
+    }
+    match goes_on(alloc, options, before)? {
+        Some(matches) => options_lines(alloc, &matches, long_only, word, rows),
+        None => String::copy_of(alloc, "files\n"),
+    }
+}
+
+/// Whether a word begins with `-`.
+fn begins_with_dash(word: &str) -> bool {
+    matches!(word.as_bytes(), [b'-', ..])
+}
+
+/// The matches of words after which an option may come, if one may.
+fn goes_on(alloc: Global, options: &Options, before: &[&str]) -> Result<Option<Matches>, AllocError> {
+    let words = with_stop(alloc, before)?;
+    match options.parse_ignoring_counts(alloc, &words) {
+        Ok(matches) => {
+            if is_last_after_stop(&matches) {
+                Ok(Some(matches))
+            } else {
+                Ok(None)
+            }
+        }
+        Err(fail) => no_matches(&fail),
+    }
+}
+
+/// Words that have no reading have no matches. An error comes where the refusal tells that memory was refused.
+fn no_matches(fail: &Fail) -> Result<Option<Matches>, AllocError> {
+    match fail {
+        Fail::OutOfMemory => Err(AllocError),
+        _ => Ok(None),
+    }
+}
+
+/// Words, and after them a `--` and an empty word.
+fn with_stop<'w>(alloc: Global, before: &[&'w str]) -> Result<Vec<&'w str>, AllocError> {
+    let mut words = Vec::empty(alloc);
+    words.try_extend_from_slice(before)?;
+    words.try_push("--")?;
+    words.try_push("")?;
+    Ok(words)
+}
+
+/// Whether one free word, the last, stands after a stop.
+fn is_last_after_stop(matches: &Matches) -> bool {
+    match matches.free_trailing_start() {
+        Some(start) => matches.free.len().saturating_sub(start) == 1,
+        None => false,
+    }
+}
+
+/// What is offered of the options that may come once more.
+fn options_lines(
+    alloc: Global,
+    matches: &Matches,
+    long_only: bool,
+    word: &str,
+    rows: &[Row<'_>],
+) -> Result<String, AllocError> {
+    let mut text = String::empty(alloc);
+    for row in rows {
+        push_row(&mut text, matches, long_only, word, row)?;
+    }
+    Ok(text)
+}
+
+/// Adds what is offered of an option, if it may come once more.
+fn push_row(
+    text: &mut String,
+    matches: &Matches,
+    long_only: bool,
+    word: &str,
+    row: &Row<'_>,
+) -> Result<(), AllocError> {
+    if may_come(matches, row) {
+        push_option(text, long_only, word, row)
+    } else {
+        Ok(())
+    }
+}
+
+/// Whether an option may come once more.
+fn may_come(matches: &Matches, row: &Row<'_>) -> bool {
+    is_multi(row.occurrence) || !is_given(matches, main_name(row))
+}
+
+/// Whether an option may come any number of times.
+fn is_multi(occurrence: Occur) -> bool {
+    matches!(occurrence, Occur::Multi)
+}
+
+/// The main name of a row.
+fn main_name<'t>(row: &Row<'t>) -> &'t str {
+    if row.long.is_empty() {
+        row.short
+    } else {
+        row.long
+    }
+}
+
+/// Whether matches have an option of this name.
+pub(crate) fn is_given(matches: &Matches, name: &str) -> bool {
+    matches.opt_defined(name) && matches.opt_present(name)
+}
+
+/// Adds what is offered of an option.
+fn push_option(
+    text: &mut String,
+    long_only: bool,
+    word: &str,
+    row: &Row<'_>,
+) -> Result<(), AllocError> {
+    let valued = takes_argument(row.kind);
+    push_name(text, word, valued, "--", row.long, row.description)?;
+    push_one_dash(text, long_only, word, valued, row)?;
+    push_name(
+        text,
+        word,
+        long_only && valued,
+        "-",
+        row.short,
+        row.description,
+    )
+}
+
+/// Adds what is offered of a long name after one dash, in long-only mode.
+fn push_one_dash(
+    text: &mut String,
+    long_only: bool,
+    word: &str,
+    valued: bool,
+    row: &Row<'_>,
+) -> Result<(), AllocError> {
+    if long_only {
+        push_name(text, word, valued, "-", row.long, row.description)
+    } else {
+        Ok(())
+    }
+}
+
+/// Whether a kind takes an argument.
+fn takes_argument(kind: HasArg) -> bool {
+    !matches!(kind, HasArg::No)
+}
+
+/// Adds what is offered of a name after dashes, if there is such a name.
+fn push_name(
+    text: &mut String,
+    word: &str,
+    valued: bool,
+    dashes: &str,
+    name: &str,
+    description: &str,
+) -> Result<(), AllocError> {
+    if name.is_empty() {
+        return Ok(());
+    }
+    let form = text!(in *text.allocator(); "{dashes}{name}")?;
+    push_form(text, word, valued, form.as_str(), description)
+}
+
+/// Adds what is offered of a form of an option.
+fn push_form(
+    text: &mut String,
+    word: &str,
+    valued: bool,
+    form: &str,
+    description: &str,
+) -> Result<(), AllocError> {
+    if begins_with(form, word) {
+        return add_line!(text, "{form}\t{description}");
+    }
+    let before_value = text!(in *text.allocator(); "{form}=")?;
+    if valued && begins_with(word, before_value.as_str()) {
+        return text.try_push_str("value\n");
+    }
+    Ok(())
+}
+
+/// Whether a text begins with another.
+fn begins_with(text: &str, front: &str) -> bool {
+    text.as_bytes().starts_with(front.as_bytes())
 }

@@ -68,14 +68,14 @@ fn names_of(text: &str) -> Option<(&str, &str)> {
 
 /// These names, if they are lawful and may stand in a table.
 fn lawful_names<'t>(short: &'t str, long: &'t str) -> Option<(&'t str, &'t str)> {
-    if names_lawful(short, long) && is_name(short) && is_name(long) {
+    if names_lawful(short, long) && is_name(short) && is_long_name(long.as_bytes()) {
         Some((short, long))
     } else {
         None
     }
 }
 
-/// Whether a text may be a name.
+/// Whether a text may be a short name.
 fn is_name(text: &str) -> bool {
     match text.as_bytes() {
         [b'-', ..] => false,
@@ -83,14 +83,32 @@ fn is_name(text: &str) -> bool {
     }
 }
 
-/// Whether bytes may stand in a name.
+/// Whether bytes may stand in a short name.
 fn are_name_bytes(bytes: &[u8]) -> bool {
     bytes.iter().all(|byte| is_name_byte(*byte))
 }
 
-/// Whether a byte may stand in a name.
+/// Whether a byte may stand in a short name.
 fn is_name_byte(byte: u8) -> bool {
     byte > b' ' && !matches!(byte, 127 | b'|' | b'[' | b']' | b'=')
+}
+
+/// Whether bytes may be a long name.
+fn is_long_name(bytes: &[u8]) -> bool {
+    match bytes {
+        [b'-', ..] => false,
+        _ => are_long_bytes(bytes),
+    }
+}
+
+/// Whether bytes may stand in a long name.
+fn are_long_bytes(bytes: &[u8]) -> bool {
+    bytes.iter().all(|byte| is_long_byte(*byte))
+}
+
+/// Whether a byte may stand in a long name.
+fn is_long_byte(byte: u8) -> bool {
+    byte.is_ascii_alphanumeric() || matches!(byte, b'-' | b'_' | b'.' | b'+' | b':') || byte > 127
 }
 
 /// The kind and the hint of an argument, which may not be there.
@@ -118,7 +136,12 @@ fn hinted(kind: HasArg, hint: &str) -> Option<(HasArg, &str)> {
 
 /// Whether a text may be a hint.
 fn is_hint(text: &str) -> bool {
-    !text.is_empty() && are_hint_bytes(text.as_bytes())
+    !text.is_empty() && are_hint_bytes(text.as_bytes()) && !ends_in_dots(text)
+}
+
+/// Whether a text ends in two dots.
+fn ends_in_dots(text: &str) -> bool {
+    text.ends_with("..")
 }
 
 /// Whether bytes may stand in a hint.
@@ -129,4 +152,87 @@ fn are_hint_bytes(bytes: &[u8]) -> bool {
 /// Whether a byte may stand in a hint.
 fn is_hint_byte(byte: u8) -> bool {
     !matches!(byte, b' ' | b'\t' | b'[' | b']')
+}
+
+/// Why names that are right stand in no item.
+const BRACKETS: &str = "brackets stand around the option or its argument, and dots only after ']'";
+/// Why a name is wrong that has a wrong byte.
+const BYTES: &str =
+    "a name may hold letters, digits, '-', '_', '.', '+', ':' and bytes from 128 on";
+/// Why names are wrong that have wrong dashes.
+const DASHES: &str = "a short name comes after '-', a long one after '--'";
+
+/// Why a text is no item.
+pub(crate) fn reason_of(item: &str) -> &'static str {
+    let bytes = item.as_bytes();
+    if holds(bytes, b'[') && !holds(bytes, b']') {
+        return "no ']'";
+    }
+    let (names, rest) = cut_at_end(bytes);
+    if holds(rest, b' ') {
+        return "a tab or two spaces have to come before the description";
+    }
+    names_reason(after_bracket(names))
+}
+
+/// Whether bytes hold a byte.
+fn holds(bytes: &[u8], byte: u8) -> bool {
+    bytes.iter().any(|other| *other == byte)
+}
+
+/// What stands before the first space or `]`, and after it.
+fn cut_at_end(bytes: &[u8]) -> (&[u8], &[u8]) {
+    for at in 0..bytes.len() {
+        if bytes[at] == b' ' || bytes[at] == b']' {
+            return (&bytes[..at], &bytes[at + 1..]);
+        }
+    }
+    (bytes, &bytes[bytes.len()..])
+}
+
+/// Bytes without a `[` that they begin with.
+fn after_bracket(bytes: &[u8]) -> &[u8] {
+    match bytes {
+        [b'[', rest @ ..] => rest,
+        _ => bytes,
+    }
+}
+
+/// Why names are wrong, or what they stand in.
+fn names_reason(names: &[u8]) -> &'static str {
+    if names.len() < 2 || names[0] != b'-' {
+        DASHES
+    } else if names[1] == b'-' {
+        long_reason(&names[2..])
+    } else {
+        short_reason(names[1], &names[2..])
+    }
+}
+
+/// The same of a short name, and what follows it.
+fn short_reason(short: u8, more: &[u8]) -> &'static str {
+    if !more.is_empty() && more[0] != b'|' {
+        "a short name has one byte"
+    } else if !is_name_byte(short) {
+        BYTES
+    } else if more.is_empty() {
+        BRACKETS
+    } else if more.len() > 2 && more[1] == b'-' && more[2] == b'-' {
+        long_reason(&more[3..])
+    } else {
+        DASHES
+    }
+}
+
+/// The same of a long name.
+fn long_reason(long: &[u8]) -> &'static str {
+    if long.len() < 2 {
+        "a long name has at least two bytes"
+    } else if !are_long_bytes(long) {
+        BYTES
+    } else if long[0] == b'-' {
+        DASHES
+    } else {
+        BRACKETS
+    }
 }

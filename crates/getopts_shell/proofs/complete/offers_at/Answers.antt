@@ -1,4 +1,4 @@
-use Rattle.std.proofs.Common.{◌≡◌, List, ap, map, string_bytes, subst, sym, take, ◌∙◌}
+use Rattle.std.proofs.Common.{List, string_bytes, subst, sym, take}
 use Rattle.std.proofs.lemmas.Result.{IfOk-weaker}
 use Rattle.std.proofs.lemmas.List.{take-map}
 use Rattle.getopts.specs.Names.{Text, texts}
