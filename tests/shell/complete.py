@@ -123,6 +123,30 @@ def answers(program):
     print(f"{tried} questions about words")
 
 
+def quoted(program, room):
+    """A name and a table of any bytes come to the program as they are, and the shell runs none of them."""
+    name, table = "it's \\ a; $(touch ran) `touch ran`", "[-a]  \\ ' \\' $(touch ran) `touch ran`\\"
+    (room / "said").mkdir()
+    (room / "said/getopts_shell").write_text('#!/bin/sh\nprintf "%s\\n" "$@" >"$ROOM/words"\n')
+    (room / "said/getopts_shell").chmod(0o755)
+    env = {**os.environ, "PATH": f"{room}/said:{os.environ['PATH']}", "ROOM": str(room), "HOME": str(room)}
+    mark = "".join(f"_{byte}" for byte in name.encode())
+    for shell, ask in (("bash", f"COMP_LINE='x ' COMP_POINT=2 COMP_WORDS=(x '') COMP_CWORD=1 COMP_TYPE=9; _getopts_shell{mark}"),
+                       ("zsh", f"CURRENT=2 words=(x '') PREFIX=; compdef() {{ :; }}; _getopts_shell{mark}"),
+                       ("fish", f"function commandline; echo x; end; _getopts_shell{mark}")):
+        if not shutil.which(shell):
+            continue
+        code = run([program, "--complete", shell, name, table]).stdout.decode()
+        before = "compdef() { :; }\n" if shell == "zsh" else ""
+        done = run([shell, "-c", before + code + ask], env=env, cwd=room)
+        said = (room / "words").read_text() if (room / "words").exists() else None
+        wanted = f"--complete-words\n{shell}\n{name}\n{table}\n0\n"
+        if said is None or not said.startswith(wanted) or (room / "ran").exists():
+            fail(f"{shell}: a name and a table of any bytes: {said!r}, and not {wanted!r}; {done}")
+        (room / "words").unlink(missing_ok=True)
+    print("a name and a table of any bytes")
+
+
 def run(words, **more):
     return subprocess.run(words, stdout=subprocess.PIPE, stderr=subprocess.PIPE, **more)
 
@@ -256,6 +280,7 @@ def main():
             (room / "bin" / name).write_text('#!/bin/sh\nprintf "%s\\0" "$@" >>"$LOG"\nprintf "\\001" >>"$LOG"\n')
             (room / "bin" / name).chmod(0o755)
         answers(program)
+        quoted(program, room)
         for shell in ("bash", "zsh", "fish"):
             if not shutil.which(shell):
                 print(f"skipped: completion in {shell}: it isn't installed")

@@ -16,3 +16,4 @@ mod Fronts
 mod Shell
 mod Assignments
 mod Asked
+mod GoesOn

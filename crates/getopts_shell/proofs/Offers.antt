@@ -3,7 +3,7 @@ use Rattle.std.proofs.Common.{◌≡◌, ℕ, List, ap, refl, sym, ◌∙◌}
 use Rattle.getopts.specs.Matches.{Matched}
 use Rattle.getopts.specs.Names.{Text}
 use Rattle.getopts.specs.Options.{Declared}
-use Rattle.getopts_shell.specs.Completion.{IsOffer, offers_options, offers_files, options_lines, MayGoOn, WritesNumber}
+use Rattle.getopts_shell.specs.Completion.{IsOffer, offers_options, offers_files, options_lines, WritesNumber}
 use Rattle.getopts_shell.proofs.Help.{one_reading}
 
 -- one text is offered at a word

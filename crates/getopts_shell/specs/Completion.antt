@@ -6,11 +6,11 @@ use Rattle.std.specs.Option.{option_map_or}
 use Rattle.std.specs.Str.{bytes_eq}
 use Rattle.std.specs.Str.Parse.{IsNumeral, digits_value, without_leading_plus}
 use Rattle.getopts.specs.Accessors.{is_present}
-use Rattle.getopts.specs.Matches.{Matched}
+use Rattle.getopts.specs.Matches.{Matched, matches_of}
 use Rattle.getopts.specs.Names.{Text, is_empty, main_name}
 use Rattle.getopts.specs.Options.{Group, Declared}
-use Rattle.getopts.specs.Parse.{HasReading}
-use Rattle.getopts.specs.Reading.{begins_with_dash, stop_word}
+use Rattle.getopts.specs.Parse.{HasReading, Reads}
+use Rattle.getopts.specs.Reading.{Reading, begins_with_dash, line_end, stop_word}
 use Rattle.getopts.specs.declared.groups.HasArg.{HasArg}
 use Rattle.getopts.specs.declared.groups.HasArg.TheVariants.{No}
 use Rattle.getopts.specs.declared.groups.Occur.{Occur}
@@ -29,6 +29,19 @@ is_last_after_stop matches =
 pub record MayGoOn (options : Declared) (before : List Text) (matches : Matched) : Type 0 where
   pub read : HasReading options (before ++ stop_word ∷ [] ∷ []) matches
   pub stop : is_last_after_stop matches ≡ true
+
+-- These words have a reading that ends with the line, neither in a stop nor in a rest, and it gives these
+-- groups.
+pub record EndsWithTheLine (options : Declared) (before : List Text) (matches : Matched) : Type 0 where
+  pub reading : Reading
+  pub reads : Reads options before reading
+  pub ends : reading.tail ≡ line_end
+  pub groups_are : matches.groups ≡ (matches_of options reading).groups
+
+-- an option may come only after words that have such a reading
+abbrev pub OptionsComeAtTheLineEnd : Type 0
+OptionsComeAtTheLineEnd = (options : Declared) (before : List Text) (matches : Matched)
+    → MayGoOn options before matches → EndsWithTheLine options before matches
 
 -- whether an option may come any number of times
 abbrev pub is_multi : Occur → Bool
