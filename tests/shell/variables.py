@@ -4,6 +4,7 @@
 usage: tests/shell/variables.py PROGRAM
 
 - The text that is written for words, byte for byte, and the faults of prefixes and names.
+- The first script of bindings/shell/README.md does what it says.
 - After random words by random tables each shell holds what the words say, with arrays where it has them. Each variable
   holds something else before, and is in the environment.
 
@@ -12,11 +13,12 @@ What is expected is computed here, by the rules, and not by the program.
 
 import os
 import random
+import re
 import sys
 import tempfile
 from pathlib import Path
 
-from run import TABLE, is_text, run, shells, text_of
+from run import ROOT, TABLE, is_text, run, shells, text_of
 
 LINES = 2000
 WITH_ARRAYS = ["bash", "zsh", "ksh93", "mksh", "yash"]
@@ -188,11 +190,35 @@ def random_cases(program, found, room, arrays):
             print(f"{' '.join(shell)}: {what} after {len(taken)} random lines")
 
 
+RUNS = [
+    (["-vv", "x", "-i", "a b"], "from a b to standard output, 2 times\nfree: x\n"),
+    (["--input=", "--output", "it's", "--", "-v", ""], "from  to it's, 0 times\nfree: -v\nfree: \n"),
+]
+
+
+def page(program, found, room):
+    """The page's first script, whose variables are in the environment."""
+    (room / "bin").mkdir()
+    (room / "bin/getopts_shell").symlink_to(program)
+    others = {name: "1" for name in ("opt_input", "opt_output", "opt_verbose", "opt_color", "opt_L", "opt_help")}
+    env = {**os.environ, **others, "PATH": f"{room}/bin:{os.environ['PATH']}"}
+    text = (ROOT / "bindings/shell/README.md").read_text()
+    (room / "script").write_text(re.search(r"```sh\n(.*?)```", text, re.S).group(1))
+    for shell in found:
+        for words, out in RUNS:
+            done = run(shell + [str(room / "script")] + words, env=env)
+            if (done.returncode, done.stdout.decode(), done.stderr) != (0, out, b""):
+                fail(f"{' '.join(shell)}: the page's first script with {words!r}: {done}")
+    print("the page's first script")
+
+
 def main():
     os.environ["LC_ALL"] = "C.UTF-8"
     os.environ.pop("POSIXLY_CORRECT", None)
     program, found = str(Path(sys.argv[1]).resolve()), shells()
     rows(program)
+    with tempfile.TemporaryDirectory() as room:
+        page(program, found, Path(room))
     for arrays in (False, True):
         with tempfile.TemporaryDirectory() as room:
             random_cases(program, found, Path(room), arrays)
