@@ -78,9 +78,8 @@ name_line word valued dashes name description =
 abbrev pub option_lines : Bool → Text → Group → Text
 option_lines long_only word group =
     name_line word (takes_argument group.signature.kind) (codes "--") group.signature.names.long group.description
-    ++ ((if long_only
-    then name_line word (takes_argument group.signature.kind) (codes "-") group.signature.names.long group.description
-    else [])
+    ++ (name_line word (takes_argument group.signature.kind) (codes "-")
+    (if long_only then group.signature.names.long else []) group.description
     ++ name_line word (long_only && takes_argument group.signature.kind) (codes "-")
     group.signature.names.short group.description)
 
