@@ -333,7 +333,8 @@ fn push_option(
 ) -> Result<(), AllocError> {
     let valued = takes_argument(row.kind);
     push_name(text, word, valued, "--", row.long, row.description)?;
-    push_one_dash(text, long_only, word, valued, row)?;
+    let one_dash = if long_only { row.long } else { "" };
+    push_name(text, word, valued, "-", one_dash, row.description)?;
     push_name(
         text,
         word,
@@ -342,21 +343,6 @@ fn push_option(
         row.short,
         row.description,
     )
-}
-
-/// Adds what is offered of a long name after one dash, in long-only mode.
-fn push_one_dash(
-    text: &mut String,
-    long_only: bool,
-    word: &str,
-    valued: bool,
-    row: &Row<'_>,
-) -> Result<(), AllocError> {
-    if long_only {
-        push_name(text, word, valued, "-", row.long, row.description)
-    } else {
-        Ok(())
-    }
 }
 
 /// Whether a kind takes an argument.
