@@ -229,11 +229,13 @@ head_says() {
 }
 head_answers() {
     printf '1\n2\n3\n' >"$room/file"
+    cp "$room/file" "$room/"$'\xff.txt'
     head_says 0 $'1\n2' '' -n2 "$room/file" &&
         head_says 0 'Usage: head [options] FILE..' '' --help &&
         head_says 0 'Usage: head [options] FILE..' '' -h -h "$room/file" &&
         head_says 2 '' "head: Unrecognized option: 'nope'" --nope &&
-        head_says 2 '' "head: Unrecognized option: '"$'--x\xff'"'" --nope -- $'--x\xff' &&
+        head_says 2 '' "head: Unrecognized option: '"$'x\xff'"'" $'--x\xff' &&
+        head_says 0 $'1\n2' '' -n2 "$room/"$'\xff.txt' &&
         head_says 2 '' "head: '2x' isn't a number of lines" -n 2x "$room/file" &&
         head_says 2 '' "head: '-1' isn't a number of lines" --lines=-1 "$room/file" &&
         head_says 1 $'1\n2' "head: $room/nofile: No such file or directory" -n 2 "$room/nofile" "$room/file" &&

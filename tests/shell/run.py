@@ -163,9 +163,10 @@ def random_lines(program, found, room):
 
 
 def page_script():
-    """The script of the page, with a loop that shows what it read."""
+    """The page's script with a loop, and what shows what it read."""
     page = (ROOT / "bindings/shell/README.md").read_text()
-    code = re.search(r"```sh\n(.*?)```", page, re.S).group(1)
+    first, loop = re.findall(r"```sh\n(.*?)```", page, re.S)[:2]
+    code = first[: first.index("code=")] + loop
     show = "printf '%s\\n' \"$input|$output|$verbose|$color|$folders\"\nfor word do printf '%s\\n' \"$word\"; done\n"
     return code + show
 

@@ -28,6 +28,7 @@ else
     skip "whether the programs are of the proved source: 'rt ci' has not built it here"
 fi
 check "the shells" python3 "$top/tests/shell/run.py" "$program" && cat "$room/said"
+check "variables" python3 "$top/tests/shell/variables.py" "$program" && cat "$room/said"
 check "completion in terminals" python3 "$top/tests/shell/complete.py" "$program" && cat "$room/said"
 
 # What a processor that isn't this machine's is asked: each way of calling the program, right and wrong.

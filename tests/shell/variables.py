@@ -4,6 +4,7 @@
 usage: tests/shell/variables.py PROGRAM
 
 - The text that is written for words, byte for byte, and the faults of prefixes and names.
+- The first script of bindings/shell/README.md does what it says.
 - After random words by random tables each shell holds what the words say, with arrays where it has them. Each variable
   holds something else before, and is in the environment.
 
@@ -12,11 +13,12 @@ What is expected is computed here, by the rules, and not by the program.
 
 import os
 import random
+import re
 import sys
 import tempfile
 from pathlib import Path
 
-from run import TABLE, run, shells, text_of
+from run import ROOT, TABLE, is_text, run, shells, text_of
 
 LINES = 2000
 WITH_ARRAYS = ["bash", "zsh", "ksh93", "mksh", "yash"]
@@ -144,7 +146,7 @@ def told_of(option, values):
 
 def random_cases(program, found, room, arrays):
     rng = random.Random(50 + arrays)
-    script, wanted, env = ["set -eu"], [], dict(os.environ)
+    cases, env = [], dict(os.environ)
     for number in range(LINES):
         options, words, values, free = case_of(rng)
         prefix = rng.choice(["opt_", "x", "_", "Opt9"])
@@ -155,9 +157,8 @@ def random_cases(program, found, room, arrays):
             return
         (room / f"code.{number}").write_bytes(done.stdout)
         names = [prefix + (long or short).replace("-", "_") for short, long, _, _ in options]
-        for name in names:
-            env[name] = "other"
-            script.append(f"unset {name}; {name}='other'" if arrays else f"{name}='other'")
+        env.update({name: "other" for name in names})
+        script = [f"unset {name}; {name}='other'" if arrays else f"{name}='other'" for name in names]
         script.append(f"code=$(cat code.{number}) || exit\neval \"$code\"\nprintf '%s\\0' \"$#\" \"$@\"")
         told = [str(len(free))] + free
         for name, option, each in zip(names, options, values):
@@ -167,24 +168,48 @@ def random_cases(program, found, room, arrays):
             else:
                 script.append(f"printf '%s\\0' \"${{{name}+set}}\" \"${{{name}-}}\"")
             told += told_of(option, each)
-        wanted.append(told)
-    path = room / "cases"
-    path.write_text("\n".join(script) + "\n")
+        cases.append((number, "\n".join(script), told))
     what = "arrays" if arrays else "variables"
     for shell in found:
         if arrays and shell[0] not in WITH_ARRAYS:
             print(f"skipped: arrays in {' '.join(shell)}: it has none")
             continue
-        done = run(shell + [str(path)], cwd=room, env=env)
-        told, place = done.stdout.decode(errors="surrogateescape").split("\0"), 0
-        for number, each in enumerate(wanted):
-            if told[place : place + len(each)] != each:
-                fail(f"{' '.join(shell)}: {what}, case {number}: {told[place : place + len(each)]!r}, and not {each!r}; "
-                     f"{done.stderr[:300]!r}")
+        # yash takes no bytes that are no text of its locale.
+        taken = [case for case in cases if shell != ["yash"] or is_text("".join(case[2]))]
+        (room / "cases").write_text("\n".join(["set -eu"] + [script for _, script, _ in taken]) + "\n")
+        done = run(shell + [str(room / "cases")], cwd=room, env=env)
+        told, place = done.stdout.split(b"\0"), 0
+        for number, _, each in taken:
+            wanted = [os.fsencode(text) for text in each]
+            if told[place : place + len(wanted)] != wanted:
+                fail(f"{' '.join(shell)}: {what}, case {number}: {told[place : place + len(wanted)]!r}, and not "
+                     f"{wanted!r}; {done.stderr[:300]!r}")
                 break
-            place += len(each)
+            place += len(wanted)
         else:
-            print(f"{' '.join(shell)}: {what} after {LINES} random lines")
+            print(f"{' '.join(shell)}: {what} after {len(taken)} random lines")
+
+
+RUNS = [
+    (["-vv", "x", "-i", "a b"], "from a b to standard output, 2 times\nfree: x\n"),
+    (["--input=", "--output", "it's", "--", "-v", ""], "from  to it's, 0 times\nfree: -v\nfree: \n"),
+]
+
+
+def page(program, found, room):
+    """The page's first script, whose variables are in the environment."""
+    (room / "bin").mkdir()
+    (room / "bin/getopts_shell").symlink_to(program)
+    others = {name: "1" for name in ("opt_input", "opt_output", "opt_verbose", "opt_color", "opt_L", "opt_help")}
+    env = {**os.environ, **others, "PATH": f"{room}/bin:{os.environ['PATH']}"}
+    text = (ROOT / "bindings/shell/README.md").read_text()
+    (room / "script").write_text(re.search(r"```sh\n(.*?)```", text, re.S).group(1))
+    for shell in found:
+        for words, out in RUNS:
+            done = run(shell + [str(room / "script")] + words, env=env)
+            if (done.returncode, done.stdout.decode(), done.stderr) != (0, out, b""):
+                fail(f"{' '.join(shell)}: the page's first script with {words!r}: {done}")
+    print("the page's first script")
 
 
 def main():
@@ -192,6 +217,8 @@ def main():
     os.environ.pop("POSIXLY_CORRECT", None)
     program, found = str(Path(sys.argv[1]).resolve()), shells()
     rows(program)
+    with tempfile.TemporaryDirectory() as room:
+        page(program, found, Path(room))
     for arrays in (False, True):
         with tempfile.TemporaryDirectory() as room:
             random_cases(program, found, Path(room), arrays)

@@ -158,7 +158,16 @@ impl Matches {
     /// assert_eq!(options.parse(["-La", "-L", "b"]).unwrap().opt_strs("L"), ["a", "b"]);
     /// ```
     pub fn opt_strs(&self, name: &str) -> Vec<String> {
-        granted(self.given(name).values(Global))
+        let given = self.given(name);
+        let (count, mut values) = (given.len(), Vec::new());
+        for value in given.into_iter().filter_map(|(_, value)| value) {
+            // Most options with a value have one each time.
+            if values.is_empty() {
+                values.reserve_exact(count);
+            }
+            values.push(value.to_string());
+        }
+        values
     }
 
     /// The positions and values of those of an option's occurrences that have a value.

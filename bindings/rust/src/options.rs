@@ -281,7 +281,7 @@ impl Options {
         let options = self.named();
         let args: Vec<C::Item> = args.into_iter().collect();
         // Few words take no list of references.
-        let (mut few, mut many) = ([""; 16], Vec::new());
+        let (mut few, mut many) = ([""; 8], Vec::new());
         let words = if args.len() <= few.len() {
             &mut few[..args.len()]
         } else {

@@ -125,6 +125,23 @@ Options:
 '; \\exit
 ";
 
+const VARIABLES: &str = "opt_input='it'\\''s'
+\\unset -v opt_output
+opt_verbose=2
+\\unset -v opt_color
+opt_L=''\\''a'\\'' '\\''b c'\\'''
+opt_help=0
+\\set -- 'x'
+";
+
+const ARRAYS: &str = "opt_input=''
+\\unset -v opt_output
+opt_verbose=0
+opt_color=''
+opt_L=('a' 'b')
+opt_help=0
+\\set -- \n";
+
 const MISSING: &str = "backup: Required option 'input' missing
 Usage: backup -i FILE [-o FILE] [-v].. [-c [WHEN]] [-L DIR].. [-h]
 ";
@@ -181,7 +198,7 @@ const OWN: [Row<'static>; 12] = [
 ];
 
 /// Words of a script.
-const WORDS: [Row<'static>; 26] = [
+const WORDS: [Row<'static>; 30] = [
     (&["-u", "backup", TABLE], HELP, 0),
     (
         &[
@@ -268,6 +285,30 @@ const WORDS: [Row<'static>; 26] = [
         &["-w", "backup", TABLE, "-iy", "x"],
         "'--input=y' '--' 'x'\n",
         0,
+    ),
+    (
+        &[
+            "-V", "opt_", "backup", TABLE, "x", "-vvi", "it's", "-La", "-L", "b c",
+        ],
+        VARIABLES,
+        0,
+    ),
+    (
+        &[
+            "-AV", "opt_", "backup", TABLE, "-i", "", "-c", "-La", "-L", "b",
+        ],
+        ARRAYS,
+        0,
+    ),
+    (
+        &["-wV", "opt_", "x", "-v"],
+        "getopts_shell: --words and --variables don't go together\n",
+        5,
+    ),
+    (
+        &["-V", "opt_", "x", "--a-b\n--a_b"],
+        "getopts_shell: line 2 of the options: 'a_b' makes the variable of another option\n",
+        5,
     ),
     (&["-w", "x", ""], "'--'\n", 0),
     (

@@ -41,6 +41,7 @@ pub fn push_text(text: &mut String, word: &[u8]) -> Result<(), AllocError> {
 }
 
 /// Adds the bytes of a text.
+#[inline]
 pub fn push_bytes(bytes: &mut Vec<u8>, text: &str) -> Result<(), AllocError> {
     if has_marks(text) {
         push_chars(bytes, text)
@@ -49,9 +50,16 @@ pub fn push_bytes(bytes: &mut Vec<u8>, text: &str) -> Result<(), AllocError> {
     }
 }
 
-/// Whether a text holds a mark.
+/// Whether a text holds a mark. ASCII, which most words are, holds none.
+#[inline(always)]
 fn has_marks(text: &str) -> bool {
-    !text.is_ascii() && text.chars().any(is_mark)
+    !text.is_ascii() && any_is_mark(text)
+}
+
+/// Whether one of the characters of a text is a mark.
+#[inline(never)]
+fn any_is_mark(text: &str) -> bool {
+    text.chars().any(is_mark)
 }
 
 /// Whether a character is a mark.
@@ -102,6 +110,7 @@ fn push_mark(text: &mut String, byte: u8) -> Result<(), AllocError> {
 }
 
 /// Adds the bytes of a text, character by character.
+#[inline(never)]
 fn push_chars(bytes: &mut Vec<u8>, text: &str) -> Result<(), AllocError> {
     for char in text.chars() {
         push_char(bytes, char)?;
