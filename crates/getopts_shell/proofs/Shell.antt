@@ -26,8 +26,8 @@ use Rattle.getopts_shell.specs.Variables.{plain, in_quotes, commands, Value, one
 use Rattle.getopts_shell.specs.Variables.{is_variable_byte, begins_variable, is_variable, only_word, array_of_words}
 use Rattle.getopts_shell.specs.Variables.{in_brackets, value_of_code, after_assignment, after_builtin, after_command}
 use Rattle.getopts_shell.specs.Variables.{after_commands, shell_after, variable_of, held_value, group_variable}
-use Rattle.getopts_shell.specs.Variables.{group_value, HoldsOptions, setting, option_setting, variable_line}
-use Rattle.getopts_shell.specs.Variables.{variables_code, HaveOwnVariables}
+use Rattle.getopts_shell.specs.Variables.{group_value, setting, option_setting, variable_line}
+use Rattle.getopts_shell.specs.Variables.{HaveOwnVariables}
 use Rattle.getopts_shell.specs.Variables.{SetsVariables, texts_found}
 use Rattle.getopts_shell.proofs.Quoting.{words_same}
 

@@ -1,10 +1,9 @@
 use Rattle.std.proofs.Common.{ap, subst, sym, ◌∙◌}
-use Rattle.getopts.specs.Accessors.{held_names}
-use Rattle.getopts.specs.Names.{Text, Names, texts}
+use Rattle.getopts.specs.Names.{Names, texts}
 use Rattle.getopts.specs.Options.{Group, names_of, signatures_of}
 use Rattle.std.proofs.Common.{List, []}
 use Rattle.getopts_shell.specs.Held.{asked_of, groups_of}
-use Rattle.getopts_shell.specs.Program.{AnswersScript, refused, variables}
+use Rattle.getopts_shell.specs.Program.{refused, variables}
 use Rattle.getopts_shell.specs.Variables.{HaveOwnVariables}
 use Rattle.getopts_shell.proofs.Asked.{asked_own, held_names_are, held_signatures_are}
 use Rattle.getopts_shell.proofs.Shell.{code_sets}

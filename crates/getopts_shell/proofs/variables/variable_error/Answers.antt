@@ -1,5 +1,4 @@
-use Rattle.std.proofs.Common.{◌≡◌, ℕ, Bool, true, false, cond, List, [], ap, get_or, map, refl, ◌∙◌, sym, take, drop, Some, None, Option}
-use Rattle.std.proofs.Common.{length, arith}
+use Rattle.std.proofs.Common.{◌≡◌, ℕ, Bool, true, false, List, [], ap, get_or, map, refl, ◌∙◌, sym, take, Some, None, Option}
 use Rattle.std.specs.List.{list_any}
 use Rattle.std.specs.Option.{option_or}
 use Rattle.std.specs.Str.{bytes_eq}
@@ -7,7 +6,7 @@ use Rattle.getopts.specs.Names.{Text, Names, main_name}
 use Rattle.getopts.specs.Options.{names_of}
 use Rattle.getopts.specs.Wrap.{lines_of}
 use Rattle.getopts_shell.specs.Held.{group_of_row, groups_of}
-use Rattle.getopts_shell.specs.Variables.{any_has_variable, first_fault, is_prefix, is_variable, name_fault, no_prefix, no_variable}
+use Rattle.getopts_shell.specs.Variables.{any_has_variable, first_fault, is_prefix, is_variable, name_fault, no_variable}
 use Rattle.getopts_shell.specs.Variables.{option_lines, prefix_fault, VariableFault, variable, variable_byte, variable_of}
 use Rattle.getopts_shell.specs.Variables.{variable_twice}
 use Rattle.getopts_shell.specs.declared.row.Row.{Row}
