@@ -119,7 +119,7 @@ on() {
     }
     check "$target: the build" cargo_for build --release --bins || return
     if [ -n "$crate" ]; then
-        check "$target: the public tests" cargo_for test --test public -- "${left_out[@]}" && echo "$target: $(grep "^test result" "$room/said")"
+        check "$target: the public tests" cargo_for test --release --test public -- "${left_out[@]}" && echo "$target: $(grep "^test result" "$room/said")"
     fi
     while read -r file; do
         says "$target: ${file#"$top/crates/"}" program rows "$file" "${passed_over[@]}"

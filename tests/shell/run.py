@@ -3,6 +3,7 @@
 
 usage: tests/shell/run.py [PROGRAM]
 
+- The program answers each row of rows.py: its status, and both streams.
 - The script of bindings/shell/README.md and the scripts of bindings/shell/examples do the same in each shell.
 - The words of random lines come out of `eval` in each shell as the canonical line.
 - getopt(1) reads the same options, values and free words, for tables and words that both take.
@@ -21,17 +22,13 @@ import sys
 import tempfile
 from pathlib import Path
 
+sys.dont_write_bytecode = True
+sys.path.insert(0, str(Path(__file__).resolve().parent))
+from rows import TABLE, all_rows
+
 ROOT = Path(__file__).resolve().parent.parent.parent
 SHELLS = ["dash", "bash", "bash --posix", "zsh", "ksh93", "mksh", "yash", "busybox sh"]
 LINES = 2000
-TABLE = """
--i|--input FILE       read this file
-[-o|--output FILE]    write to FILE
-[-v|--verbose]..      say more
-[-c|--color [WHEN]]   colour the output
-[-L DIR]..            add a folder
-[-h|--help]           print this help
-"""
 # Every option may come again, so that counts play no part.
 MANY = """
 [-i|--input FILE]..
@@ -51,6 +48,15 @@ def fail(what):
 
 def run(words, **more):
     return subprocess.run(words, stdout=subprocess.PIPE, stderr=subprocess.PIPE, **more)
+
+
+def rows(program):
+    """The program's answers, beside those of the rows."""
+    for words, text, status in all_rows():
+        done = run([program, *words])
+        streams = (text.encode(), b"") if status == 0 else (b"", text.encode())
+        if (done.returncode, (done.stdout, done.stderr)) != (status, streams):
+            fail(f"{[word[:60] for word in words]}: {done.returncode}, {done.stdout[:200]}, {done.stderr[:200]}")
 
 
 def text_of(rng):
@@ -390,6 +396,7 @@ def main():
         (room / "bin").mkdir()
         (room / "bin/getopts_shell").symlink_to(program)
         program = str(room / "bin/getopts_shell")
+        rows(program)
         random_lines(program, found, room)
         page(program, found, room)
         beside_getopt(program)

@@ -340,8 +340,12 @@ def the_static_program(room):
              run(words, program=SHELL, out=writer, restore_signals=restore), NOT_WRITTEN, b"")
         os.close(writer)
     refused = [*given, "--nope"]
-    done = subprocess.run([SHELL, *refused], stdout=subprocess.PIPE, preexec_fn=closed(2))
-    ends("static, a fault that can't be written", (done.returncode, done.stdout), NOT_WRITTEN, b"")
+    for what, call in (("a refusal", refused), ("a wrong table", ["try", "-ab"]), ("a wrong call", ["--nope"])):
+        done = subprocess.run([SHELL, *call], stdout=subprocess.PIPE, preexec_fn=closed(2))
+        ends(f"static, {what} to a closed error stream", (done.returncode, done.stdout), NOT_WRITTEN, b"")
+        with open("/dev/full", "wb") as full:
+            done = subprocess.run([SHELL, *call], stdout=subprocess.PIPE, stderr=full)
+        ends(f"static, {what} to a full error stream", (done.returncode, done.stdout), NOT_WRITTEN, b"")
     for most in (0, 1, 100, len(text) - 1, len(text)):
         with open(room / "static", "wb") as file:
             told, _ = run(words, {resource.RLIMIT_FSIZE: most}, program=SHELL, out=file)

@@ -1,0 +1,214 @@
+"""What the program answers: its words, the text, and the status, by the rules.
+
+The text is on the standard output where the status is 0, and else on the standard error; the other is empty.
+"""
+
+TABLE = """
+-i|--input FILE       read this file
+[-o|--output FILE]    write to FILE
+[-v|--verbose]..      say more
+[-c|--color [WHEN]]   colour the output
+[-L DIR]..            add a folder
+[-h|--help]           print this help
+"""
+OWN_HELP = """\
+Usage: getopts_shell [options] NAME TABLE [WORD]..
+
+Options:
+    -b, --brief TEXT    begin the help with TEXT
+    -s, --stop          leave all words from the first free one on free
+    -l, --long-only     let long names follow one dash too
+    -w, --words         write the words alone, without 'set --'
+    -V, --variables PREFIX
+                        set a variable for each option, named PREFIX and its
+                        name
+    -A, --arrays        with --variables, make an array of values
+    -u, --usage         write the help of TABLE
+    -c, --complete SHELL
+                        write a completion script for bash, zsh or fish
+        --complete-words SHELL
+                        write what may come at word N, where the WORDs are N
+                        and words
+    -h, --help          print this help
+        --version       print the version
+"""
+NEEDED = "getopts_shell: a name and a table of options are needed\n"
+HELP = """\
+Usage: backup -i FILE [-o FILE] [-v].. [-c [WHEN]] [-L DIR].. [-h]
+
+Options:
+    -i, --input FILE    read this file
+    -o, --output FILE   write to FILE
+    -v, --verbose       say more
+    -c, --color [WHEN]  colour the output
+    -L DIR              add a folder
+    -h, --help          print this help
+"""
+BRIEF_HELP = """\
+Back files up.
+
+Options:
+    -i, --input FILE    read this file
+    -o, --output FILE   write to FILE
+    -v, --verbose       say more
+    -c, --color [WHEN]  colour the output
+    -L DIR              add a folder
+    -h, --help          print this help
+"""
+HELP_CODE = """\
+\\printf %s 'Usage: backup -i FILE [-o FILE] [-v].. [-c [WHEN]] [-L DIR].. [-h]
+
+Options:
+    -i, --input FILE    read this file
+    -o, --output FILE   write to FILE
+    -v, --verbose       say more
+    -c, --color [WHEN]  colour the output
+    -L DIR              add a folder
+    -h, --help          print this help
+'; \\exit
+"""
+VARIABLES = """\
+opt_input='it'\\''s'
+\\unset -v opt_output
+opt_verbose=2
+\\unset -v opt_color
+opt_L=''\\''a'\\'' '\\''b c'\\'''
+opt_help=0
+\\set -- 'x'
+"""
+ARRAYS = """\
+opt_input=''
+\\unset -v opt_output
+opt_verbose=0
+opt_color=''
+opt_L=('a' 'b')
+opt_help=0
+""" + "\\set -- \n"
+MISSING = """\
+backup: Required option 'input' missing
+Usage: backup -i FILE [-o FILE] [-v].. [-c [WHEN]] [-L DIR].. [-h]
+"""
+TWICE = """\
+backup: Option 'output' given more than once
+Usage: backup -i FILE [-o FILE] [-v].. [-c [WHEN]] [-L DIR].. [-h]
+"""
+UNKNOWN = """\
+backup: Unrecognized option: 'nope'
+Usage: backup -i FILE [-o FILE] [-v].. [-c [WHEN]] [-L DIR].. [-h]
+"""
+QUOTED_HELP = """\
+\\printf %s 'Usage: it'\\''s [-h]
+
+Options:
+    -h, --help          print this script'\\''s help
+'; \\exit
+"""
+
+# The program's own options, and how it is called.
+OWN = [
+    (["--help"], OWN_HELP, 0),
+    (["--version"], "getopts_shell 0.2.24\n", 0),
+    (["--version", "-h"], OWN_HELP, 0),
+    (["-h", "backup", "no table"], OWN_HELP, 0),
+    (["-h", "--nope"], "getopts_shell: Unrecognized option: 'nope'\n", 5),
+    (["--nope", "backup", TABLE], "getopts_shell: Unrecognized option: 'nope'\n", 5),
+    (["-b"], "getopts_shell: Argument to option 'b' missing\n", 5),
+    (["-uu", "x", ""], "getopts_shell: Option 'usage' given more than once\n", 5),
+    ([], NEEDED, 5),
+    (["backup"], NEEDED, 5),
+    (["--", "backup"], NEEDED, 5),
+    (["-c", "tcsh", "backup", TABLE], "getopts_shell: no completion for 'tcsh'\n", 5),
+]
+
+# Words of a script.
+WORDS = [
+    (["-u", "backup", TABLE], HELP, 0),
+    (["--usage", "--brief=Back files up.", "backup", TABLE, "--nope"], BRIEF_HELP, 0),
+    (["-c", "tcsh", "-u", "backup", TABLE], "getopts_shell: no completion for 'tcsh'\n", 5),
+    (["--complete-words", "tcsh", "backup", TABLE, "0"], "getopts_shell: no completion for 'tcsh'\n", 5),
+    (["--complete-words", "zsh", "backup", TABLE, "2", "x"], "getopts_shell: no word has the number '2'\n", 5),
+    (["--complete-words", "zsh", "backup", TABLE], "getopts_shell: no word has the number ''\n", 5),
+    (["--complete-words", "fish", "backup", TABLE, "1", "-h", "--"],
+     "--input\tread this file\n--output\twrite to FILE\n--verbose\tsay more\n--color\tcolour the output\n", 0),
+    (["--complete-words", "bash", "backup", TABLE, "1", "--", "-"], "files\n", 0),
+    (["backup", TABLE, "-h"], HELP_CODE, 0),
+    (["backup", TABLE, "-o", "a", "-o", "b", "--help", "-h"], HELP_CODE, 0),
+    (["backup", TABLE, "-h", "--nope"], UNKNOWN, 2),
+    (["backup", TABLE], MISSING, 2),
+    (["backup", TABLE, "--nope", "-i"], UNKNOWN, 2),
+    (["backup", TABLE, "-ia", "-ob", "--output=c"], TWICE, 2),
+    (["it's", "[-h|--help]  print this script's help", "-h"], QUOTED_HELP, 0),
+    (["backup", TABLE, "-vi", "a b", "x"], "\\set -- '--verbose' '--input=a b' '--' 'x'\n", 0),
+    (["backup", TABLE, "-i", "it's", "--", "-v", "'"], "\\set -- '--input=it'\\''s' '--' '-v' ''\\'''\n", 0),
+    (["backup", TABLE, "x", "-iy", "-c", "z", "-L", "l"], "\\set -- '--input=y' '--color=z' '--L=l' '--' 'x'\n", 0),
+    (["-s", "backup", TABLE, "-iy", "x", "-v"], "\\set -- '--input=y' '--' 'x' '-v'\n", 0),
+    (["-l", "backup", TABLE, "-input", "y", "-v"], "\\set -- '--input=y' '--verbose' '--'\n", 0),
+    (["-w", "backup", TABLE, "-iy", "x"], "'--input=y' '--' 'x'\n", 0),
+    (["-V", "opt_", "backup", TABLE, "x", "-vvi", "it's", "-La", "-L", "b c"], VARIABLES, 0),
+    (["-AV", "opt_", "backup", TABLE, "-i", "", "-c", "-La", "-L", "b"], ARRAYS, 0),
+    (["-wV", "opt_", "x", "-v"], "getopts_shell: --words and --variables don't go together\n", 5),
+    (["-V", "opt_", "x", "--a-b\n--a_b"],
+     "getopts_shell: line 2 of the options: 'a_b' makes the variable of another option\n", 5),
+    (["-w", "x", ""], "'--'\n", 0),
+    (["x", "", "\n", "\\", "$HOME", "é"], "\\set -- '--' '\n' '\\' '$HOME' 'é'\n", 0),
+    (["x", "[--help FILE]", "--help", "a"], "\\set -- '--help=a' '--'\n", 0),
+    (["x", "[-h]", "-h"], "\\set -- '--h' '--'\n", 0),
+    (["-sb", "Do it.", "x", "[--help]", "--help"],
+     "\\printf %s 'Do it.\n\nOptions:\n    --help              \n'; \\exit\n", 0),
+]
+
+# Tables: what their lines are.
+TABLES = [
+    (["x", "#\n # -a\n\t-a\r\n  [--bc]", "-a", "--bc"], "\\set -- '--a' '--bc' '--'\n", 0),
+    (["x", "[-a|--bc D]...\tsay\n", "-ax", "--bc=y"], "\\set -- '--bc=x' '--bc=y' '--'\n", 0),
+    (["-ub", "U", "x", "[-a D]\t  it  is \t so \r\n[-b]  [x]"],
+     "U\n\nOptions:\n    -a D                it is so\n    -b                  [x]\n", 0),
+    (["x", "-a|--bc\n-d\n--bc"], "getopts_shell: line 3 of the options: the name 'bc' stands there already\n", 5),
+    (["x", "\n-v\n-v|--verbose"], "getopts_shell: line 3 of the options: the name 'v' stands there already\n", 5),
+    (["x", "-v\n-v\n-\n"], "getopts_shell: line 2 of the options: the name 'v' stands there already\n", 5),
+    (["x", "--é.b+c:d_e-1", "--é.b+c:d_e-1"], "\\set -- '--é.b+c:d_e-1' '--'\n", 0),
+]
+
+# Why an item is refused.
+DASHES = "a short name comes after '-', a long one after '--'"
+SHORT = "a short name has one byte"
+LONG = "a long name has at least two bytes"
+BYTES = "a name may hold letters, digits, '-', '_', '.', '+', ':' and bytes from 128 on"
+OPEN = "no ']'"
+BRACKETS = "brackets stand around the option or its argument, and dots only after ']'"
+SPACES = "a tab or two spaces have to come before the description"
+
+# Tables with an item that is refused: the table, the number of its line, the item, and why.
+REFUSED = [
+    ("a", 1, "a", DASHES), ("\n\n-a  ok\n-b|  no", 4, "-b|", DASHES), ("-ab  no", 1, "-ab", SHORT),
+    ("--a", 1, "--a", LONG), ("--", 1, "--", LONG), ("-", 1, "-", DASHES), ("---ab", 1, "---ab", DASHES),
+    ("-a|-b", 1, "-a|-b", DASHES), ("-a|--bc|--de", 1, "-a|--bc|--de", BYTES), ("-a|--", 1, "-a|--", LONG),
+    ("-a|--b", 1, "-a|--b", LONG), ("--bc|-a", 1, "--bc|-a", BYTES), ("--b=c", 1, "--b=c", BYTES),
+    ("-é", 1, "-é", SHORT), ("[-a", 1, "[-a", OPEN), ("-a]", 1, "-a]", BRACKETS), ("[-a].", 1, "[-a].", BRACKETS),
+    ("[-a]....", 1, "[-a]....", BRACKETS), ("-a..", 1, "-a..", SHORT), ("[[-a]]", 1, "[[-a]]", DASHES),
+    ("-a []", 1, "-a []", BRACKETS), ("-a [b", 1, "-a [b", OPEN), ("-a b c", 1, "-a b c", SPACES),
+    ("-a \tb", 1, "-a ", BRACKETS), ("-v\n-\n-v\n", 2, "-", DASHES), ("-\x7f", 1, "-\x7f", BYTES),
+    ("[-x|--exclude PATTERN].. leave PATTERN out", 1, "[-x|--exclude PATTERN].. leave PATTERN out", SPACES),
+    ("[-v] verbose", 1, "[-v] verbose", SPACES), ("-s X..", 1, "-s X..", BRACKETS),
+    ("--semi;colon", 1, "--semi;colon", BYTES), ("-=", 1, "-=", BYTES),
+]
+
+# Large tables and long lines, near the longest word that Linux hands on.
+OFTEN = "x" * 100_000
+LARGE = [
+    (["x", "# a comment\n" * 10_000 + "-a", "-a"], "\\set -- '--a' '--'\n", 0),
+    (["x", " \t\r\n" * 10_000 + "-a", "-a"], "\\set -- '--a' '--'\n", 0),
+    (["x", " " * 100_000 + "-a", "-a"], "\\set -- '--a' '--'\n", 0),
+    (["-bU", "x", "-h|--help  " + OFTEN, "-h"],
+     "\\printf %s 'U\n\nOptions:\n    -h, --help          " + OFTEN + "\n'; \\exit\n", 0),
+    (["x", "--" + OFTEN, "--" + OFTEN], "\\set -- '--" + OFTEN + "' '--'\n", 0),
+    (["x", "-a " + OFTEN, "-a"], "x: Argument to option 'a' missing\nUsage: x -a " + OFTEN + "\n", 2),
+]
+REFUSED.append(("-" + OFTEN, 1, "-" + OFTEN, SHORT))
+
+
+def all_rows():
+    """Every row, as words, text and status."""
+    yield from OWN + WORDS + TABLES + LARGE
+    for table, number, item, why in REFUSED:
+        yield ["x", table], f"getopts_shell: line {number} of the options: {item}: {why}\n", 5
