@@ -4,10 +4,10 @@
 #     bindings/shell/program.sh [check | check-again]
 #
 # A program is the proved object, start.c and musl's C library, in one static file. Made are both kinds from one proof of
-# crates/getopts_shell over its libraries as `rt ci` left them. proved.sha256 has the sum of the object that `rt ci`
-# builds of the same source, and that of start.c.
+# crates/getopts_shell over its libraries as `rt ci` left them. proved.sha256 has the sum of the program that `rt ci`
+# left of the same source, and that of start.c.
 #
-# With check nothing is changed or proved: it says whether the object that `rt ci` left now and start.c are still those,
+# With check nothing is changed or proved: it says whether the program that `rt ci` left now and start.c are still those,
 # and whether each program has its SHA-256. With check-again it proves and builds both programs once more, and compares
 # them byte for byte. Where this machine doesn't have the musl (Debian's musl-dev, for aarch64 musl-dev:arm64) that a
 # program was linked with, it compares the proved object alone.
@@ -15,7 +15,7 @@ set -euo pipefail
 # shellcheck source=bindings/over.sh
 . "$(dirname "$0")/../over.sh"
 here=bindings/shell
-proved=crates/getopts_shell/out/getopts_shell.o
+proved=crates/getopts_shell/out/getopts_shell
 room=$(mktemp -d)
 trap 'rm -rf "$room"' EXIT
 
@@ -53,15 +53,15 @@ compare_program() {
     fi
 }
 
-# as_proved: whether the object that `rt ci` left is the one that stood beside the programs when they were made.
+# as_proved: whether the program that `rt ci` left is the one that stood beside the programs when they were made.
 as_proved() {
     if [ ! -f $proved ]; then
         echo "skipped: whether the programs are of the proved source: there is no $proved, which 'rt ci' builds"
     elif ! sha256sum -c --quiet $here/proved.sha256; then
-        echo "the programs in $here aren't of the proved object and start.c: program.sh makes them anew"
+        echo "the programs in $here aren't of the proved source and start.c: program.sh makes them anew"
         return 1
     else
-        echo "the programs in $here are of the object that was proved"
+        echo "the programs in $here are of the source that was proved"
     fi
 }
 
@@ -70,9 +70,9 @@ case ${1:-} in
     for processor in "${processors[@]}"; do
         [ -f "$(musl "$processor")/libc.a" ] || stop "there is no $(musl "$processor")/libc.a to link with"
     done
+    [ -f $proved ] || stop "there is no $proved: run 'rt ci'"
     each make_program
-    build getopts_shell x86_64 "$room/proved.o" x86-64-v2
-    { sha256sum <"$room/proved.o" | sed "s|-\$|$proved|"; sha256sum $here/start.c; } >$here/proved.sha256
+    sha256sum $proved $here/start.c >$here/proved.sha256
     ;;
 check)
     for processor in "${processors[@]}"; do whole "$here/$processor/getopts_shell"; done

@@ -22,7 +22,7 @@ if [ ! -x "$program" ]; then
     echo '0 passed, 1 failed'
     exit 1
 fi
-if [ -f "$top/crates/getopts_shell/out/getopts_shell.o" ]; then
+if [ -f "$top/crates/getopts_shell/out/getopts_shell" ]; then
     check "the programs are of the proved source" bash "$here/program.sh" check
 else
     skip "whether the programs are of the proved source: 'rt ci' has not built it here"
