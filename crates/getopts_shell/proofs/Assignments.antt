@@ -281,14 +281,6 @@ variable_bytes prefix name =
     list_all-append is_variable_byte prefix (map variable_byte name)
     ∙ ap (λ (b : Bool). list_all is_variable_byte prefix && b) (list_all-map is_variable_byte variable_byte name)
 
--- the text for an array of values
-pub array_setting : (name : Text) (arrays : Bool) (founds : List Found) → arrays ≡ true → founds ≢ []
-    → setting name (Some (all_values arrays founds))
-    ≡ name ++ (61 ∷ 40 ∷ (quoted_words (texts_found founds) ++ 41 ∷ []))
-array_setting name arrays [] is some = absurd (some refl)
-array_setting name arrays (found ∷ founds) is some =
-    ap (λ (arrays : Bool). setting name (Some (all_values arrays (found ∷ founds)))) is
-
 same_front : (front name other : Text) → bytes_eq (front ++ name) (front ++ other) ≡ bytes_eq name other
 same_front [] name other = refl
 same_front (byte ∷ front) name other =

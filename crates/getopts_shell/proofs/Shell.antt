@@ -1,7 +1,7 @@
 -- A shell that runs the text for matches holds what they do.
 use Rattle.std.proofs.Common.{◌≡◌, ◌≢◌, ℕ, Bool, true, false, cond, eqb, List, [], ◌∷◌, ◌++◌, Option, Some, None}
 use Rattle.std.proofs.Common.{refl, sym, ap, subst, ◌∙◌, suc, zero, length, append_assoc, append-nil}
-use Rattle.std.proofs.Common.{arith, ◌/◌, ◌%◌}
+use Rattle.std.proofs.Common.{arith, ◌+◌, ◌-◌, ◌/◌, ◌%◌, drop, take}
 use Rattle.std.specs.Prelude.{not, ◌&&◌, decimal, fold}
 use Rattle.std.specs.Char.{is_ascii_digit}
 use Rattle.std.specs.Fmt.{digits, digits_onto, digit_glyph}
@@ -10,7 +10,7 @@ use Rattle.std.specs.Option.{option_and_then, option_map}
 use Rattle.std.specs.Str.{bytes_eq}
 use Rattle.std.proofs.lemmas.Bool.{and_from, and_parts, cond_both, eqb-true, false_from_ne_true, or_from, or_parts}
 use Rattle.std.proofs.lemmas.Bool.Decides.{nat_tests}
-use Rattle.std.proofs.lemmas.List.{length-append, take_at}
+use Rattle.std.proofs.lemmas.List.{drop_at, length-append, take_at}
 use Rattle.std.proofs.lemmas.List.Folds.{list_any-append}
 use Rattle.std.proofs.lemmas.Slice.Eq.{bytes_eq-Decides}
 use Rattle.getopts.proofs.Reading.Texts.{cut_at_equals-append}
@@ -23,8 +23,8 @@ use Rattle.getopts.specs.declared.groups.HasArg.TheVariants.{Yes, No, Maybe}
 use Rattle.getopts.specs.declared.groups.Occur.{Occur}
 use Rattle.getopts_shell.specs.Quote.{outside, quoted, quoted_byte, quoted_words, read_byte, shell_words, spaced, words_read}
 use Rattle.getopts_shell.specs.Variables.{plain, in_quotes, commands, Value, one, many, Shell, with_variable}
-use Rattle.getopts_shell.specs.Variables.{is_variable_byte, begins_variable, is_variable, only_word, array_of_words}
-use Rattle.getopts_shell.specs.Variables.{in_brackets, value_of_code, after_assignment, after_builtin, after_command}
+use Rattle.getopts_shell.specs.Variables.{is_variable_byte, begins_variable, is_variable, only_word}
+use Rattle.getopts_shell.specs.Variables.{array_code, value_of_code, after_assignment, after_builtin, after_command}
 use Rattle.getopts_shell.specs.Variables.{after_commands, shell_after, variable_of, held_value, group_variable}
 use Rattle.getopts_shell.specs.Variables.{group_value, setting, option_setting, variable_line}
 use Rattle.getopts_shell.specs.Variables.{HaveOwnVariables}
@@ -195,7 +195,7 @@ unbracketed_digits (byte ∷ code) more are =
 value_of_digits : (name code : Text) → list_all is_ascii_digit code ≡ true
     → value_of_code name code ≡ Some (one code)
 value_of_digits name code are =
-    rw (unbracketed_digits code (in_brackets code ++ 41 ∷ []) are, are) refl
+    rw (unbracketed_digits code (36 ∷ 123 ∷ (name ++ 43 ∷ 125 ∷ 32 ∷ (array_code name code ++ 41 ∷ []))) are, are) refl
 
 value_of_quoted : (name text : Text) → value_of_code name (quoted text) ≡ Some (one text)
 value_of_quoted name text =
@@ -206,25 +206,24 @@ value_of_quoted name text =
 same_text : (text : Text) → bytes_eq text text ≡ true
 same_text text = (bytes_eq-Decides text text).1 refl
 
-inside_of : (inside : Text) → in_brackets (40 ∷ (inside ++ 41 ∷ [])) ≡ inside
-inside_of inside = take_at inside (41 ∷ []) _ (omega (arith, length-append inside (41 ∷ [])))
+inside_of : (name inside : Text)
+    → array_code name (40 ∷ 36 ∷ 123 ∷ (name ++ 43 ∷ 125 ∷ 32 ∷ (inside ++ 41 ∷ []))) ≡ inside
+inside_of name inside =
+    let code : Text = 40 ∷ 36 ∷ 123 ∷ (name ++ 43 ∷ 125 ∷ 32 ∷ (inside ++ 41 ∷ [])) in
+    ap (λ (rest : Text). take (length code - (length name + 7)) (drop 3 rest))
+    (drop_at name (43 ∷ 125 ∷ 32 ∷ (inside ++ 41 ∷ [])) (length name) refl)
+    ∙ take_at inside (41 ∷ []) _ (omega (
+      arith,
+      length-append inside (41 ∷ []),
+      length-append name (43 ∷ 125 ∷ 32 ∷ (inside ++ 41 ∷ [])),
+    ))
 
-value_of_brackets : (name inside : Text) → value_of_code name (40 ∷ (inside ++ 41 ∷ []))
-    ≡ cond (bytes_eq inside (36 ∷ 123 ∷ (name ++ 43 ∷ 125 ∷ []))) (Some (many []))
-    (array_of_words (shell_words inside))
-value_of_brackets name inside = rw (inside_of inside, same_text (40 ∷ (inside ++ 41 ∷ []))) refl
-
-value_of_words : (name word : Text) (words : List Text)
-    → value_of_code name (40 ∷ (quoted_words (word ∷ words) ++ 41 ∷ [])) ≡ Some (many (word ∷ words))
-value_of_words name word words = value_of_brackets name (quoted_words (word ∷ words))
-    ∙ ap array_of_words (words_same (word ∷ words))
-
-value_of_none : (name : Text)
-    → value_of_code name (40 ∷ 36 ∷ 123 ∷ (name ++ 43 ∷ 125 ∷ 41 ∷ [])) ≡ Some (many [])
-value_of_none name =
-    let inside : Text = 36 ∷ 123 ∷ (name ++ 43 ∷ 125 ∷ []) in
-    ap (λ (code : Text). value_of_code name (40 ∷ 36 ∷ 123 ∷ code)) (sym (append_assoc name (43 ∷ 125 ∷ []) (41 ∷ [])))
-    ∙ value_of_brackets name inside ∙ rw (same_text inside) refl
+value_of_words : (name : Text) (words : List Text)
+    → value_of_code name (40 ∷ 36 ∷ 123 ∷ (name ++ 43 ∷ 125 ∷ 32 ∷ (quoted_words words ++ 41 ∷ [])))
+    ≡ Some (many words)
+value_of_words name words =
+    let code : Text = 40 ∷ 36 ∷ 123 ∷ (name ++ 43 ∷ 125 ∷ 32 ∷ (quoted_words words ++ 41 ∷ [])) in
+    rw (inside_of name (quoted_words words), same_text code) (ap (option_map many) (words_same words))
 
 -- ---- what a shell does with a command
 
@@ -252,9 +251,8 @@ after_setting : (shell : Shell) (name : Text) (value : Option Value) → is_vari
 after_setting shell name None is = after_unset shell name is
 after_setting shell name (Some (one text)) is =
     after_equals shell name (quoted text) (one text) is (value_of_quoted name text)
-after_setting shell name (Some (many [])) is = after_equals shell name _ (many []) is (value_of_none name)
-after_setting shell name (Some (many (word ∷ words))) is =
-    after_equals shell name _ (many (word ∷ words)) is (value_of_words name word words)
+after_setting shell name (Some (many words)) is =
+    after_equals shell name _ (many words) is (value_of_words name words)
 
 after_option : (shell : Shell) (arrays : Bool) (name : Text) (kind : HasArg) (occurrence : Occur) (founds : List Found)
     → is_variable name ≡ true
@@ -281,15 +279,14 @@ front_setting name None is = front_append _ name front_unset is
 front_setting name (Some (one text)) is =
     front_append name (61 ∷ quoted text) is
     (front_append (61 ∷ []) (quoted text) (front_plain (61 ∷ []) refl) (front_quoted text))
-front_setting name (Some (many [])) is =
-    front_append name (61 ∷ 40 ∷ 36 ∷ 123 ∷ (name ++ 43 ∷ 125 ∷ 41 ∷ [])) is
-    (front_append (61 ∷ 40 ∷ 36 ∷ 123 ∷ []) (name ++ 43 ∷ 125 ∷ 41 ∷ [])
+front_setting name (Some (many words)) is =
+    let array : Text = quoted_words words ++ 41 ∷ [] in
+    front_append name (61 ∷ 40 ∷ 36 ∷ 123 ∷ (name ++ 43 ∷ 125 ∷ 32 ∷ array)) is
+    (front_append (61 ∷ 40 ∷ 36 ∷ 123 ∷ []) (name ++ 43 ∷ 125 ∷ 32 ∷ array)
     (front_plain (61 ∷ 40 ∷ 36 ∷ 123 ∷ []) refl)
-    (front_append name (43 ∷ 125 ∷ 41 ∷ []) is (front_plain (43 ∷ 125 ∷ 41 ∷ []) refl)))
-front_setting name (Some (many (word ∷ words))) is =
-    front_append name (61 ∷ 40 ∷ (quoted_words (word ∷ words) ++ 41 ∷ [])) is
-    (front_append (61 ∷ 40 ∷ []) (quoted_words (word ∷ words) ++ 41 ∷ []) (front_plain (61 ∷ 40 ∷ []) refl)
-    (front_append (quoted_words (word ∷ words)) (41 ∷ []) (front_words (word ∷ words)) (front_plain (41 ∷ []) refl)))
+    (front_append name (43 ∷ 125 ∷ 32 ∷ array) is
+    (front_append (43 ∷ 125 ∷ 32 ∷ []) array (front_plain (43 ∷ 125 ∷ 32 ∷ []) refl)
+    (front_append (quoted_words words) (41 ∷ []) (front_words words) (front_plain (41 ∷ []) refl)))))
 
 front_option : (arrays : Bool) (name : Text) (kind : HasArg) (occurrence : Occur) (founds : List Found)
     → IsFront name → IsFront (option_setting arrays name kind occurrence founds)

@@ -84,22 +84,16 @@ abbrev pub text_of_code : Text → Option Text
 text_of_code code = if list_all is_ascii_digit code then Some code
     else only_word (words_read (fold read_byte (outside [] (Some [])) code))
 
--- the words of an array, which has one at least
-abbrev pub array_of_words : Option (List Text) → Option Value
-array_of_words (Some (word ∷ words)) = Some (many (word ∷ words))
-array_of_words words = None
+-- what stands in `(${NAME+} ..)`, where a text is that
+abbrev pub array_code : Text → Text → Text
+array_code name code = take (length code - (length name + 7)) (drop 3 (drop (length name) (drop 3 code)))
 
--- what stands in the brackets that a text begins and ends in
-abbrev pub in_brackets : Text → Text
-in_brackets code = take (length code - 2) (drop 1 code)
-
--- What is assigned by `NAME=` and this. In brackets it is an array: `${NAME+}` is no word, whatever
--- NAME held.
+-- What is assigned by `NAME=` and this. `(${NAME+} WORDS)` is an array of these words, whatever NAME held:
+-- `${NAME+}` is no word, but keeps the first of them from being the name of a command, as `(typeset)` is.
 abbrev pub value_of_code : Text → Text → Option Value
 value_of_code name code =
-    if bytes_eq code (codes "(" ++ (in_brackets code ++ codes ")")) then
-    (if bytes_eq (in_brackets code) (codes "${" ++ (name ++ codes "+}")) then Some (many [])
-    else array_of_words (shell_words (in_brackets code)))
+    if bytes_eq code (codes "(${" ++ (name ++ (codes "+} " ++ (array_code name code ++ codes ")")))) then
+    option_map many (shell_words (array_code name code))
     else option_map one (text_of_code code)
 
 -- what a shell holds after `NAME=CODE`
@@ -195,8 +189,8 @@ pub record HoldsOptions (prefix : Text) (arrays : Bool) (matches : Matched) (bef
 abbrev pub setting : Text → Option Value → Text
 setting name None = codes "\\unset -v " ++ name
 setting name (Some (one text)) = name ++ (codes "=" ++ quoted text)
-setting name (Some (many [])) = name ++ (codes "=(${" ++ (name ++ codes "+})"))
-setting name (Some (many (word ∷ words))) = name ++ (codes "=(" ++ (quoted_words (word ∷ words) ++ codes ")"))
+setting name (Some (many words)) =
+    name ++ (codes "=(${" ++ (name ++ (codes "+} " ++ (quoted_words words ++ codes ")"))))
 
 -- the command for an option; a count stands without quotes
 abbrev pub option_setting : Bool → Text → HasArg → Occur → List Found → Text
