@@ -81,7 +81,7 @@ opt_input=''
 \\unset -v opt_output
 opt_verbose=0
 opt_color=''
-opt_L=('a' 'b')
+opt_L=(${opt_L+} 'a' 'b')
 opt_help=0
 """ + "\\set -- \n"
 MISSING = """\

@@ -39,7 +39,7 @@ ROWS = [
     (["-V", ""], ["-ix", "--color=auto", "-L", "a", "-Lb c"],
      "input='x'\n\\unset -v output\nverbose=0\ncolor='auto'\nL=''\\''a'\\'' '\\''b c'\\'''\nhelp=0\n\\set -- \n"),
     (["-AV", "_"], ["-ix", "-La", "-L", "b'\nc", "d"],
-     "_input='x'\n\\unset -v _output\n_verbose=0\n\\unset -v _color\n_L=('a' 'b'\\''\nc')\n_help=0\n\\set -- 'd'\n"),
+     "_input='x'\n\\unset -v _output\n_verbose=0\n\\unset -v _color\n_L=(${_L+} 'a' 'b'\\''\nc')\n_help=0\n\\set -- 'd'\n"),
     (["-A", "-V", "o"], ["-ix"],
      "oinput='x'\n\\unset -v ooutput\noverbose=0\n\\unset -v ocolor\noL=(${oL+})\nohelp=0\n\\set -- \n"),
     (["-sV", "opt_"], ["-ia", "x", "-v"], f"opt_input='a'\n{NONE}\\set -- 'x' '-v'\n"),
@@ -117,6 +117,9 @@ def case_of(rng):
             value = None if option[2] == "no" else text_of(rng)
             if option[2] == "maybe" and (not value and not option[1] or option[1] and rng.random() < 0.3):
                 value = None if option[1] else "v"
+            # The Korn shell declares variables by some words at the front of an array, also in quotes.
+            if option[3] == "many" and value and rng.random() < 0.2:
+                value = rng.choice(["typeset", "integer", "export", "x=1", "[0]=x"])
             parts.append((place, value))
     parts += [(None, text_of(rng)) for _ in range(rng.randrange(3))]
     rng.shuffle(parts)
