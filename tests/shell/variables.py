@@ -41,7 +41,7 @@ ROWS = [
     (["-AV", "_"], ["-ix", "-La", "-L", "b'\nc", "d"],
      "_input='x'\n\\unset -v _output\n_verbose=0\n\\unset -v _color\n_L=(${_L+} 'a' 'b'\\''\nc')\n_help=0\n\\set -- 'd'\n"),
     (["-A", "-V", "o"], ["-ix"],
-     "oinput='x'\n\\unset -v ooutput\noverbose=0\n\\unset -v ocolor\noL=(${oL+})\nohelp=0\n\\set -- \n"),
+     "oinput='x'\n\\unset -v ooutput\noverbose=0\n\\unset -v ocolor\noL=(${oL+} )\nohelp=0\n\\set -- \n"),
     (["-sV", "opt_"], ["-ia", "x", "-v"], f"opt_input='a'\n{NONE}\\set -- 'x' '-v'\n"),
 ]
 # The program's own words, a table, and the fault.

@@ -136,10 +136,8 @@ fn push_values(
     push_variable(text, variables.prefix, name)?;
     if !variables.arrays {
         push_words(alloc, text, given)
-    } else if given.is_empty() {
-        push_no_words(text, variables.prefix, name)
     } else {
-        push_array(text, given)
+        push_array(text, variables.prefix, name, given)
     }
 }
 
@@ -151,16 +149,17 @@ fn push_words(alloc: Global, text: &mut String, given: &Occurrences<'_>) -> Resu
     push_quoted(text, words.as_str())
 }
 
-/// Adds an array of no words. `()` would be no array in the Korn shell.
-fn push_no_words(text: &mut String, prefix: &str, name: &str) -> Result<(), AllocError> {
+/// Adds all values as an array. `${NAME+}` is no word: the Korn shell takes a first word such as `typeset` for a
+/// declaration, and `()` for no array.
+fn push_array(
+    text: &mut String,
+    prefix: &str,
+    name: &str,
+    given: &Occurrences<'_>,
+) -> Result<(), AllocError> {
     text.try_push_str("=(${")?;
     push_variable(text, prefix, name)?;
-    text.try_push_str("+})")
-}
-
-/// Adds all values as an array.
-fn push_array(text: &mut String, given: &Occurrences<'_>) -> Result<(), AllocError> {
-    text.try_push_str("=(")?;
+    text.try_push_str("+} ")?;
     push_texts(text, given)?;
     text.try_push(')')
 }
