@@ -42,9 +42,10 @@ if [ ! -f "$machine/getopts_shell" ]; then
 fi
 (cd "$machine" && sha256sum -c getopts_shell.sha256 >/dev/null)
 mkdir -p "$to/bin" "$to/share/man/man1"
-rm -f "$program"
-cp "$machine/getopts_shell" "$program"
-chmod 755 "$program"
+# The old program stays until the new one is whole.
+cp "$machine/getopts_shell" "$program.new"
+chmod 755 "$program.new"
+mv -f "$program.new" "$program"
 cp getopts_shell.1 "$page"
 chmod 644 "$page"
 echo "installed $program and its manual page"
