@@ -77,7 +77,7 @@ def rows(program):
 
 def table_of(rng):
     """A random table: for each option its short and long name, its kind and how often it may come."""
-    shorts, longs = list("abcdefgXYZ"), ["aa", "b-b", "c_c", "D3", "e-1-f", "g--h", "long-", "_x"]
+    shorts, longs = list("abcdefgXYZ"), ["aa", "b-b", "c_c", "K3", "e-1-f", "g--h", "long-", "_x"]
     rng.shuffle(shorts)
     rng.shuffle(longs)
     options = []
