@@ -1,11 +1,11 @@
 #!/usr/bin/env python3
-"""Runs the built program on rows of words, and as a system may: words that are no text, none at all, and long ones;
+"""Runs the built programs on rows of words, and as a system may: words that are no text, none at all, and long ones;
 outputs that take nothing, little, or fail in the middle; little memory and little stack.
 
 Each run has to end with the status that the README gives, never by a signal that the system didn't send, and has
-to write what the README says. It takes the program that `rt ci` leaves in crates/getopts_show/out, or `rt run`
-there, and the program for shell scripts that bindings/shell has for this machine, which is one static file. The last
-line is 'N passed, M failed'.
+to write what the README says. It takes the programs that `rt ci` leaves in the folders out of crates/getopts_show and
+crates/getopts_shell, or `rt run` there, and the program for shell scripts that bindings/shell has for this machine,
+which is one static file. The last line is 'N passed, M failed'.
 """
 
 import concurrent.futures
@@ -24,7 +24,11 @@ import tempfile
 
 HERE = pathlib.Path(__file__).resolve().parent
 SHOW = HERE.parent.parent / "crates/getopts_show/out/getopts_show"
+BUILT = HERE.parent.parent / "crates/getopts_shell/out/getopts_shell"
 SHELL = HERE.parent.parent / "bindings/shell" / platform.machine() / "getopts_shell"
+
+# A call of the program for shell scripts, but for the script's words.
+STATIC = ["-w", "try", "[-v]..  say more\n[-o FILE]  write to FILE"]
 
 # The statuses: shown, refused, want of memory or words that are no text, and output that failed.
 SHOWN, REFUSED, NOTHING, NOT_WRITTEN = 0, 2, 3, 4
@@ -222,6 +226,20 @@ def outputs_that_take_nothing():
             os.close(writer)
 
 
+def texts_are_written_at_once():
+    """Each write to such a pipe is a packet, which one read takes."""
+    table = [*STATIC, "-v", "x"]
+    for what, program, words in (("the program", SHOW, ["-v", "x"]), ("its help", SHOW, ["-h"]), ("static", SHELL, table),
+                                 ("static, help", SHELL, ["-h"])):
+        text = run(words, program=program)[1]
+        reader, writer = os.pipe2(os.O_DIRECT)
+        run(words, program=program, out=writer)
+        os.close(writer)
+        with os.fdopen(reader, "rb", buffering=0) as packets:
+            wrote = packets.read(MIB)
+            expect(f"{what}: written at once", "" if wrote == text and not packets.read(MIB) else described(wrote))
+
+
 def a_file_of_so_many_bytes(room):
     """A limit on the length of files. The system sends a signal where it isn't ignored."""
     text = shown(free=["x" * 200])
@@ -239,22 +257,25 @@ def a_file_of_so_many_bytes(room):
 
 
 def writes_that_take_little_or_fail(preload):
-    for words, status, text in ((["-v", "x"], SHOWN, shown(free=["x"], verbose=[0])), (["--nope"], REFUSED, FAULT)):
+    for program, words, status, text in ((SHOW, ["-v", "x"], SHOWN, shown(free=["x"], verbose=[0])),
+                                         (SHOW, ["--nope"], REFUSED, FAULT),
+                                         (BUILT, ["x", "[-a]", "-a"], SHOWN, b"\\set -- '--a' '--'\n"),
+                                         (BUILT, ["x", "[-a]", "-b"], REFUSED,
+                                          b"x: Unrecognized option: 'b'\nUsage: x [-a]\n")):
+        def wrote(**faults):
+            return run(words, program=program, environment={**preload, **faults})
         for most in (1, 2, 3, 7, 4096):
-            ends(f"{words}: writes of {most} bytes", run(words, environment={**preload, "WRITE_MOST": str(most)}),
-                 status, text)
+            ends(f"{words}: writes of {most} bytes", wrote(WRITE_MOST=str(most)), status, text)
         for error in (0, errno.EIO, errno.ENOSPC, errno.EAGAIN, errno.EBADF, errno.EPIPE):
-            fails = {**preload, "WRITE_MOST": "1", "WRITE_ERROR": str(error)}
             why = ""
             for at in range(1, len(text) + 1):
-                ended = run(words, environment={**fails, "WRITE_AT": str(at)})
+                ended = wrote(WRITE_MOST="1", WRITE_ERROR=str(error), WRITE_AT=str(at))
                 if ended != (NOT_WRITTEN, text[:at - 1]):
                     why = why or f"write {at}: {ended}"
             expect(f"{words}: each write in turn fails with error {error}", why)
-        interrupted = {**preload, "WRITE_MOST": "1", "WRITE_ERROR": str(errno.EINTR)}
         why = ""
         for at in range(1, len(text) + 1):
-            ended = run(words, environment={**interrupted, "WRITE_AT": str(at)})
+            ended = wrote(WRITE_MOST="1", WRITE_ERROR=str(errno.EINTR), WRITE_AT=str(at))
             if ended not in ((status, text), (NOT_WRITTEN, text[:at - 1])):
                 why = why or f"write {at}: {ended}"
         expect(f"{words}: each write in turn is interrupted", why)
@@ -318,8 +339,7 @@ def little_stack():
 
 def the_static_program(room):
     """The program for shell scripts, whose words, memory and signals are those of bindings/shell/start.c."""
-    given = ["-w", "try", "[-v]..  say more\n[-o FILE]  write to FILE"]
-    words_of = lambda free: [*given, "-vo", "it's", *free]
+    words_of = lambda free: [*STATIC, "-vo", "it's", *free]
     letters = ["x" * 100_000] * 15
     for what, free in (("words", ["x", ""]), ("the longest word", ["x" * (LONGEST)]), ("long words", letters),
                        ("many words", ["f"] * 20_000), ("no words", [])):
@@ -339,7 +359,7 @@ def the_static_program(room):
         ends(f"static, a pipe whose reader is gone, {restore}",
              run(words, program=SHELL, out=writer, restore_signals=restore), NOT_WRITTEN, b"")
         os.close(writer)
-    refused = [*given, "--nope"]
+    refused = [*STATIC, "--nope"]
     for what, call in (("a refusal", refused), ("a wrong table", ["try", "-ab"]), ("a wrong call", ["--nope"])):
         done = subprocess.run([SHELL, *call], stdout=subprocess.PIPE, preexec_fn=closed(2))
         ends(f"static, {what} to a closed error stream", (done.returncode, done.stdout), NOT_WRITTEN, b"")
@@ -373,14 +393,14 @@ def counted(part, *given):
 
 def main():
     global runs, passed, failed
-    if not os.access(SHOW, os.X_OK) or not shutil.which("rt"):
-        print(f"tests/system/run.py: {SHOW} or rt is not there: run 'rt ci' first\n0 passed, 1 failed")
+    if not os.access(SHOW, os.X_OK) or not os.access(BUILT, os.X_OK) or not shutil.which("rt"):
+        print(f"tests/system/run.py: {SHOW}, {BUILT} or rt is not there: run 'rt ci' first\n0 passed, 1 failed")
         sys.exit(1)
     with tempfile.TemporaryDirectory() as folder:
         room = pathlib.Path(folder)
         preload = between(room)
         parts = [(rows,), (large_words, preload), (little_memory, preload), (writes_that_take_little_or_fail, preload),
-                 (words_that_are_no_text,), (no_words, preload), (outputs_that_take_nothing,),
+                 (words_that_are_no_text,), (no_words, preload), (outputs_that_take_nothing,), (texts_are_written_at_once,),
                  (a_file_of_so_many_bytes, room), (little_stack,), (the_static_program, room)]
         with concurrent.futures.ProcessPoolExecutor(4) as apart:
             for told in [apart.submit(counted, *part) for part in parts]:

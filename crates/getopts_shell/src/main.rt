@@ -11,8 +11,6 @@ mod laws;
 mod quote;
 mod row;
 mod table;
-#[cfg(test)]
-mod tests;
 mod variables;
 mod words;
 
