@@ -6,16 +6,13 @@ ghost use Rattle.getopts.specs.Accessors.{AreDefined, IsDefined};
 ghost use Rattle.getopts.specs.Names.{texts};
 
 use crate::form::Answer;
-use crate::stop::{Flaw, Trouble};
+use crate::stop::{Stop, WRONG_FIELDS};
 use getopts::{Matches, Occurrences};
 use std::alloc::Global;
 
-/// The fields of a line don't fit its word.
-const WRONG_FIELDS: Trouble = Trouble::Flawed(Flaw::WrongFields);
-
 /// Answers that words were accepted, as a line: where the words after `--` begin, and the free
 /// words.
-pub fn accepted(alloc: Global, matches: &Matches, answer: &mut Answer) -> Result<(), Trouble> {
+pub fn accepted(alloc: Global, matches: &Matches, answer: &mut Answer) -> Result<(), Stop> {
     answer.word("accepted")?;
     answer.place(alloc, matches.free_trailing_start())?;
     answer.texts(&matches.free)?;
@@ -38,7 +35,7 @@ pub fn ask(
     word: &str,
     fields: &[String],
     answer: &mut Answer,
-) -> Result<(), Trouble> {
+) -> Result<(), Stop> {
     match (word, fields) {
         ("any", names) => any(alloc, matches, names, answer),
         ("occurrences_at", [place, nth]) => {
@@ -60,7 +57,7 @@ fn ask_by_name(
     name: &str,
     fields: &[String],
     answer: &mut Answer,
-) -> Result<(), Trouble> {
+) -> Result<(), Stop> {
     match word {
         "opt_defined" => answer.truth(matches.opt_defined(name)),
         "opt_place" => answer.place(alloc, matches.opt_place(name)),
@@ -80,7 +77,7 @@ fn ask_of_option(
     word: &str,
     name: &str,
     answer: &mut Answer,
-) -> Result<(), Trouble>
+) -> Result<(), Stop>
     requires { IsDefined matches.now.groups name.now }
 {
     match word {
@@ -96,12 +93,7 @@ fn ask_of_option(
 }
 
 /// Answers where an option was given, and where its values.
-fn positions(
-    alloc: Global,
-    matches: &Matches,
-    name: &str,
-    answer: &mut Answer,
-) -> Result<(), Trouble>
+fn positions(alloc: Global, matches: &Matches, name: &str, answer: &mut Answer) -> Result<(), Stop>
     requires { IsDefined matches.now.groups name.now }
 {
     positions_of(alloc, matches, name, answer)?;
@@ -110,7 +102,7 @@ fn positions(
 }
 
 /// Answers the value of the first occurrence of an option.
-fn str_of(alloc: Global, matches: &Matches, name: &str, answer: &mut Answer) -> Result<(), Trouble>
+fn str_of(alloc: Global, matches: &Matches, name: &str, answer: &mut Answer) -> Result<(), Stop>
     requires { IsDefined matches.now.groups name.now }
 {
     answer.optional(matches.opt_str(alloc, name)?.as_deref())
@@ -123,14 +115,14 @@ fn default_of(
     name: &str,
     default: &str,
     answer: &mut Answer,
-) -> Result<(), Trouble>
+) -> Result<(), Stop>
     requires { IsDefined matches.now.groups name.now }
 {
     answer.optional(matches.opt_default(alloc, name, default)?.as_deref())
 }
 
 /// Answers the values of an option.
-fn strs_of(alloc: Global, matches: &Matches, name: &str, answer: &mut Answer) -> Result<(), Trouble>
+fn strs_of(alloc: Global, matches: &Matches, name: &str, answer: &mut Answer) -> Result<(), Stop>
     requires { IsDefined matches.now.groups name.now }
 {
     answer.texts(&matches.opt_strs(alloc, name)?)
@@ -142,19 +134,14 @@ fn positions_of(
     matches: &Matches,
     name: &str,
     answer: &mut Answer,
-) -> Result<(), Trouble>
+) -> Result<(), Stop>
     requires { IsDefined matches.now.groups name.now }
 {
     answer.numbers(alloc, &matches.opt_positions(alloc, name)?)
 }
 
 /// Answers the positions and the values of an option.
-fn pairs_of(
-    alloc: Global,
-    matches: &Matches,
-    name: &str,
-    answer: &mut Answer,
-) -> Result<(), Trouble>
+fn pairs_of(alloc: Global, matches: &Matches, name: &str, answer: &mut Answer) -> Result<(), Stop>
     requires { IsDefined matches.now.groups name.now }
 {
     answer.pairs(alloc, &matches.opt_strs_pos(alloc, name)?)
@@ -168,7 +155,7 @@ fn ask_or(
     name: &str,
     default: &str,
     answer: &mut Answer,
-) -> Result<(), Trouble>
+) -> Result<(), Stop>
     requires { IsDefined matches.now.groups name.now }
 {
     match word {
@@ -190,7 +177,7 @@ fn option(
     name: &str,
     default: &str,
     answer: &mut Answer,
-) -> Result<(), Trouble>
+) -> Result<(), Stop>
     requires { IsDefined matches.now.groups name.now }
 {
     let present = matches.opt_present(name);
@@ -211,7 +198,7 @@ fn number(
     name: &str,
     default: &str,
     answer: &mut Answer,
-) -> Result<(), Trouble>
+) -> Result<(), Stop>
     requires { IsDefined matches.now.groups name.now }
 {
     let Ok(default) = default.parse::<i64>() else {
@@ -229,7 +216,7 @@ fn number(
 }
 
 /// Answers the value of an option as a truth.
-fn truth(matches: &Matches, name: &str, default: &str, answer: &mut Answer) -> Result<(), Trouble>
+fn truth(matches: &Matches, name: &str, default: &str, answer: &mut Answer) -> Result<(), Stop>
     requires { IsDefined matches.now.groups name.now }
 {
     let Ok(default) = default.parse::<bool>() else {
@@ -253,7 +240,7 @@ fn occurrences_at(
     place: &str,
     nth: &str,
     answer: &mut Answer,
-) -> Result<(), Trouble> {
+) -> Result<(), Stop> {
     let (Ok(place), Ok(nth)) = (place.parse::<usize>(), nth.parse::<usize>()) else {
         return Err(WRONG_FIELDS);
     };
@@ -268,7 +255,7 @@ fn occurrence(
     occurrences: &Occurrences<'_>,
     nth: usize,
     answer: &mut Answer,
-) -> Result<(), Trouble> {
+) -> Result<(), Stop> {
     answer.number(alloc, occurrences.len())?;
     match occurrences.get(nth) {
         Some((position, value)) => {
@@ -285,7 +272,7 @@ fn any(
     matches: &Matches,
     names: &[String],
     answer: &mut Answer,
-) -> Result<(), Trouble> {
+) -> Result<(), Stop> {
     let borrowed: Vec<&str> = names.iter().map(|name| name.as_str()).collect(alloc)?;
     any_of(alloc, matches, names, &borrowed, answer)
 }
@@ -297,7 +284,7 @@ fn any_of(
     names: &[String],
     borrowed: &[&str],
     answer: &mut Answer,
-) -> Result<(), Trouble> {
+) -> Result<(), Stop> {
     answer.truth(matches.opts_present(names))?;
     if are_defined(matches, names) && all_defined(matches, borrowed) {
         answer.truth(matches.opts_present_any(borrowed))?;

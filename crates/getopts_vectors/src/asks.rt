@@ -1,18 +1,15 @@
 //! The answers of options, of faults, and of the calls that need neither, each as its fields.
 
 use crate::form::Answer;
-use crate::stop::{Flaw, Trouble};
+use crate::stop::{Stop, UNKNOWN_WORD, WRONG_FIELDS};
 use getopts::wrap::each_split_within;
 use getopts::{Fail, Options, names_lawful};
 use std::alloc::Global;
 
-/// The fields of a line don't fit its word.
-const WRONG_FIELDS: Trouble = Trouble::Flawed(Flaw::WrongFields);
-
 /// Answers why words were refused, as a line.
-pub fn refused(alloc: Global, fail: &Fail, answer: &mut Answer) -> Result<(), Trouble> {
+pub fn refused(alloc: Global, fail: &Fail, answer: &mut Answer) -> Result<(), Stop> {
     if *fail == Fail::OutOfMemory {
-        return Err(Trouble::NoMemory);
+        return Err(Stop::NoMemory);
     }
     answer.word("refused")?;
     fault(alloc, fail, answer)?;
@@ -20,14 +17,14 @@ pub fn refused(alloc: Global, fail: &Fail, answer: &mut Answer) -> Result<(), Tr
 }
 
 /// Answers a fault, its name, and what it prints.
-fn fault(alloc: Global, fail: &Fail, answer: &mut Answer) -> Result<(), Trouble> {
+fn fault(alloc: Global, fail: &Fail, answer: &mut Answer) -> Result<(), Stop> {
     let (variant, name) = match fail {
         Fail::ArgumentMissing(name) => ("ArgumentMissing", name.as_str()),
         Fail::UnrecognizedOption(name) => ("UnrecognizedOption", name.as_str()),
         Fail::OptionMissing(name) => ("OptionMissing", name.as_str()),
         Fail::OptionDuplicated(name) => ("OptionDuplicated", name.as_str()),
         Fail::UnexpectedArgument(name) => ("UnexpectedArgument", name.as_str()),
-        Fail::OutOfMemory => return Err(Trouble::NoMemory),
+        Fail::OutOfMemory => return Err(Stop::NoMemory),
     };
     answer.text(variant)?;
     answer.text(name)?;
@@ -41,7 +38,7 @@ pub fn ask(
     word: &str,
     fields: &[String],
     answer: &mut Answer,
-) -> Result<(), Trouble> {
+) -> Result<(), Stop> {
     match (word, fields) {
         ("lawful", [short, long]) => lawful(short.as_str(), long.as_str(), answer),
         ("wrap", [limit, desc]) => wrapped(alloc, limit.as_str(), desc.as_str(), answer),
@@ -53,17 +50,17 @@ pub fn ask(
         ("short" | "usage" | "rows" | "usage_rows" | "lawful" | "wrap" | "same", _) => {
             Err(WRONG_FIELDS)
         }
-        _ => Err(Trouble::Flawed(Flaw::UnknownWord)),
+        _ => Err(UNKNOWN_WORD),
     }
 }
 
 /// Answers whether a pair of names is lawful.
-fn lawful(short: &str, long: &str, answer: &mut Answer) -> Result<(), Trouble> {
+fn lawful(short: &str, long: &str, answer: &mut Answer) -> Result<(), Stop> {
     answer.truth(names_lawful(short, long))
 }
 
 /// Answers the rows of a description.
-fn wrapped(alloc: Global, limit: &str, desc: &str, answer: &mut Answer) -> Result<(), Trouble> {
+fn wrapped(alloc: Global, limit: &str, desc: &str, answer: &mut Answer) -> Result<(), Stop> {
     match limit.parse::<usize>() {
         Ok(limit) => answer.texts(&each_split_within(alloc, desc, limit)?),
         Err(_) => Err(WRONG_FIELDS),
@@ -76,22 +73,17 @@ fn short_usage(
     options: &Options,
     program: &str,
     answer: &mut Answer,
-) -> Result<(), Trouble> {
+) -> Result<(), Stop> {
     answer.text(options.short_usage(alloc, program)?.as_str())
 }
 
 /// Answers the usage text.
-fn usage(
-    alloc: Global,
-    options: &Options,
-    brief: &str,
-    answer: &mut Answer,
-) -> Result<(), Trouble> {
+fn usage(alloc: Global, options: &Options, brief: &str, answer: &mut Answer) -> Result<(), Stop> {
     answer.text(options.usage(alloc, brief)?.as_str())
 }
 
 /// Answers what a closure that counts the usage rows made of them, and the rows that it was given.
-fn formatted_rows(alloc: Global, options: &Options, answer: &mut Answer) -> Result<(), Trouble> {
+fn formatted_rows(alloc: Global, options: &Options, answer: &mut Answer) -> Result<(), Stop> {
     let mut given = Vec::new(alloc);
     let made = options.usage_with_format(alloc, |rows| {
         given = rows.collect(alloc)?;
@@ -103,7 +95,7 @@ fn formatted_rows(alloc: Global, options: &Options, answer: &mut Answer) -> Resu
 }
 
 /// Answers the usage rows.
-fn usage_rows(alloc: Global, options: &Options, answer: &mut Answer) -> Result<(), Trouble> {
+fn usage_rows(alloc: Global, options: &Options, answer: &mut Answer) -> Result<(), Stop> {
     answer.texts(&options.usage_rows(alloc)?)
 }
 
@@ -113,7 +105,7 @@ fn canonical(
     options: &Options,
     words: &[String],
     answer: &mut Answer,
-) -> Result<(), Trouble> {
+) -> Result<(), Stop> {
     let words = words.iter().map(|word| word.as_str());
     written(alloc, &options.canonical(alloc, words), answer)
 }
@@ -123,7 +115,7 @@ fn written(
     alloc: Global,
     written: &Result<Option<Vec<String>>, Fail>,
     answer: &mut Answer,
-) -> Result<(), Trouble> {
+) -> Result<(), Stop> {
     match written {
         Ok(Some(line)) => {
             answer.text("line")?;

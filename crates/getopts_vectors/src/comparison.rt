@@ -4,7 +4,7 @@ use crate::form::Answer;
 use crate::line::Line;
 use crate::session::Session;
 use crate::short::{at_length, written_out};
-use crate::stop::{Flaw, Stop, Trouble, told_at};
+use crate::stop::{Stop, UNKNOWN_WORD, at_line};
 use std::alloc::{AllocError, Global};
 use std::io::Write;
 
@@ -142,26 +142,26 @@ impl Comparison {
         out: &mut W,
     ) -> Result<(), Stop> {
         if matches!(line.as_bytes().first(), Some(b'>' | b'|')) {
-            return told_at(self.expect(line), number);
+            return at_line(self.expect(line), number);
         }
         self.settle(alloc, out)?;
-        told_at(self.answer_line(alloc, line, number), number)
+        at_line(self.answer_line(alloc, line, number), number)
     }
 
     /// Takes a line that is expected, or goes on with one.
-    fn expect(&mut self, line: &str) -> Result<(), Trouble> {
+    fn expect(&mut self, line: &str) -> Result<(), Stop> {
         if let Some(text) = line.strip_prefix("> ") {
             self.counts.answers = self.counts.answers.saturating_add(1);
             self.expected.line(text)
         } else if let Some(text) = line.strip_prefix('|') {
             self.expected.go_on(text.strip_prefix(' ').unwrap_or(text))
         } else {
-            Err(Trouble::Flawed(Flaw::UnknownWord))
+            Err(UNKNOWN_WORD)
         }
     }
 
     /// Does what a line says, and keeps what it is answered. The answer of `case` isn't expected.
-    fn answer_line(&mut self, alloc: Global, line: &str, number: u64) -> Result<(), Trouble> {
+    fn answer_line(&mut self, alloc: Global, line: &str, number: u64) -> Result<(), Stop> {
         self.answered = number;
         self.line
             .answer(alloc, line, &mut self.session, &mut self.answer)?;

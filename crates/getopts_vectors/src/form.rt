@@ -1,19 +1,10 @@
 //! Fields of lines: texts with nothing in them that would end a field or a line.
 
-ghost use Rattle.std.specs.Prelude.{◌≡◌, ◌++◌, ◌∷◌, [], IfErr, IfOk, IfSome, OnOk, Some};
-ghost use Rattle.std.specs.List.{AllByRecursion};
-ghost use Rattle.std.specs.Option.{option_copied};
-ghost use Rattle.std.specs.String.{string_bytes};
-ghost use Rattle.getopts_vectors.specs.declared.stop.Trouble.TheVariants.{NoMemory};
-ghost use Rattle.getopts_vectors.specs.Form.{escaped, letter_of, optional_field, EndsNothing};
-
-use crate::stop::{Flaw, Trouble};
+use crate::stop::{NOT_TEXT, Stop, WRONG_ESCAPE};
 use std::alloc::{AllocError, Global};
 
 /// The letter that stands after a backslash for a byte, where it has one.
-fn letter_of(byte: u8) -> Option<u8>
-    ensures { result ≡ letter_of byte }
-{
+fn letter_of(byte: u8) -> Option<u8> {
     match byte {
         b'\t' => Some(b't'),
         b'\n' => Some(b'n'),
@@ -24,9 +15,7 @@ fn letter_of(byte: u8) -> Option<u8>
 }
 
 /// The byte that a letter after a backslash stands for.
-fn byte_of(letter: u8) -> Option<u8>
-    ensures { IfSome result (λ byte. letter_of byte ≡ Some letter) }
-{
+fn byte_of(letter: u8) -> Option<u8> {
     match letter {
         b't' => Some(b'\t'),
         b'n' => Some(b'\n'),
@@ -36,12 +25,8 @@ fn byte_of(letter: u8) -> Option<u8>
     }
 }
 
-#[tactic(auto, using(crate::proofs::FormLemmas::escaped_ends_nothing))]
 /// Adds a text as a field has it. Nothing in it ends a field or a line.
-fn push_escaped(bytes: &mut Vec<u8>, text: &str) -> Result<(), AllocError>
-    ensures escaped { OnOk result (bytes.new.items ≡ bytes.old.items ++ escaped text.now) }
-    ensures ends_nothing { AllByRecursion EndsNothing (escaped text.now) }
-{
+fn push_escaped(bytes: &mut Vec<u8>, text: &str) -> Result<(), AllocError> {
     for byte in text.as_bytes() {
         match letter_of(*byte) {
             Some(letter) => bytes.extend_from_slice(&[b'\\', letter])?,
@@ -52,37 +37,33 @@ fn push_escaped(bytes: &mut Vec<u8>, text: &str) -> Result<(), AllocError>
 }
 
 /// The text that a field stands for: one that is written so.
-pub fn text_of_field(alloc: Global, field: &str) -> Result<String, Trouble>
-    ensures { IfOk result (λ text. escaped (string_bytes text) ≡ field.now) }
-{
+pub fn text_of_field(alloc: Global, field: &str) -> Result<String, Stop> {
     match String::from_utf8(bytes_of_field(alloc, field)?) {
         Ok(text) => Ok(text),
-        Err(_) => Err(Trouble::Flawed(Flaw::NotText)),
+        Err(_) => Err(NOT_TEXT),
     }
 }
 
 /// The bytes that a field stands for: those that are written so.
-fn bytes_of_field(alloc: Global, field: &str) -> Result<Vec<u8>, Trouble>
-    ensures { IfOk result (λ bytes. escaped bytes.items ≡ field.now) }
-{
+fn bytes_of_field(alloc: Global, field: &str) -> Result<Vec<u8>, Stop> {
     let mut bytes = Vec::new(alloc);
     let mut after_backslash = false;
     for byte in field.as_bytes() {
         if after_backslash {
-            let meant = byte_of(*byte).ok_or(Trouble::Flawed(Flaw::WrongEscape))?;
+            let meant = byte_of(*byte).ok_or(WRONG_ESCAPE)?;
             bytes.push(meant)?;
             after_backslash = false;
         } else if *byte == b'\\' {
             after_backslash = true;
         } else {
             if letter_of(*byte).is_some() {
-                return Err(Trouble::Flawed(Flaw::WrongEscape));
+                return Err(WRONG_ESCAPE);
             }
             bytes.push(*byte)?;
         }
     }
     if after_backslash {
-        return Err(Trouble::Flawed(Flaw::WrongEscape));
+        return Err(WRONG_ESCAPE);
     }
     Ok(bytes)
 }
@@ -110,24 +91,20 @@ impl Answer {
     }
 
     /// Begins a line with its word.
-    pub fn word(&mut self, word: &str) -> Result<(), Trouble> {
+    pub fn word(&mut self, word: &str) -> Result<(), Stop> {
         push_escaped(&mut self.bytes, word)?;
         Ok(())
     }
 
     /// Adds a field.
-    pub fn text(&mut self, text: &str) -> Result<(), Trouble>
-        ensures added { OnOk result (self.new.bytes.items
-            ≡ self.old.bytes.items ++ 9 ∷ escaped text.now) }
-        ensures memory { IfErr result (λ trouble. trouble ≡ NoMemory) }
-    {
+    pub fn text(&mut self, text: &str) -> Result<(), Stop> {
         self.bytes.push(b'\t')?;
         push_escaped(&mut self.bytes, text)?;
         Ok(())
     }
 
     /// Adds a field for each text.
-    pub fn texts(&mut self, texts: &[String]) -> Result<(), Trouble> {
+    pub fn texts(&mut self, texts: &[String]) -> Result<(), Stop> {
         for text in texts {
             self.text(text.as_str())?;
         }
@@ -135,7 +112,7 @@ impl Answer {
     }
 
     /// Adds a field for the text of each pair.
-    pub fn texts_of(&mut self, pairs: &[(usize, String)]) -> Result<(), Trouble> {
+    pub fn texts_of(&mut self, pairs: &[(usize, String)]) -> Result<(), Stop> {
         for (_, text) in pairs {
             self.text(text.as_str())?;
         }
@@ -143,7 +120,7 @@ impl Answer {
     }
 
     /// Adds a field for each number.
-    pub fn numbers(&mut self, alloc: Global, numbers: &[usize]) -> Result<(), Trouble> {
+    pub fn numbers(&mut self, alloc: Global, numbers: &[usize]) -> Result<(), Stop> {
         for number in numbers {
             self.number(alloc, *number)?;
         }
@@ -151,7 +128,7 @@ impl Answer {
     }
 
     /// Adds two fields for each pair.
-    pub fn pairs(&mut self, alloc: Global, pairs: &[(usize, String)]) -> Result<(), Trouble> {
+    pub fn pairs(&mut self, alloc: Global, pairs: &[(usize, String)]) -> Result<(), Stop> {
         for (number, text) in pairs {
             self.number(alloc, *number)?;
             self.text(text.as_str())?;
@@ -160,7 +137,7 @@ impl Answer {
     }
 
     /// Adds a field with a number, or `-` where there is none.
-    pub fn place(&mut self, alloc: Global, place: Option<usize>) -> Result<(), Trouble> {
+    pub fn place(&mut self, alloc: Global, place: Option<usize>) -> Result<(), Stop> {
         match place {
             Some(place) => self.number(alloc, place),
             None => self.text("-"),
@@ -168,21 +145,17 @@ impl Answer {
     }
 
     /// Adds a field with a number.
-    pub fn number(&mut self, alloc: Global, number: usize) -> Result<(), Trouble> {
+    pub fn number(&mut self, alloc: Global, number: usize) -> Result<(), Stop> {
         self.text(number.to_string(alloc)?.as_str())
     }
 
     /// Adds a field with `true` or `false`.
-    pub fn truth(&mut self, truth: bool) -> Result<(), Trouble> {
+    pub fn truth(&mut self, truth: bool) -> Result<(), Stop> {
         self.text(if truth { "true" } else { "false" })
     }
 
     /// Adds a field that may have a value: `-` where it has none, else `=` and the value.
-    pub fn optional(&mut self, value: Option<&str>) -> Result<(), Trouble>
-        ensures added { OnOk result (self.new.bytes.items
-            ≡ self.old.bytes.items ++ 9 ∷ optional_field (option_copied value.entry)) }
-        ensures memory { IfErr result (λ trouble. trouble ≡ NoMemory) }
-    {
+    pub fn optional(&mut self, value: Option<&str>) -> Result<(), Stop> {
         match value {
             None => self.text("-"),
             Some(value) => {
@@ -194,20 +167,20 @@ impl Answer {
     }
 
     /// Ends a line, and begins another with its word.
-    pub fn next(&mut self, word: &str) -> Result<(), Trouble> {
+    pub fn next(&mut self, word: &str) -> Result<(), Stop> {
         self.end()?;
         self.word(word)
     }
 
     /// Adds a line that is in the form of an answer already.
-    pub fn line(&mut self, line: &str) -> Result<(), Trouble> {
+    pub fn line(&mut self, line: &str) -> Result<(), Stop> {
         self.bytes.extend_from_slice(line.as_bytes())?;
         self.end()
     }
 
     /// Goes on with the last line: adds a text that is in the form of a field already, and a line
     /// end as a field has it.
-    pub fn go_on(&mut self, text: &str) -> Result<(), Trouble> {
+    pub fn go_on(&mut self, text: &str) -> Result<(), Stop> {
         self.bytes.pop();
         self.bytes.extend_from_slice(text.as_bytes())?;
         self.bytes.extend_from_slice(b"\\n\n")?;
@@ -215,7 +188,7 @@ impl Answer {
     }
 
     /// Ends a line.
-    pub fn end(&mut self) -> Result<(), Trouble> {
+    pub fn end(&mut self) -> Result<(), Stop> {
         self.bytes.push(b'\n')?;
         Ok(())
     }

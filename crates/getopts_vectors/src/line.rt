@@ -2,7 +2,7 @@
 
 use crate::form::{Answer, text_of_field};
 use crate::session::Session;
-use crate::stop::Trouble;
+use crate::stop::Stop;
 use std::alloc::Global;
 
 /// The parts of the line that was cut last: a word and the fields.
@@ -27,7 +27,7 @@ impl Line {
     }
 
     /// Cuts a line into its parts. Of a line that is passed over there are none.
-    fn cut(&mut self, alloc: Global, line: &str) -> Result<(), Trouble> {
+    fn cut(&mut self, alloc: Global, line: &str) -> Result<(), Stop> {
         self.parts.clear();
         if line.is_empty() || line.starts_with('#') {
             return Ok(());
@@ -45,7 +45,7 @@ impl Line {
         line: &str,
         session: &mut Session,
         answer: &mut Answer,
-    ) -> Result<(), Trouble> {
+    ) -> Result<(), Stop> {
         self.cut(alloc, line)?;
         match self.parts.as_slice() {
             [word, fields @ ..] => session.answer(alloc, word.as_str(), fields, answer),

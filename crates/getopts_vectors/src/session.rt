@@ -3,7 +3,7 @@
 ghost use Rattle.getopts.specs.Names.{AreLawful};
 
 use crate::form::Answer;
-use crate::stop::{Flaw, Trouble};
+use crate::stop::{NO_CASE, Stop, UNLAWFUL_NAMES, WRONG_FIELDS};
 use crate::{accessors, asks};
 use getopts::{Fail, HasArg, Matches, Occur, Options, ParsingStyle, names_lawful};
 use std::alloc::{AllocError, Global};
@@ -76,9 +76,6 @@ pub struct Session {
     kept: Option<Side>,
 }
 
-/// The fields of a line don't fit its word.
-const WRONG_FIELDS: Trouble = Trouble::Flawed(Flaw::WrongFields);
-
 impl Session {
     pub fn new(alloc: Global) -> Session {
         Session {
@@ -95,23 +92,18 @@ impl Session {
         word: &str,
         fields: &[String],
         answer: &mut Answer,
-    ) -> Result<(), Trouble> {
+    ) -> Result<(), Stop> {
         if word == "case" {
             self.begin(alloc, fields, answer)
         } else if !self.begun {
-            Err(Trouble::Flawed(Flaw::NoCase))
+            Err(NO_CASE)
         } else {
             self.follow(alloc, word, fields, answer)
         }
     }
 
     /// Begins a case.
-    fn begin(
-        &mut self,
-        alloc: Global,
-        fields: &[String],
-        answer: &mut Answer,
-    ) -> Result<(), Trouble> {
+    fn begin(&mut self, alloc: Global, fields: &[String], answer: &mut Answer) -> Result<(), Stop> {
         let [name] = fields else {
             return Err(WRONG_FIELDS);
         };
@@ -130,7 +122,7 @@ impl Session {
         word: &str,
         fields: &[String],
         answer: &mut Answer,
-    ) -> Result<(), Trouble> {
+    ) -> Result<(), Stop> {
         match (word, fields) {
             ("keep", []) => self.keep(),
             ("anew", []) => {
@@ -148,12 +140,12 @@ impl Session {
     }
 
     /// Keeps a copy of the options and of what the last words gave.
-    fn keep(&mut self) -> Result<(), Trouble> {
+    fn keep(&mut self) -> Result<(), Stop> {
         self.kept = Some(self.side.copied()?);
         Ok(())
     }
 
-    fn set_style(&mut self, style: &str) -> Result<(), Trouble> {
+    fn set_style(&mut self, style: &str) -> Result<(), Stop> {
         let style = match style {
             "floating" => ParsingStyle::FloatingFrees,
             "stop" => ParsingStyle::StopAtFirstFree,
@@ -163,7 +155,7 @@ impl Session {
         Ok(())
     }
 
-    fn set_mode(&mut self, mode: &str) -> Result<(), Trouble> {
+    fn set_mode(&mut self, mode: &str) -> Result<(), Stop> {
         let long_only = match mode {
             "ordinary" => false,
             "long-only" => true,
@@ -179,7 +171,7 @@ impl Session {
         alloc: Global,
         words: &[String],
         answer: &mut Answer,
-    ) -> Result<(), Trouble> {
+    ) -> Result<(), Stop> {
         let words = words.iter().map(|word| word.as_str());
         self.side.read = Some(self.side.options.parse(alloc, words));
         self.answer_read(alloc, answer)
@@ -191,14 +183,14 @@ impl Session {
         alloc: Global,
         words: &[String],
         answer: &mut Answer,
-    ) -> Result<(), Trouble> {
+    ) -> Result<(), Stop> {
         let words = lent(alloc, words)?;
         self.side.read = Some(self.side.options.parse_ignoring_counts(alloc, &words));
         self.answer_read(alloc, answer)
     }
 
     /// Answers what the last words gave.
-    fn answer_read(&self, alloc: Global, answer: &mut Answer) -> Result<(), Trouble> {
+    fn answer_read(&self, alloc: Global, answer: &mut Answer) -> Result<(), Stop> {
         match &self.side.read {
             Some(Ok(matches)) => accessors::accepted(alloc, matches, answer),
             Some(Err(fail)) => asks::refused(alloc, fail, answer),
@@ -207,7 +199,7 @@ impl Session {
     }
 
     /// Empties the free words.
-    fn clear(&mut self, alloc: Global, answer: &mut Answer) -> Result<(), Trouble> {
+    fn clear(&mut self, alloc: Global, answer: &mut Answer) -> Result<(), Stop> {
         if let Some(Ok(matches)) = &mut self.side.read {
             matches.free.clear();
         }
@@ -221,7 +213,7 @@ impl Session {
         word: &str,
         fields: &[String],
         answer: &mut Answer,
-    ) -> Result<(), Trouble> {
+    ) -> Result<(), Stop> {
         answer.word(word)?;
         self.ask_for_fields(alloc, word, fields, answer)?;
         answer.end()
@@ -234,7 +226,7 @@ impl Session {
         word: &str,
         fields: &[String],
         answer: &mut Answer,
-    ) -> Result<(), Trouble> {
+    ) -> Result<(), Stop> {
         match fields {
             [what] if word == "same" => self.same(what.as_str(), answer),
             _ if accessors::has(word) => self.ask_of_matches(alloc, word, fields, answer),
@@ -243,7 +235,7 @@ impl Session {
     }
 
     /// Answers whether what is kept equals what is there.
-    fn same(&self, what: &str, answer: &mut Answer) -> Result<(), Trouble> {
+    fn same(&self, what: &str, answer: &mut Answer) -> Result<(), Stop> {
         let Some(kept) = &self.kept else {
             return Err(WRONG_FIELDS);
         };
@@ -263,7 +255,7 @@ impl Session {
         word: &str,
         fields: &[String],
         answer: &mut Answer,
-    ) -> Result<(), Trouble> {
+    ) -> Result<(), Stop> {
         match self.side.matches() {
             Some(matches) => accessors::ask(alloc, matches, word, fields, answer),
             None => answer.text("nothing"),
@@ -296,13 +288,13 @@ fn declares(word: &str) -> bool {
 }
 
 /// Adds a group by the call of this name.
-fn declare(options: &mut Options, word: &str, fields: &[String]) -> Result<(), Trouble> {
+fn declare(options: &mut Options, word: &str, fields: &[String]) -> Result<(), Stop> {
     let [short, long, desc, others @ ..] = fields else {
         return Err(WRONG_FIELDS);
     };
     let (short, long, desc) = (short.as_str(), long.as_str(), desc.as_str());
     if !names_lawful(short, long) {
-        return Err(Trouble::Flawed(Flaw::UnlawfulNames));
+        return Err(UNLAWFUL_NAMES);
     }
     match others {
         [] => add_flag(options, word, short, long, desc),
@@ -325,7 +317,7 @@ fn add_of_kinds(
     hint: &str,
     kind: HasArg,
     occur: Occur,
-) -> Result<(), Trouble>
+) -> Result<(), Stop>
     requires { AreLawful short.now long.now }
 {
     match word {
@@ -336,10 +328,10 @@ fn add_of_kinds(
 }
 
 /// What comes of adding a group.
-fn added(added: Result<&mut Options, AllocError>) -> Result<(), Trouble> {
+fn added(added: Result<&mut Options, AllocError>) -> Result<(), Stop> {
     match added {
         Ok(_) => Ok(()),
-        Err(_) => Err(Trouble::NoMemory),
+        Err(_) => Err(Stop::NoMemory),
     }
 }
 
@@ -350,7 +342,7 @@ fn add_flag(
     short: &str,
     long: &str,
     desc: &str,
-) -> Result<(), Trouble>
+) -> Result<(), Stop>
     requires { AreLawful short.now long.now }
 {
     match word {
@@ -368,7 +360,7 @@ fn add_hinted(
     long: &str,
     desc: &str,
     hint: &str,
-) -> Result<(), Trouble>
+) -> Result<(), Stop>
     requires { AreLawful short.now long.now }
 {
     match word {
@@ -380,7 +372,7 @@ fn add_hinted(
     }
 }
 
-fn kind_of(kind: &str) -> Result<HasArg, Trouble> {
+fn kind_of(kind: &str) -> Result<HasArg, Stop> {
     match kind {
         "yes" => Ok(HasArg::Yes),
         "no" => Ok(HasArg::No),
@@ -389,7 +381,7 @@ fn kind_of(kind: &str) -> Result<HasArg, Trouble> {
     }
 }
 
-fn occur_of(occur: &str) -> Result<Occur, Trouble> {
+fn occur_of(occur: &str) -> Result<Occur, Stop> {
     match occur {
         "req" => Ok(Occur::Req),
         "optional" => Ok(Occur::Optional),

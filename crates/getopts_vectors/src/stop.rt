@@ -1,76 +1,31 @@
 //! What ends a run early.
 
-ghost use Rattle.std.specs.Prelude.{◌≡◌};
-ghost use Rattle.getopts_vectors.specs.Stop.{status_of};
-ghost use Rattle.getopts_vectors.specs.declared.stop.Trouble.TheVariants.{NoMemory};
-
 use std::alloc::{AllocError, AllocFailed};
 use std::fmt;
 
-/// Why a line can't be answered.
-#[derive(Debug, Clone, Copy)]
-pub enum Flaw {
-    /// Its bytes are no text.
-    NotText,
-    /// No line begins with this word.
-    UnknownWord,
-    /// It has fields that its word doesn't take.
-    WrongFields,
-    /// A backslash begins none of the escapes, or a carriage return stands for itself.
-    WrongEscape,
-    /// No group may have these two names.
-    UnlawfulNames,
-    /// It stands before the first case.
-    NoCase,
-}
-
-impl fmt::Display for Flaw {
-    fn fmt<W: fmt::Write>(&self, f: &mut fmt::Formatter<W>) -> fmt::Result {
-        let text = match self {
-            Flaw::NotText => "not UTF-8",
-            Flaw::UnknownWord => "unknown word",
-            Flaw::WrongFields => "wrong fields",
-            Flaw::WrongEscape => "wrong escape",
-            Flaw::UnlawfulNames => "unlawful names",
-            Flaw::NoCase => "before the first case",
-        };
-        write!(f, "{text}")
-    }
-}
-
-/// Why one line has no answer.
-#[derive(Debug, Clone, Copy)]
-pub enum Trouble {
-    Flawed(Flaw),
-    NoMemory,
-}
-
-impl From<AllocError> for Trouble {
-    ghost from_gives = { λ _ trouble. trouble ≡ NoMemory };
-
-    fn from(_error: AllocError) -> Trouble {
-        Trouble::NoMemory
-    }
-}
-
-impl<T: Drop> From<AllocFailed<T>> for Trouble {
-    ghost from_gives = { λ _ trouble. trouble ≡ NoMemory };
-
-    fn from(_error: AllocFailed<T>) -> Trouble {
-        Trouble::NoMemory
-    }
-}
-
 /// What ended a run early.
-#[derive(Debug, Clone, Copy)]
+#[derive(Drop)]
 pub enum Stop {
-    /// A line, by its number, that can't be answered.
-    Line(u64, Flaw),
+    /// A line that can't be answered: its number, and why.
+    Line(u64, &'static str),
     /// A file that can't be read.
     NotRead,
     NoMemory,
     NotWritten,
 }
+
+/// Its bytes are no text.
+pub const NOT_TEXT: Stop = Stop::Line(0, "not UTF-8");
+/// No line begins with this word.
+pub const UNKNOWN_WORD: Stop = Stop::Line(0, "unknown word");
+/// It has fields that its word doesn't take.
+pub const WRONG_FIELDS: Stop = Stop::Line(0, "wrong fields");
+/// A backslash begins none of the escapes, or a carriage return stands for itself.
+pub const WRONG_ESCAPE: Stop = Stop::Line(0, "wrong escape");
+/// No group may have these two names.
+pub const UNLAWFUL_NAMES: Stop = Stop::Line(0, "unlawful names");
+/// It stands before the first case.
+pub const NO_CASE: Stop = Stop::Line(0, "before the first case");
 
 impl From<AllocError> for Stop {
     fn from(_error: AllocError) -> Stop {
@@ -78,11 +33,15 @@ impl From<AllocError> for Stop {
     }
 }
 
+impl<T: Drop> From<AllocFailed<T>> for Stop {
+    fn from(_error: AllocFailed<T>) -> Stop {
+        Stop::NoMemory
+    }
+}
+
 impl Stop {
     /// The status that the program ends with.
-    pub fn status(&self) -> u8
-        ensures { result ≡ status_of self.now }
-    {
+    pub fn status(&self) -> u8 {
         match self {
             Stop::Line(_, _) | Stop::NotRead => 2,
             Stop::NoMemory => 3,
@@ -91,28 +50,18 @@ impl Stop {
     }
 }
 
-impl Trouble {
-    /// What a line in trouble ends a run with.
-    pub fn at(self, line: u64) -> Stop {
-        match self {
-            Trouble::Flawed(flaw) => Stop::Line(line, flaw),
-            Trouble::NoMemory => Stop::NoMemory,
-        }
-    }
-}
-
-/// What a line in trouble, the one of this number, ends a run with.
-pub fn told_at(answered: Result<(), Trouble>, line: u64) -> Result<(), Stop> {
+/// The same, with this number where a line can't be answered.
+pub fn at_line(answered: Result<(), Stop>, number: u64) -> Result<(), Stop> {
     match answered {
-        Ok(()) => Ok(()),
-        Err(trouble) => Err(trouble.at(line)),
+        Err(Stop::Line(_, why)) => Err(Stop::Line(number, why)),
+        other => other,
     }
 }
 
 impl fmt::Display for Stop {
     fn fmt<W: fmt::Write>(&self, f: &mut fmt::Formatter<W>) -> fmt::Result {
         match self {
-            Stop::Line(line, flaw) => write!(f, "line {line}: {flaw}"),
+            Stop::Line(line, why) => write!(f, "line {line}: {why}"),
             Stop::NotRead => write!(f, "a file can't be read"),
             Stop::NoMemory => write!(f, "out of memory"),
             Stop::NotWritten => write!(f, "can't write"),
