@@ -23,13 +23,19 @@ if [ $# -gt 0 ] && [ ! -f "$1/Cargo.toml" ]; then
     exit 2
 fi
 
-# verdict WHAT STATUS SECONDS: says how a part ended. One that failed is kept for the end.
+# processor FILE: the seconds of processor that commands took, by what `times` wrote.
+processor() {
+    tail -n 1 "$1" | tr ms '  ' | awk '{ printf "%d", 60 * ($1 + $3) + $2 + $4 }'
+}
+
+# verdict WHAT STATUS SECONDS [PROCESSOR]: says how a part ended. One that failed is kept for the end.
 failed=
 verdict() {
+    local took="$3 s${4:+, with $4 s of processor}"
     if [ "$2" = 0 ]; then
-        echo "== $1: done after $3 s"
+        echo "== $1: done after $took"
     else
-        echo "== $1: FAILED after $3 s"
+        echo "== $1: FAILED after $took"
         failed="$failed; $1"
         return 1
     fi
@@ -52,7 +58,8 @@ begin() {
     (
         start=$SECONDS status=0
         "${@:2}" >"$said" 2>&1 || status=$?
-        echo $((SECONDS - start)) >"$said.time"
+        times >"$said.times"
+        echo "$((SECONDS - start)) $(processor "$said.times")" >"$said.time"
         exit $status
     ) &
     pids+=($!)
@@ -64,7 +71,8 @@ ended() {
         wait "${pids[at]}" || status=$?
         echo "== ${begun[at]}"
         tail -n 40 "$room/said.$at"
-        verdict "${begun[at]}" $status "$(cat "$room/said.$at.time")"
+        # shellcheck disable=SC2046
+        verdict "${begun[at]}" $status $(cat "$room/said.$at.time")
     done
 }
 
@@ -191,5 +199,4 @@ if [ -n "$quick" ]; then
     echo "Nothing was proved: 'bash test.sh' proves everything."
 fi
 times >"$room/times"
-processor=$(tail -n 1 "$room/times" | tr ms '  ' | awk '{ printf "%d", 60 * ($1 + $3) + $2 + $4 }')
-echo "all passed after $SECONDS s, with $processor s of processor"
+echo "all passed after $SECONDS s, with $(processor "$room/times") s of processor"
