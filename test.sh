@@ -147,7 +147,7 @@ over_proved() {
     done
     bash "$room/over/bindings/archive.sh" check &&
         bash "$room/over/tests/must-fail/try.sh" --jobs 1 --over "$room/over/crates/getopts/out/rlib/getopts.rlib" \
-            getopts_c getopts_shell
+            getopts_c getopts_shell getopts_show
 }
 
 # edits: in a copy, tries the edits of the libraries.
