@@ -84,6 +84,12 @@
 //! - A case with `$` is asked at each length about a power of two, `2^n - 1`, `2^n` and `2^n + 1` for
 //!   each n from 1 to 20. The `$` is that length.
 //!
+//! # Refused memory
+//!
+//! With the first word `refused` it makes one call, which the next two words name, and says what became
+//! of it (`refused.rt`), for runs in which its requests for memory are refused. Without these it lists
+//! what may be called.
+//!
 //! # Statuses
 //!
 //! 0 where no answer differs, 1 where one does, 2 for a line or a file that can't be read, which the
@@ -96,6 +102,7 @@ mod asks;
 mod comparison;
 mod form;
 mod line;
+mod refused;
 mod session;
 mod short;
 mod stop;
@@ -118,18 +125,25 @@ fn main(rt: HostRuntime) -> ExitCode {
     }
 }
 
-/// Compares the rows of the files, and writes through a buffer.
+/// Does what the words say.
 fn run(rt: &HostRuntime) -> Result<bool, Stop> {
-    let Ok(names) = arguments(rt) else {
+    let Ok(words) = arguments(rt) else {
         return Err(Stop::NoMemory);
     };
-    let Ok(mut out) = BufWriter::new(rt.alloc(), io::writer(rt)) else {
-        return Err(Stop::NoMemory);
-    };
-    let ended = compare_files(rt, &names, &mut out);
-    match out.flush() {
-        Ok(()) => ended,
-        Err(_) => Err(Stop::NotWritten),
+    match words.as_slice() {
+        [first, row @ ..] if first.as_str() == "refused" => match refuse(rt, row) {
+            Ok(()) => Ok(true),
+            Err(_) => Err(Stop::NotWritten),
+        },
+        names => compare_files(rt, names),
+    }
+}
+
+/// Writes what became of the call of a row, or all rows where none is named.
+fn refuse(rt: &HostRuntime, row: &[String]) -> io::Result<()> {
+    match row {
+        [call, on] => rt.println(refused::outcome(rt.alloc(), call.as_str(), on.as_str())?),
+        _ => rt.print(refused::listed(rt.alloc())?),
     }
 }
 
@@ -138,8 +152,20 @@ fn arguments(rt: &HostRuntime) -> io::Result<Vec<String>> {
     Ok(env::args(rt)?.skip(1).collect(rt.alloc())?)
 }
 
+/// Compares the rows of files, and writes through a buffer.
+fn compare_files(rt: &HostRuntime, names: &[String]) -> Result<bool, Stop> {
+    let Ok(mut out) = BufWriter::new(rt.alloc(), io::writer(rt)) else {
+        return Err(Stop::NoMemory);
+    };
+    let ended = compare_each(rt, names, &mut out);
+    match out.flush() {
+        Ok(()) => ended,
+        Err(_) => Err(Stop::NotWritten),
+    }
+}
+
 /// Compares the rows of each of these files. The answer is whether none differs.
-fn compare_files<W: Write>(rt: &HostRuntime, names: &[String], out: &mut W) -> Result<bool, Stop> {
+fn compare_each<W: Write>(rt: &HostRuntime, names: &[String], out: &mut W) -> Result<bool, Stop> {
     let mut agree = true;
     for name in names {
         let agrees = compare_file(rt, name.as_str(), out)?;

@@ -2,8 +2,8 @@
 
 ghost use Rattle.getopts.specs.Accessors.{IsDefined};
 
-use crate::answer::{Answer, alike, became};
-use crate::reading::accepted;
+use crate::refused::answer::{Answer, alike, became};
+use crate::refused::reading::accepted;
 use getopts::Matches;
 use std::alloc::{AllocError, Global};
 

@@ -1,7 +1,18 @@
-//! The rows, and what becomes of a row's call.
+//! Calls of `getopts` whose requests for memory are refused one after the other, and what becomes of them.
+//!
+//! Two words name a row: what is called, and on what. The call stands between two marks, so that no
+//! request before or after it is taken for one of its own.
 
-use crate::reading::{self, Given};
-use crate::{accessors, adding, clones, texts};
+mod accessors;
+mod adding;
+mod answer;
+mod clones;
+mod declared;
+mod marks;
+mod reading;
+mod texts;
+
+use reading::Given;
 use std::alloc::{AllocError, Global};
 
 /// The rows but for those of the calls that add a group: what is called, and on what.

@@ -1,8 +1,8 @@
 //! Descriptions in rows, and usage texts.
 
-use crate::answer::{Answer, alike, became};
-use crate::declared::{Row, declared};
-use crate::marks::{begin, end};
+use crate::refused::answer::{Answer, alike, became};
+use crate::refused::declared::{Row, declared};
+use crate::refused::marks::{begin, end};
 use getopts::wrap::each_split_within;
 use getopts::{HasArg, Occur, Options, UsageRows};
 use std::alloc::{AllocError, Global};

@@ -1,7 +1,7 @@
 //! `parse` and `canonical`, and the same of a list that is lent.
 
-use crate::answer::{alike, became};
-use crate::declared::{Row, declared};
+use crate::refused::answer::{alike, became};
+use crate::refused::declared::{Row, declared};
 use getopts::{Fail, HasArg, Occur, Options};
 use std::alloc::{AllocError, Global};
 

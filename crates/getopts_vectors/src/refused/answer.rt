@@ -1,6 +1,6 @@
 //! What a call answered, and what that tells.
 
-use crate::marks::{begin, end};
+use crate::refused::marks::{begin, end};
 use std::alloc::{AllocError, Global};
 
 /// What a call answered: whether that was what it answers where no memory is refused, or want of

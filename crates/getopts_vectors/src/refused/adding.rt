@@ -1,8 +1,8 @@
 //! The calls that add a group.
 
-use crate::answer::{Answer, became};
-use crate::declared::{Row, declared};
-use crate::marks::{begin, end};
+use crate::refused::answer::{Answer, became};
+use crate::refused::declared::{Row, declared};
+use crate::refused::marks::{begin, end};
 use getopts::{HasArg, Occur, Options, ParsingStyle};
 use std::alloc::{AllocError, Global};
 

@@ -1,8 +1,8 @@
 //! The clones.
 
-use crate::answer::{Answer, became};
-use crate::marks::{begin, end};
-use crate::reading::{accepted, options_of, words_of};
+use crate::refused::answer::{Answer, became};
+use crate::refused::marks::{begin, end};
+use crate::refused::reading::{accepted, options_of, words_of};
 use std::alloc::{AllocError, Global};
 
 /// What became of the clone of options, of matches, or of the fault of a line.
