@@ -1,4 +1,4 @@
-# shellcheck shell=bash
+# shellcheck shell=bash disable=SC2034
 # Counts checks, for the test scripts that source it. They end with `finish`.
 room=$(mktemp -d)
 trap 'rm -rf "$room"' EXIT
@@ -54,6 +54,16 @@ same_answers() {
         said=$("$2" "${words[@]}"; echo "status $?")
         [ "$said" = "$wanted" ] || { printf '%s\n' "'$line': $said" "and not: $wanted"; return 1; }
     done
+}
+
+# manual FILE: checks a page of the manual.
+well_formed() { [ -z "$(man --warnings -E UTF-8 -l "$1" 2>&1 >/dev/null)" ]; }
+manual() {
+    if has man groff; then
+        check "the manual page" well_formed "$1"
+    else
+        skip "the manual page: there is no man or no groff"
+    fi
 }
 
 # for_cargo: sets `flags` for cargo, and `registry`: Debian's packages stand in for the public registry where they are
