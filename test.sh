@@ -70,12 +70,13 @@ ended() {
 
 # skipped: each test that was skipped, once, and the packages of CONTRIBUTING.md that this machine doesn't have.
 skipped() {
-    local package packages=''
+    local package all packages=''
     grep -h '^skipped: ' "$room"/said* | sort -u >"$room/skipped"
     [ -s "$room/skipped" ] || return 0
     echo "== skipped"
     sed 's/^skipped: //' "$room/skipped"
-    for package in $(sed -n 's/^ *apt-get install //p' CONTRIBUTING.md); do
+    read -r -a all <<<"$(sed -n 's/^ *apt-get install //p' CONTRIBUTING.md)"
+    for package in "${all[@]}"; do
         dpkg -s "$package" >/dev/null 2>&1 || packages="$packages $package"
     done
     [ -z "$packages" ] || echo "most of these would run with: apt-get install$packages"

@@ -164,9 +164,9 @@ fi
 twin() {
     local with="${*:3}"
     [ -n "$registry" ] || with="$with ${CARGO_FLAGS:-}"
-    (unset CARGO_TARGET_DIR && CARGO_FLAGS=$with "$top/tests/differential/build.sh" "$room/$1" "$2" "$registry")
+    (unset CARGO_TARGET_DIR && CARGO_FLAGS=$with "$top/tests/differential/build.sh" "$top/tests/differential/twin" "$room/$1" "$2")
 }
-program() { echo "$room/$1/twin/target/release/twin"; }
+program() { echo "$room/$1/target/release/twin"; }
 # alike OURS THEIRS SEED COUNT: whether the two answer so many cases of a seed alike.
 alike() {
     local ours theirs
@@ -176,7 +176,7 @@ alike() {
 }
 
 # Rows: files with answers beside them.
-twin_linted() { (cd "$room/ours/twin" && cargo clippy --offline --features canonical -- -D warnings); }
+twin_linted() { (cd "$room/ours" && cargo clippy --offline --features canonical -- -D warnings); }
 if check "the twin over the crate here" twin ours "$here" --features canonical; then
     [ -z "$clippy" ] || check "cargo clippy of the twin" twin_linted
     while read -r file; do
