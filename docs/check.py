@@ -3,8 +3,8 @@
 
 usage: docs/check.py [--fix]
 
-- Code: each block of Rattle on a page for callers stands in one file of crates/, which the gate proves, and has the
-  imports that it needs from there, and no others.
+- Code: the block of Rattle in README.md stands in one file of crates/, which the gate proves, and has the imports that
+  it needs from there, and no others.
 - Contracts: docs/CONTRACTS.md names each public function of the library, and clauses that are there; each function in a
   table of docs/PROOFS.md has the clauses that stand beside it.
 - Names: docs/GRAMMAR.md has each public definition (of getopts_shell each fact) and docs/PROOFS.md each edit; what a
@@ -242,12 +242,7 @@ def expect(holds, failure):
 
 # ---- code ----
 
-CALLER_PAGES = ["README.md", "CALLING.md", "crates/getopts/README.md"]
 USE = re.compile(r"^[ \t]*(?:pub )?(?:ghost )?use ([^;{\n]*?)(?:\{([^}]*)\})?;?[ \t]*$\n?", re.M)
-DEFINED = {
-    ".rt": re.compile(r"^(?:pub(?:\([a-z]+\))? )?(?:fn|struct|enum|const|trait|type) (\w+)", re.M),
-    ".antt": re.compile(r"^(?:abbrev |unfoldable )*(?:pub )?(?:record |data )?([^\W\d][\w-]*)(?: \(|(?= :))", re.M),
-}
 
 
 def imports_of(text):
@@ -256,55 +251,26 @@ def imports_of(text):
     for path, several in USE.findall(text):
         front, _, last = path.strip().rpartition("::")
         for name in several.split(",") if several else [last]:
-            if name.strip():
-                names[name.strip()] = path.strip() if several else front
+            names[name.strip()] = path.strip() if several else front
     return names
 
 
-def plain(text):
-    """A text without its imports and the blanks at the ends of its lines."""
-    return "\n".join(line.strip() for line in USE.sub("", text).split("\n"))
-
-
-def uses(code, name):
-    """Whether code uses a name, a word or an operator with places for its operands."""
-    code = re.sub(r'"[^"\n]*"|//[^\n]*|-- [^\n]*', "", code)
-    if re.match(r"[\w+-]+$", name):
-        return re.search(rf"(?<![\w-]){re.escape(name)}(?![\w-])", code) is not None
-    return name.strip("◌").split("◌")[0] in code
-
-
-def check_block(where, block, known):
-    """A block stands in a file, with the imports that it needs there. What it defines becomes known."""
-    pieces = re.split(r"\n(?:\.\.\n|\n)+", plain(block).strip("\n"))
-    found = [name for name, code in plain_files.items() if all(f"\n{it}\n" in code for it in pieces)]
-    expect(found, f"{where}: no file of crates/ has this code: {pieces[0][:80]}..")
-    if not found:
-        return
-    here, there, code = imports_of(block), imports_of(read(found[0])), plain(block)
-    for name, path in here.items():
-        expect(there.get(name) == path, f"{where}: {found[0]} doesn't import {name} from {path}")
-        expect(uses(code, name), f"{where}: {name} is imported and not used")
-    for name, path in there.items():
-        expect(name in here or not uses(code, name), f"{where}: {name} is used and not imported from {path}")
-    defined = DEFINED[os.path.splitext(found[0])[1]]
-    known |= set(defined.findall(code)) | set(here)
-    for name in set(defined.findall(plain(read(found[0])))) - known:
-        expect(not uses(code, name), f"{where}: {name} of {found[0]} is used and stands in no block above")
-
-
-plain_files = {
-    name: f"\n{plain(read(name))}\n" for name in tracked if re.match(r"crates/\w*/(src|specs|proofs)/.*\.(rt|antt)$", name)
-}
-for page in CALLER_PAGES:
-    known = set()
-    for block in re.finditer(r"^```(?:rust|antt)\n(.*?)^```", pages[page], re.M | re.S):
-        check_block(place(page, block.start()), block[1], known)
+sources = {name: read(name) for name in tracked if re.match(r"crates/\w*/src/.*\.rt$", name)}
+block = re.search(r"^```rust\n(.*?)^```", pages["README.md"], re.M | re.S)[1]
+code = USE.sub("", block).strip()
+found = [name for name, text in sources.items() if f"\n{code}\n" in text]
+expect(found, "README.md: no file of crates/ has its code")
+if found:
+    here, there = imports_of(block), imports_of(sources[found[0]])
+    for name in here | there:
+        used = re.search(rf"\b{name}\b", code) is not None
+        expect(used == (name in here), f"README.md: {name} is {'not ' * (not used)}used and {'not ' * used}imported")
+        expect(name not in here or here[name] == there.get(name), f"README.md: {found[0]} doesn't import {name} from there")
 
 
 # ---- contracts ----
 
-library = "\n".join(read(name) for name in tracked if re.match(r"crates/getopts/src/.*\.rt$", name))
+library = "\n".join(text for name, text in sources.items() if name.startswith("crates/getopts/"))
 contracts = pages["docs/CONTRACTS.md"]
 public = set(re.findall(r"^\s*pub fn (\w+)", library, re.M))
 for name in sorted(public):
@@ -319,11 +285,10 @@ for names in re.findall(r"ensures (\w+(?:, \w+)*):", contracts):
 # ---- promises ----
 
 clauses = {}
-for name in tracked:
-    if re.match(r"crates/\w*/src/.*\.rt$", name):
-        for function in re.split(r"\bfn (?=\w)", read(name))[1:]:
-            here = clauses.setdefault(re.match(r"\w+", function)[0], set())
-            here |= set(re.findall(r"ensures (\w+) \{", function))
+for text in sources.values():
+    for function in re.split(r"\bfn (?=\w)", text)[1:]:
+        here = clauses.setdefault(re.match(r"\w+", function)[0], set())
+        here |= set(re.findall(r"ensures (\w+) \{", function))
 clauses["there"] = clauses["one_reading_one_canonical_line"]
 clauses["each export"] = set(re.findall(r"pub (\w+) :", read("crates/getopts_c/specs/Reply.antt")))
 for row in re.findall(r"^\|.*\|$", pages["docs/PROOFS.md"], re.M):
@@ -378,11 +343,11 @@ for page, text in pages.items():
 
 # ---- modules ----
 
-for crate in sorted({name.split("/")[1] for name in tracked if re.match(r"crates/\w*/src/", name)}):
+for crate in sorted({name.split("/")[1] for name in sources}):
     left = {}
-    for name in tracked:
+    for name, text in sources.items():
         if (it := re.match(rf"crates/{crate}/src/(\w+)\.rt$", name)) and it[1] not in ("lib", "main"):
-            left[it[1]] = set(re.findall(r"^\s*use crate::(\w+)", read(name), re.M)) - {it[1]}
+            left[it[1]] = set(re.findall(r"^\s*use crate::(\w+)", text, re.M)) - {it[1]}
     while ready := [module for module in left if not left[module] & set(left)]:
         for module in ready:
             del left[module]
