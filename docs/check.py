@@ -110,7 +110,7 @@ def logic():
 INSTRUCTIONS = "Instructions of one turn"
 PEAK = "The most bytes held at once for reading 100,000 words, above the words and the options"
 COLUMNS = {"this library": "this library", "Rust crate": "Rust crate", "drop-in": "bindings/rust", "lexopt": "lexopt",
-           "pico-args": "pico-args", "clap": "clap", "here": "bindings/rust", "the crate": "Rust crate"}
+           "pico-args": "pico-args", "clap": "clap"}
 
 # How far a job may be from its record: C libraries differ.
 WITHIN = 0.02
@@ -155,8 +155,8 @@ FIGURES = [
 # What is no figure: versions, rules of the language, the jobs of the bench and the sizes of tests.
 NO_FIGURES = re.compile(r"""
     \bU\+\w+ | \b0\.2\.24\b | Apache-2\.0 | x86-64(-v2)?
-    | 1,000\ words | 100,000\ words | 200\ options | 400\ words | 4,000\ names | 1,000\ options\ each
-    | (32|64)\ bits | 54\ columns | 24\ (spaces|columns) | stop\ at\ 255 | 24\ bytes | C\+\+11 | Debian\ 12 | 80\ words | 200,000\ cases | about\ 2009
+    | 1,000\ words | 100,000\ words | 200\ options | 400\ words
+    | (32|64)\ bits | 54\ columns | 24\ (spaces|columns) | stop\ at\ 255 | 24\ bytes | C\+\+11 | Debian\ 12 | 80\ words | 200,000\ cases
     # experiments that were done once
     | 564\ lines | 9,305\ instructions | 393\ small\ changes | detected\ 375 | 585\ small\ changes | detected\ 492 | 54\ of\ the\ other\ 93 | 39\ are
 """, re.X)
@@ -174,9 +174,7 @@ def table_figures(page, text):
             columns = [it for _, it in cells]
         elif columns and (job := re.match(r"`([\w-]+)`", cells[0][1])):
             for (at, cell_text), column in list(zip(cells, columns))[1:]:
-                if column in COLUMNS and job[1] == "memory":
-                    yield at, cell_text, megabytes(COLUMNS[column])
-                elif column in COLUMNS and (INSTRUCTIONS, job[1]) in tables():
+                if column in COLUMNS and (INSTRUCTIONS, job[1]) in tables():
                     wanted = tables()[INSTRUCTIONS, job[1]].get(COLUMNS[column], "0")
                     yield at, cell_text, re.sub(r"^\d+", lambda it: f"{int(it[0]):,}", wanted)
 
