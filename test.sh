@@ -76,32 +76,24 @@ ended() {
     done
 }
 
-# What tests can use, each with the package of Debian 12 that has it.
-PACKAGES='C compiler:gcc cc:gcc g++:g++ clang:clang ar:binutils nm:binutils objcopy:binutils readelf:binutils
-pkg-config:pkg-config musl-gcc:musl-tools aarch64-linux-gnu-gcc:gcc-aarch64-linux-gnu qemu-aarch64:qemu-user
-valgrind:valgrind shellcheck:shellcheck man:man-db groff:groff mandoc:mandoc dash:dash zsh:zsh ksh93:ksh93u+m mksh:mksh
-yash:yash busybox:busybox-static fish:fish pexpect:python3-pexpect unicode-width:librust-unicode-width-dev
-librust-unicode-width-dev:librust-unicode-width-dev rustc:rustc cargo:cargo wasm32-wasi:libstd-rust-dev-wasm32
-x86_64-pc-windows-gnu:libstd-rust-dev-windows x86_64-w64-mingw32-gcc:gcc-mingw-w64-x86-64 wine64:wine64 node:nodejs
-i686-linux-gnu-gcc:gcc-i686-linux-gnu'
-
-# skipped: each test that was skipped, once, and the packages that have what it says is lacking.
+# skipped: each test that was skipped, once, and the packages of CONTRIBUTING.md that this machine doesn't have.
 skipped() {
-    local pair tools packages=
+    local package all packages=''
     grep -h '^skipped: ' "$room"/said* | sort -u >"$room/skipped"
     [ -s "$room/skipped" ] || return 0
     echo "== skipped"
     sed 's/^skipped: //' "$room/skipped"
-    while IFS=: read -r tools pair; do
-        grep -qwF -- "$tools" "$room/skipped" && packages="$packages $pair"
-    done < <(tr '\n' ' ' <<<"$PACKAGES" | sed 's/C compiler/C@compiler/' | tr ' @' '\n ')
-    [ -z "$packages" ] || echo "these would run with: apt-get install$(tr ' ' '\n' <<<"$packages" | sort -u | tr '\n' ' ')"
+    read -r -a all <<<"$(sed -n 's/^ *apt-get install //p' CONTRIBUTING.md)"
+    for package in "${all[@]}"; do
+        dpkg -s "$package" >/dev/null 2>&1 || packages="$packages $package"
+    done
+    [ -z "$packages" ] || echo "most of these would run with: apt-get install$packages"
 }
 
 # built: when the programs that were run were built, and how many of their sources changed since.
 built() {
     local crate program
-    for crate in getopts_refused getopts_show getopts_shell; do
+    for crate in getopts_vectors getopts_show getopts_shell; do
         program=crates/$crate/out/$crate
         [ ! -x "$program" ] || echo "$crate was built $(date -r "$program" '+%F at %T'), and of its sources and the" \
             "library's $(find crates/{getopts,$crate}/src -name '*.rt' -newer "$program" | wc -l) changed since"
@@ -146,7 +138,7 @@ over_proved() {
         mkdir -p "$room/over/$rlib" && cp -a "$rlib/$library.rlib" "$room/over/$rlib/" || return 1
     done
     bash "$room/over/bindings/archive.sh" check &&
-        bash "$room/over/tests/must-fail/try.sh" --jobs 1 --over "$room/over/crates/getopts/out/rlib/getopts.rlib" \
+        bash "$room/over/tests/must-fail/try.sh" --over "$room/over/crates/getopts/out/rlib/getopts.rlib" \
             getopts_c getopts_shell getopts_show
 }
 
@@ -154,7 +146,7 @@ over_proved() {
 edits() {
     mkdir "$room/copy" &&
         tar --exclude=./.git --exclude=out --exclude=target -c . | tar -C "$room/copy" -x &&
-        bash "$room/copy/tests/must-fail/try.sh" --jobs 1 getopts getopts_bytes
+        bash "$room/copy/tests/must-fail/try.sh" getopts getopts_bytes
 }
 
 room=$(mktemp -d)
@@ -165,7 +157,7 @@ if [ -n "$quick" ]; then
     begin "the program by cargo" bash bindings/shell/cargo.sh 300
     begin "C" bash bindings/c/test.sh --quick
     begin "the program for shell scripts" bash tests/shell/run.sh
-    if [ -x crates/getopts_refused/out/getopts_refused ] && [ -x crates/getopts_show/out/getopts_show ] &&
+    if [ -x crates/getopts_vectors/out/getopts_vectors ] && [ -x crates/getopts_show/out/getopts_show ] &&
         [ -x crates/getopts_shell/out/getopts_shell ]; then
         begin "refused memory" bash tests/memory/run.sh
         begin "the programs and the system" python3 tests/system/run.py
@@ -181,7 +173,7 @@ else
     begin "the Rust crate" bash bindings/rust/test.sh "$@"
     begin "the program by cargo" bash bindings/shell/cargo.sh
     begin "C" once getopts_show -- bash bindings/c/test.sh
-    begin "refused memory" once getopts_refused getopts_show getopts_shell -- bash tests/memory/run.sh
+    begin "refused memory" once getopts_vectors getopts_show getopts_shell -- bash tests/memory/run.sh
     begin "the programs and the system" once getopts_show getopts_shell -- python3 tests/system/run.py
     begin "the program for shell scripts" once getopts_shell -- bash tests/shell/run.sh
     begin "recorded cases by the rules" once getopts_vectors -- python3 tests/differential/rules.py

@@ -1,4 +1,4 @@
-# shellcheck shell=bash
+# shellcheck shell=bash disable=SC2034
 # Counts checks, for the test scripts that source it. They end with `finish`.
 room=$(mktemp -d)
 trap 'rm -rf "$room"' EXIT
@@ -41,6 +41,44 @@ has() {
 # shellcheck disable=SC2154
 row_files() {
     printf '%s\n' "$top"/crates/getopts_vectors/data/{rules,recorded}.rows
+}
+
+# same_answers PROGRAM OTHER: whether two programs answer these lines alike.
+lines=("--output=x.txt --verbose in.txt" "-vvLd -La -Lb -c auto -o x.txt f -- g -v" "-v --help" "--nope"
+    "-o" "-o a -o b" "--verbose=x" "" "-c" "--output= é --color=日本")
+same_answers() {
+    local line words wanted said
+    for line in "${lines[@]}"; do
+        read -r -a words <<<"$line"
+        wanted=$("$1" "${words[@]}"; echo "status $?")
+        said=$("$2" "${words[@]}"; echo "status $?")
+        [ "$said" = "$wanted" ] || { printf '%s\n' "'$line': $said" "and not: $wanted"; return 1; }
+    done
+}
+
+# manual FILE: checks a page of the manual.
+well_formed() { [ -z "$(man --warnings -E UTF-8 -l "$1" 2>&1 >/dev/null)" ]; }
+manual() {
+    if has man groff; then
+        check "the manual page" well_formed "$1"
+    else
+        skip "the manual page: there is no man or no groff"
+    fi
+}
+
+# for_cargo: sets `flags` for cargo, and `registry`: Debian's packages stand in for the public registry where they are
+# installed. `wine` runs programs for Windows.
+for_cargo() {
+    wine=$(command -v wine64 || command -v wine || compgen -G '/usr/lib/wine/wine64' || echo wine64)
+    export CARGO_TARGET_DIR=$room/target WINEPREFIX=$room/wine WINEDEBUG=-all
+    read -r -a flags <<<"${CARGO_FLAGS:-}"
+    registry=/usr/share/cargo/registry
+    if compgen -G "$registry/unicode-width-*" >/dev/null; then
+        printf '[source.crates-io]\nreplace-with = "folder"\n[source.folder]\ndirectory = "%s"\n' "$registry" >"$room/registry.toml"
+        flags=(--config "$room/registry.toml" --offline)
+    else
+        registry=
+    fi
 }
 
 finish() {

@@ -108,38 +108,22 @@ else
 fi
 
 # The program show.c, which answers as the program getopts_show does, that `rt ci` leaves, also where memory is refused.
-lines=("--output=x.txt --verbose in.txt" "-vvLd -La -Lb -c auto -o x.txt f -- g -v" "-v --help" "--nope"
-    "-o" "-o a -o b" "--verbose=x" "" "-c" "--output= é --color=日本")
 show=$top/crates/getopts_show/out/getopts_show
-same_as_show() {
-    local line words wanted said
-    for line in "${lines[@]}"; do
-        read -r -a words <<<"$line"
-        wanted=$("$show" "${words[@]}"; echo "status $?")
-        said=$("$room/show" "${words[@]}"; echo "status $?")
-        if [ "$said" != "$wanted" ]; then
-            printf '%s\n' "'$line': $said" "and not: $wanted"
-            return 1
-        fi
-    done
-}
 # refused: where a request for memory is refused, alone or with all after it, it writes nothing and ends with status 3.
 refused() {
-    local line words wanted why='' runs=0
+    local line words
     for line in "${lines[@]:1:3}"; do
         read -r -a words <<<"$line"
-        wanted=$("$room/show" "${words[@]}"; echo "status $?")
-        in_turn "$room/refuse.so" 0 "$wanted" "status 3" "$room/show" "${words[@]}" >"$room/why"
-        [ -s "$room/why" ] && why=yes && sed "s/^/'$line', /" "$room/why"
+        in_turn "$room/refuse.so" 0 "$("$room/show" "${words[@]}"; echo "status $?")" "status 3" "$room/show" "${words[@]}" ||
+            return 1
     done
     echo "$runs runs"
-    [ -z "$why" ] && [ "$runs" -gt 0 ]
 }
 if [ ${#compilers[@]} -gt 0 ]; then
     build=("${compilers[0]}" -O2 "${warnings[@]}")
     check "the program show.c" "${build[@]}" "$here/show.c" "${layer[@]}" -o "$room/show"
     if [ -x "$show" ]; then
-        check "show.c answers as getopts_show" same_as_show
+        check "show.c answers as getopts_show" same_answers "$show" "$room/show"
     else
         skip "show.c answers as getopts_show: 'rt ci' has not built that"
     fi
@@ -148,38 +132,6 @@ if [ ${#compilers[@]} -gt 0 ]; then
     else
         skip "show.c under refused memory: this compiler can't build what refuses it"
     fi
-fi
-
-# Another archive that asks for the same heap: here a copy of this one, whose exports have other names.
-two_archives() {
-    local names=(parse parse_ignoring_counts canonical usage short_usage usage_rows) name renamed=()
-    for name in "${names[@]}"; do
-        renamed+=(--redefine-sym "getopts_c_$name=another_$name")
-    done
-    objcopy "${renamed[@]}" "$archive" "$room/another.a"
-    cat >"$room/two.c" <<END
-#include "$here/getopts.h"
-uint32_t another_short_usage(const uint8_t *, size_t, const size_t *, size_t, const uint8_t *, size_t,
-    const uint8_t *, size_t, uint8_t *, size_t, struct getopts_sizes *);
-int main(void) {
-    static const struct getopts_option none = { NULL, NULL, NULL, NULL, 0 };
-    struct getopts *options = getopts_new(&none, GETOPTS_ORDINARY);
-    char *words[] = { "x", NULL };
-    struct getopts_sizes sizes;
-    uint8_t room[16];
-    bool whole = options != NULL && getopts_read(options, 1, words) == GETOPTS_OK
-        && another_short_usage(NULL, 0, NULL, 0, NULL, 0, NULL, 0, room, 16, &sizes) == GETOPTS_OK
-        && sizes.bytes == 8;
-    getopts_delete(options);
-    return !whole;
-}
-END
-    "${compilers[0]}" "${warnings[@]}" "$room/two.c" "${layer[@]}" "$room/another.a" -o "$room/two" && "$room/two"
-}
-if [ ${#compilers[@]} -gt 0 ] && has objcopy; then
-    check "two archives in one program" two_archives
-else
-    skip "two archives in one program: there is no C compiler or no objcopy"
 fi
 
 # The global names of the archive, and those that it asks for, as getopts_c.h and README.md tell them.
@@ -347,12 +299,7 @@ elif check "bindings/c/install.sh" env CC="${compilers[0]}" "$here/install.sh" "
         done < <(sed -n 's/^without //p' "$room/said")
     check "DESTDIR, --uninstall and --help" uninstalled
 fi
-manual() { [ -z "$(man --warnings -E UTF-8 -l "$here/getopts.3" 2>&1 >/dev/null)" ]; }
-if has man groff; then
-    check "the manual page" manual
-else
-    skip "the manual page: there is no man or no groff"
-fi
+manual "$here/getopts.3"
 
 # What the page quotes.
 quoted() {

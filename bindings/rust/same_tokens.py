@@ -4,8 +4,8 @@
     bindings/rust/same_tokens.py SOURCE FOLDER
 
 The tokens of FOLDER/X.rs have to be those of SOURCE/X.rt in order, but for the renames below and for constructs that
-mean nothing when a program runs: each begins with a word of `WHOLE`, and goes to the end that stands beside it. Comments
-and white space aren't looked at.
+mean nothing when a program runs: each begins with a word of `WHOLE`, and goes to the end that stands beside it. Comments,
+white space and a comma before a bracket that closes aren't looked at.
 """
 
 import re
@@ -63,6 +63,8 @@ def differs(source, rust, names, imports):
                 at, to = at + 1, to + 1
             elif whole:
                 at = end_of(source, at, whole[1]) if whole[1] else at + 2
+            elif rust[to : to + 1] == [","] and rust[to + 1] in ")]}":
+                to += 1
             else:
                 return at
     return None if to == len(rust) else at

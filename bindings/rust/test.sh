@@ -19,16 +19,7 @@ fi
 crate=${1:+$(cd "$1" && pwd)}
 # shellcheck source=bindings/c/checks.sh
 . "$top/bindings/c/checks.sh"
-export CARGO_TARGET_DIR=$room/target
-read -r -a flags <<<"${CARGO_FLAGS:-}"
-# Debian's packages stand in for the public registry where they are installed.
-registry=/usr/share/cargo/registry
-if compgen -G "$registry/unicode-width-*" >/dev/null; then
-    printf '[source.crates-io]\nreplace-with = "folder"\n[source.folder]\ndirectory = "%s"\n' "$registry" >"$room/registry.toml"
-    flags=(--config "$room/registry.toml" --offline)
-else
-    registry=
-fi
+for_cargo
 
 same_licences() {
     local file
@@ -40,11 +31,11 @@ check "the licences" same_licences
 
 # The source: what is there is what the eraser writes, and a second program finds the same tokens.
 source=$top/crates/getopts/src
-same_tokens() { "$here/same_tokens.py" "$source" "$1"; }
+same_tokens() { "$here/same_tokens.py" "$top/crates/$1/src" "$2"; }
 # planted FILE EDIT: whether a file that isn't the source is found.
 planted() {
     rm -rf "$room/planted" && cp -r "$here/src/proved" "$room/planted" && sed -i "$2" "$room/planted/$1" || return 1
-    ! cmp -s "$here/src/proved/$1" "$room/planted/$1" && ! same_tokens "$room/planted"
+    ! cmp -s "$here/src/proved/$1" "$room/planted/$1" && ! same_tokens getopts "$room/planted"
 }
 # stops FILE EDIT TEXT: whether the eraser stops at what it can't erase, and says so.
 stops() {
@@ -53,18 +44,24 @@ stops() {
         sed -i "$2" "$room/stops/crates/getopts/src/$1" || return 1
     ! "$room/stops/bindings/rust/erase.py" getopts "$room/stops/out" 2>"$room/why" && grep -x ".*$1:[0-9]*: $3" "$room/why"
 }
-if has python3; then
-    check "the erased source is that of today" "$here/erase.py" --check
-    check "its tokens are those of the source" same_tokens "$here/src/proved"
+if ! has python3; then
+    skip "whether the erased source is that of today: there is no python3"
+else
+    check "the tokens of the library are those of its source" same_tokens getopts "$here/src/proved"
+    check "those of getopts_bytes" same_tokens getopts_bytes "$top/bindings/shell/src/getopts_bytes"
+    check "those of getopts_shell" same_tokens getopts_shell "$top/bindings/shell/src/program"
     check "a planted file with < for <=" planted parse.rs 's/count <= 1/count < 1/'
     check "a planted file without a token" planted scan.rs 's/line\.try_grow(words, stops)?;/line.try_grow(words, stops);/'
     check "a planted file with a token more" planted table.rs 's/entries\.dedup_by/entries.reverse(); entries.dedup_by/'
-    check "an unknown sign stops the eraser" stops row.rt 's/^const MARGIN: usize = 24/const MARGIN: usize ≡ 24/' "'≡': it isn't Rust"
-    check "a drop that does more stops it" stops table.rt 's/let Table { entries: _ } = self;/let _ = self;/' \
-        "'Drop': its impl does more than to take a value apart"
-    check "an open bracket stops it" stops names.rt 's/^    short\.len()/    (short.len()/' "'}': it closes nothing"
-else
-    skip "whether the erased source is that of today: there is no python3"
+    if rustfmt --config style_edition=2024 </dev/null >"$room/said" 2>&1; then
+        check "the erased source is that of today" "$here/erase.py" --check
+        check "an unknown sign stops the eraser" stops row.rt 's/^const MARGIN: usize = 24/const MARGIN: usize ≡ 24/' "'≡': it isn't Rust"
+        check "a drop that does more stops it" stops table.rt 's/let Table { entries: _ } = self;/let _ = self;/' \
+            "'Drop': its impl does more than to take a value apart"
+        check "an open bracket stops it" stops names.rt 's/^    short\.len()/    (short.len()/' "'}': it closes nothing"
+    else
+        skip "whether the eraser writes what is there: there is no rustfmt that has the style of 2024"
+    fi
 fi
 
 if ! has cargo cc; then
@@ -155,20 +152,9 @@ check "a program with the patch" patched
 
 # The example answers as the program getopts_show does, where `rt` has built that.
 show=$top/crates/getopts_show/out/getopts_show
-lines=("--output=x.txt --verbose in.txt" "-vvLd -La -Lb -c auto -o x.txt f -- g -v" "-v --help" "--nope"
-    "-o" "-o a -o b" "--verbose=x" "" "-c" "--output= é --color=日本")
-same_as_show() {
-    local line words wanted said
-    for line in "${lines[@]}"; do
-        read -r -a words <<<"$line"
-        wanted=$("$show" "${words[@]}"; echo "status $?")
-        said=$("$room/target/release/examples/show" "${words[@]}"; echo "status $?")
-        [ "$said" = "$wanted" ] || { printf '%s\n' "'$line': $said" "and not: $wanted"; return 1; }
-    done
-}
 if check "the example" in_crate build "${flags[@]}" --release --example show; then
     if [ -x "$show" ]; then
-        check "the example answers as getopts_show" same_as_show
+        check "the example answers as getopts_show" same_answers "$show" "$room/target/release/examples/show"
     else
         skip "the example answers as getopts_show: rt hasn't built that"
     fi
@@ -178,9 +164,9 @@ fi
 twin() {
     local with="${*:3}"
     [ -n "$registry" ] || with="$with ${CARGO_FLAGS:-}"
-    (unset CARGO_TARGET_DIR && CARGO_FLAGS=$with "$top/tests/differential/build.sh" "$room/$1" "$2" "$registry")
+    (unset CARGO_TARGET_DIR && CARGO_FLAGS=$with "$top/tests/differential/build.sh" "$top/tests/differential/twin" "$room/$1" "$2")
 }
-program() { echo "$room/$1/twin/target/release/twin"; }
+program() { echo "$room/$1/target/release/twin"; }
 # alike OURS THEIRS SEED COUNT: whether the two answer so many cases of a seed alike.
 alike() {
     local ours theirs
@@ -190,7 +176,7 @@ alike() {
 }
 
 # Rows: files with answers beside them.
-twin_linted() { (cd "$room/ours/twin" && cargo clippy --offline --features canonical -- -D warnings); }
+twin_linted() { (cd "$room/ours" && cargo clippy --offline --features canonical -- -D warnings); }
 if check "the twin over the crate here" twin ours "$here" --features canonical; then
     [ -z "$clippy" ] || check "cargo clippy of the twin" twin_linted
     while read -r file; do
@@ -225,39 +211,18 @@ else
 fi
 
 # That crate's tests of its public calls, where they are at hand.
-if [ -n "$crate" ] && [ -f "$crate/tests/public.rs" ]; then
-    mkdir "$room/public"
-    touch "$room/public/lib.rs"
-    cat >"$room/public/Cargo.toml" <<TOML
-[package]
-name = "public"
-version = "0.1.0"
-edition = "2021"
-[lib]
-path = "lib.rs"
-[features]
-default = ["unicode"]
-unicode = ["getopts/unicode"]
-[dependencies]
-getopts = { path = "$here", default-features = false }
-[[test]]
-name = "public"
-path = "$crate/tests/public.rs"
-TOML
-    public() { (cd "$room/public" && cargo test "${flags[@]}" --test public "$@"); }
+# shellcheck source=bindings/rust/targets.sh
+. "$here/targets.sh"
+if [ -f "$all/tests/public.rs" ]; then
+    public() { (cd "$all" && cargo test "${flags[@]}" --test public "$@"); }
     check "that crate's public tests" public && grep "^test result" "$room/said"
     check "those without unicode" public --no-default-features && grep "^test result" "$room/said"
 else
     skip "that crate's public tests: no folder was given that has them"
 fi
-
-# Other targets.
 if [ -n "$quick" ]; then
     skip "other targets: this is the quick test"
 else
-    "$here/targets.sh" ${crate:+"$crate"} >"$room/of_targets"
-    sed '$d' "$room/of_targets"
-    read -r more_passed _ more_failed _ more_skipped _ <<<"$(tail -n 1 "$room/of_targets")"
-    passed=$((passed + more_passed)) failed=$((failed + more_failed)) skipped=$((skipped + more_skipped))
+    on_each
 fi
 finish

@@ -10,22 +10,8 @@ top=$(cd "$(dirname "$0")/../.." && pwd)
 here=$top/bindings/shell
 # shellcheck source=bindings/c/checks.sh
 . "$top/bindings/c/checks.sh"
-export CARGO_TARGET_DIR=$room/target
-read -r -a flags <<<"${CARGO_FLAGS:-}"
-registry=/usr/share/cargo/registry
-if compgen -G "$registry/unicode-width-*" >/dev/null; then
-    printf '[source.crates-io]\nreplace-with = "folder"\n[source.folder]\ndirectory = "%s"\n' "$registry" >"$room/registry.toml"
-    flags=(--config "$room/registry.toml" --offline)
-fi
+for_cargo
 
-if has python3; then
-    for pair in getopts_bytes:getopts_bytes getopts_shell:program; do
-        check "the erased ${pair%:*} is that of today" "$top/bindings/rust/erase.py" --check "${pair%:*}"
-        check "its tokens are those of the source" "$top/bindings/rust/same_tokens.py" "$top/crates/${pair%:*}/src" "$here/src/${pair#*:}"
-    done
-else
-    skip "whether the erased source is that of today: there is no python3"
-fi
 if ! has cargo cc; then
     skip "the program by cargo: there is no cargo, or no cc that it links by"
     finish
@@ -58,8 +44,7 @@ fi
 
 # Windows, by Debian's rustc 1.63. What the source has that is newer is switched on there.
 windows=x86_64-pc-windows-gnu
-wine=$(command -v wine64 || command -v wine || compgen -G '/usr/lib/wine/wine64' || true)
-if [ -z "$wine" ] || ! has x86_64-w64-mingw32-gcc /usr/bin/rustc /usr/bin/cargo ||
+if ! has "$wine" x86_64-w64-mingw32-gcc /usr/bin/rustc /usr/bin/cargo ||
     [ ! -d "$(/usr/bin/rustc --print target-libdir --target $windows)" ] || [ ! -f "$room/registry.toml" ]; then
     skip "Windows: there is no wine, no x86_64-w64-mingw32-gcc, or no rustc with a std for it"
 else
@@ -74,7 +59,6 @@ else
     if check "the build for Windows" on_windows; then
         printf '#!/bin/sh\nexec "%s" "%s" "$@"\n' "$wine" "$room/target/$windows/release/getopts_shell.exe" >"$room/by_wine"
         chmod +x "$room/by_wine"
-        export WINEPREFIX=$room/wine WINEDEBUG=-all
         # The first run makes wine's folder, and says so.
         "$room/by_wine" --help >/dev/null 2>&1
         says "beside the static program, under wine" python3 "$here/beside.py" --texts 40 "$theirs" "$room/by_wine"

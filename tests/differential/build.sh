@@ -1,29 +1,34 @@
 #!/usr/bin/env bash
-# Builds the twin in a folder outside the repository, and prints the path of the program.
-# usage: build.sh WORK CRATE REGISTRY
-#   CRATE      a folder with the Rust crate getopts; empty: the public registry's 0.2.24
-#   REGISTRY   a folder that stands for the public registry, as Debian's packages librust-*-dev make
-#              one; empty: the public registry itself
-# CARGO_FLAGS are handed to cargo.
+# Builds a package that uses the crate getopts, in a folder outside the repository.
+# usage: build.sh PACKAGE OUT [GETOPTS]
+#   PACKAGE   tests/differential/twin or bench/peers
+#   OUT       where it is built; what was built there is kept for the next time
+#   GETOPTS   a folder with that crate; without it cargo takes 0.2.24 from the public registry
+#
+# Where GETOPTS is given, Debian's packages stand in for the public registry if they have all that is needed. CARGO_FLAGS
+# are handed to cargo.
 set -euo pipefail
-here=$(cd "$(dirname "$0")" && pwd)
-if [ $# -ne 3 ]; then
-    echo 'usage: tests/differential/build.sh WORK CRATE REGISTRY' >&2
+if [ $# -lt 2 ] || [ $# -gt 3 ]; then
+    echo 'usage: tests/differential/build.sh PACKAGE OUT [GETOPTS]' >&2
     exit 2
 fi
 command -v cargo >/dev/null || { echo 'tests/differential/build.sh: there is no cargo on the path' >&2; exit 2; }
-work=$1 crate=$2 registry=$3
-mkdir -p "$work/twin/.cargo"
-cp -r "$here/twin/." "$work/twin/"
-config=$work/twin/.cargo/config.toml
-: > "$config"
-if [ -n "$crate" ]; then
-    printf '[patch.crates-io]\ngetopts = { path = "%s" }\n' "$(cd "$crate" && pwd)" >> "$config"
-fi
+mkdir -p "$2/.cargo"
+cp -r "$1/." "$2"
 read -r -a flags <<<"${CARGO_FLAGS:-}"
-if [ -n "$registry" ]; then
-    printf '[source.crates-io]\nreplace-with = "folder"\n[source.folder]\ndirectory = "%s"\n' "$registry" >> "$config"
-    flags+=(--offline)
+config=''
+if [ -n "${3:-}" ]; then
+    config="patch.crates-io.getopts.path = \"$(cd "$3" && pwd)\""
+    registry=/usr/share/cargo/registry
+    lacking=''
+    for name in unicode-width $(sed -n '1,/^\[dependencies\]/d; s/^\([a-z-]*\) = .*/\1/p' "$1/Cargo.toml"); do
+        [ "$name" = getopts ] || compgen -G "$registry/$name-[0-9]*" >/dev/null || lacking=$name
+    done
+    if [ -z "$lacking" ]; then
+        config+=$'\n'"source.crates-io.replace-with = \"folder\""$'\n'"source.folder.directory = \"$registry\""
+        flags+=(--offline)
+    fi
 fi
-(cd "$work/twin" && cargo build --release --quiet --jobs 2 "${flags[@]}" >&2)
-echo "$work/twin/target/release/twin"
+echo "$config" >"$2/.cargo/config.toml"
+cd "$2"
+cargo build --release --quiet --jobs 2 "${flags[@]}"

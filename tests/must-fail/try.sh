@@ -1,6 +1,6 @@
 #!/usr/bin/env bash
 # Tries the edits of this folder: each turns a body of its crate, and the prover has to refuse it.
-# usage: tests/must-fail/try.sh [--jobs N] [--over RLIB] [--all | --plant] [CRATE..]
+# usage: tests/must-fail/try.sh [--over RLIB] [--all] [CRATE..]
 #
 # An edit names the function that it turns, a file, and texts that stand there once ('old') with those in their place
 # ('new'), each of one or more lines. The function is checked with those that it calls, against its contract as it
@@ -10,18 +10,15 @@
 #
 # The edits that a line of CRATE/together names are tried in one check: none of their functions calls another of them.
 # 'EDIT:right' stands there for an edit with its right texts. With --all the edits in private/ are tried too, which turn
-# bodies that no public sentence speaks of. With --over the edits of the static library are checked over this proved
-# library. With --plant it plants wrong bodies in each crate instead, and prints what the contracts let through.
-# Everything is done on copies of the repository, N at once (2 if left out). The last line is 'N passed, M failed'.
+# bodies that no public sentence speaks of. With --over the edits of the other crates are checked over this proved
+# library. Everything is done on a copy of the repository. The last line is 'N passed, M failed'.
 set -euo pipefail
 top=$(cd "$(dirname "$0")/../.." && pwd)
-jobs=2 over= all= plant=
+over='' all=''
 while [ $# -gt 0 ]; do
     case $1 in
-        --jobs) jobs=${2:?--jobs takes a number}; shift 2 ;;
         --over) over=$(realpath "${2:?--over takes a folder}"); shift 2 ;;
         --all) all=1; shift ;;
-        --plant) plant=1; shift ;;
         -*) sed -n '3s/^# //p' "$0" >&2; exit 2 ;;
         *) break ;;
     esac
@@ -29,7 +26,8 @@ done
 command -v rt >/dev/null || { echo "no rt on the path: the toolchain's bin folder has to be there" >&2; exit 2; }
 
 room=$(mktemp -d)
-trap 'kill $(jobs -p) 2>/dev/null || true; rm -rf "$room"' EXIT
+trap 'rm -rf "$room"' EXIT
+copy=$room/copy
 
 # apply FOLDER EDIT..: makes edits in a crate's folder, where each of their texts stands once, and prints the function of
 # each. In EDIT:right a right text takes the place of the new one.
@@ -84,11 +82,10 @@ refusal() {
             grep -F "$proof/" "$said" | grep ": error: " | grep -vE "$names" | sed -n 1p | grep .; }
 }
 
-# try_edits COPY EDIT..: makes these edits of one crate together, and says of each whether the check refuses its function,
+# try_edits EDIT..: makes these edits of one crate together, and says of each whether the check refuses its function,
 # or proves it with right texts.
 try_edits() {
-    local copy=$1 crate functions said status=0 at name only=()
-    shift
+    local crate functions said status=0 at name only=()
     crate=${1#"$top"/tests/must-fail/}
     crate=${crate%%/*}
     local folder=$copy/crates/$crate
@@ -119,62 +116,29 @@ try_edits() {
     mv "$copy/kept" "$folder/src"
 }
 
-# plant_in COPY CRATE: prints what wrong bodies a crate's contracts let through.
-plant_in() {
-    local copy=$1 crate=$2
-    if (cd "$copy/crates/$crate" && rt plant --jobs 1 --minutes 60) >"$copy/said" 2>&1; then
-        echo "planted: $crate: $(tail -n 1 "$copy/said")"
-        grep -E '^ *(proves|no-ensures) ' "$copy/said" | sed "s/^/$crate: /" || true
-    else
-        echo "FAILED: $crate: $(tail -n 1 "$copy/said")"
-    fi
-}
-
 # edits_of CRATE: one line for the edits of each check.
 edits_of() {
-    local folder=$top/tests/must-fail/$1 together=$top/tests/must-fail/$1/together
+    local folder=$top/tests/must-fail/$1 together=$top/tests/must-fail/$1/together depth=(-maxdepth 1)
+    [ -z "$all" ] || depth=()
     if [ -f "$together" ]; then
-        grep -v '^#' "$together" | sed -e "s#\([a-z_][a-z_]*\)\(:right\)\{0,1\}#$folder/\1.edit\2#g" -e 's/^/try_edits /'
+        grep -v '^#' "$together" | sed "s#\([a-z_][a-z_]*\)\(:right\)\{0,1\}#$folder/\1.edit\2#g"
     fi
-    find "$folder" $([ -n "$all" ] || echo -maxdepth 1) -name '*.edit' | sort | while read -r edit; do
-        grep -qsE "(^| )$(basename "$edit" .edit)( |\$)" "$together" || echo "try_edits $edit"
-        ! grep -q '^right:' "$edit" || grep -qsw "$(basename "$edit" .edit):right" "$together" || echo "try_edits $edit:right"
+    find "$folder" "${depth[@]}" -name '*.edit' | sort | while read -r edit; do
+        grep -qsE "(^| )$(basename "$edit" .edit)( |\$)" "$together" || echo "$edit"
+        ! grep -q '^right:' "$edit" || grep -qsw "$(basename "$edit" .edit):right" "$together" || echo "$edit:right"
     done
 }
 
-# The crates that are tried, and one line for each thing to do.
-if [ $# = 0 ] && [ -n "$plant" ]; then
-    mapfile -t crates < <(sed -n 's/^\([a-z_]*\).*:.*/\1/p' "$top/crates.txt")
-elif [ $# = 0 ]; then
-    mapfile -t crates < <(cd "$top/tests/must-fail" && ls -d */ | tr -d /)
-else
-    crates=("$@")
-fi
-for crate in "${crates[@]}"; do
-    if [ -n "$plant" ]; then
-        echo "plant_in $crate"
-    else
-        edits_of "$crate"
-    fi
-done >"$room/tasks"
-
-mkdir "$room/0"
-tar -C "$top" --exclude=./.git --exclude=out --exclude=target -c . | tar -C "$room/0" -x
-for crate in "$top"/crates/*/out; do
-    name=$(basename "$(dirname "$crate")")
-    [ -d "$room/0/crates/$name" ] && cp -a "$crate" "$room/0/crates/$name/"
+mkdir "$copy"
+tar -C "$top" --exclude=./.git --exclude=out --exclude=target -c . | tar -C "$copy" -x
+for out in "$top"/crates/*/out; do
+    [ ! -d "$out" ] || cp -a "$out" "$copy/crates/$(basename "$(dirname "$out")")/"
 done
-for ((copy = 1; copy < jobs; copy++)); do cp -a "$room/0" "$room/$copy"; done
-
-# Each copy takes every Nth line.
-for ((copy = 0; copy < jobs; copy++)); do
-    while read -r -a words; do
-        "${words[0]}" "$room/$copy" "${words[@]:1}"
-    done < <(awk -v n="$jobs" -v at="$copy" 'NR % n == at' "$room/tasks") >"$room/results.$copy" &
-done
-wait
-cat "$room"/results.*
-failed=$(cat "$room"/results.* | grep -c '^FAILED' || true)
-passed=$(cat "$room"/results.* | grep -cE '^(refused|proved|planted)' || true)
-echo "$passed passed, $failed failed"
+[ $# -gt 0 ] || set -- getopts getopts_bytes getopts_c getopts_shell
+for crate in "$@"; do edits_of "$crate"; done >"$room/tasks"
+while read -r -a edits; do
+    try_edits "${edits[@]}" </dev/null
+done <"$room/tasks" | tee "$room/results"
+failed=$(grep -c '^FAILED' "$room/results" || true)
+echo "$(grep -cE '^(refused|proved)' "$room/results" || true) passed, $failed failed"
 [ "$failed" = 0 ]

@@ -13,13 +13,10 @@ import re
 import select
 import shlex
 import shutil
-import subprocess
-import sys
-import tempfile
 import time
-from pathlib import Path
 
-ROOT = Path(__file__).resolve().parent.parent.parent
+from common import expect, fail, main, run
+
 NO, YES, MAYBE = range(3)
 # Short name, long name, kind of argument, whether it may come again, and description.
 OPTIONS = [
@@ -33,12 +30,6 @@ OPTIONS = [
 ]
 FILES = ["files"]
 WAIT = 60
-failed = []
-
-
-def fail(what):
-    failed.append(what)
-    print("FAILED:", what)
 
 
 def table_of(options):
@@ -113,8 +104,7 @@ def answers(program):
             for at in range(len(words) + 1):
                 wanted = offers(words[:at], words[at] if at < len(words) else "", **modes)
                 said = run([program] + flags + ["--complete-words", "zsh", "backup", table_of(OPTIONS), str(at)] + words)
-                if said.returncode != 0 or said.stderr or said.stdout.decode() != "".join(line + "\n" for line in wanted):
-                    fail(f"{flags} {words} at {at}: {said}, and not {wanted}")
+                expect(f"{flags} {words} at {at}", said, 0, "".join(line + "\n" for line in wanted))
                 tried += 1
     for at in ("2", "x", "", "-1", "99999999999999999999"):
         said = run([program, "--complete-words", "bash", "backup", table_of(OPTIONS), at, "x"])
@@ -145,10 +135,6 @@ def quoted(program, room):
             fail(f"{shell}: a name and a table of any bytes: {said!r}, and not {wanted!r}; {done}")
         (room / "words").unlink(missing_ok=True)
     print("a name and a table of any bytes")
-
-
-def run(words, **more):
-    return subprocess.run(words, stdout=subprocess.PIPE, stderr=subprocess.PIPE, **more)
 
 
 class Terminal:
@@ -270,32 +256,23 @@ def listed(shell, terminal):
         fail(f"{shell}: an option that was given is shown: {shown!r}")
 
 
-def main():
-    program = str(Path(sys.argv[1] if len(sys.argv) > 1 else ROOT / "crates/getopts_shell/out/getopts_shell").resolve())
-    with tempfile.TemporaryDirectory() as room:
-        room = Path(room)
-        (room / "bin").mkdir()
-        (room / "bin/getopts_shell").symlink_to(program)
-        for name in LINES:
-            (room / "bin" / name).write_text('#!/bin/sh\nprintf "%s\\0" "$@" >>"$LOG"\nprintf "\\001" >>"$LOG"\n')
-            (room / "bin" / name).chmod(0o755)
-        answers(program)
-        quoted(program, room)
-        for shell in ("bash", "zsh", "fish"):
-            if not shutil.which(shell):
-                print(f"skipped: completion in {shell}: it isn't installed")
-                continue
-            place = room / shell
-            (place / "here").mkdir(parents=True)
-            (place / "bin").symlink_to(room / "bin")
-            for name in NAMES:
-                (place / "here" / name).write_text("")
-            in_terminal(shell, program, place)
-    if failed:
-        print(f"{len(failed)} failed")
-        sys.exit(1)
-    print("all passed")
+def test(program, room):
+    for name in LINES:
+        (room / "bin" / name).write_text('#!/bin/sh\nprintf "%s\\0" "$@" >>"$LOG"\nprintf "\\001" >>"$LOG"\n')
+        (room / "bin" / name).chmod(0o755)
+    answers(program)
+    quoted(program, room)
+    for shell in ("bash", "zsh", "fish"):
+        if not shutil.which(shell):
+            print(f"skipped: completion in {shell}: it isn't installed")
+            continue
+        place = room / shell
+        (place / "here").mkdir(parents=True)
+        (place / "bin").symlink_to(room / "bin")
+        for name in NAMES:
+            (place / "here" / name).write_text("")
+        in_terminal(shell, program, place)
 
 
 if __name__ == "__main__":
-    main()
+    main(test)

@@ -33,9 +33,8 @@ Options:
         --version       print the version
 """
 NEEDED = "getopts_shell: a name and a table of options are needed\n"
-HELP = """\
-Usage: backup -i FILE [-o FILE] [-v].. [-c [WHEN]] [-L DIR].. [-h]
-
+SHORT_HELP = "Usage: backup -i FILE [-o FILE] [-v].. [-c [WHEN]] [-L DIR].. [-h]\n"
+OPTIONS_HELP = """
 Options:
     -i, --input FILE    read this file
     -o, --output FILE   write to FILE
@@ -44,58 +43,8 @@ Options:
     -L DIR              add a folder
     -h, --help          print this help
 """
-BRIEF_HELP = """\
-Back files up.
-
-Options:
-    -i, --input FILE    read this file
-    -o, --output FILE   write to FILE
-    -v, --verbose       say more
-    -c, --color [WHEN]  colour the output
-    -L DIR              add a folder
-    -h, --help          print this help
-"""
-HELP_CODE = """\
-\\printf %s 'Usage: backup -i FILE [-o FILE] [-v].. [-c [WHEN]] [-L DIR].. [-h]
-
-Options:
-    -i, --input FILE    read this file
-    -o, --output FILE   write to FILE
-    -v, --verbose       say more
-    -c, --color [WHEN]  colour the output
-    -L DIR              add a folder
-    -h, --help          print this help
-'; \\exit
-"""
-VARIABLES = """\
-opt_input='it'\\''s'
-\\unset -v opt_output
-opt_verbose=2
-\\unset -v opt_color
-opt_L=''\\''a'\\'' '\\''b c'\\'''
-opt_help=0
-\\set -- 'x'
-"""
-ARRAYS = """\
-opt_input=''
-\\unset -v opt_output
-opt_verbose=0
-opt_color=''
-opt_L=(${opt_L+} 'a' 'b')
-opt_help=0
-""" + "\\set -- \n"
-MISSING = """\
-backup: Required option 'input' missing
-Usage: backup -i FILE [-o FILE] [-v].. [-c [WHEN]] [-L DIR].. [-h]
-"""
-TWICE = """\
-backup: Option 'output' given more than once
-Usage: backup -i FILE [-o FILE] [-v].. [-c [WHEN]] [-L DIR].. [-h]
-"""
-UNKNOWN = """\
-backup: Unrecognized option: 'nope'
-Usage: backup -i FILE [-o FILE] [-v].. [-c [WHEN]] [-L DIR].. [-h]
-"""
+HELP = SHORT_HELP + OPTIONS_HELP
+HELP_CODE = f"\\printf %s '{HELP}'; \\exit\n"
 QUOTED_HELP = """\
 \\printf %s 'Usage: it'\\''s [-h]
 
@@ -103,6 +52,9 @@ Options:
     -h, --help          print this script'\\''s help
 '; \\exit
 """
+MISSING = "backup: Required option 'input' missing\n" + SHORT_HELP
+TWICE = "backup: Option 'output' given more than once\n" + SHORT_HELP
+UNKNOWN = "backup: Unrecognized option: 'nope'\n" + SHORT_HELP
 
 # The program's own options, and how it is called.
 OWN = [
@@ -123,7 +75,7 @@ OWN = [
 # Words of a script.
 WORDS = [
     (["-u", "backup", TABLE], HELP, 0),
-    (["--usage", "--brief=Back files up.", "backup", TABLE, "--nope"], BRIEF_HELP, 0),
+    (["--usage", "--brief=Back files up.", "backup", TABLE, "--nope"], "Back files up.\n" + OPTIONS_HELP, 0),
     (["-c", "tcsh", "-u", "backup", TABLE], "getopts_shell: no completion for 'tcsh'\n", 5),
     (["--complete-words", "tcsh", "backup", TABLE, "0"], "getopts_shell: no completion for 'tcsh'\n", 5),
     (["--complete-words", "zsh", "backup", TABLE, "2", "x"], "getopts_shell: no word has the number '2'\n", 5),
@@ -144,17 +96,38 @@ WORDS = [
     (["-s", "backup", TABLE, "-iy", "x", "-v"], "\\set -- '--input=y' '--' 'x' '-v'\n", 0),
     (["-l", "backup", TABLE, "-input", "y", "-v"], "\\set -- '--input=y' '--verbose' '--'\n", 0),
     (["-w", "backup", TABLE, "-iy", "x"], "'--input=y' '--' 'x'\n", 0),
-    (["-V", "opt_", "backup", TABLE, "x", "-vvi", "it's", "-La", "-L", "b c"], VARIABLES, 0),
-    (["-AV", "opt_", "backup", TABLE, "-i", "", "-c", "-La", "-L", "b"], ARRAYS, 0),
-    (["-wV", "opt_", "x", "-v"], "getopts_shell: --words and --variables don't go together\n", 5),
-    (["-V", "opt_", "x", "--a-b\n--a_b"],
-     "getopts_shell: line 2 of the options: 'a_b' makes the variable of another option\n", 5),
     (["-w", "x", ""], "'--'\n", 0),
     (["x", "", "\n", "\\", "$HOME", "é"], "\\set -- '--' '\n' '\\' '$HOME' 'é'\n", 0),
     (["x", "[--help FILE]", "--help", "a"], "\\set -- '--help=a' '--'\n", 0),
     (["x", "[-h]", "-h"], "\\set -- '--h' '--'\n", 0),
     (["-sb", "Do it.", "x", "[--help]", "--help"],
      "\\printf %s 'Do it.\n\nOptions:\n    --help              \n'; \\exit\n", 0),
+]
+
+# Variables: the program's own words, the script's words, and the code, by TABLE.
+NONE = "\\unset -v opt_output\nopt_verbose=0\n\\unset -v opt_color\nopt_L=''\nopt_help=0\n"
+VARIABLES = [
+    (["-V", "opt_"], ["-i", "a b"], f"opt_input='a b'\n{NONE}\\set -- \n"),
+    (["--variables=opt_"], ["x", "-vvi", "", "--output=it's", "--color", "--", "-v", ""],
+     "opt_input=''\nopt_output='it'\\''s'\nopt_verbose=2\nopt_color=''\nopt_L=''\nopt_help=0\n\\set -- 'x' '-v' ''\n"),
+    (["-V", ""], ["-ix", "--color=auto", "-L", "a", "-Lb c"],
+     "input='x'\n\\unset -v output\nverbose=0\ncolor='auto'\nL=''\\''a'\\'' '\\''b c'\\'''\nhelp=0\n\\set -- \n"),
+    (["-AV", "_"], ["-ix", "-La", "-L", "b'\nc", "d"],
+     "_input='x'\n\\unset -v _output\n_verbose=0\n\\unset -v _color\n_L=(${_L+} 'a' 'b'\\''\nc')\n_help=0\n\\set -- 'd'\n"),
+    (["-A", "-V", "o"], ["-ix"],
+     "oinput='x'\n\\unset -v ooutput\noverbose=0\n\\unset -v ocolor\noL=(${oL+} )\nohelp=0\n\\set -- \n"),
+    (["-sV", "opt_"], ["-ia", "x", "-v"], f"opt_input='a'\n{NONE}\\set -- 'x' '-v'\n"),
+]
+# The program's own words, a table that has no such variables, and the fault.
+NO_VARIABLES = [
+    (["-V", "9"], "-v", "'9' makes no variable"),
+    (["-V", "a-b"], "-v", "'a-b' makes no variable"),
+    (["-V", "é"], "", "'é' makes no variable"),
+    (["-V", "opt_"], "\n-v\n# a\n\n--é", "line 5 of the options: 'é' makes no variable"),
+    (["-V", "opt_"], "--a.b", "line 1 of the options: 'a.b' makes no variable"),
+    (["-V", ""], "-v\n-1", "line 2 of the options: '1' makes no variable"),
+    (["-V", "opt_"], "--a-b\n\n[--a_b]", "line 3 of the options: 'a_b' makes the variable of another option"),
+    (["-wV", "opt_"], "-v", "--words and --variables don't go together"),
 ]
 
 # Tables: what their lines are.
@@ -210,5 +183,9 @@ REFUSED.append(("-" + OFTEN, 1, "-" + OFTEN, SHORT))
 def all_rows():
     """Every row, as words, text and status."""
     yield from OWN + WORDS + TABLES + LARGE
+    for own, words, text in VARIABLES:
+        yield own + ["try", TABLE] + words, text, 0
+    for own, table, why in NO_VARIABLES:
+        yield own + ["try", table, "-v"], f"getopts_shell: {why}\n", 5
     for table, number, item, why in REFUSED:
         yield ["x", table], f"getopts_shell: line {number} of the options: {item}: {why}\n", 5

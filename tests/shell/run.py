@@ -17,17 +17,11 @@ import random
 import re
 import shlex
 import shutil
-import subprocess
-import sys
-import tempfile
 from pathlib import Path
 
-sys.dont_write_bytecode = True
-sys.path.insert(0, str(Path(__file__).resolve().parent))
-from rows import TABLE, all_rows
+from common import ROOT, expect, fail, in_each_shell, main, run, shells, text_of
+from rows import all_rows
 
-ROOT = Path(__file__).resolve().parent.parent.parent
-SHELLS = ["dash", "bash", "bash --posix", "zsh", "ksh93", "mksh", "yash", "busybox sh"]
 LINES = 2000
 # Every option may come again, so that counts play no part.
 MANY = """
@@ -37,51 +31,13 @@ MANY = """
 [-c|--color [WHEN]]..
 [-L DIR]..
 """
-SPECIAL = list("'\"\\$`!~=*?[]{}()<>|&;#%^ \t\n\r-") + ["''", "\\'", "$(", "\n\n", "$HOME", "--", "\u00a0", "\u2028"]
-failed = []
-
-
-def fail(what):
-    failed.append(what)
-    print("FAILED:", what)
-
-
-def run(words, **more):
-    return subprocess.run(words, stdout=subprocess.PIPE, stderr=subprocess.PIPE, **more)
 
 
 def rows(program):
     """The program's answers, beside those of the rows."""
     for words, text, status in all_rows():
-        done = run([program, *words])
-        streams = (text.encode(), b"") if status == 0 else (b"", text.encode())
-        if (done.returncode, (done.stdout, done.stderr)) != (status, streams):
-            fail(f"{[word[:60] for word in words]}: {done.returncode}, {done.stdout[:200]}, {done.stderr[:200]}")
-
-
-def text_of(rng):
-    """A random word of up to ten characters or bytes, of every kind that a word may hold."""
-    chars = []
-    for _ in range(rng.choice([0, 1, 1, 2, 3, 5, 10])):
-        kind = rng.random()
-        if kind < 0.5:
-            chars.append(rng.choice(SPECIAL))
-        elif kind < 0.7:
-            chars.append(chr(rng.randrange(1, 128)))
-        elif kind < 0.9:
-            chars.append(rng.choice("abcxyz"))
-        elif kind < 0.94:
-            code = rng.randrange(0x80, 0x110000)
-            chars.append(chr(code if not 0xD800 <= code < 0xE000 else 0xE9))
-        elif kind < 0.96:
-            chars.append(chr(rng.randrange(0x80, 0xA0)))
-        elif kind < 0.98:
-            # the marks of bytes
-            chars.append(chr(rng.randrange(0x10FF80, 0x110000)))
-        else:
-            # a byte as it is
-            chars.append(os.fsdecode(bytes([rng.randrange(0x80, 0x100)])))
-    return "".join(chars)
+        streams = (text, "") if status == 0 else ("", text)
+        expect(f"{[word[:60] for word in words]}", run([program, *words]), status, *streams)
 
 
 def line_of(rng):
@@ -117,104 +73,66 @@ def line_of(rng):
     return words, options + ["--"] + free
 
 
-def is_text(word):
-    try:
-        word.encode()
-    except UnicodeEncodeError:
-        return False
-    return True
-
-
-def shells():
-    found = []
-    for shell in SHELLS:
-        words = shell.split()
-        if shutil.which(words[0]) and run(words + ["-c", "exit 7"]).returncode == 7:
-            found.append(words)
-    return found
-
-
 def random_lines(program, found, room):
     rng = random.Random(43)
-    wanted = []
+    cases = []
     for place in range(LINES):
         words, line = line_of(rng)
         done = run([program, "try", MANY] + words)
         if done.returncode != 0 or done.stderr:
             fail(f"random line {place}: status {done.returncode} for {words!r}: {done.stderr!r}")
         (room / f"code.{place}").write_bytes(done.stdout)
-        wanted.append(line)
-    script = room / "lines"
-    script.write_text(
-        "while read -r n; do\n    code=$(cat code.$n) || exit\n    eval \"$code\"\n"
-        "    printf '%s\\0' \"$#\" \"$@\"\ndone <\"$LIST\"\n"
-    )
-    for shell in found:
-        # yash takes no bytes that are no text of its locale.
-        taken = [place for place, line in enumerate(wanted) if shell != ["yash"] or is_text("".join(line))]
-        (room / "list").write_text("".join(f"{place}\n" for place in taken))
-        done = run(shell + [str(script)], cwd=room, env={**os.environ, "LIST": str(room / "list")})
-        told = done.stdout.split(b"\0")
-        place = 0
-        for number in taken:
-            line = [os.fsencode(word) for word in wanted[number]]
-            count = int(told[place] or b"-1") if place < len(told) else -1
-            words = told[place + 1 : place + 1 + max(count, 0)]
-            if words != line:
-                fail(f"{' '.join(shell)}: line {number}: {words!r}, not {line!r}; {done.stderr[:200]!r}")
-                break
-            place += 1 + count
-        else:
-            print(f"{' '.join(shell)}: the words of {len(taken)} random lines")
+        script = f"code=$(cat code.{place}) || exit\neval \"$code\"\nprintf '%s\\0' \"$#\" \"$@\""
+        cases.append((script, [str(len(line)), *line]))
+    in_each_shell("the words", found, room, cases, os.environ)
 
 
-def page_script():
-    """The page's script with a loop, and what shows what it read."""
+def page_scripts(room):
+    """The page's first script, and that with a loop, with what shows what it read."""
     page = (ROOT / "bindings/shell/README.md").read_text()
     first, loop = re.findall(r"```sh\n(.*?)```", page, re.S)[:2]
     code = first[: first.index("code=")] + loop
     show = "printf '%s\\n' \"$input|$output|$verbose|$color|$folders\"\nfor word do printf '%s\\n' \"$word\"; done\n"
-    return code + show
+    (room / "first").write_text(first)
+    (room / "loop").write_text(code + show)
 
 
+USAGE = "Usage: backup -i FILE [-o FILE] [-v].. [-c [WHEN]] [-L DIR].. [-h]\n"
 RUNS = [
-    (["-i", "a b"], 0, "a b||0||\n"),
-    (["x", "-vvi", "a", "--color", "--output=it's", "-L", "d", "-Le", "--", "-v", ""],
-     0, "a|it's|2|auto| d e\nx\n-v\n\n"),
-    (["--input=a", "--color=auto=x"], 0, "a||0|auto=x|\n"),
+    ("first", ["-vv", "x", "-i", "a b"], "from a b to standard output, 2 times\nfree: x\n"),
+    ("first", ["--input=", "--output", "it's", "--", "-v", ""], "from  to it's, 0 times\nfree: -v\nfree: \n"),
+    ("loop", ["-i", "a b"], "a b||0||\n"),
+    ("loop", ["x", "-vvi", "a", "--color", "--output=it's", "-L", "d", "-Le", "--", "-v", ""],
+     "a|it's|2|auto| d e\nx\n-v\n\n"),
+    ("loop", ["--input=a", "--color=auto=x"], "a||0|auto=x|\n"),
 ]
 
 
 def page(program, found, room):
     path = f"{Path(program).parent}:{os.environ['PATH']}"
-    # What the script reads doesn't come from variables that are there already.
-    others = {name: "1" for name in ("input", "output", "verbose", "color", "folders")}
-    env = {**os.environ, **others, "PATH": path}
-    script = room / "page"
-    script.write_text(page_script())
-    short = "Usage: backup -i FILE [-o FILE] [-v].. [-c [WHEN]] [-L DIR].. [-h]\n"
+    # What the scripts read doesn't come from variables that are there already.
+    others = ["input", "output", "verbose", "color", "folders"]
+    env = {**os.environ, **{f"{front}{name}": "1" for name in others + ["L", "help"] for front in ("", "opt_")}, "PATH": path}
+    page_scripts(room)
     for shell in found:
-        for words, status, out in RUNS:
-            done = run(shell + [str(script)] + words, env=env)
-            if (done.returncode, done.stdout.decode(), done.stderr) != (status, out, b""):
-                fail(f"{' '.join(shell)}: the page's script with {words!r}: {done}")
-        done = run(shell + [str(script), "-v"], env=env)
-        wanted = "backup: Required option 'input' missing\n" + short
-        if (done.returncode, done.stdout, done.stderr.decode()) != (2, b"", wanted):
-            fail(f"{' '.join(shell)}: the page's script without input: {done}")
-        done = run(shell + [str(script), "--help"], env=env)
-        if done.returncode != 0 or not done.stdout.decode().startswith(short + "\nOptions:\n    -i, --input FILE "):
-            fail(f"{' '.join(shell)}: the page's script, help: {done}")
+        what = f"{' '.join(shell)}: the page's script"
+        for script, words, out in RUNS:
+            expect(f"{what}, {script}, {words!r}", run(shell + [str(room / script)] + words, env=env), 0, out)
+        done = run(shell + [str(room / "loop"), "-v"], env=env)
+        expect(f"{what} without input", done, 2, "", "backup: Required option 'input' missing\n" + USAGE)
+        done = run(shell + [str(room / "loop"), "--help"], env=env)
+        if done.returncode != 0 or not done.stdout.decode().startswith(USAGE + "\nOptions:\n    -i, --input FILE "):
+            fail(f"{what}, help: {done}")
         examples(shell, path, room)
-        print(f"{' '.join(shell)}: the page's script and the examples")
+        print(f"{' '.join(shell)}: the page's scripts and the examples")
 
 
 def examples(shell, path, room):
     env = {**os.environ, "PATH": path}
     folder = ROOT / "bindings/shell/examples"
     done = run(shell + [str(folder / "backup"), "-vi", "a", "x"], env=env)
-    if done.stdout.decode() != "input: a\noutput: \nverbose: 1\ncolor: never\nfolders:\nfree: x\n":
-        fail(f"{' '.join(shell)}: the example backup: {done}")
+    shown = "input: a\noutput: \nverbose: 1\ncolor: never\nfolders:\nfree: x\n"
+    expect(f"{' '.join(shell)}: the example backup", done, 0, shown)
     done = run(shell + [str(folder / "backup"), "--completion", "fish"], env=env)
     if done.returncode != 0 or b"\ncomplete -c 'backup' -f -a " not in done.stdout:
         fail(f"{' '.join(shell)}: the completion of the example backup: {done}")
@@ -223,8 +141,7 @@ def examples(shell, path, room):
     for words in (["add", "-ta", "--tag=b", "it's", "two"], ["--", "add", "--", "-x"]):
         run(shell + [str(folder / "notes"), "--file", str(notes)] + words, env=env, cwd=room)
     done = run(shell + [str(folder / "notes"), "-f", str(notes), "list"], env=env)
-    if done.stdout.decode() != "[a] [b] it's\n[a] [b] two\n-x\n":
-        fail(f"{' '.join(shell)}: the example notes: {done}")
+    expect(f"{' '.join(shell)}: the example notes", done, 0, "[a] [b] it's\n[a] [b] two\n-x\n")
     for command in ("add", "list"):
         done = run(shell + [str(folder / "notes"), "-f", str(notes), command, "--help"], env=env)
         if done.returncode != 0 or not done.stdout.startswith(f"Usage: notes {command} ".encode()):
@@ -385,27 +302,15 @@ def changed_tables(program):
     print(f"{tables} tables with one byte changed, {refused} refused")
 
 
-def main():
-    program = str(Path(sys.argv[1] if len(sys.argv) > 1 else ROOT / "crates/getopts_shell/out/getopts_shell").resolve())
-    os.environ["LC_ALL"] = "C.UTF-8"
-    os.environ.pop("POSIXLY_CORRECT", None)
+def test(program, room):
     found = shells()
     print("shells:", ", ".join(" ".join(shell) for shell in found))
-    with tempfile.TemporaryDirectory() as room:
-        room = Path(room)
-        (room / "bin").mkdir()
-        (room / "bin/getopts_shell").symlink_to(program)
-        program = str(room / "bin/getopts_shell")
-        rows(program)
-        random_lines(program, found, room)
-        page(program, found, room)
-        beside_getopt(program)
-        changed_tables(program)
-    if failed:
-        print(f"{len(failed)} failed")
-        sys.exit(1)
-    print("all passed")
+    rows(program)
+    random_lines(program, found, room)
+    page(program, found, room)
+    beside_getopt(program)
+    changed_tables(program)
 
 
 if __name__ == "__main__":
-    main()
+    main(test)

@@ -116,5 +116,5 @@ installed() {
         [ -z "$(find stage 'a prefix' ! -type d)" ]
 }
 check "install.sh" installed
-! has man groff || check "the manual page" bash -c "[ -z \"\$(man --warnings -E UTF-8 -l '$here/getopts_shell.1' 2>&1 >/dev/null)\" ]"
+manual "$here/getopts_shell.1"
 finish

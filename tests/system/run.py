@@ -27,9 +27,6 @@ SHOW = HERE.parent.parent / "crates/getopts_show/out/getopts_show"
 BUILT = HERE.parent.parent / "crates/getopts_shell/out/getopts_shell"
 SHELL = HERE.parent.parent / "bindings/shell" / platform.machine() / "getopts_shell"
 
-# A call of the program for shell scripts, but for the script's words.
-STATIC = ["-w", "try", "[-v]..  say more\n[-o FILE]  write to FILE"]
-
 # The statuses: shown, refused, want of memory or words that are no text, and output that failed.
 SHOWN, REFUSED, NOTHING, NOT_WRITTEN = 0, 2, 3, 4
 # What the system's loader ends with where it can't begin the program; it says why on standard error.
@@ -39,9 +36,8 @@ MIB = 1 << 20
 LARGE = 100_000_000
 # The longest word that Linux hands to a program, and its end.
 LONGEST = 131_071
-
+LONG_WORDS = ["x" * 100_000] * 15
 FAULT = b"getopts_show: Unrecognized option: 'nope'\n"
-COUNTS = {"output": 0, "help": 0, "verbose": 0, "L": 0, "color": 0}
 
 passed = failed = runs = 0
 
@@ -56,31 +52,21 @@ def expect(what, why):
         passed += 1
 
 
-def shown(free=(), output=None, verbose=()):
-    """The text of words: the given free words, an output file at word 0, and the places of `-v`."""
-    lines = [f"output: 1 @0\noutput @0 = {output}\n" if output is not None else "output: 0\n", "help: 0\n"]
-    lines += [f"verbose: {len(verbose)}", *(f" @{place}" for place in verbose), "\nL: 0\ncolor: 0\n"]
-    lines += [f"free: {word}\n" for word in free]
-    lines += [f"line: --output={output}\n"] if output is not None else []
-    lines += ["line: --verbose\n"] * len(verbose) + ["line: --\n"]
-    lines += [f"line: {word}\n" for word in free]
-    return "".join(lines).encode()
-
-
-def limited(limits):
-    def before():
-        for which, most in limits.items():
-            resource.setrlimit(which, (most, most))
-    return before
-
-
-def run(words=(), limits=None, name=None, out=subprocess.PIPE, environment=None, program=SHOW, before=None, **how):
-    """Runs a program: its status (less than 0 for a signal), and what it wrote."""
+def run(words=(), program=SHOW, limits=None, closed=(), name=None, stdout=subprocess.PIPE, stderr=subprocess.PIPE,
+        environment=None, **how):
+    """Runs a program with some files closed and limits: its status (less than 0 for a signal), and what it wrote."""
     global runs
     runs += 1
-    done = subprocess.run([name or program, *words], executable=program, stdout=out, stderr=subprocess.PIPE,
-                          env={**os.environ, **(environment or {})}, preexec_fn=before or limited(limits or {}), **how)
-    return done.returncode, (done.stdout or b"") + (b"" if done.returncode == NOT_LOADED else done.stderr)
+
+    def before():
+        for which, most in (limits or {}).items():
+            resource.setrlimit(which, (most, most))
+        for file in closed:
+            os.close(file)
+
+    done = subprocess.run([name or program, *words], executable=program, preexec_fn=before, stdout=stdout, stderr=stderr,
+                          env={**os.environ, **(environment or {})}, **how)
+    return done.returncode, (done.stdout or b"") + (b"" if done.returncode == NOT_LOADED else done.stderr or b"")
 
 
 def described(text):
@@ -89,8 +75,8 @@ def described(text):
 
 def ends(what, ended, status, text):
     """The run ended with this status, and had written this text."""
-    told, wrote = ended
-    why = [] if told == status else [f"status {told}, and not {status}"]
+    ended_with, wrote = ended
+    why = [] if ended_with == status else [f"status {ended_with}, and not {status}"]
     why += [] if wrote == text else [f"wrote {described(wrote)}, and not {described(text)}"]
     expect(what, "; ".join(why))
 
@@ -104,8 +90,21 @@ def between(room):
     return {"LD_PRELOAD": str(room / "between.so")}
 
 
-# Words, the text that they have, and their status: lines of counts, values and free words, then the canonical line.
-HELP = """\
+def shown(given=(), free=()):
+    """What the program writes of options, each as its name, the place of its word and its value, and of free words."""
+    lines = []
+    for name in ("output", "help", "verbose", "L", "color"):
+        own = [(place, value) for each, place, value in given if each == name]
+        lines.append(" ".join([f"{name}: {len(own)}", *(f"@{place}" for place, _ in own)]))
+        lines += [f"{name} @{place} = {value}" for place, value in own if value is not None]
+    lines += [f"free: {word}" for word in free]
+    lines += [f"line: --{name}" + ("" if value is None else f"={value}") for name, _, value in given]
+    lines += ["line: --", *(f"line: {word}" for word in free)]
+    return "".join(f"{line}\n" for line in lines).encode()
+
+
+V_X = shown([("verbose", 0, None)], ["x"])
+HELP = b"""\
 Usage: getopts_show [options] FILE
 
 Options:
@@ -115,54 +114,38 @@ Options:
     -L DIR              add a folder
     -c, --color [WHEN]  colour the output
 """
-
-
-def counts(output="0", verbose="0", folder="0", color="0"):
-    """The lines of the options, each as it is given."""
-    return f"output: {output}\nhelp: 0\nverbose: {verbose}\nL: {folder}\ncolor: {color}\n"
-
-
-def lines(*texts):
-    return "".join(f"{text}\n" for text in texts)
-
-
+# Words, the options that they give, and the free words.
 ROWS = [
-    (["-h"], HELP, SHOWN),
-    (["-h", "x"], HELP, SHOWN),
-    (["-vo", "x", "--help", "--", "y"], HELP, SHOWN),
-    (["-h", "--nope"], "getopts_show: Unrecognized option: 'nope'\n", REFUSED),
-    (["-h", "-h"], "getopts_show: Option 'help' given more than once\n", REFUSED),
-    (["--output=x.txt", "--verbose", "in.txt"],
-     counts(output="1 @0\noutput @0 = x.txt", verbose="1 @1")
-     + lines("free: in.txt", "line: --output=x.txt", "line: --verbose", "line: --", "line: in.txt"), SHOWN),
+    (["--output=x.txt", "--verbose", "in.txt"], [("output", 0, "x.txt"), ("verbose", 1, None)], ["in.txt"]),
     (["-vvLd", "-c", "auto", "f"],
-     counts(verbose="2 @0 @0", folder="1 @0\nL @0 = d", color="1 @1\ncolor @1 = auto")
-     + lines("free: f", "line: --verbose", "line: --verbose", "line: --L=d", "line: --color=auto", "line: --",
-       "line: f"), SHOWN),
-    (["--color", "x"], counts(color="1 @0") + lines("free: x", "line: --color", "line: --", "line: x"), SHOWN),
-    (["-La", "b", "--L", "c", "-o", "", "--", "-v", ""],
-     counts(output="1 @4\noutput @4 = ", folder="2 @0 @2\nL @0 = a\nL @2 = c")
-     + lines("free: b", "free: -v", "free: ", "line: --L=a", "line: --L=c", "line: --output=", "line: --",
-       "line: b", "line: -v", "line: "), SHOWN),
-    (["-o", "x", "-v"],
-     counts(output="1 @0\noutput @0 = x", verbose="1 @2")
-     + lines("line: --output=x", "line: --verbose", "line: --"), SHOWN),
-    ([], counts() + lines("line: --"), SHOWN),
-    (["--nope"], "getopts_show: Unrecognized option: 'nope'\n", REFUSED),
-    (["-o"], "getopts_show: Argument to option 'o' missing\n", REFUSED),
-    (["--output=x", "--output", "y"], "getopts_show: Option 'output' given more than once\n", REFUSED),
-    (["-o", "x", "--output=y"], "getopts_show: Option 'output' given more than once\n", REFUSED),
-    (["--verbose=much"], "getopts_show: Option 'verbose' does not take an argument\n", REFUSED),
-    (["-vé"], "getopts_show: Unrecognized option: 'é'\n", REFUSED),
-    (["x", "--L"], "getopts_show: Argument to option 'L' missing\n", REFUSED),
+     [("verbose", 0, None), ("verbose", 0, None), ("L", 0, "d"), ("color", 1, "auto")], ["f"]),
+    (["--color", "x"], [("color", 0, None)], ["x"]),
+    (["-La", "b", "--L", "c", "-o", "", "--", "-v", ""], [("L", 0, "a"), ("L", 2, "c"), ("output", 4, "")], ["b", "-v", ""]),
+    (["-o", "x", "-v"], [("output", 0, "x"), ("verbose", 2, None)], []),
+    ([], [], []),
+    (["free"] * 200, [], ["free"] * 200),
+]
+# Words, and their fault.
+FAULTS = [
+    (["-h", "--nope"], "Unrecognized option: 'nope'"),
+    (["-h", "-h"], "Option 'help' given more than once"),
+    (["--nope"], "Unrecognized option: 'nope'"),
+    (["-o"], "Argument to option 'o' missing"),
+    (["--output=x", "--output", "y"], "Option 'output' given more than once"),
+    (["-o", "x", "--output=y"], "Option 'output' given more than once"),
+    (["--verbose=much"], "Option 'verbose' does not take an argument"),
+    (["-vé"], "Unrecognized option: 'é'"),
+    (["x", "--L"], "Argument to option 'L' missing"),
 ]
 
 
 def rows():
-    """Each row, and one of many words."""
-    many = counts() + "free: free\n" * 200 + "line: --\n" + "line: free\n" * 200
-    for words, text, status in [*ROWS, (["free"] * 200, many, SHOWN)]:
-        ends(f"words {words[:9]}", run(words), status, text.encode())
+    for words, given, free in ROWS:
+        ends(f"words {words[:9]}", run(words), SHOWN, shown(given, free))
+    for words in (["-h"], ["-h", "x"], ["-vo", "x", "--help", "--", "y"]):
+        ends(f"words {words}", run(words), SHOWN, HELP)
+    for words, fault in FAULTS:
+        ends(f"words {words}", run(words), REFUSED, f"getopts_show: {fault}\n".encode())
 
 
 def words_that_are_no_text():
@@ -171,7 +154,7 @@ def words_that_are_no_text():
                       [b"--nope", word], [word, b"--help"]):
             ends(f"words {words}", run(words), NOTHING, b"")
     ends("a name that is no text", run(["--nope"], name=b"\xff"), REFUSED, FAULT)
-    ends("a name that is no text, and a word", run(["-v"], name=b"\xc3"), SHOWN, shown(verbose=[0]))
+    ends("a name that is no text, and a word", run(["-v", "x"], name=b"\xc3"), SHOWN, V_X)
 
 
 def no_words(preload):
@@ -198,107 +181,107 @@ def called_with_none():
     return os.waitstatus_to_exitcode(os.waitpid(child, 0)[1]), wrote
 
 
-def closed(*files):
-    def before():
-        for file in files:
-            os.close(file)
-    return before
+# What the program for shell scripts is given, and what it answers.
+GIVEN = ["-w", "try", "[-v]..  say more\n[-o FILE]  write to FILE", "-vo", "it's"]
+CODE = rb"'--v' '--o=it'\''s' '--' 'x'" + b"\n"
 
 
 def outputs_that_take_nothing():
-    global runs
-    for words in (["-v", "x"], ["--help"], ["--nope"]):
-        runs += 3
-        done = subprocess.run([SHOW, *words], stdout=None, stderr=subprocess.PIPE, preexec_fn=closed(1))
-        ends(f"{words}: a closed output", (done.returncode, done.stderr), NOT_WRITTEN, b"")
-        done = subprocess.run([SHOW, *words], stdout=None, stderr=None, preexec_fn=closed(0, 1, 2))
-        ends(f"{words}: all files closed", (done.returncode, b""), NOT_WRITTEN, b"")
-        with open("/dev/null", "rb") as only_read:
-            done = subprocess.run([SHOW, *words], stdout=only_read, stderr=subprocess.PIPE)
-        ends(f"{words}: an output that is only read", (done.returncode, done.stderr), NOT_WRITTEN, b"")
-        with open("/dev/full", "wb") as full:
-            ends(f"{words}: a full output", run(words, out=full), NOT_WRITTEN, b"")
+    for program, words in ((SHOW, ["-v", "x"]), (SHOW, ["--help"]), (SHOW, ["--nope"]), (SHELL, [*GIVEN, "x"])):
+        what = f"{program.name} {words[-1]}:"
+        ends(f"{what} a closed output", run(words, program, closed=[1], stdout=None), NOT_WRITTEN, b"")
+        ends(f"{what} all files closed", run(words, program, closed=[0, 1, 2], stdout=None, stderr=None), NOT_WRITTEN, b"")
+        with open("/dev/null", "rb") as only_read, open("/dev/full", "wb") as full:
+            ends(f"{what} an output that is only read", run(words, program, stdout=only_read), NOT_WRITTEN, b"")
+            ends(f"{what} a full output", run(words, program, stdout=full), NOT_WRITTEN, b"")
         for restore in (True, False):
             reader, writer = os.pipe()
             os.close(reader)
-            what = f"{words}: a pipe whose reader is gone, with the signal {'' if restore else 'not '}restored"
-            ends(what, run(words, out=writer, restore_signals=restore), NOT_WRITTEN, b"")
+            ends(f"{what} a pipe whose reader is gone, with the signal {'' if restore else 'not '}restored",
+                 run(words, program, stdout=writer, restore_signals=restore), NOT_WRITTEN, b"")
             os.close(writer)
+    for what, words in (("a refusal", [*GIVEN, "--nope"]), ("a wrong table", ["try", "-ab"]), ("a wrong call", ["--nope"])):
+        ends(f"static, {what} to a closed error stream", run(words, SHELL, closed=[2], stderr=None), NOT_WRITTEN, b"")
+        with open("/dev/full", "wb") as full:
+            ends(f"static, {what} to a full error stream", run(words, SHELL, stderr=full), NOT_WRITTEN, b"")
 
 
 def texts_are_written_at_once():
     """Each write to such a pipe is a packet, which one read takes."""
-    table = [*STATIC, "-v", "x"]
-    for what, program, words in (("the program", SHOW, ["-v", "x"]), ("its help", SHOW, ["-h"]), ("static", SHELL, table),
-                                 ("static, help", SHELL, ["-h"])):
-        text = run(words, program=program)[1]
+    for program, words in ((SHOW, ["-v", "x"]), (SHOW, ["-h"]), (SHELL, [*GIVEN, "x"]), (SHELL, ["-h"])):
+        text = run(words, program)[1]
         reader, writer = os.pipe2(os.O_DIRECT)
-        run(words, program=program, out=writer)
+        run(words, program, stdout=writer)
         os.close(writer)
         with os.fdopen(reader, "rb", buffering=0) as packets:
             wrote = packets.read(MIB)
-            expect(f"{what}: written at once", "" if wrote == text and not packets.read(MIB) else described(wrote))
+            expect(f"{program.name}: written at once", "" if wrote == text and not packets.read(MIB) else described(wrote))
 
 
 def a_file_of_so_many_bytes(room):
-    """A limit on the length of files. The system sends a signal where it isn't ignored."""
-    text = shown(free=["x" * 200])
-    for most in (0, 1, 100, len(text) - 1, len(text)):
-        for ignored in (True, False):
-            signal.signal(signal.SIGXFSZ, signal.SIG_IGN if ignored else signal.SIG_DFL)
-            with open(room / "file", "wb") as file:
-                status, said = run(["x" * 200], {resource.RLIMIT_FSIZE: most}, out=file, restore_signals=False)
-            fits = most == len(text)
-            wanted = SHOWN if fits else NOT_WRITTEN if ignored else -signal.SIGXFSZ
-            # With the signal not ignored, what fits is written first, and the next write brings it.
-            ends(f"a file of at most {most} bytes, its signal {'' if ignored else 'not '}ignored",
-                 (status, said + (room / "file").read_bytes()), wanted, text[:most])
-    signal.signal(signal.SIGXFSZ, signal.SIG_DFL)
+    """A limit on the length of files. The system sends a signal where it isn't ignored, as Python ignores it."""
+    for program, words in ((SHOW, ["x" * 200]), (SHELL, [*GIVEN, "x" * 200])):
+        text = run(words, program)[1]
+        for most in (0, 1, 100, len(text) - 1, len(text)):
+            for ignored in (True, False):
+                with open(room / "file", "wb") as file:
+                    status, said = run(words, program, {resource.RLIMIT_FSIZE: most}, stdout=file, restore_signals=not ignored)
+                wanted = SHOWN if most == len(text) else NOT_WRITTEN if ignored else -signal.SIGXFSZ
+                # With the signal not ignored, what fits is written first, and the next write brings it.
+                ends(f"{program.name}: a file of at most {most} bytes, its signal {'' if ignored else 'not '}ignored",
+                     (status, said + (room / "file").read_bytes()), wanted, text[:most])
+
+
+def a_full_pipe():
+    reader, writer = os.pipe()
+    os.set_blocking(writer, False)
+    status, _ = run([*GIVEN, *LONG_WORDS], SHELL, stdout=writer)
+    os.close(writer)
+    with os.fdopen(reader, "rb") as some:
+        ends("static, a pipe that is full", (status, some.read()[:6]), NOT_WRITTEN, CODE[:6])
 
 
 def writes_that_take_little_or_fail(preload):
-    for program, words, status, text in ((SHOW, ["-v", "x"], SHOWN, shown(free=["x"], verbose=[0])),
-                                         (SHOW, ["--nope"], REFUSED, FAULT),
+    for program, words, status, text in ((SHOW, ["-v", "x"], SHOWN, V_X), (SHOW, ["--nope"], REFUSED, FAULT),
                                          (BUILT, ["x", "[-a]", "-a"], SHOWN, b"\\set -- '--a' '--'\n"),
                                          (BUILT, ["x", "[-a]", "-b"], REFUSED,
                                           b"x: Unrecognized option: 'b'\nUsage: x [-a]\n")):
-        def wrote(**faults):
-            return run(words, program=program, environment={**preload, **faults})
         for most in (1, 2, 3, 7, 4096):
-            ends(f"{words}: writes of {most} bytes", wrote(WRITE_MOST=str(most)), status, text)
-        for error in (0, errno.EIO, errno.ENOSPC, errno.EAGAIN, errno.EBADF, errno.EPIPE):
+            ends(f"{words}: writes of {most} bytes",
+                 run(words, program, environment={**preload, "WRITE_MOST": str(most)}), status, text)
+        for error in (0, errno.EIO, errno.ENOSPC, errno.EAGAIN, errno.EBADF, errno.EPIPE, errno.EINTR):
+            fails = {**preload, "WRITE_MOST": "1", "WRITE_ERROR": str(error)}
             why = ""
             for at in range(1, len(text) + 1):
-                ended = wrote(WRITE_MOST="1", WRITE_ERROR=str(error), WRITE_AT=str(at))
-                if ended != (NOT_WRITTEN, text[:at - 1]):
+                ended = run(words, program, environment={**fails, "WRITE_AT": str(at)})
+                # A write that was interrupted may be tried again.
+                if ended != (NOT_WRITTEN, text[:at - 1]) and not (error == errno.EINTR and ended == (status, text)):
                     why = why or f"write {at}: {ended}"
             expect(f"{words}: each write in turn fails with error {error}", why)
-        why = ""
-        for at in range(1, len(text) + 1):
-            ended = wrote(WRITE_MOST="1", WRITE_ERROR=str(errno.EINTR), WRITE_AT=str(at))
-            if ended not in ((status, text), (NOT_WRITTEN, text[:at - 1])):
-                why = why or f"write {at}: {ended}"
-        expect(f"{words}: each write in turn is interrupted", why)
 
 
 def large_words(preload):
     word = "x" * LONGEST
     ends("the longest word that the system hands on", run([word]), SHOWN, shown(free=[word]))
-    words = ["x" * 100_000] * 15
-    ends("many long words", run(words), SHOWN, shown(free=words))
+    ends("many long words", run(LONG_WORDS), SHOWN, shown(free=LONG_WORDS))
+    for what, free in (("words", ["x", ""]), ("the longest word", [word]), ("long words", LONG_WORDS),
+                       ("many words", ["f"] * 20_000), ("no words", [])):
+        status, wrote = run([*GIVEN, *free], SHELL)
+        read = shlex.split(wrote.decode())
+        expect(f"static, {what}", "" if (status, read) == (SHOWN, ["--v", "--o=it's", "--", *free]) else f"{status}: {read[:9]}")
     try:
         run(["x" * (LONGEST + 1)])
         expect("a longer word", "the system handed it on")
     except OSError as error:
         expect("a longer word", "" if error.errno == errno.E2BIG else str(error))
     letters = "x" * LARGE
-    for head, text in (("", lambda: shown(free=[letters])), ("--output=", lambda: shown(output=letters)),
-                       ("-o", lambda: shown(output=letters)),
+    for head, text in (("", lambda: shown(free=[letters])), ("--output=", lambda: shown([("output", 0, letters)])),
+                       ("-o", lambda: shown([("output", 0, letters)])),
                        ("--", lambda: b"getopts_show: Unrecognized option: '" + letters.encode() + b"'\n")):
         given = {**preload, "WORD_BYTES": str(LARGE), "WORD_HEAD": head}
         ends(f"a word of {head!r} and 100 MB", run(environment=given), REFUSED if head == "--" else SHOWN, text())
         with open("/dev/full", "wb") as full:
-            ends("the same to a full output", run(environment=given, out=full), NOT_WRITTEN, b"")
+            ends("the same to a full output", run(environment=given, stdout=full), NOT_WRITTEN, b"")
 
 
 def with_little(what, limits, status, text, **how):
@@ -319,69 +302,24 @@ def with_little(what, limits, status, text, **how):
 
 
 def little_memory(preload):
-    with_little("long words", range(MIB // 4, 20 * MIB, MIB // 4), SHOWN, shown(free=["x" * 100_000] * 15),
-                words=["x" * 100_000] * 15)
+    with_little("long words", range(MIB // 4, 20 * MIB, MIB // 4), SHOWN, shown(free=LONG_WORDS), words=LONG_WORDS)
     with_little("a fault", range(MIB // 8, 4 * MIB, MIB // 32), REFUSED, FAULT, words=["--nope"])
-    with_little("a word of 100 MB", range(200 * MIB, 900 * MIB, 50 * MIB), SHOWN, shown(output="x" * LARGE),
+    with_little("a word of 100 MB", range(200 * MIB, 900 * MIB, 50 * MIB), SHOWN, shown([("output", 0, "x" * LARGE)]),
                 environment={**preload, "WORD_BYTES": str(LARGE), "WORD_HEAD": "-o"})
+    with_little("static, words", range(MIB // 8, MIB, 4096), SHOWN, CODE, words=[*GIVEN, "x"], program=SHELL)
+    with_little("static, long words", range(MIB // 4, 20 * MIB, MIB // 4), SHOWN, run([*GIVEN, *LONG_WORDS], SHELL)[1],
+                words=[*GIVEN, *LONG_WORDS], program=SHELL)
 
 
 def little_stack():
     """Limits on the stack. What the words themselves take of it the system asks for before the program begins."""
-    for kib in (16, 24, 32, 48, 64, 96, 128, 256, 1024):
-        ended = run(["-v", "x"], {resource.RLIMIT_STACK: kib * 1024})
-        ends(f"a stack of {kib} KiB", ended, SHOWN, shown(free=["x"], verbose=[0]))
-    words = ["f"] * 20_000
-    for kib in (2048, 4096, 8192):
-        ended = run(words, {resource.RLIMIT_STACK: kib * 1024})
-        ends(f"20,000 words with a stack of {kib} KiB", ended, SHOWN, shown(free=words))
-
-
-def the_static_program(room):
-    """The program for shell scripts, whose words, memory and signals are those of bindings/shell/start.c."""
-    words_of = lambda free: [*STATIC, "-vo", "it's", *free]
-    letters = ["x" * 100_000] * 15
-    for what, free in (("words", ["x", ""]), ("the longest word", ["x" * (LONGEST)]), ("long words", letters),
-                       ("many words", ["f"] * 20_000), ("no words", [])):
-        told, wrote = run(words_of(free), program=SHELL)
-        read = shlex.split(wrote.decode())
-        expect(f"static, {what}", "" if (told, read) == (SHOWN, ["--v", "--o=it's", "--", *free]) else f"{told}: {read[:9]}")
-    words = words_of(["x" * 200])
-    text = run(words, program=SHELL)[1]
-    ends("static, a closed output", run(words, program=SHELL, out=None, before=closed(1)), NOT_WRITTEN, b"")
-    with open("/dev/null", "rb") as only_read:
-        ends("static, an output that is only read", run(words, program=SHELL, out=only_read), NOT_WRITTEN, b"")
-    with open("/dev/full", "wb") as full:
-        ends("static, a full output", run(words, program=SHELL, out=full), NOT_WRITTEN, b"")
-    for restore in (True, False):
-        reader, writer = os.pipe()
-        os.close(reader)
-        ends(f"static, a pipe whose reader is gone, {restore}",
-             run(words, program=SHELL, out=writer, restore_signals=restore), NOT_WRITTEN, b"")
-        os.close(writer)
-    refused = [*STATIC, "--nope"]
-    for what, call in (("a refusal", refused), ("a wrong table", ["try", "-ab"]), ("a wrong call", ["--nope"])):
-        done = subprocess.run([SHELL, *call], stdout=subprocess.PIPE, preexec_fn=closed(2))
-        ends(f"static, {what} to a closed error stream", (done.returncode, done.stdout), NOT_WRITTEN, b"")
-        with open("/dev/full", "wb") as full:
-            done = subprocess.run([SHELL, *call], stdout=subprocess.PIPE, stderr=full)
-        ends(f"static, {what} to a full error stream", (done.returncode, done.stdout), NOT_WRITTEN, b"")
-    for most in (0, 1, 100, len(text) - 1, len(text)):
-        with open(room / "static", "wb") as file:
-            told, _ = run(words, {resource.RLIMIT_FSIZE: most}, program=SHELL, out=file)
-        wanted = SHOWN if most == len(text) else -signal.SIGXFSZ
-        ends(f"static, a file of at most {most} bytes", (told, (room / "static").read_bytes()), wanted, text[:most])
-    reader, writer = os.pipe()
-    os.set_blocking(writer, False)
-    told, _ = run(words_of(letters), program=SHELL, out=writer)
-    os.close(writer)
-    with os.fdopen(reader, "rb") as some:
-        ends("static, a pipe that is full", (told, b"'--v' "), NOT_WRITTEN, some.read()[:6])
-    with_little("static, words", range(MIB // 8, MIB, 4096), SHOWN, text, words=words, program=SHELL)
-    with_little("static, long words", range(MIB // 4, 20 * MIB, MIB // 4), SHOWN, run(words_of(letters), program=SHELL)[1],
-                words=words_of(letters), program=SHELL)
-    for kib in (16, 32, 64, 256):
-        ends(f"static, a stack of {kib} KiB", run(words, {resource.RLIMIT_STACK: kib * 1024}, program=SHELL), SHOWN, text)
+    many = ["f"] * 20_000
+    for program, words, text, sizes in ((SHOW, ["-v", "x"], V_X, (16, 24, 32, 48, 64, 96, 128, 256, 1024)),
+                                        (SHELL, [*GIVEN, "x"], CODE, (16, 32, 64, 256)),
+                                        (SHOW, many, shown(free=many), (2048, 4096, 8192))):
+        for kib in sizes:
+            ends(f"{program.name}, {len(words)} words: a stack of {kib} KiB",
+                 run(words, program, {resource.RLIMIT_STACK: kib * 1024}), SHOWN, text)
 
 
 def counted(part, *given):
@@ -392,8 +330,7 @@ def counted(part, *given):
 
 
 def main():
-    global runs, passed, failed
-    if not os.access(SHOW, os.X_OK) or not os.access(BUILT, os.X_OK) or not shutil.which("rt"):
+    if not all(os.access(program, os.X_OK) for program in (SHOW, BUILT)) or not shutil.which("rt"):
         print(f"tests/system/run.py: {SHOW}, {BUILT} or rt is not there: run 'rt ci' first\n0 passed, 1 failed")
         sys.exit(1)
     with tempfile.TemporaryDirectory() as folder:
@@ -401,13 +338,12 @@ def main():
         preload = between(room)
         parts = [(rows,), (large_words, preload), (little_memory, preload), (writes_that_take_little_or_fail, preload),
                  (words_that_are_no_text,), (no_words, preload), (outputs_that_take_nothing,), (texts_are_written_at_once,),
-                 (a_file_of_so_many_bytes, room), (little_stack,), (the_static_program, room)]
+                 (a_file_of_so_many_bytes, room), (a_full_pipe,), (little_stack,)]
         with concurrent.futures.ProcessPoolExecutor(4) as apart:
-            for told in [apart.submit(counted, *part) for part in parts]:
-                ran, well, badly = told.result()
-                runs, passed, failed = runs + ran, passed + well, failed + badly
-    print(f"{runs} runs\n{passed} passed, {failed} failed")
-    sys.exit(failed > 0)
+            each = [done.result() for done in [apart.submit(counted, *part) for part in parts]]
+    ran, well, badly = (sum(part[at] for part in each) for at in range(3))
+    print(f"{ran} runs\n{well} passed, {badly} failed")
+    sys.exit(badly > 0)
 
 
 if __name__ == "__main__":

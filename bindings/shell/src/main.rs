@@ -13,12 +13,9 @@ mod getopts {
     pub fn names_resolve(_options: &Options) {}
 }
 
-// The layout of both is that of their source.
-#[allow(dead_code, unused_imports, unused_labels, unused_variables, clippy::all)]
-#[rustfmt::skip]
+#[allow(unused, clippy::all)]
 mod getopts_bytes;
-#[allow(dead_code, unused_imports, unused_labels, unused_variables, clippy::all)]
-#[rustfmt::skip]
+#[allow(unused, clippy::all)]
 mod program;
 
 fn main() -> std::process::ExitCode {

@@ -312,7 +312,11 @@ fn declared_answer(
 }
 
 /// Why there are no variables where they are asked for.
-fn asked_error<'t>(asked: &'t Asked, table: &'t str, rows: &[Row<'t>]) -> Option<VariableError<'t>> {
+fn asked_error<'t>(
+    asked: &'t Asked,
+    table: &'t str,
+    rows: &[Row<'t>],
+) -> Option<VariableError<'t>> {
     match &asked.variables {
         Some(prefix) => {
             if asked.words {
@@ -455,7 +459,11 @@ fn offer_answer(
 }
 
 /// What may come at a word whose number stands before the words.
-fn numbered_answer(alloc: Global, script: Script<'_>, words: &[&str]) -> Result<Outcome, AllocError> {
+fn numbered_answer(
+    alloc: Global,
+    script: Script<'_>,
+    words: &[&str],
+) -> Result<Outcome, AllocError> {
     match words {
         [number, words @ ..] => place_answer(alloc, script, number, words),
         [] => place_answer(alloc, script, "", &[]),

@@ -231,7 +231,11 @@ fn begins_with_dash(word: &str) -> bool {
 }
 
 /// The matches of words after which an option may come, if one may.
-fn goes_on(alloc: Global, options: &Options, before: &[&str]) -> Result<Option<Matches>, AllocError> {
+fn goes_on(
+    alloc: Global,
+    options: &Options,
+    before: &[&str],
+) -> Result<Option<Matches>, AllocError> {
     let words = with_stop(alloc, before)?;
     match options.parse_ignoring_counts(alloc, &words) {
         Ok(matches) => {

@@ -28,5 +28,10 @@ pub fn main(rt: HostRuntime) -> ExitCode {
 fn run(rt: &HostRuntime) -> Result<u8, AllocError> {
     let words = system_words(rt)?;
     let texts = texts_of(rt.alloc(), &words)?;
-    Ok(answer(rt.alloc(), &texts, &mut io::writer(rt), &mut rt.stderr()))
+    Ok(answer(
+        rt.alloc(),
+        &texts,
+        &mut io::writer(rt),
+        &mut rt.stderr(),
+    ))
 }

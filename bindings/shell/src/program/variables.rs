@@ -218,7 +218,10 @@ pub(crate) fn variable_error<'t>(
             return Some(VariableError::NoVariable(option_line(table, place), name));
         }
         if any_has_variable(&rows[..place], name) {
-            return Some(VariableError::VariableTwice(option_line(table, place), name));
+            return Some(VariableError::VariableTwice(
+                option_line(table, place),
+                name,
+            ));
         }
     }
     None
