@@ -25,7 +25,7 @@ use Rattle.getopts_bytes.specs.Marks.{bytes_of}
 use Rattle.getopts_shell.specs.Quote.{AreCommands, HoldNoNul, holds_nul, quoted, quoted_words, shell_words}
 use Rattle.getopts_shell.specs.Table.{DeclaresOptions, IsTableFault, TableFault, no_option, name_twice, reason_of}
 use Rattle.getopts_shell.specs.Variables.{SetsVariables, VariableFault, no_prefix, no_variable, prefix_fault}
-use Rattle.getopts_shell.specs.Variables.{texts_held, variable_twice, variables_code, with_words}
+use Rattle.getopts_shell.specs.Variables.{variable_twice, variables_code, with_words}
 
 -- ---- the program's own options
 
@@ -179,10 +179,10 @@ abbrev pub code_words : Asked → List Text → List Text
 code_words asked line = if asked.words then line else codes "set" ∷ codes "--" ∷ line
 
 -- What a canonical line tells: a shell makes of its code, line end and all, the words that it has to, where
--- none of its words holds a NUL byte; it is accepted in both styles and both modes with the content of the words, and says nothing else; and of
+-- the words hold no NUL byte; it is accepted in both styles and both modes with the content of the words, and says nothing else; and of
 -- its words the first that is `--` is the stop.
 pub record TellsWords (asked : Asked) (options : Declared) (words line : List Text) : Type 0 where
-  pub shell : HoldNoNul line → shell_words (line_code asked line) ≡ Some (code_words asked line)
+  pub shell : HoldNoNul words → shell_words (line_code asked line) ≡ Some (code_words asked line)
   pub written : IsWritten options words line
   pub reads_back : HasCanonicalLine options written.content
   pub stop_is_first : AllByRecursion (λ m. canonical_word options.groups m ≢ stop_word) written.content.mentions
@@ -242,7 +242,7 @@ pub data AnswersScript (asked : Asked) (name : Text) (options : Declared) (words
       → AnswersScript asked name options words (done (line_code asked line))
   variables : (prefix : Text) (matches : Matched) → ReadsWords asked → ¬ (AskHelp options words)
       → asked.variables ≡ Some prefix → IsAccepted options words matches
-      → (HoldNoNul (texts_held matches) → SetsVariables prefix asked.arrays matches)
+      → (HoldNoNul words → SetsVariables prefix asked.arrays matches)
       → AnswersScript asked name options words (done (variables_code prefix asked.arrays matches))
   refused : (fault : Fault) → ReadsWords asked → ¬ (AskHelp options words)
       → IsRefused options words fault → AnswersScript asked name options words
