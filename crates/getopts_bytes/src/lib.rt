@@ -38,9 +38,9 @@ pub fn plain_texts_stay()
     ensures { (text : List ℕ) → is_plain text ≡ true → StaysPlain text }
 {}
 
-/// An ASCII byte of a word stays in its place: the text is that of what stands before it, the byte, and the text of what
-/// stands after it. Where the text of a word is cut between characters, each part is the text of a part of the word. A
-/// law to cite, which does nothing.
+/// An ASCII byte of a word stays in its place: the text is that of what stands before it, the byte, and the text of
+/// what stands after it. Where the text of a word is cut between characters, each part is the text of a part of the
+/// word. A law to cite, which does nothing.
 pub fn words_are_cut_as_texts()
     ensures ascii { (front back : List ℕ) (byte : ℕ) → byte < 128
         → text_of (front ++ byte ∷ back) ≡ text_of front ++ byte ∷ text_of back }

@@ -29,7 +29,8 @@ use Rattle.getopts.specs.Reading.{word_count}
 use Rattle.getopts.specs.declared.groups.HasArg.{HasArg}
 use Rattle.getopts_c.specs.Answer.{Give, HaveFault, fault_name}
 use Rattle.getopts_c.specs.Request.{ArePlain, group_texts}
-use Rattle.getopts_c.proofs.WordLemmas.{IsOfWord, beside_ascii, joined_ascii, no_word, parts_of_word, past_asciis, plain_of_word}
+use Rattle.getopts_c.proofs.WordLemmas.{IsOfWord, beside_ascii, joined_ascii, no_word, parts_of_word, past_asciis}
+use Rattle.getopts_c.proofs.WordLemmas.{plain_of_word}
 
 abbrev AreOfWords : List Text → Type 0
 AreOfWords texts = AllByRecursion IsOfWord texts
@@ -313,7 +314,10 @@ module _ (options : Declared) (declared : MayBeDeclared options.groups)
       → AllByRecursion (λ (o : Occurrence). MaybeOfWord o.mention.value) occurrences → AreOfWords frees
       → AreOfWords (map (canonical_word options.groups) (map (λ (o : Occurrence). o.mention) occurrences)
       ++ (45 ∷ 45 ∷ []) ∷ frees)
-  canonical_parts [] frees values also = (joined_ascii [] 45 _ (omega arith) no_word (joined_ascii [] 45 [] (omega arith) no_word no_word), also)
+  canonical_parts [] frees values also = (
+    joined_ascii [] 45 _ (omega arith) no_word (joined_ascii [] 45 [] (omega arith) no_word no_word),
+    also,
+  )
   canonical_parts (o ∷ occurrences) frees values also = (
     canonical_of_word (main_at options.groups o.mention.group) o.mention.value
         (main_at_place options.groups (mains_of_words options.groups plain) o.mention.group) values.0,

@@ -17,7 +17,8 @@ use Rattle.getopts_c.specs.Answer.{TellsOneResult, all_names, fault_name, fault_
 use Rattle.getopts_c.specs.Answer.{name_given, no_line, one_fault, one_line, one_matches, one_refusal}
 use Rattle.getopts_c.specs.Answer.{refused, unaccepted, unwritable, written}
 use Rattle.getopts_c.specs.Request.{ArePlain, group_texts}
-use Rattle.getopts_c.proofs.GivenLemmas.{AreOfLine, MaybeOfWord, fault_of_words, given_parts, line_of_words, refused_name}
+use Rattle.getopts_c.proofs.GivenLemmas.{AreOfLine, MaybeOfWord, fault_of_words, given_parts, line_of_words}
+use Rattle.getopts_c.proofs.GivenLemmas.{refused_name}
 use Rattle.getopts_c.proofs.LawLemmas.{plain_texts, shorts_are}
 use Rattle.getopts_c.proofs.ReadBackLemmas.{fault_from, matches_back, texts_back}
 use Rattle.getopts_c.proofs.WordLemmas.{IsOfWord, texts_of_words, words_told}
@@ -112,7 +113,8 @@ matches_told : (options : Declared) (matches others : Matched) (line other : Lis
     → AreAlike (all_names options.groups) matches others → matches ≡ others
 matches_told options matches others line other is also parts other_parts alike =
     let groups : matches.groups ≡ others.groups = same_groups in
-    let frees : matches.free ≡ others.free = texts_told matches.free others.free parts.frees other_parts.frees alike.free in
+    let frees : matches.free ≡ others.free =
+    texts_told matches.free others.free parts.frees other_parts.frees alike.free in
     λ i. record { groups = groups i; free = frees i; trailing_start = alike.trailing_start i }
   where
     own : matches.groups
@@ -197,7 +199,9 @@ one_result options named plain line other are also =
     let others = texts_of_words other also in
     record {
       result = λ counts status numbers bytes is also.
-          answer_told options declared plain (map text_of line) (map text_of other) texts others counts is also refl refl refl;
+          answer_told options declared plain (map text_of line) (map text_of other) texts others counts is also
+          refl refl refl;
       canonical = λ status numbers bytes is also.
-          line_told options declared plain (map text_of line) (map text_of other) texts others is also refl refl refl;
+          line_told options declared plain (map text_of line) (map text_of other) texts others is also
+          refl refl refl;
     }

@@ -6,7 +6,8 @@ use Rattle.std.proofs.Math.Utf8.{encode, encodes, scalar, scalars}
 use Rattle.std.proofs.lemmas.Bool.{false≢true}
 use Rattle.std.proofs.lemmas.Bool.Decides.{nat_tests}
 use Rattle.std.proofs.lemmas.List.{length-append}
-use Rattle.std.proofs.lemmas.Str.{IsCharBoundary-before_ascii, IsUtf8-encode, IsUtf8-take, encode_ascii, encodes-chars, scalars-chars}
+use Rattle.std.proofs.lemmas.Str.{IsCharBoundary-before_ascii, IsUtf8-encode, IsUtf8-take, encode_ascii}
+use Rattle.std.proofs.lemmas.Str.{encodes-chars, scalars-chars}
 use Rattle.std.specs.List.{AllByRecursion}
 use Rattle.std.specs.Str.{IsUtf8, chars}
 use Rattle.getopts.proofs.Lists.{AllByRecursion-append, AllByRecursion-left, AllByRecursion-right}
@@ -74,7 +75,8 @@ pub beside_ascii : (front : Text) (byte : ℕ) (back : Text) → byte < 128 → 
 beside_ascii front byte back small is =
     let utf8 = word_utf8 (front ++ byte ∷ back) is in
     let first = parts_of_word front (byte ∷ back) is (utf8_before front byte back small utf8) in
-    let ascii : IsUtf8 (byte ∷ []) = subst IsUtf8 (encode_ascii byte small) (IsUtf8-encode byte (grind (arith, nat_tests))) in
+    let ascii : IsUtf8 (byte ∷ []) =
+    subst IsUtf8 (encode_ascii byte small) (IsUtf8-encode byte (grind (arith, nat_tests))) in
     (first.0, (parts_of_word (byte ∷ []) back first.1 ascii).1)
 
 -- and so is the text of two words with one between them

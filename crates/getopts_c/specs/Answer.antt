@@ -225,10 +225,10 @@ pub record AreAlike (names : List Text) (matches others : Matched) : Type 0 wher
 
 -- Two lines have one result: they give the same matches, or have the same fault.
 pub data HaveOneResult (counts : Bool) (options : Declared) (line other : List Text) : Type 0 where
-  one_matches : (matches : Matched) → Give counts options line matches → Give counts options other matches
-      → HaveOneResult counts options line other
-  one_fault : (fault : Fault) → HaveFault counts options line fault → HaveFault counts options other fault
-      → HaveOneResult counts options line other
+  one_matches : (matches : Matched) → Give counts options line matches
+      → Give counts options other matches → HaveOneResult counts options line other
+  one_fault : (fault : Fault) → HaveFault counts options line fault
+      → HaveFault counts options other fault → HaveOneResult counts options line other
 
 -- Two lines have one canonical line, or both have none, or they have the same fault.
 pub data HaveOneLine (options : Declared) (line other : List Text) : Type 0 where

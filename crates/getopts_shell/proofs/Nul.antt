@@ -1,5 +1,6 @@
 -- What words without NUL bytes give holds none.
-use Rattle.std.proofs.Common.{◌≡◌, ℕ, zero, suc, ◌+◌, Bool, true, false, cond, eqb, List, [], ◌∷◌, ◌++◌, Option, Some, None}
+use Rattle.std.proofs.Common.{◌≡◌, ℕ, zero, suc, ◌+◌, Bool, true, false, cond, eqb, List, [], ◌∷◌, ◌++◌}
+use Rattle.std.proofs.Common.{Option, Some, None}
 use Rattle.std.proofs.Common.{refl, sym, ap, subst, ◌∙◌, append_assoc, map}
 use Rattle.std.specs.Prelude.{⊤}
 use Rattle.std.specs.List.{AllByRecursion, filter, flat_map}
@@ -16,7 +17,8 @@ use Rattle.getopts.specs.Parse.{IsAccepted}
 use Rattle.getopts.specs.Reading.{Argument, none, attached, separate, flags, ends_in, Item, free, long, cluster}
 use Rattle.getopts.specs.Reading.{Tail, line_end, stop, rest, Reading, IsReading, Mention, Occurrence, at_position}
 use Rattle.getopts.specs.Reading.{attached_argument, argument_words, dash_text}
-use Rattle.getopts.specs.Reading.{free_items, free_words, item_words, mention_of, mentions, occurrences_after, spelled_all}
+use Rattle.getopts.specs.Reading.{free_items, free_words, item_words, mention_of, mentions, occurrences_after}
+use Rattle.getopts.specs.Reading.{spelled_all}
 use Rattle.getopts.specs.Reading.{tail_frees, tail_words, value_of, word_count}
 use Rattle.getopts_shell.specs.Held.{ArePlainlyNamed}
 use Rattle.getopts_shell.specs.Quote.{HoldNoNul, holds_nul}
@@ -63,8 +65,8 @@ item_none grammar (free word) words = tt
 item_none grammar (long dashes name argument) words =
     (long_none name argument (none_at_end (dash_text dashes) _ words.0) words.1, tt)
 item_none grammar (cluster bytes flags) words =
-    AllByRecursion-append (λ (m : Mention). HasNone m.value) (map (λ byte. mention_of grammar (byte ∷ []) None) bytes) []
-    (flags_none grammar bytes) tt
+    AllByRecursion-append (λ (m : Mention). HasNone m.value)
+    (map (λ byte. mention_of grammar (byte ∷ []) None) bytes) [] (flags_none grammar bytes) tt
 item_none grammar (cluster bytes (ends_in option argument)) words =
     AllByRecursion-append (λ (m : Mention). HasNone m.value) (map (λ byte. mention_of grammar (byte ∷ []) None) bytes)
     (mention_of grammar (option ∷ []) (value_of argument) ∷ []) (flags_none grammar bytes)

@@ -256,7 +256,8 @@ held_no_nul : (arrays : Bool) (occurrence : Occur) (founds : List Found) → Hol
     → ValueHoldsNoNul (held_value arrays Yes occurrence founds)
 held_no_nul arrays Multi founds none = by_test arrays
   where
-    by_test : (test : Bool) → ValueHoldsNoNul (Some (cond test (many (texts_found founds)) (one (quoted_words (texts_found founds)))))
+    by_test : (test : Bool)
+        → ValueHoldsNoNul (Some (cond test (many (texts_found founds)) (one (quoted_words (texts_found founds)))))
     by_test true = none
     by_test false = nul_words (texts_found founds) none
 held_no_nul arrays Req [] none = tt

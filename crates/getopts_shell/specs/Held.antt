@@ -62,7 +62,8 @@ HasOwnGroups groups = (occurrences : List Occurrence) × (groups ≡ matched 0 (
 
 -- no main name holds `=` or a NUL byte
 abbrev pub ArePlainlyNamed : List Group → Type 0
-ArePlainlyNamed groups = AllByRecursion (λ group. (holds_equals (main_name group.signature.names) ≡ false)
+ArePlainlyNamed groups = AllByRecursion
+    (λ group. (holds_equals (main_name group.signature.names) ≡ false)
     × (holds_nul (main_name group.signature.names) ≡ false)) groups
 
 -- the options with these groups too, the last ones

@@ -178,9 +178,9 @@ line_code asked line =
 abbrev pub code_words : Asked → List Text → List Text
 code_words asked line = if asked.words then line else codes "set" ∷ codes "--" ∷ line
 
--- What a canonical line tells: a shell makes of its code, line end and all, the words that it has to, where
--- the words hold no NUL byte; it is accepted in both styles and both modes with the content of the words, and says nothing else; and of
--- its words the first that is `--` is the stop.
+-- What a canonical line tells: where the words hold no NUL byte, a shell makes of its code, line end and all, the
+-- words that it has to; it is accepted in both styles and both modes with the content of the words, and says nothing
+-- else; and of its words the first that is `--` is the stop.
 pub record TellsWords (asked : Asked) (options : Declared) (words line : List Text) : Type 0 where
   pub shell : HoldNoNul words → shell_words (line_code asked line) ≡ Some (code_words asked line)
   pub written : IsWritten options words line

@@ -59,7 +59,8 @@ HoldNoNul words = AllByRecursion (λ word. holds_nul word ≡ false) words
 -- the words that a shell makes of a text, after this much of a word, where that is said; of a text with a NUL byte
 -- nothing is said
 abbrev pub words_after : Option Text → Text → Option (List Text)
-words_after word text = if holds_nul text then None else words_read (fold read_byte (outside [] word) text)
+words_after word text =
+    if holds_nul text then None else words_read (fold read_byte (outside [] word) text)
 
 -- the words that a shell makes of a text
 abbrev pub shell_words : Text → Option (List Text)
