@@ -260,9 +260,10 @@ const char *getopts_message(const struct getopts *options) {
     return options->reading.message;
 }
 
-/* What was given of the option that a name stands for; found is NULL where it stands for none. */
+/* What was given of the option that a name stands for; found is NULL where it stands for none, as NULL. */
 static struct given find(const struct getopts *options, const char *name) {
-    const size_t *places = options->reading.places, *lens = options->texts.numbers, len = strlen(name);
+    const size_t *places = options->reading.places, *lens = options->texts.numbers;
+    size_t len = name != NULL ? strlen(name) : 0;
     const uint8_t *text = options->texts.bytes;
     for (size_t group = 0; places != NULL && len > 0 && group < options->groups; group++, lens += 4)
         for (size_t nth = 0; nth < 4; text += lens[nth++]) {
@@ -322,7 +323,7 @@ static char *usage(const struct getopts *options, bool whole, const char *start)
     struct getopts_sizes sizes = { 0, 1024 };
     const uint8_t *from = (const uint8_t *)start;
     uint8_t *text = NULL;
-    uint32_t status = options->wrong[0] != '\0' ? GETOPTS_BAD : GETOPTS_TOO_SMALL;
+    uint32_t status = options->wrong[0] != '\0' || start == NULL ? GETOPTS_BAD : GETOPTS_TOO_SMALL;
     while (status == GETOPTS_TOO_SMALL) {
         free(text);
         text = malloc(sizes.bytes + 1);

@@ -15,8 +15,8 @@
  *
  * The calls keep no pointer to what they are given. Texts and words end with a zero byte. Words may hold any other
  * bytes, and come back as they are, in values, free words, canonical lines and messages. The texts of a table and the
- * briefs are UTF-8 below U+10FF80: the characters from there on stand for bytes. There is no global state. Two threads may call functions on one struct getopts at a time, unless
- * one of them reads or deletes it.
+ * briefs are UTF-8 below U+10FF80: the characters from there on stand for bytes. There is no global state. Two threads
+ * may call functions on one struct getopts at a time, unless one of them reads or deletes it.
  *
  * A statically linked program grows by 120 KB at most. */
 #ifndef GETOPTS_H
@@ -73,8 +73,9 @@ int getopts_read(struct getopts *options, int count, char *const *words);
  * was read and the table is right. The text is valid until the next reading. */
 const char *getopts_message(const struct getopts *options);
 
-/* The next calls take any name of an option, and nth counts from 0. If nothing was read, if no option has that name,
- * or if it was given less often, they return false, 0, -1 and NULL; getopts_long_value alone returns true then. */
+/* The next calls take any name of an option, and nth counts from 0. If nothing was read, if no option has that name
+ * (none is named NULL), or if it was given less often, they return false, 0, -1 and NULL; getopts_long_value alone
+ * returns true then. */
 
 /* Whether an option has this name. */
 bool getopts_defined(const struct getopts *options, const char *name);
@@ -103,7 +104,7 @@ char *const *getopts_free_words(const struct getopts *options);
 int getopts_trailing_start(const struct getopts *options);
 
 /* The help: the brief, and each option with its description. The caller frees it by free(). Returns NULL if out
- * of memory, if the table is wrong or if the brief isn't UTF-8 below U+10FF80. */
+ * of memory, if the table is wrong or if the brief is NULL or isn't UTF-8 below U+10FF80. */
 char *getopts_usage(const struct getopts *options, const char *brief);
 
 /* All options in one line, as getopts_usage. */

@@ -67,7 +67,7 @@ static void modes_are_checked(void) {
     getopts_delete(options);
 }
 
-/* A table that is NULL is a wrong table, and words are read only if none of them is NULL. */
+/* A table and a brief that are NULL are wrong, words are read only if none is NULL, and no option is named NULL. */
 static void null_is_bad(void) {
     static const struct getopts_option table[] = { { "v", NULL, NULL, NULL, GETOPTS_NO }, { NULL, NULL, NULL, NULL, 0 } };
     char *words[] = { "-v", NULL, "x", NULL }, **line, *usage;
@@ -81,6 +81,9 @@ static void null_is_bad(void) {
     expect(strcmp(getopts_message(options), "a word is NULL") == 0, "its message");
     expect(getopts_count(options, "v") == 1 && getopts_position(options, "v", 0) == 0, "what was read before");
     expect(getopts_canonical(options, 3, words, &line) == GETOPTS_BAD && line == NULL, "a line with a word that is NULL");
+    expect(!getopts_defined(options, NULL) && getopts_count(options, NULL) == 0, "a name that is NULL");
+    expect(getopts_position(options, NULL, 0) == -1 && getopts_value(options, NULL, 0) == NULL, "what it was given");
+    expect(getopts_usage(options, NULL) == NULL && getopts_short_usage(options, NULL) == NULL, "a brief that is NULL");
     expect(getopts_read(options, 1, NULL) == GETOPTS_BAD, "words that are NULL");
     expect(getopts_read(options, 0, NULL) == GETOPTS_OK && getopts_read(options, -1, NULL) == GETOPTS_OK, "no words");
     expect(strcmp(getopts_message(options), "") == 0 && getopts_count(options, "v") == 0, "nothing after no words");

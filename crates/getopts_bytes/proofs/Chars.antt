@@ -7,28 +7,44 @@ use Rattle.std.proofs.lemmas.Bool.Decides.{nat_tests}
 use Rattle.std.proofs.lemmas.Str.{IsUtf8-from_is_utf8, is_utf8-from_IsUtf8, chars-encodes, encodes-chars}
 use Rattle.std.proofs.lemmas.Str.{chars-IsAscii, IsUtf8-from_ascii}
 use Rattle.std.specs.Char.{IsScalar}
-use Rattle.std.specs.List.{flat_map, list_any}
+use Rattle.std.specs.List.{AllByRecursion, flat_map, list_any}
 use Rattle.std.specs.Str.{IsAscii, IsUtf8, chars, continuation_len, is_utf8}
 use Rattle.getopts_bytes.specs.Marks.{is_mark, is_plain, written, mark_of}
 
--- a character's first byte says how many bytes follow it
+-- each of these bytes is past ASCII
+abbrev pub ArePastAscii : List ℕ → Type 0
+ArePastAscii bytes = AllByRecursion (λ byte. 128 ≤ byte) bytes
+
+-- a character's first byte says how many bytes follow it, which are past ASCII
 pub lead_of : (c : ℕ) → (lead : ℕ) × (tail : List ℕ) × (encode c ≡ lead ∷ tail)
-    × (length tail ≡ continuation_len lead)
+    × (length tail ≡ continuation_len lead) × ArePastAscii tail
 unfolding encode
 lead_of c = by (ltb c 128) (ltb c 2048) (ltb c 65536) refl refl refl
   where
     by : (one two three : Bool) → ltb c 128 ≡ one → ltb c 2048 ≡ two → ltb c 65536 ≡ three
         → (lead : ℕ) × (tail : List ℕ) × (encode c ≡ lead ∷ tail) × (length tail ≡ continuation_len lead)
-    by true two three is _ _ = (c, [], simp is refl, simp is refl)
-    by false true three is also _ =
-        (192 + c / 64, (128 + c % 64) ∷ [], simp (is, also) refl, grind (arith, nat_tests))
-    by false false true is also too =
-        (224 + c / 4096, (128 + c / 64 % 64) ∷ (128 + c % 64) ∷ [], simp (is, also, too) refl, grind (arith, nat_tests))
+        × ArePastAscii tail
+    by true two three is _ _ = (c, [], simp is refl, simp is refl, tt)
+    by false true three is also _ = (
+      192 + c / 64,
+      (128 + c % 64) ∷ [],
+      simp (is, also) refl,
+      grind (arith, nat_tests),
+      (omega arith, tt),
+    )
+    by false false true is also too = (
+      224 + c / 4096,
+      (128 + c / 64 % 64) ∷ (128 + c % 64) ∷ [],
+      simp (is, also, too) refl,
+      grind (arith, nat_tests),
+      (omega arith, (omega arith, tt)),
+    )
     by false false false is also too = (
       240 + c / 262144,
       (128 + c / 4096 % 64) ∷ (128 + c / 64 % 64) ∷ (128 + c % 64) ∷ [],
       simp (is, also, too) refl,
       grind (arith, nat_tests),
+      (omega arith, (omega arith, (omega arith, tt))),
     )
 
 -- ---- marks

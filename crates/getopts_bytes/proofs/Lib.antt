@@ -2,3 +2,5 @@
 pub mod Chars
 -- the text of a word, and the bytes of a text
 pub mod Texts
+-- where the text of a word may be cut
+pub mod Cuts

@@ -25,13 +25,13 @@ text_past (suc n) [] = refl
 text_past (suc n) (byte ∷ bytes) = ap (λ (l : List ℕ). byte ∷ l) (text_past n bytes)
 
 -- a character that is no mark stays
-text_char : (byte : ℕ) (bytes : List ℕ) → begins_char byte bytes ≡ true
+pub text_char : (byte : ℕ) (bytes : List ℕ) → begins_char byte bytes ≡ true
     → text_of (byte ∷ bytes) ≡ take (suc (continuation_len byte)) (byte ∷ bytes)
     ++ text_of (drop (suc (continuation_len byte)) (byte ∷ bytes))
 text_char byte bytes is = simp is (ap (λ (l : List ℕ). byte ∷ l) (text_past (continuation_len byte) bytes))
 
 -- for another byte its mark stands
-text_mark : (byte : ℕ) (bytes : List ℕ) → begins_char byte bytes ≡ false
+pub text_mark : (byte : ℕ) (bytes : List ℕ) → begins_char byte bytes ≡ false
     → text_of (byte ∷ bytes) ≡ encode (mark_of byte) ++ text_of bytes
 text_mark byte bytes is = simp is refl
 
@@ -57,7 +57,7 @@ bytes_append text more utf8 =
     ap (flat_map written) (chars-append text more utf8) ∙ flat_map-append written (chars text) (chars more)
 
 -- ASCII begins a character
-begins_ascii : (byte : ℕ) (bytes : List ℕ) → byte < 128 → begins_char byte bytes ≡ true
+pub begins_ascii : (byte : ℕ) (bytes : List ℕ) → byte < 128 → begins_char byte bytes ≡ true
 begins_ascii byte bytes small =
     let none : continuation_len byte ≡ 0 = grind (arith, nat_tests) in
     subst (λ (n : ℕ). is_plain (take (suc n) (byte ∷ bytes)) ≡ true) (sym none)

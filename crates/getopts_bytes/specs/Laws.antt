@@ -1,5 +1,5 @@
 -- What holds of all words.
-use Rattle.std.specs.Prelude.{◌≡◌, ℕ, List}
+use Rattle.std.specs.Prelude.{◌≡◌, ◌++◌, ℕ, List}
 use Rattle.std.specs.Str.{IsUtf8}
 use Rattle.getopts_bytes.specs.Marks.{text_of, bytes_of}
 
@@ -12,3 +12,11 @@ pub record ComesBack (word : List ℕ) : Type 0 where
 pub record StaysPlain (text : List ℕ) : Type 0 where
   pub as_text : text_of text ≡ text
   pub as_bytes : bytes_of text ≡ text
+
+-- A word is cut as its text is cut, into this front and this back: each is the text of a part of the word.
+pub record AreCutAlike (word front back : List ℕ) : Type 0 where
+  pub first : List ℕ
+  pub second : List ℕ
+  pub word_is : word ≡ first ++ second
+  pub front_is : text_of first ≡ front
+  pub back_is : text_of second ≡ back

@@ -9,14 +9,14 @@
 //! take one column where a help text is laid out, as a byte does that a terminal can't show.
 #![tactic(auto)]
 
-ghost use Rattle.std.specs.Prelude.{◌≡◌, ◌<◌, ◌≤◌, ◌++◌, ℕ, suc, drop, length, true, List};
+ghost use Rattle.std.specs.Prelude.{◌≡◌, ◌<◌, ◌≤◌, ◌∷◌, ◌++◌, ℕ, suc, drop, length, true, List};
 ghost use Rattle.std.specs.Prelude.{IfOk, IfSome, OnOk, is_some};
 ghost use Rattle.std.specs.Char.{encode_utf8};
 ghost use Rattle.std.specs.List.{list_any};
 ghost use Rattle.std.specs.Str.{IsUtf8, chars, continuation_len};
 ghost use Rattle.std.specs.String.{string_bytes};
 ghost use Rattle.getopts_bytes.specs.Marks.{AreBytes, bytes_of, is_mark, is_plain, mark_of, text_of, written};
-ghost use Rattle.getopts_bytes.specs.Laws.{ComesBack, StaysPlain};
+ghost use Rattle.getopts_bytes.specs.Laws.{AreCutAlike, ComesBack, StaysPlain};
 
 #[cfg(test)]
 mod tests;
@@ -36,6 +36,16 @@ pub fn words_come_back()
 /// A text without marks is its own text, and its own bytes: a law to cite, which does nothing.
 pub fn plain_texts_stay()
     ensures { (text : List ℕ) → is_plain text ≡ true → StaysPlain text }
+{}
+
+/// An ASCII byte of a word stays in its place: the text is that of what stands before it, the byte, and the text of
+/// what stands after it. Where the text of a word is cut between characters, each part is the text of a part of the
+/// word. A law to cite, which does nothing.
+pub fn words_are_cut_as_texts()
+    ensures ascii { (front back : List ℕ) (byte : ℕ) → byte < 128
+        → text_of (front ++ byte ∷ back) ≡ text_of front ++ byte ∷ text_of back }
+    ensures cut { (word front back : List ℕ) → text_of word ≡ front ++ back → IsUtf8 front
+        → AreCutAlike word front back }
 {}
 
 /// Bytes as a text, where they are one that holds no mark.

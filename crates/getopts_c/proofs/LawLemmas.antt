@@ -131,7 +131,7 @@ plain_words (word ∷ words) are =
     ∙ ap (λ (ws : List Text). word ∷ ws) (plain_words words are.1)
 
 -- the short names among UTF-8 texts are UTF-8
-shorts_are : (groups : List Group) → AreTexts (flat_map group_texts groups)
+pub shorts_are : (groups : List Group) → AreTexts (flat_map group_texts groups)
     → AllByRecursion (λ group. IsUtf8 group.signature.names.short) groups
 shorts_are [] utf8 = tt
 shorts_are (group ∷ groups) utf8 = (utf8.0, shorts_are groups utf8.1.1.1.1)

@@ -168,7 +168,7 @@ matches_back names matches others numbers bytes =
     }
 
 -- the fault that a status and a name say
-abbrev fault_from : ℕ → Text → Fault
+abbrev pub fault_from : ℕ → Text → Fault
 fault_from status name =
     if status == 1 then argument_missing name
     else (if status == 2 then unrecognized_option name

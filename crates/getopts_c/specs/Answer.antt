@@ -222,3 +222,29 @@ pub record AreAlike (names : List Text) (matches others : Matched) : Type 0 wher
       ≡ map (λ group. map found_given group.found) others.groups
   pub free : map bytes_of matches.free ≡ map bytes_of others.free
   pub trailing_start : matches.trailing_start ≡ others.trailing_start
+
+-- Two lines have one result: they give the same matches, or have the same fault.
+pub data HaveOneResult (counts : Bool) (options : Declared) (line other : List Text) : Type 0 where
+  one_matches : (matches : Matched) → Give counts options line matches
+      → Give counts options other matches → HaveOneResult counts options line other
+  one_fault : (fault : Fault) → HaveFault counts options line fault
+      → HaveFault counts options other fault → HaveOneResult counts options line other
+
+-- Two lines have one canonical line, or both have none, or they have the same fault.
+pub data HaveOneLine (options : Declared) (line other : List Text) : Type 0 where
+  one_line : (canonical : List Text) → IsCanonicalLine options line canonical
+      → IsCanonicalLine options other canonical → HaveOneLine options line other
+  no_line : IsUnwritable options line → IsUnwritable options other → HaveOneLine options line other
+  one_refusal : (fault : Fault) → IsRefused options line fault → IsRefused options other fault
+      → HaveOneLine options line other
+
+-- What an answer tells of two lines of words: where both have it, both have one result, in the library's texts.
+pub record TellsOneResult (options : Declared) (line other : List (List ℕ)) : Type 0 where
+  pub result : (counts : Bool) (status : ℕ) (numbers : List ℕ) (bytes : Text)
+      → IsAnswer counts options (map text_of line) status numbers bytes
+      → IsAnswer counts options (map text_of other) status numbers bytes
+      → HaveOneResult counts options (map text_of line) (map text_of other)
+  pub canonical : (status : ℕ) (numbers : List ℕ) (bytes : Text)
+      → IsLineOf options (map text_of line) status numbers bytes
+      → IsLineOf options (map text_of other) status numbers bytes
+      → HaveOneLine options (map text_of line) (map text_of other)

@@ -5,18 +5,19 @@
 #![tactic(auto)]
 
 ghost use Rattle.std.specs.Prelude.{◌≡◌, ◌≢◌, ⊤, ℕ, Bool, false, true, List, [], take};
+ghost use Rattle.std.specs.List.{AllByRecursion, flat_map};
 ghost use Rattle.getopts.specs.Only.{AtMostOne};
 ghost use Rattle.getopts.specs.Fail.{Fault};
 ghost use Rattle.getopts.specs.Matches.{Matched};
 ghost use Rattle.getopts.specs.Names.{Text};
-ghost use Rattle.getopts.specs.Options.{Declared, MayBeDeclared};
-ghost use Rattle.getopts_bytes.specs.Marks.{is_plain};
-ghost use Rattle.getopts_c.specs.Request.{IsCut, IsRequest, SayOptions, SayWords, concatenated};
+ghost use Rattle.getopts.specs.Options.{AreLawfullyNamed, Declared, MayBeDeclared};
+ghost use Rattle.getopts_bytes.specs.Marks.{AreBytes, is_plain};
+ghost use Rattle.getopts_c.specs.Request.{ArePlain, IsCut, IsRequest, SayOptions, SayWords, concatenated, group_texts};
 ghost use Rattle.getopts_c.specs.Answer.{IsAnswered, IsCanonicalOf, IsRowsOf};
 ghost use Rattle.getopts_c.specs.Answer.{IsShortUsageOf, IsUsageOf, AreAlike};
 ghost use Rattle.getopts_c.specs.Reply.{IsReply, IsFine, IsFineText, rooms, byte_rooms};
 ghost use Rattle.getopts_c.specs.Answer.{fault_given, fault_status, matches_bytes, matches_numbers, name_given};
-ghost use Rattle.getopts_c.specs.Answer.{text_numbers, with_counts, without_counts};
+ghost use Rattle.getopts_c.specs.Answer.{TellsOneResult, text_numbers, with_counts, without_counts};
 
 mod answer;
 mod request;
@@ -249,7 +250,9 @@ pub fn requests_say_one_thing()
 /// Numbers and bytes tell one thing at most: a law to cite, which does nothing.
 ///
 /// By the same names they tell the same places, occurrences, free words and trailing start, with values and
-/// words as the bytes that were given. A status and a name tell one fault. Texts are those of their numbers and bytes, and have numbers always.
+/// words as the bytes that were given. A status and a name tell one fault. Texts are those of their numbers and
+/// bytes, and have numbers always. So two lines of words that have one answer, by one set of options, have the
+/// same matches, fault or canonical line in the library's texts too.
 pub fn answers_say_one_thing()
     ensures matches { (names : List Text) (matches others : Matched)
         → matches_numbers names matches ≡ matches_numbers names others
@@ -260,4 +263,7 @@ pub fn answers_say_one_thing()
     ensures texts { (words others : List Text) → text_numbers words ≡ text_numbers others
         → concatenated words ≡ concatenated others → words ≡ others }
     ensures counted { (words : List Text) → text_numbers words ≢ [] }
+    ensures results { (options : Declared) → AreLawfullyNamed options.groups
+        → ArePlain (flat_map group_texts options.groups) → (line other : List (List ℕ))
+        → AllByRecursion AreBytes line → AllByRecursion AreBytes other → TellsOneResult options line other }
 {}

@@ -1,5 +1,6 @@
 mod Quoting
 mod QuotedBytes
+mod Nul
 mod Items
 mod Lines
 mod Only

@@ -1,4 +1,4 @@
--- No name of a table holds `=`.
+-- No name of a table holds `=` or a NUL byte.
 use Rattle.std.proofs.Common.{◌≡◌, ℕ, Bool, true, false, cond, eqb, List, [], ◌∷◌, Option, Some, None}
 use Rattle.std.proofs.Common.{refl, sym, subst, arith}
 use Rattle.std.specs.Prelude.{not}
@@ -7,39 +7,42 @@ use Rattle.getopts.specs.Names.{Text, Names, is_empty, main_name}
 use Rattle.getopts.specs.Options.{Group}
 use Rattle.getopts.specs.Reading.{begins_with_dash, holds_equals}
 use Rattle.getopts_shell.specs.Held.{ArePlainlyNamed}
+use Rattle.getopts_shell.specs.Quote.{holds_nul}
 use Rattle.getopts_shell.specs.Table.{is_long_byte, is_long_name, is_name, is_name_byte, Declares, DeclareOptions}
 use Rattle.std.proofs.lemmas.Bool.{and_parts, or_from}
 use Rattle.std.proofs.lemmas.Bool.Decides.{nat_tests}
 
--- a byte of a name isn't `=`
-plain_byte : (byte : ℕ) → is_name_byte byte ≡ true → eqb byte 61 ≡ false
-plain_byte byte is = grind (arith, nat_tests)
+-- a text that holds neither
+abbrev IsPlain : Text → Type 0
+IsPlain text = (holds_equals text ≡ false) × (holds_nul text ≡ false)
 
-plain_long_byte : (byte : ℕ) → is_long_byte byte ≡ true → eqb byte 61 ≡ false
-plain_long_byte byte is = grind (arith, nat_tests)
+-- no byte of a name is one
+plain_byte : (byte : ℕ) → is_name_byte byte ≡ true → (eqb byte 61 ≡ false) × (eqb byte 0 ≡ false)
+plain_byte byte is = (grind (arith, nat_tests), grind (arith, nat_tests))
 
-plain_long_bytes : (text : Text) → list_all is_long_byte text ≡ true → holds_equals text ≡ false
-plain_long_bytes [] is = refl
-plain_long_bytes (byte ∷ text) is =
-    let each = and_parts (is_long_byte byte) (list_all is_long_byte text) is in
-    or_from (eqb byte 61) (holds_equals text) (plain_long_byte byte each.0) (plain_long_bytes text each.1)
+plain_long_byte : (byte : ℕ) → is_long_byte byte ≡ true → (eqb byte 61 ≡ false) × (eqb byte 0 ≡ false)
+plain_long_byte byte is = (grind (arith, nat_tests), grind (arith, nat_tests))
 
-plain_bytes : (text : Text) → list_all is_name_byte text ≡ true → holds_equals text ≡ false
-plain_bytes [] is = refl
-plain_bytes (byte ∷ text) is =
-    let each = and_parts (is_name_byte byte) (list_all is_name_byte text) is in
-    or_from (eqb byte 61) (holds_equals text) (plain_byte byte each.0) (plain_bytes text each.1)
-
-plain_name : (text : Text) → is_name text ≡ true → holds_equals text ≡ false
-plain_name text is = plain_bytes text (and_parts (not (begins_with_dash text)) (list_all is_name_byte text) is).1
+plain_bytes : (may_be : ℕ → Bool)
+    → ((byte : ℕ) → may_be byte ≡ true → (eqb byte 61 ≡ false) × (eqb byte 0 ≡ false))
+    → (text : Text) → list_all may_be text ≡ true → IsPlain text
+plain_bytes may_be each_plain [] is = (refl, refl)
+plain_bytes may_be each_plain (byte ∷ text) is =
+    let each = and_parts (may_be byte) (list_all may_be text) is in
+    let first = each_plain byte each.0 in
+    let rest = plain_bytes may_be each_plain text each.1 in (
+      or_from (eqb byte 61) (holds_equals text) first.0 rest.0,
+      or_from (eqb byte 0) (holds_nul text) first.1 rest.1,
+    )
 
 plain_main : (names : Names) → is_name names.short ≡ true → is_long_name names.long ≡ true
-    → holds_equals (main_name names) ≡ false
+    → IsPlain (main_name names)
 plain_main names short long = by_test (is_empty names.long)
   where
-    by_test : (test : Bool) → holds_equals (cond test names.short names.long) ≡ false
-    by_test true = plain_name names.short short
-    by_test false = plain_long_bytes names.long
+    by_test : (test : Bool) → IsPlain (cond test names.short names.long)
+    by_test true = plain_bytes is_name_byte plain_byte names.short
+        (and_parts (not (begins_with_dash names.short)) (list_all is_name_byte names.short) short).1
+    by_test false = plain_bytes is_long_byte plain_long_byte names.long
         (and_parts (not (begins_with_dash names.long)) (list_all is_long_byte names.long) long).1
 
 plain_each : (lines : List Text) (each : List (Option Group)) → AllZip Declares lines each

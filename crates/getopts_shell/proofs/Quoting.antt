@@ -5,13 +5,15 @@ use Rattle.std.specs.List.{flat_map, fold, slice_split, onto_first}
 use Rattle.std.specs.Prelude.{codes, nat_lt, Option}
 use Rattle.std.proofs.lemmas.Bool.Decides.{nat_tests}
 use Rattle.getopts.specs.Wrap.{parting}
-use Rattle.std.proofs.lemmas.Bool.{eqb-true}
+use Rattle.std.proofs.lemmas.Bool.{eqb-true, or_from, or_parts}
 use Rattle.std.proofs.lemmas.List.Concat.{flat_map-append}
+use Rattle.std.proofs.lemmas.List.Folds.{list_any-append}
 use Rattle.std.proofs.lemmas.List.Splits.{length-slice_split}
 use Rattle.getopts.specs.Names.{Text}
 use Rattle.getopts_shell.specs.Program.{Asked, code_words, help_code, line_code}
 use Rattle.getopts_shell.specs.Quote.{AreCommands, done, outside, quoting, read_byte, words_read}
 use Rattle.getopts_shell.specs.Quote.{shell_words, quoted_byte, quoted, spaced, quoted_words}
+use Rattle.getopts_shell.specs.Quote.{HoldNoNul, holds_nul, words_after}
 
 -- a byte of a word in quotes is read as that byte
 read_quoted_byte : (words : List Text) (word : Text) (byte : ℕ) (more : Text)
@@ -75,42 +77,104 @@ read_words before (word ∷ words) end ends =
     ∙ ap words_read (read_quoted before word (flat_map spaced words ++ end))
     ∙ read_spaced before word words end ends
 
--- a shell makes of words in quotes the same words
-pub words_same : (words : List Text) → shell_words (quoted_words words) ≡ Some words
-words_same words = ap shell_words (sym (append-nil (quoted_words words)))
+-- words in quotes are read as the same words
+read_alone : (words : List Text)
+    → words_read (fold read_byte (outside [] None) (quoted_words words)) ≡ Some words
+read_alone words =
+    ap (λ (text : Text). words_read (fold read_byte (outside [] None) text)) (sym (append-nil (quoted_words words)))
     ∙ read_words [] words [] (λ words word. refl)
-
--- and of the code for a line the words that it has to
-pub code_same : (asked : Asked) (line : List Text) → shell_words (line_code asked line) ≡ Some (code_words asked line)
-code_same asked line = by_test asked.words
-  where
-    ends : Ends (10 ∷ [])
-    ends words word = ap Some (append-nil (done words word))
-
-    by_test : (alone : Bool)
-        → shell_words ((cond alone [] (codes "\\set -- ")) ++ (quoted_words line ++ codes "\n"))
-        ≡ Some (cond alone line (codes "set" ∷ codes "--" ∷ line))
-    by_test true = read_words [] line (10 ∷ []) ends
-    by_test false = read_words (codes "set" ∷ codes "--" ∷ []) line (10 ∷ []) ends
-
--- a shell reads the code of a help as printing it, and the end
-pub help_same : (help : Text)
-    → AreCommands (help_code help) (codes "printf" ∷ codes "%s" ∷ help ∷ []) (codes "exit" ∷ [])
-help_same help = record {
-  first = codes "\\printf %s " ++ quoted help;
-  second = codes "\\exit\n";
-  text_is = refl;
-  words_are = ap (λ (text : Text). words_read (fold read_byte (outside (codes "printf" ∷ codes "%s" ∷ []) None) text))
-      (sym (append-nil (quoted help)))
-      ∙ ap words_read (read_quoted (codes "printf" ∷ codes "%s" ∷ []) help []);
-  others_are = refl;
-}
 
 -- words that are written alike are the same
 pub words_only : (words others : List Text) → quoted_words words ≡ quoted_words others → words ≡ others
 words_only words others alike =
-    let same : Some words ≡ Some others = sym (words_same words) ∙ ap shell_words alike ∙ words_same others in
+    let same : Some words ≡ Some others = sym (read_alone words)
+    ∙ ap (λ (text : Text). words_read (fold read_byte (outside [] None) text)) alike ∙ read_alone others in
     cc
+
+-- ---- no NUL byte
+
+-- two texts hold none where neither does
+pub nul_append : (text more : Text) → holds_nul text ≡ false → holds_nul more ≡ false
+    → holds_nul (text ++ more) ≡ false
+nul_append text more none also =
+    list_any-append (λ byte. eqb byte 0) text more ∙ or_from (holds_nul text) (holds_nul more) none also
+
+-- a word in quotes holds none where the word does
+nul_quoted_bytes : (word : Text) → holds_nul word ≡ false → holds_nul (flat_map quoted_byte word) ≡ false
+nul_quoted_bytes [] none = refl
+nul_quoted_bytes (byte ∷ word) none =
+    let parts = or_parts (eqb byte 0) (holds_nul word) none in
+    nul_append (quoted_byte byte) (flat_map quoted_byte word) (by_test (eqb byte 39) refl parts.0)
+    (nul_quoted_bytes word parts.1)
+  where
+    by_test : (test : Bool) → eqb byte 39 ≡ test → eqb byte 0 ≡ false → holds_nul (quoted_byte byte) ≡ false
+    by_test true is none = rw is refl
+    by_test false is none = rw (is, none) refl
+
+pub nul_quoted : (word : Text) → holds_nul word ≡ false → holds_nul (quoted word) ≡ false
+nul_quoted word none = nul_append (flat_map quoted_byte word) (39 ∷ []) (nul_quoted_bytes word none) refl
+
+nul_spaced : (words : List Text) → HoldNoNul words → holds_nul (flat_map spaced words) ≡ false
+nul_spaced [] none = refl
+nul_spaced (word ∷ words) none =
+    nul_append (spaced word) (flat_map spaced words) (nul_quoted word none.0) (nul_spaced words none.1)
+
+pub nul_words : (words : List Text) → HoldNoNul words → holds_nul (quoted_words words) ≡ false
+nul_words [] none = refl
+nul_words (word ∷ words) none =
+    nul_append (quoted word) (flat_map spaced words) (nul_quoted word none.0) (nul_spaced words none.1)
+
+-- what a shell makes of a text that holds none is said
+said : (word : Option Text) (text : Text) → holds_nul text ≡ false
+    → words_after word text ≡ words_read (fold read_byte (outside [] word) text)
+said word text none = rw none refl
+
+-- ---- what a shell makes of it
+
+-- a shell makes of words in quotes the same words
+pub words_same : (words : List Text) → HoldNoNul words → shell_words (quoted_words words) ≡ Some words
+words_same words none = said None (quoted_words words) (nul_words words none) ∙ read_alone words
+
+-- and of one word in quotes, where a word stands that has begun, that word
+pub word_same : (word : Text) → holds_nul word ≡ false → words_after (Some []) (quoted word) ≡ Some (word ∷ [])
+word_same word none =
+    said (Some []) (quoted word) (nul_quoted word none)
+    ∙ ap (λ (text : Text). words_read (fold read_byte (outside [] (Some [])) text)) (sym (append-nil (quoted word)))
+    ∙ ap words_read (read_quoted [] word [])
+
+-- and of the code for a line the words that it has to
+pub code_same : (asked : Asked) (line : List Text) → HoldNoNul line
+    → shell_words (line_code asked line) ≡ Some (code_words asked line)
+code_same asked line none = by_test asked.words
+  where
+    ends : Ends (10 ∷ [])
+    ends words word = ap Some (append-nil (done words word))
+
+    ended : holds_nul (quoted_words line ++ codes "\n") ≡ false
+    ended = nul_append (quoted_words line) (codes "\n") (nul_words line none) refl
+
+    by_test : (alone : Bool)
+        → shell_words ((cond alone [] (codes "\\set -- ")) ++ (quoted_words line ++ codes "\n"))
+        ≡ Some (cond alone line (codes "set" ∷ codes "--" ∷ line))
+    by_test true =
+        said None (quoted_words line ++ codes "\n") ended ∙ read_words [] line (10 ∷ []) ends
+    by_test false =
+        said None (codes "\\set -- " ++ (quoted_words line ++ codes "\n")) ended
+        ∙ read_words (codes "set" ∷ codes "--" ∷ []) line (10 ∷ []) ends
+
+-- a shell reads the code of a help as printing it, and the end
+pub help_same : (help : Text) → holds_nul help ≡ false
+    → AreCommands (help_code help) (codes "printf" ∷ codes "%s" ∷ help ∷ []) (codes "exit" ∷ [])
+help_same help none = record {
+  first = codes "\\printf %s " ++ quoted help;
+  second = codes "\\exit\n";
+  text_is = refl;
+  words_are = said None (codes "\\printf %s " ++ quoted help) (nul_quoted help none)
+      ∙ ap (λ (text : Text). words_read (fold read_byte (outside (codes "printf" ∷ codes "%s" ∷ []) None) text))
+      (sym (append-nil (quoted help)))
+      ∙ ap words_read (read_quoted (codes "printf" ∷ codes "%s" ∷ []) help []);
+  others_are = refl;
+}
 
 -- ---- the parts of a word that its quotes part
 

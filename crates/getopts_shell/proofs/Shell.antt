@@ -2,7 +2,7 @@
 use Rattle.std.proofs.Common.{◌≡◌, ◌≢◌, ℕ, Bool, true, false, cond, eqb, List, [], ◌∷◌, ◌++◌, Option, Some, None}
 use Rattle.std.proofs.Common.{refl, sym, ap, subst, ◌∙◌, suc, zero, length, append_assoc, append-nil}
 use Rattle.std.proofs.Common.{arith, ◌+◌, ◌-◌, ◌/◌, ◌%◌, drop, take}
-use Rattle.std.specs.Prelude.{not, ◌&&◌, decimal, fold}
+use Rattle.std.specs.Prelude.{not, ⊤, ◌&&◌, decimal}
 use Rattle.std.specs.Char.{is_ascii_digit}
 use Rattle.std.specs.Fmt.{digits, digits_onto, digit_glyph}
 use Rattle.std.specs.List.{AllByRecursion, flat_map, list_all, list_any}
@@ -21,15 +21,16 @@ use Rattle.getopts.specs.Reading.{holds_equals}
 use Rattle.getopts.specs.declared.groups.HasArg.{HasArg}
 use Rattle.getopts.specs.declared.groups.HasArg.TheVariants.{Yes, No, Maybe}
 use Rattle.getopts.specs.declared.groups.Occur.{Occur}
-use Rattle.getopts_shell.specs.Quote.{outside, quoted, quoted_byte, quoted_words, read_byte, shell_words, spaced, words_read}
+use Rattle.getopts.specs.declared.groups.Occur.TheVariants.{Req, Optional, Multi}
+use Rattle.getopts_shell.specs.Quote.{HoldNoNul, holds_nul, quoted, quoted_byte, quoted_words, shell_words, spaced}
 use Rattle.getopts_shell.specs.Variables.{plain, in_quotes, commands, Value, one, many, Shell, with_variable}
 use Rattle.getopts_shell.specs.Variables.{is_variable_byte, begins_variable, is_variable, only_word}
 use Rattle.getopts_shell.specs.Variables.{array_code, value_of_code, after_assignment, after_builtin, after_command}
 use Rattle.getopts_shell.specs.Variables.{after_commands, shell_after, variable_of, held_value, group_variable}
 use Rattle.getopts_shell.specs.Variables.{group_value, setting, option_setting, variable_line}
 use Rattle.getopts_shell.specs.Variables.{HaveOwnVariables}
-use Rattle.getopts_shell.specs.Variables.{SetsVariables, texts_found}
-use Rattle.getopts_shell.proofs.Quoting.{words_same}
+use Rattle.getopts_shell.specs.Variables.{SetsVariables, texts_found, texts_held}
+use Rattle.getopts_shell.proofs.Quoting.{nul_words, word_same, words_same}
 
 -- ---- the commands of a text
 
@@ -197,11 +198,9 @@ value_of_digits : (name code : Text) → list_all is_ascii_digit code ≡ true
 value_of_digits name code are =
     rw (unbracketed_digits code (36 ∷ 123 ∷ (name ++ 43 ∷ 125 ∷ 32 ∷ (array_code name code ++ 41 ∷ []))) are, are) refl
 
-value_of_quoted : (name text : Text) → value_of_code name (quoted text) ≡ Some (one text)
-value_of_quoted name text =
-    ap (λ (words : Option (List Text)). option_map one (only_word words))
-    (ap (λ (code : Text). words_read (fold read_byte (outside [] (Some [])) code)) (sym (append-nil (quoted text)))
-    ∙ words_same (text ∷ []))
+value_of_quoted : (name text : Text) → holds_nul text ≡ false → value_of_code name (quoted text) ≡ Some (one text)
+value_of_quoted name text none =
+    ap (λ (words : Option (List Text)). option_map one (only_word words)) (word_same text none)
 
 same_text : (text : Text) → bytes_eq text text ≡ true
 same_text text = (bytes_eq-Decides text text).1 refl
@@ -218,12 +217,12 @@ inside_of name inside =
       length-append name (43 ∷ 125 ∷ 32 ∷ (inside ++ 41 ∷ [])),
     ))
 
-value_of_words : (name : Text) (words : List Text)
+value_of_words : (name : Text) (words : List Text) → HoldNoNul words
     → value_of_code name (40 ∷ 36 ∷ 123 ∷ (name ++ 43 ∷ 125 ∷ 32 ∷ (quoted_words words ++ 41 ∷ [])))
     ≡ Some (many words)
-value_of_words name words =
+value_of_words name words none =
     let code : Text = 40 ∷ 36 ∷ 123 ∷ (name ++ 43 ∷ 125 ∷ 32 ∷ (quoted_words words ++ 41 ∷ [])) in
-    rw (inside_of name (quoted_words words), same_text code) (ap (option_map many) (words_same words))
+    rw (inside_of name (quoted_words words), same_text code) (ap (option_map many) (words_same words none))
 
 -- ---- what a shell does with a command
 
@@ -240,31 +239,51 @@ after_unset : (shell : Shell) (name : Text) → is_variable name ≡ true
     → after_command shell (setting name None) ≡ Some (with_variable shell name None)
 after_unset shell name is = rw is refl
 
-after_set : (shell : Shell) (words : List Text)
+after_set : (shell : Shell) (words : List Text) → HoldNoNul words
     → after_command shell (92 ∷ 115 ∷ 101 ∷ 116 ∷ 32 ∷ 45 ∷ 45 ∷ 32 ∷ quoted_words words)
     ≡ Some (record shell { words = words })
-after_set shell words =
-    ap (option_map (λ (words : List Text). record shell { words = words })) (words_same words)
+after_set shell words none =
+    ap (option_map (λ (words : List Text). record shell { words = words })) (words_same words none)
+
+-- no NUL byte is in a value
+abbrev ValueHoldsNoNul : Option Value → Type 0
+ValueHoldsNoNul None = ⊤
+ValueHoldsNoNul (Some (one text)) = holds_nul text ≡ false
+ValueHoldsNoNul (Some (many words)) = HoldNoNul words
+
+-- nor in that of an option that takes an argument, where none is in those of its occurrences
+held_no_nul : (arrays : Bool) (occurrence : Occur) (founds : List Found) → HoldNoNul (texts_found founds)
+    → ValueHoldsNoNul (held_value arrays Yes occurrence founds)
+held_no_nul arrays Multi founds none = by_test arrays
+  where
+    by_test : (test : Bool)
+        → ValueHoldsNoNul (Some (cond test (many (texts_found founds)) (one (quoted_words (texts_found founds)))))
+    by_test true = none
+    by_test false = nul_words (texts_found founds) none
+held_no_nul arrays Req [] none = tt
+held_no_nul arrays Req (found ∷ founds) none = none.0
+held_no_nul arrays Optional [] none = tt
+held_no_nul arrays Optional (found ∷ founds) none = none.0
 
 after_setting : (shell : Shell) (name : Text) (value : Option Value) → is_variable name ≡ true
-    → after_command shell (setting name value) ≡ Some (with_variable shell name value)
-after_setting shell name None is = after_unset shell name is
-after_setting shell name (Some (one text)) is =
-    after_equals shell name (quoted text) (one text) is (value_of_quoted name text)
-after_setting shell name (Some (many words)) is =
-    after_equals shell name _ (many words) is (value_of_words name words)
+    → ValueHoldsNoNul value → after_command shell (setting name value) ≡ Some (with_variable shell name value)
+after_setting shell name None is none = after_unset shell name is
+after_setting shell name (Some (one text)) is none =
+    after_equals shell name (quoted text) (one text) is (value_of_quoted name text none)
+after_setting shell name (Some (many words)) is none =
+    after_equals shell name _ (many words) is (value_of_words name words none)
 
 after_option : (shell : Shell) (arrays : Bool) (name : Text) (kind : HasArg) (occurrence : Occur) (founds : List Found)
-    → is_variable name ≡ true
+    → is_variable name ≡ true → HoldNoNul (texts_found founds)
     → after_command shell (option_setting arrays name kind occurrence founds)
     ≡ Some (with_variable shell name (held_value arrays kind occurrence founds))
-after_option shell arrays name No occurrence founds is =
+after_option shell arrays name No occurrence founds is none =
     after_equals shell name (decimal (length founds)) (one (decimal (length founds))) is
     (value_of_digits name (decimal (length founds)) (decimal_digits (length founds)))
-after_option shell arrays name Yes occurrence founds is =
-    after_setting shell name (held_value arrays Yes occurrence founds) is
-after_option shell arrays name Maybe occurrence founds is =
-    after_setting shell name (held_value arrays Maybe occurrence founds) is
+after_option shell arrays name Yes occurrence founds is none =
+    after_setting shell name (held_value arrays Yes occurrence founds) is (held_no_nul arrays occurrence founds none)
+after_option shell arrays name Maybe occurrence founds is none =
+    after_setting shell name (held_value arrays Maybe occurrence founds) is (held_no_nul arrays occurrence founds none)
 
 -- ---- each command ends where its line does
 
@@ -301,6 +320,26 @@ front_option arrays name Maybe occurrence founds is =
 
 -- ---- all options
 
+-- no value of these groups holds a NUL byte
+abbrev AreSayable : List MatchedGroup → Type 0
+AreSayable groups = AllByRecursion (λ group. HoldNoNul (texts_found group.found)) groups
+
+-- nor does one of matches, where none of the texts that they hold does
+sayable : (groups : List MatchedGroup) (free : List Text)
+    → HoldNoNul (flat_map (λ group. texts_found group.found) groups ++ free) → AreSayable groups × HoldNoNul free
+sayable [] free none = (tt, none)
+sayable (group ∷ groups) free none =
+    let parts = each_part (texts_found group.found)
+    (flat_map (λ group. texts_found group.found) groups ++ free)
+    (subst HoldNoNul (append_assoc (texts_found group.found) (flat_map (λ group. texts_found group.found) groups) free)
+    none) in
+    let rest = sayable groups free parts.1 in
+    ((parts.0, rest.0), rest.1)
+  where
+    each_part : (front back : List Text) → HoldNoNul (front ++ back) → HoldNoNul front × HoldNoNul back
+    each_part [] back none = (tt, none)
+    each_part (word ∷ front) back none = let rest = each_part front back none.1 in ((none.0, rest.0), rest.1)
+
 -- what a shell holds after the lines for groups
 abbrev after_groups : Text → Bool → Shell → List MatchedGroup → Shell
 after_groups prefix arrays shell [] = shell
@@ -308,10 +347,10 @@ after_groups prefix arrays shell (group ∷ groups) =
     after_groups prefix arrays (with_variable shell (group_variable prefix group) (group_value arrays group)) groups
 
 after_group : (prefix : Text) (arrays : Bool) (shell : Shell) (group : MatchedGroup) (more : Text)
-    → is_variable (group_variable prefix group) ≡ true
+    → is_variable (group_variable prefix group) ≡ true → HoldNoNul (texts_found group.found)
     → shell_after shell (variable_line prefix arrays group ++ more)
     ≡ shell_after (with_variable shell (group_variable prefix group) (group_value arrays group)) more
-after_group prefix arrays shell group more is =
+after_group prefix arrays shell group more is none =
     let name = group_variable prefix group in
     let bytes = (and_parts (begins_variable name) (list_all is_variable_byte name) is).1 in
     let command = option_setting arrays name group.signature.kind group.signature.occurrence group.found in
@@ -319,19 +358,19 @@ after_group prefix arrays shell group more is =
     ∙ after_line shell (with_variable shell name (group_value arrays group)) command more
     (front_option arrays name group.signature.kind group.signature.occurrence group.found
     (front_plain name (plain_name name bytes)))
-    (after_option shell arrays name group.signature.kind group.signature.occurrence group.found is)
+    (after_option shell arrays name group.signature.kind group.signature.occurrence group.found is none)
 
 after_lines : (prefix : Text) (arrays : Bool) (before : List Names) (shell : Shell) (groups : List MatchedGroup)
-    (more : Text) → HaveOwnVariables prefix before (held_names groups)
+    (more : Text) → HaveOwnVariables prefix before (held_names groups) → AreSayable groups
     → shell_after shell (flat_map (variable_line prefix arrays) groups ++ more)
     ≡ shell_after (after_groups prefix arrays shell groups) more
-after_lines prefix arrays before shell [] more own = refl
-after_lines prefix arrays before shell (group ∷ groups) more own =
+after_lines prefix arrays before shell [] more own none = refl
+after_lines prefix arrays before shell (group ∷ groups) more own none =
     ap (shell_after shell)
     (append_assoc (variable_line prefix arrays group) (flat_map (variable_line prefix arrays) groups) more)
-    ∙ after_group prefix arrays shell group (flat_map (variable_line prefix arrays) groups ++ more) own.0
+    ∙ after_group prefix arrays shell group (flat_map (variable_line prefix arrays) groups ++ more) own.0 none.0
     ∙ after_lines prefix arrays (before ++ group.signature.names ∷ [])
-    (with_variable shell (group_variable prefix group) (group_value arrays group)) groups more own.2
+    (with_variable shell (group_variable prefix group) (group_value arrays group)) groups more own.2 none.1
 
 -- a variable that none of the groups has is as it was
 others_kept : (prefix : Text) (arrays : Bool) (shell : Shell) (name : Text) (groups : List MatchedGroup)
@@ -381,16 +420,17 @@ options_held prefix arrays before shell (group ∷ groups) own =
     )
 
 -- the values that a text of words gives
-once_more : (groups : List MatchedGroup)
+once_more : (groups : List MatchedGroup) → AreSayable groups
     → AllByRecursion (λ group. shell_words (quoted_words (texts_found group.found)) ≡ Some (texts_found group.found))
     groups
-once_more [] = tt
-once_more (group ∷ groups) = (words_same (texts_found group.found), once_more groups)
+once_more [] none = tt
+once_more (group ∷ groups) none = (words_same (texts_found group.found) none.0, once_more groups none.1)
 
 -- the shell holds what the matches do
 pub code_sets : (prefix : Text) (arrays : Bool) (matches : Matched)
-    → HaveOwnVariables prefix [] (held_names matches.groups) → SetsVariables prefix arrays matches
-code_sets prefix arrays matches own = record {
+    → HaveOwnVariables prefix [] (held_names matches.groups) → HoldNoNul (texts_held matches)
+    → SetsVariables prefix arrays matches
+code_sets prefix arrays matches own none = record {
   own = own;
   shell = λ before.
       let held = after_groups prefix arrays before matches.groups in
@@ -398,14 +438,15 @@ code_sets prefix arrays matches own = record {
       let after : Shell = record held { words = matches.free } in (
         after,
         after_lines prefix arrays [] before matches.groups (set ++ (quoted_words matches.free ++ 10 ∷ [])) own
+            (sayable matches.groups matches.free none).0
             ∙ after_line held after (set ++ quoted_words matches.free) []
             (front_append set (quoted_words matches.free) front_set (front_words matches.free))
-            (after_set held matches.free),
+            (after_set held matches.free (sayable matches.groups matches.free none).1),
         record {
           options = options_held prefix arrays [] before matches.groups own;
           others = λ name apart. others_kept prefix arrays before name matches.groups apart;
           words = refl;
         },
       );
-  once_more = once_more matches.groups;
+  once_more = once_more matches.groups (sayable matches.groups matches.free none).0;
 }

@@ -8,6 +8,7 @@ use Rattle.getopts.specs.Names.{main_name}
 use Rattle.getopts.specs.Options.{Declared, Group, Signature, group_of, signatures_of, with_group}
 use Rattle.getopts.specs.Reading.{Occurrence, holds_equals}
 use Rattle.getopts_shell.specs.Program.{Answer, Asked, own_groups}
+use Rattle.getopts_shell.specs.Quote.{holds_nul}
 use Rattle.getopts_shell.specs.Variables.{VariableFault, no_prefix, no_variable, variable_twice, with_words}
 use Rattle.getopts_shell.specs.Table.{TableFault, no_option, name_twice}
 use Rattle.getopts_shell.specs.declared.answer.Asked.{Asked as AskedHeld}
@@ -59,9 +60,11 @@ asked_of asked = record {
 abbrev pub HasOwnGroups : List MatchedGroup → Type 0
 HasOwnGroups groups = (occurrences : List Occurrence) × (groups ≡ matched 0 (signatures_of own_groups) occurrences)
 
--- no main name holds `=`
+-- no main name holds `=` or a NUL byte
 abbrev pub ArePlainlyNamed : List Group → Type 0
-ArePlainlyNamed groups = AllByRecursion (λ group. holds_equals (main_name group.signature.names) ≡ false) groups
+ArePlainlyNamed groups = AllByRecursion
+    (λ group. (holds_equals (main_name group.signature.names) ≡ false)
+    × (holds_nul (main_name group.signature.names) ≡ false)) groups
 
 -- the options with these groups too, the last ones
 abbrev pub with_groups : Declared → List Group → Declared

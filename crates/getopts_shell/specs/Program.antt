@@ -22,7 +22,7 @@ use Rattle.getopts.specs.declared.groups.Occur.TheVariants.{Optional}
 use Rattle.getopts.specs.declared.groups.ParsingStyle.TheVariants.{FloatingFrees, StopAtFirstFree}
 use Rattle.getopts_shell.specs.Completion.{IsOffer, WritesNumber, stub, word_at}
 use Rattle.getopts_bytes.specs.Marks.{bytes_of}
-use Rattle.getopts_shell.specs.Quote.{AreCommands, quoted, quoted_words, shell_words}
+use Rattle.getopts_shell.specs.Quote.{AreCommands, HoldNoNul, holds_nul, quoted, quoted_words, shell_words}
 use Rattle.getopts_shell.specs.Table.{DeclaresOptions, IsTableFault, TableFault, no_option, name_twice, reason_of}
 use Rattle.getopts_shell.specs.Variables.{SetsVariables, VariableFault, no_prefix, no_variable, prefix_fault}
 use Rattle.getopts_shell.specs.Variables.{variable_twice, variables_code, with_words}
@@ -178,11 +178,11 @@ line_code asked line =
 abbrev pub code_words : Asked → List Text → List Text
 code_words asked line = if asked.words then line else codes "set" ∷ codes "--" ∷ line
 
--- What a canonical line tells: a shell makes of its code, line end and all, the words that it has to; it
--- is accepted in both styles and both modes with the content of the words, and says nothing else; and of
--- its words the first that is `--` is the stop.
+-- What a canonical line tells: where the words hold no NUL byte, a shell makes of its code, line end and all, the
+-- words that it has to; it is accepted in both styles and both modes with the content of the words, and says nothing
+-- else; and of its words the first that is `--` is the stop.
 pub record TellsWords (asked : Asked) (options : Declared) (words line : List Text) : Type 0 where
-  pub shell : shell_words (line_code asked line) ≡ Some (code_words asked line)
+  pub shell : HoldNoNul words → shell_words (line_code asked line) ≡ Some (code_words asked line)
   pub written : IsWritten options words line
   pub reads_back : HasCanonicalLine options written.content
   pub stop_is_first : AllByRecursion (λ m. canonical_word options.groups m ≢ stop_word) written.content.mentions
@@ -234,14 +234,15 @@ pub data AnswersScript (asked : Asked) (name : Text) (options : Declared) (words
   offers : (shell : Text) (answer : Answer) → asked.usage ≡ false → asked.complete_words ≡ Some shell
       → AnswersOffer shell options words answer → AnswersScript asked name options words answer
   help : (help : Text) → ReadsWords asked → AskHelp options words → IsHelp asked name options help
-      → AreCommands (help_code help) (codes "printf" ∷ codes "%s" ∷ help ∷ []) (codes "exit" ∷ [])
+      → (holds_nul help ≡ false
+      → AreCommands (help_code help) (codes "printf" ∷ codes "%s" ∷ help ∷ []) (codes "exit" ∷ []))
       → AnswersScript asked name options words (done (help_code help))
   accepted : (line : List Text) → ReadsWords asked → ¬ (AskHelp options words)
       → asked.variables ≡ None → TellsWords asked options words line
       → AnswersScript asked name options words (done (line_code asked line))
   variables : (prefix : Text) (matches : Matched) → ReadsWords asked → ¬ (AskHelp options words)
       → asked.variables ≡ Some prefix → IsAccepted options words matches
-      → SetsVariables prefix asked.arrays matches
+      → (HoldNoNul words → SetsVariables prefix asked.arrays matches)
       → AnswersScript asked name options words (done (variables_code prefix asked.arrays matches))
   refused : (fault : Fault) → ReadsWords asked → ¬ (AskHelp options words)
       → IsRefused options words fault → AnswersScript asked name options words

@@ -1,7 +1,7 @@
 -- Words in quotes, and what a shell makes of a text of words.
-use Rattle.std.specs.Prelude.{◌≡◌, ◌==◌, ◌||◌, ◌&&◌, nat_lt, Bool, ℕ, List, [], ◌∷◌, ◌++◌, Option, Some, None}
+use Rattle.std.specs.Prelude.{◌≡◌, ◌==◌, ◌||◌, ◌&&◌, nat_lt, false, Bool, ℕ, List, [], ◌∷◌, ◌++◌, Option, Some, None}
 use Rattle.std.specs.Prelude.{codes, if◌then◌else◌, fold}
-use Rattle.std.specs.List.{flat_map}
+use Rattle.std.specs.List.{AllByRecursion, flat_map, list_any}
 use Rattle.std.specs.Option.{option_to_list, unwrap_or}
 use Rattle.getopts.specs.Names.{Text}
 
@@ -48,9 +48,23 @@ abbrev pub words_read : Progress → Option (List Text)
 words_read (outside words word) = Some (done words word)
 words_read progress = None
 
--- the words that a shell makes of a text, where that is said
+-- whether a text holds a NUL byte, of which no shell makes a word
+abbrev pub holds_nul : Text → Bool
+holds_nul text = list_any (λ byte. byte == 0) text
+
+-- none of these words holds one
+abbrev pub HoldNoNul : List Text → Type 0
+HoldNoNul words = AllByRecursion (λ word. holds_nul word ≡ false) words
+
+-- the words that a shell makes of a text, after this much of a word, where that is said; of a text with a NUL byte
+-- nothing is said
+abbrev pub words_after : Option Text → Text → Option (List Text)
+words_after word text =
+    if holds_nul text then None else words_read (fold read_byte (outside [] word) text)
+
+-- the words that a shell makes of a text
 abbrev pub shell_words : Text → Option (List Text)
-shell_words text = words_read (fold read_byte (outside [] None) text)
+shell_words text = words_after None text
 
 -- A shell reads a text as two commands, of these words: each of them, with `; ` between.
 pub record AreCommands (text : Text) (words others : List Text) : Type 0 where

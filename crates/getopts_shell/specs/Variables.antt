@@ -1,6 +1,6 @@
 -- Options as variables: what a shell does with a text of commands, and the text that is written.
 use Rattle.std.specs.Prelude.{◌≡◌, ◌≢◌, ◌==◌, ◌||◌, ◌&&◌, not, ⊤, ℕ, ◌+◌, ◌-◌, Bool, true, false, List, [], ◌∷◌}
-use Rattle.std.specs.Prelude.{◌++◌, Option, Some, None, codes, decimal, fold, if◌then◌else◌, length, map, slice_index, take}
+use Rattle.std.specs.Prelude.{◌++◌, Option, Some, None, codes, decimal, if◌then◌else◌, length, map, slice_index, take}
 use Rattle.std.specs.Char.{is_ascii_alphanumeric, is_ascii_digit}
 use Rattle.std.specs.List.{AllByRecursion, flat_map, list_all, list_any, starts_with}
 use Rattle.std.specs.Option.{option_and_then, option_map, option_or, unwrap_or}
@@ -15,7 +15,7 @@ use Rattle.getopts.specs.declared.groups.HasArg.TheVariants.{No}
 use Rattle.getopts.specs.declared.groups.Occur.{Occur}
 use Rattle.getopts.specs.declared.groups.Occur.TheVariants.{Multi}
 use Rattle.getopts.specs.Wrap.{lines_of}
-use Rattle.getopts_shell.specs.Quote.{outside, quoted, quoted_words, read_byte, shell_words, words_read}
+use Rattle.getopts_shell.specs.Quote.{HoldNoNul, quoted, quoted_words, shell_words, words_after}
 use Rattle.getopts_shell.specs.Table.{is_passed, line_number}
 
 -- ---- the commands of a text
@@ -82,7 +82,7 @@ only_word words = None
 -- the text that is assigned by `NAME=` and this: digits as they stand, or one word
 abbrev pub text_of_code : Text → Option Text
 text_of_code code = if list_all is_ascii_digit code then Some code
-    else only_word (words_read (fold read_byte (outside [] (Some [])) code))
+    else only_word (words_after (Some []) code)
 
 -- what stands in `(${NAME+} ..)`, where a text is that
 abbrev pub array_code : Text → Text → Text
@@ -218,10 +218,15 @@ pub record SetsVariables (prefix : Text) (arrays : Bool) (matches : Matched) : T
   pub once_more : AllByRecursion (λ group. shell_words (quoted_words (texts_found group.found))
       ≡ Some (texts_found group.found)) matches.groups
 
--- the text for matches sets variables, where each option makes one, and no two the same
+-- the texts that matches hold: the values, and the free words
+abbrev pub texts_held : Matched → List Text
+texts_held matches = flat_map (λ group. texts_found group.found) matches.groups ++ matches.free
+
+-- the text for matches sets variables, where each option makes one, no two the same, and no text holds a NUL byte
 abbrev pub CodeSetsVariables : Type 0
 CodeSetsVariables = (prefix : Text) (arrays : Bool) (matches : Matched)
-    → HaveOwnVariables prefix [] (held_names matches.groups) → SetsVariables prefix arrays matches
+    → HaveOwnVariables prefix [] (held_names matches.groups) → HoldNoNul (texts_held matches)
+    → SetsVariables prefix arrays matches
 
 -- ---- faults
 

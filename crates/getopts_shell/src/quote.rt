@@ -6,15 +6,15 @@ ghost use Rattle.std.specs.String.{string_bytes};
 ghost use Rattle.getopts.specs.Names.{Text};
 ghost use Rattle.getopts.specs.Wrap.{parting};
 ghost use Rattle.getopts_bytes.specs.Marks.{AreBytes, bytes_of, text_of};
-ghost use Rattle.getopts_shell.specs.Quote.{quoted, quoted_words, shell_words, spaced};
+ghost use Rattle.getopts_shell.specs.Quote.{HoldNoNul, quoted, quoted_words, shell_words, spaced};
 
 use std::alloc::AllocError;
 
-/// A shell makes of words in quotes the same words, also where they are words of any bytes, read as texts and written
-/// as bytes; and no other words are written alike. A law to cite, which does nothing.
+/// A shell makes of words in quotes the same words, where none holds a NUL byte; also where they are words of any other
+/// bytes, read as texts and written as bytes. No other words are written alike. A law to cite, which does nothing.
 pub fn words_come_back()
-    ensures same { (words : List Text) → shell_words (quoted_words words) ≡ Some words }
-    ensures bytes { (words : List (List ℕ)) → AllByRecursion AreBytes words
+    ensures same { (words : List Text) → HoldNoNul words → shell_words (quoted_words words) ≡ Some words }
+    ensures bytes { (words : List (List ℕ)) → AllByRecursion AreBytes words → HoldNoNul words
         → shell_words (bytes_of (quoted_words (map text_of words))) ≡ Some words }
     ensures only { (words others : List Text)
         → quoted_words words ≡ quoted_words others → words ≡ others }

@@ -24,6 +24,11 @@ pub fn words_come_back() {}
 /// A text without marks is its own text, and its own bytes: a law to cite, which does nothing.
 pub fn plain_texts_stay() {}
 
+/// An ASCII byte of a word stays in its place: the text is that of what stands before it, the byte, and the text of
+/// what stands after it. Where the text of a word is cut between characters, each part is the text of a part of the
+/// word. A law to cite, which does nothing.
+pub fn words_are_cut_as_texts() {}
+
 /// Bytes as a text, where they are one that holds no mark.
 pub fn plain_text(bytes: &[u8]) -> Option<&str> {
     match std::str::from_utf8(bytes) {

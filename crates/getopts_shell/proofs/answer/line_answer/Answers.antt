@@ -15,7 +15,7 @@ returns-in_ok-line_code-in-Ok-Some c =
     let asked = asked_of c.args.script.asked.now in
     let tells = tells_words asked c.args.script.options.now (texts c.args.words.now)
     (map string_bytes c.in-Ok-Some.line.items)
-    c.names_resolve.ensures.empty c.in-Ok-Some.ensures.laws
+    c.requires.plain c.names_resolve.ensures.empty c.in-Ok-Some.ensures.laws
     (rw c.in-Ok-Some.field-0-is at c.in-Ok-Some.ensures.written) in
     subst (λ (t : Text). AnswersScript asked c.args.script.name.now c.args.script.options.now
     (texts c.args.words.now) (record { text = t; status = 0 }))

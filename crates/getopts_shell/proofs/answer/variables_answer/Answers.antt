@@ -6,6 +6,7 @@ use Rattle.getopts_shell.specs.Held.{asked_of, groups_of}
 use Rattle.getopts_shell.specs.Program.{refused, variables}
 use Rattle.getopts_shell.specs.Variables.{HaveOwnVariables}
 use Rattle.getopts_shell.proofs.Asked.{asked_own, held_names_are, held_signatures_are}
+use Rattle.getopts_shell.proofs.Nul.{matches_none}
 use Rattle.getopts_shell.proofs.Shell.{code_sets}
 use Rattle.getopts_shell.proofs.answer.variables_answer.Goals as goal
 
@@ -25,7 +26,8 @@ returns-in_ok-variables_code-in-Ok c =
     c.requires.variables) in
     rw c.in_ok-variables_code-in-Ok.ensures
     (variables prefix _ c.requires.asked c.requires.no_help c.requires.prefix c.in-Ok.ensures.accepted
-    (code_sets prefix asked.arrays _ own))
+    (λ none. code_sets prefix asked.arrays _ own
+    (matches_none c.args.script.options.now (texts c.args.words.now) _ c.in-Ok.ensures.accepted none)))
 
 pub returns-in_ok-refusal-in-Err : goal.returns-in_ok-refusal-in-Err
 returns-in_ok-refusal-in-Err c =
