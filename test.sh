@@ -129,10 +129,13 @@ once() {
     "$@"
 }
 
+# copy TO: copies what isn't built to a folder.
+copy() { mkdir "$1" && tar --exclude=./.git --exclude=out --exclude=target -c . | tar -C "$1" -x; }
+
 # over_proved: in a copy, makes the archives again over the libraries as they were proved, and tries the edits over them.
 over_proved() {
     local library rlib
-    mkdir "$room/over" && tar --exclude=./.git --exclude=out --exclude=target -c . | tar -C "$room/over" -x || return 1
+    copy "$room/over" || return 1
     for library in getopts getopts_bytes; do
         rlib=crates/$library/out/rlib
         mkdir -p "$room/over/$rlib" && cp -a "$rlib/$library.rlib" "$room/over/$rlib/" || return 1
@@ -143,10 +146,12 @@ over_proved() {
 }
 
 # edits: in a copy, tries the edits of the libraries.
-edits() {
-    mkdir "$room/copy" &&
-        tar --exclude=./.git --exclude=out --exclude=target -c . | tar -C "$room/copy" -x &&
-        bash "$room/copy/tests/must-fail/try.sh" getopts getopts_bytes
+edits() { copy "$room/copy" && bash "$room/copy/tests/must-fail/try.sh" getopts getopts_bytes; }
+
+# scripts: lets shellcheck look at all scripts.
+scripts() {
+    command -v shellcheck >/dev/null || { echo "skipped: the scripts: there is no shellcheck"; return; }
+    git ls-files -z '*.sh' | xargs -0 shellcheck
 }
 
 room=$(mktemp -d)
@@ -180,6 +185,7 @@ else
     part "proofs, tests and programs of all crates" proofs
 fi
 part "pages and modules" python3 docs/check.py
+part "scripts" scripts
 ended
 skipped
 if [ -n "$failed" ]; then

@@ -1,26 +1,18 @@
 #!/usr/bin/env bash
-# Prints the instructions from start to end of getopts_shell and of getopt(1) for six options and five words, of `true`,
-# and of a static program that does nothing. They are counted by valgrind's callgrind. It fails where getopts_shell takes
-# more than MOST.
+# Prints the instructions from start to end of getopts_shell and of getopt(1) for six options and five words, and of
+# `true`. They are counted by valgrind's callgrind. It fails where getopts_shell takes more than MOST.
 # usage: bench/shell.sh [PROGRAM]
 set -euo pipefail
 cd "$(dirname "$0")/.."
 MOST=38000
-for tool in valgrind getopt true; do
-    command -v "$tool" >/dev/null || { echo "bench/shell.sh: there is no $tool on the path" >&2; exit 2; }
-done
 program=${1:-bindings/shell/$(uname -m)/getopts_shell}
-table='
--i|--input FILE       read this file
+table='-i|--input FILE       read this file
 [-o|--output FILE]    write to FILE
 [-v|--verbose]..      say more
 [-c|--color [WHEN]]   colour the output
 [-L DIR]..            add a folder
-[-h|--help]           print this help
-'
+[-h|--help]           print this help'
 words=(-vi a --output=b x --color)
-room=$(mktemp -d)
-trap 'rm -rf "$room"' EXIT
 
 # instructions COMMAND..: the instructions of a run, which may not depend on the environment.
 instructions() {
@@ -32,13 +24,6 @@ ours=$(instructions "$program" backup "$table" "${words[@]}")
 echo "getopts_shell: $ours"
 echo "getopt: $(instructions getopt -n backup -o i:o:vc::L:h --long input:,output:,verbose,color::,help -- "${words[@]}")"
 echo "true: $(instructions "$(type -P true)")"
-if command -v musl-gcc >/dev/null; then
-    echo 'int main(void) { return 0; }' >"$room/nothing.c"
-    musl-gcc -static -O2 "$room/nothing.c" -o "$room/nothing"
-    echo "a static program that does nothing: $(instructions "$room/nothing")"
-else
-    echo 'skipped: a static program that does nothing: there is no musl-gcc'
-fi
 if [ "$ours" -gt $MOST ]; then
     echo "getopts_shell takes more than $MOST"
     exit 1

@@ -22,18 +22,10 @@ fail() {
     exit 1
 }
 
-# absolute PATH: the path from the root, with no slash at its end.
-absolute() {
-    local path=$1
-    [[ $path = /* ]] || path=$PWD/$path
-    while [[ $path = */ ]]; do path=${path%/}; done
-    echo "$path"
-}
-
 remove=
 case ${1:-} in
 --help | -h)
-    sed -n '2,12s/^# \{0,1\}//p' "$0"
+    sed -n '2,/^[^#]/s/^# \{0,1\}//p' "$0"
     exit
     ;;
 --uninstall)
@@ -44,9 +36,9 @@ esac
 if [ $# != 1 ] || [[ $1 = -* ]] || [ -z "$1" ]; then
     fail "usage: bindings/c/install.sh [--uninstall] PREFIX"
 fi
-prefix=$(absolute "$1")
+prefix=$(realpath -ms -- "$1")
 root=
-[ -z "${DESTDIR:-}" ] || root=$(absolute "$DESTDIR")
+[ -z "${DESTDIR:-}" ] || root=$(realpath -ms -- "$DESTDIR")
 to=$root$prefix
 
 # The version of the layer. Programs that were linked with one work with each later one of the same first number.

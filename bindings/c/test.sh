@@ -78,6 +78,11 @@ done
 if [ ${#compilers[@]} = 0 ] && has cc; then
     compilers=(cc)
 fi
+if [ ${#compilers[@]} = 0 ] || ! has ar nm readelf pkg-config; then
+    skip "C: there is no compiler, or not each of ar, nm, readelf and pkg-config"
+    finish
+    exit
+fi
 echo 'int main(void) { return 0; }' >"$room/empty.c"
 for compiler in "${compilers[@]}"; do
     all_of "$compiler" -O2
@@ -119,22 +124,16 @@ refused() {
     done
     echo "$runs runs"
 }
-if [ ${#compilers[@]} -gt 0 ]; then
-    build=("${compilers[0]}" -O2 "${warnings[@]}")
-    check "the program show.c" "${build[@]}" "$here/show.c" "${layer[@]}" -o "$room/show"
-    if [ -x "$show" ]; then
-        check "show.c answers as getopts_show" same_answers "$show" "$room/show"
-    else
-        skip "show.c answers as getopts_show: 'rt ci' has not built that"
-    fi
-    if "${compilers[0]}" -O2 -ffreestanding -fPIC -shared -nostdlib "$top/tests/memory/refuse.c" -o "$room/refuse.so"; then
-        says "show.c under refused memory" refused
-    else
-        skip "show.c under refused memory: this compiler can't build what refuses it"
-    fi
+check "the program show.c" "${compilers[0]}" -O2 "${warnings[@]}" "$here/show.c" "${layer[@]}" -o "$room/show"
+if [ -x "$show" ]; then
+    check "show.c answers as getopts_show" same_answers "$show" "$room/show"
+else
+    skip "show.c answers as getopts_show: 'rt ci' has not built that"
 fi
+refuse=("${compilers[0]}" -O2 -ffreestanding -fPIC -shared -nostdlib "$top/tests/memory/refuse.c")
+check "what refuses memory" "${refuse[@]}" -o "$room/refuse.so" && says "show.c under refused memory" refused
 
-# The global names of the archive, and those that it asks for, as getopts_c.h and README.md tell them.
+# The global names of the archive, and those that it asks for, as getopts_c.h and README.md name them.
 names() {
     local given asked
     given=$(nm --defined-only -g "$1" | sed -n 's/^[0-9a-f]* [A-Z] //p' | sort | tr '\n' ' ')
@@ -144,13 +143,9 @@ names() {
     [ "$given" = "getopts_c_canonical $parse getopts_c_short_usage getopts_c_usage getopts_c_usage_rows " ] &&
         [ "$asked" = "memcpy memmove memset rattle_alloc rattle_dealloc rattle_realloc " ]
 }
-if has nm; then
-    for processor in x86_64 aarch64; do
-        check "the names of the archive for $processor" names "$here/native/$processor/libgetopts_c.a"
-    done
-else
-    skip "the names of the archive: there is no nm"
-fi
+for processor in x86_64 aarch64; do
+    check "the names of the archive for $processor" names "$here/native/$processor/libgetopts_c.a"
+done
 
 # A kind or a wrong sum in place of the modes doesn't compile without a warning.
 wrong_modes() {
@@ -166,7 +161,7 @@ END
         ! "$compiler" "${warnings[@]}" -DMODES=GETOPTS_NO -c "$room/modes.c" -o "$room/modes.o" || return 1
     done
 }
-[ ${#compilers[@]} = 0 ] || check "a kind in place of a mode" wrong_modes
+check "a kind in place of a mode" wrong_modes
 
 # What bindings/c/install.sh installed, and programs that find it by pkg-config alone.
 # head_says STATUS OUTPUT ERRORS WORD..: what the example has to return and print on these words.
@@ -241,32 +236,21 @@ shared_exports() {
 }
 # costs: a program grows by no more than getopts.h says, as this compiler links it.
 costs() {
-    local most with without
+    local most large small
     most=$(sed -n 's/.* grows by \([0-9]*\) KB at most.*/\1/p' "$here/getopts.h")
     "${compilers[0]}" -O2 -s "$room/empty.c" -o "$room/without" &&
-        "${compilers[0]}" -O2 -s "$here/head.c" "${static[@]}" -o "$room/with" || return 1
-    with=$(stat -c %s "$room/with") without=$(stat -c %s "$room/without")
-    echo "$((with - without)) bytes"
-    [ $((with - without)) -le $((most * 1000)) ] && [ $((with - without)) -gt $((most * 800)) ]
+        "${compilers[0]}" -O2 -s "$here/head.c" "${with[@]}" -o "$room/with" || return 1
+    large=$(stat -c %s "$room/with") small=$(stat -c %s "$room/without")
+    echo "$((large - small)) bytes"
+    [ $((large - small)) -le $((most * 1000)) ] && [ $((large - small)) -gt $((most * 800)) ]
 }
 prefix="$room/a prefix"
-if [ ${#compilers[@]} = 0 ] || ! has ar; then
-    skip "the installation: there is no C compiler or no ar"
-elif check "bindings/c/install.sh" env CC="${compilers[0]}" "$here/install.sh" "$prefix"; then
-    if has pkg-config; then
-        export PKG_CONFIG_PATH=$prefix/lib/pkgconfig
-        eval "flags=($(pkg-config --cflags --libs getopts))"
-        eval "static=($(pkg-config --cflags --libs getopts-static))"
-        check "the version" [ "$(pkg-config --modversion getopts)" = 1.0.0 ]
-    else
-        skip "pkg-config: it isn't there, and the flags are written out"
-        flags=("-I$prefix/include" "-L$prefix/lib" -lgetopts)
-        static=("-I$prefix/include" "$prefix/lib/libgetopts.a")
-    fi
-    export LD_LIBRARY_PATH=$prefix/lib
-    for compiler in "${compilers[@]}"; do
-        for library in static flags; do
-            declare -n with=$library
+if check "bindings/c/install.sh" env CC="${compilers[0]}" "$here/install.sh" "$prefix"; then
+    export PKG_CONFIG_PATH=$prefix/lib/pkgconfig LD_LIBRARY_PATH=$prefix/lib
+    check "the version" [ "$(pkg-config --modversion getopts)" = 1.0.0 ]
+    for library in getopts getopts-static; do
+        eval "with=($(pkg-config --cflags --libs $library))"
+        for compiler in "${compilers[@]}"; do
             build=("$compiler" "${warnings[@]}" "$here/head.c" "${with[@]}" -o "$room/head")
             check "the example, $library ($compiler)" "${build[@]}" &&
                 check "the example answers, $library ($compiler)" head_answers
@@ -275,23 +259,17 @@ elif check "bindings/c/install.sh" env CC="${compilers[0]}" "$here/install.sh" "
                     check "the example answers, sanitized, $library ($compiler)" head_answers
             fi
         done
+        for compiler in g++ clang++; do
+            if has $compiler; then
+                build=("$compiler" "${plus_warnings[@]}" "$here/tests/installed.cpp" "${with[@]}" -o "$room/plus")
+                check "a C++ program, $library ($compiler)" "${build[@]}" &&
+                    check "the C++ program answers, $library ($compiler)" plus_answers
+            else
+                skip "C++, $library: there is no $compiler"
+            fi
+        done
     done
-    unset -n with
-    plus_compilers=()
-    for compiler in g++ clang++; do
-        ! has $compiler || plus_compilers+=("$compiler")
-    done
-    [ ${#plus_compilers[@]} -gt 0 ] || skip "C++: there is no compiler of it"
-    for compiler in "${plus_compilers[@]}"; do
-        build=("$compiler" "${plus_warnings[@]}" "$here/tests/installed.cpp" "${flags[@]}" -o "$room/plus")
-        check "a C++ program ($compiler)" "${build[@]}" &&
-            check "the C++ program answers ($compiler)" plus_answers
-    done
-    if has nm readelf; then
-        check "the names of the shared library" shared_exports
-    else
-        skip "the names of the shared library: there is no nm or no readelf"
-    fi
+    check "the names of the shared library" shared_exports
     says "what a program grows by" costs
     check "the installation for each compiler's target" for_each_target &&
         while read -r compiler; do

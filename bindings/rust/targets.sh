@@ -1,6 +1,6 @@
 # shellcheck shell=bash disable=SC2154
 # Tests the Rust crate on x86-64, 32 bits, aarch64, WebAssembly and Windows, by the least rustc that it is for: a part of
-# test.sh, which sources it.
+# test.sh, which sources it, with the package in `all`.
 #
 # RUST is the folder with rustc and cargo, by default that of Debian 12, which has rustc 1.63. What isn't installed is
 # skipped with a line that says so. aarch64 and 32 bits need what no package of Debian puts in place: of libstd-rust-dev
@@ -8,43 +8,6 @@
 # usr/lib/rustlib/TARGET, beside the others in `rustc --print sysroot`.
 bin=${RUST:-/usr/bin}
 
-# One package has all that is run: the public tests, a program that answers rows as the twin does, and the example.
-all=$room/all
-mkdir -p "$all"/{getopts,src,tests}
-cp -r "$here"/{src,README.md} "$all/getopts"
-sed '/^\[\[test\]\]$/,$d' "$here/Cargo.toml" >"$all/getopts/Cargo.toml"
-cp "$top"/tests/differential/twin/src/{answer,check,form}.rs "$here/examples/show.rs" "$all/src"
-cat >"$all/src/rows.rs" <<'RUST'
-mod answer;
-mod check;
-mod form;
-
-fn main() -> std::process::ExitCode {
-    std::panic::set_hook(Box::new(|_| {}));
-    let words: Vec<String> = std::env::args().skip(1).collect();
-    let rows = std::fs::read_to_string(&words[0]).expect("a file");
-    std::process::ExitCode::from(u8::from(!check::check(&rows, &words[1..])))
-}
-RUST
-cat >"$all/Cargo.toml" <<TOML
-[package]
-name = "all"
-version = "0.1.0"
-edition = "2021"
-[features]
-default = ["unicode", "canonical"]
-unicode = ["getopts/unicode"]
-canonical = []
-[dependencies]
-getopts = { path = "getopts", default-features = false }
-[[bin]]
-name = "rows"
-path = "src/rows.rs"
-[[bin]]
-name = "show"
-path = "src/show.rs"
-TOML
-[ ! -f "$crate/tests/public.rs" ] || cp "$crate/tests/public.rs" "$all/tests"
 cat >"$room/wasi.mjs" <<'JS'
 import { WASI } from "node:wasi";
 import { readFile } from "node:fs/promises";
@@ -59,7 +22,7 @@ cargo_for() {
     local variable
     variable=CARGO_TARGET_$(tr 'a-z-' 'A-Z_' <<<"$target")
     (cd "$all" && env RUSTC="$bin/rustc" ${linker:+"${variable}_LINKER=$linker"} ${runner:+"${variable}_RUNNER=$runner"} \
-        "$bin/cargo" "$1" "${flags[@]}" --quiet --target "$target" "${@:2}")
+        "$bin/cargo" "$1" "${flags[@]}" --quiet --features canonical --target "$target" "${@:2}")
 }
 run_for() {
     local built=$room/target/$target/release/$1
@@ -86,28 +49,27 @@ on() {
         return
     fi
     [ "$panics" = yes ] || { left_out=(--skip test_long_name_too_short --skip test_undefined_opt_present); passed_over=(lawful); }
-    check "$target: the build" cargo_for build --release --bins || return
+    check "$target: the build" cargo_for build --release || return
     if [ -f "$all/tests/public.rs" ]; then
         says "$target: the public tests" cargo_for test --release --test public -- "${left_out[@]}"
     fi
     while read -r file; do
-        says "$target: ${file#"$top/crates/"}" run_for rows "$file" "${passed_over[@]}"
+        says "$target: ${file#"$top/crates/"}" run_for twin check "$file" "${passed_over[@]}"
     done < <(row_files)
     check "$target: the example" shown
 }
 
-# on_each: tests each target.
-on_each() {
-    local loader=/usr/i686-linux-gnu/lib/ld-linux.so.2
-    if [ ! -x "$bin/rustc" ] || [ ! -x "$bin/cargo" ] || [ -z "$registry" ]; then
-        skip "other targets: there is no rustc and cargo in $bin, or no librust-unicode-width-dev"
-        return
-    fi
+loader=/usr/i686-linux-gnu/lib/ld-linux.so.2
+export NODE_NO_WARNINGS=1
+if [ ! -x "$bin/rustc" ] || [ ! -x "$bin/cargo" ] || [ -z "$registry" ]; then
+    skip "other targets: there is no rustc and cargo in $bin, or no librust-unicode-width-dev"
+else
     echo "by $("$bin/rustc" --version)"
-    export NODE_NO_WARNINGS=1
+    # Cargo of that age reads no lock of today.
+    rm -f "$all/Cargo.lock"
     on x86_64-unknown-linux-gnu '' '' yes
     on aarch64-unknown-linux-gnu aarch64-linux-gnu-gcc 'qemu-aarch64 -L /usr/aarch64-linux-gnu' yes
     on i686-unknown-linux-gnu i686-linux-gnu-gcc "$loader --library-path ${loader%/*}" yes
     on wasm32-wasi '' "node $room/wasi.mjs" no
     on x86_64-pc-windows-gnu x86_64-w64-mingw32-gcc "$wine" no
-}
+fi

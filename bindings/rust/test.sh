@@ -126,30 +126,6 @@ with_examples() {
 }
 says "an example of each call" with_examples
 
-# A program that patches the crate builds with cargo alone.
-patched() {
-    mkdir -p "$room/patched/src" "$room/empty"
-    cat >"$room/patched/Cargo.toml" <<TOML
-[package]
-name = "patched"
-version = "0.1.0"
-edition = "2021"
-[dependencies]
-getopts = "0.2"
-[patch.crates-io]
-getopts = { path = "$here" }
-TOML
-    cat >"$room/patched/src/main.rs" <<'RUST'
-fn main() {
-    let mut options = getopts::Options::new();
-    options.optopt("o", "output", "set the output file", "NAME");
-    println!("{:?}", options.parse(std::env::args().skip(1)).unwrap().opt_str("output"));
-}
-RUST
-    (cd "$room/patched" && CARGO_HOME=$room/empty cargo run "${flags[@]}" -- -o x) | grep -x 'Some("x")'
-}
-check "a program with the patch" patched
-
 # The example answers as the program getopts_show does, where `rt` has built that.
 show=$top/crates/getopts_show/out/getopts_show
 if check "the example" in_crate build "${flags[@]}" --release --example show; then
@@ -160,7 +136,7 @@ if check "the example" in_crate build "${flags[@]}" --release --example show; th
     fi
 fi
 
-# twin NAME CRATE FLAG..: builds the program of tests/differential over the crate in a folder.
+# twin NAME CRATE FLAG..: builds the program of tests/differential, which a patch puts over the crate in a folder.
 twin() {
     local with="${*:3}"
     [ -n "$registry" ] || with="$with ${CARGO_FLAGS:-}"
@@ -210,10 +186,12 @@ else
     skip "the crate getopts 0.2.24 on the same cases: it is not to be had"
 fi
 
-# That crate's tests of its public calls, where they are at hand.
-# shellcheck source=bindings/rust/targets.sh
-. "$here/targets.sh"
-if [ -f "$all/tests/public.rs" ]; then
+# That crate's tests of its public calls, where they are at hand. The package of the twin has them, and the example.
+all=$room/ours
+mkdir -p "$all/src/bin" "$all/tests"
+cp "$here/examples/show.rs" "$all/src/bin"
+if [ -f "$crate/tests/public.rs" ]; then
+    cp "$crate/tests/public.rs" "$all/tests"
     public() { (cd "$all" && cargo test "${flags[@]}" --test public "$@"); }
     check "that crate's public tests" public && grep "^test result" "$room/said"
     check "those without unicode" public --no-default-features && grep "^test result" "$room/said"
@@ -223,6 +201,7 @@ fi
 if [ -n "$quick" ]; then
     skip "other targets: this is the quick test"
 else
-    on_each
+    # shellcheck source=bindings/rust/targets.sh
+    . "$here/targets.sh"
 fi
 finish

@@ -1,9 +1,10 @@
 #!/usr/bin/env bash
-# Tests the program that cargo builds from the proved source: beside the static program, and for Windows under wine.
+# Tests the program that cargo builds from the proved source: by the rules, beside the static program, and for Windows
+# under wine.
 #
 #     bindings/shell/cargo.sh [COUNT]
 #
-# COUNT is how many random tables and words both answer, 3,000 if it isn't given. CARGO_FLAGS are handed to cargo. What
+# COUNT is how many random lines it reads, 2,000 if it isn't given. CARGO_FLAGS are handed to cargo. What
 # this machine doesn't have is skipped with a line that says so. The last line is 'N passed, M failed, K skipped'.
 set -uo pipefail
 top=$(cd "$(dirname "$0")/../.." && pwd)
@@ -36,17 +37,25 @@ fi
 ours=$room/root/bin/getopts_shell
 theirs=$here/$(uname -m)/getopts_shell
 
-if [ -x "$theirs" ] && has python3; then
-    says "beside the static program" python3 "$here/beside.py" "${1:-3000}" "$theirs" "$ours"
+# beside [--short] OTHER: whether another program answers as the static one.
+asked=$top/tests/shell/asked.sh
+beside() { cmp <("$asked" "${@:1:$#-1}" "$theirs") <("$asked" "$@"); }
+if [ -x "$theirs" ]; then
+    check "beside the static program" beside "$ours"
 else
-    skip "beside the static program: there is no python3, or no bindings/shell/$(uname -m)/getopts_shell"
+    skip "beside the static program: there is no bindings/shell/$(uname -m)/getopts_shell"
+fi
+if has python3; then
+    check "its answers by the rules" python3 "$top/tests/shell/run.py" "$ours" "${1:-2000}"
+else
+    skip "its answers by the rules: there is no python3"
 fi
 
 # Windows, by Debian's rustc 1.63. What the source has that is newer is switched on there.
 windows=x86_64-pc-windows-gnu
-if ! has "$wine" x86_64-w64-mingw32-gcc /usr/bin/rustc /usr/bin/cargo ||
+if [ ! -x "$theirs" ] || ! has "$wine" x86_64-w64-mingw32-gcc /usr/bin/rustc /usr/bin/cargo ||
     [ ! -d "$(/usr/bin/rustc --print target-libdir --target $windows)" ] || [ ! -f "$room/registry.toml" ]; then
-    skip "Windows: there is no wine, no x86_64-w64-mingw32-gcc, or no rustc with a std for it"
+    skip "Windows: there is no wine, no x86_64-w64-mingw32-gcc, no rustc with a std for it, or no static program"
 else
     on_windows() {
         # Cargo of that age reads no lock of today.
@@ -61,7 +70,7 @@ else
         chmod +x "$room/by_wine"
         # The first run makes wine's folder, and says so.
         "$room/by_wine" --help >/dev/null 2>&1
-        says "beside the static program, under wine" python3 "$here/beside.py" --texts 40 "$theirs" "$room/by_wine"
+        check "beside the static program, under wine" beside --short "$room/by_wine"
     fi
 fi
 finish

@@ -18,14 +18,14 @@ cp -r "$1/." "$2"
 read -r -a flags <<<"${CARGO_FLAGS:-}"
 config=''
 if [ -n "${3:-}" ]; then
-    config="patch.crates-io.getopts.path = \"$(cd "$3" && pwd)\""
+    printf '\n[patch.crates-io]\ngetopts = { path = "%s" }\n' "$(cd "$3" && pwd)" >>"$2/Cargo.toml"
     registry=/usr/share/cargo/registry
     lacking=''
     for name in unicode-width $(sed -n '1,/^\[dependencies\]/d; s/^\([a-z-]*\) = .*/\1/p' "$1/Cargo.toml"); do
         [ "$name" = getopts ] || compgen -G "$registry/$name-[0-9]*" >/dev/null || lacking=$name
     done
     if [ -z "$lacking" ]; then
-        config+=$'\n'"source.crates-io.replace-with = \"folder\""$'\n'"source.folder.directory = \"$registry\""
+        config="source = { crates-io = { replace-with = \"folder\" }, folder = { directory = \"$registry\" } }"
         flags+=(--offline)
     fi
 fi

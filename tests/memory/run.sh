@@ -26,9 +26,10 @@ compile=("$tools/clang" -O2 -Wall -Wextra -Werror -ffreestanding -nostdinc -c te
 preloaded() { "${compile[@]}" -fPIC -o "$room/refuse.o" && "$tools/ld.lld" -shared -o "$room/refuse.so" "$room/refuse.o"; }
 check "what refuses memory" preloaded || { finish; exit 1; }
 
-# as_it_is WHAT PROGRAM WORDS..: a program's words, each of whose requests is refused. The program ends with status 3.
-as_it_is() {
-    check "$1" in_turn "$room/refuse.so" 0 "$("${@:2}"; echo "status $?")" "status 3" "${@:2}"
+# refuses WHAT LIKE PROGRAM WORDS..: a program's words, each of whose requests is refused. The program ends with status 3
+# then, and with none refused it answers as the program LIKE.
+refuses() {
+    check "$1" in_turn "$room/refuse.so" 0 "$("$2" "${@:4}"; echo "status $?")" "status 3" "${@:3}"
 }
 
 # The rows: the program's marks tell which requests are the call's own.
@@ -41,7 +42,7 @@ done
 # The program's own words: accepted ones, its help, and a fault.
 for words in "--output=x.txt --verbose in.txt" "-vvLd -La -Lb -c auto -o x.txt f g" "-v --help" "--nope"; do
     read -r -a line <<<"$words"
-    as_it_is "getopts_show $words" "$show" "${line[@]}"
+    refuses "getopts_show $words" "$show" "$show" "${line[@]}"
 done
 
 # shells PROGRAM: its own help, a script's help, words, a completion script, and accepted words.
@@ -49,7 +50,7 @@ table=$'[-v|--verbose]..  say more\n-o|--output FILE  write to FILE\n[-h|--help]
 shells() {
     for words in "-h" "-u backup TABLE" "backup TABLE -h" "-c zsh backup TABLE" "backup TABLE -vo x y"; do
         read -r -a line <<<"$words"
-        as_it_is "$(basename "$1") $words" "$1" "${line[@]/#TABLE/$table}"
+        refuses "$(basename "$1") $words" "$shell" "$1" "${line[@]/#TABLE/$table}"
     done
 }
 shells "$shell"

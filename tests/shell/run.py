@@ -1,7 +1,7 @@
 #!/usr/bin/env python3
 """Tries getopts_shell in the shells that are installed, and beside getopt(1).
 
-usage: tests/shell/run.py [PROGRAM]
+usage: tests/shell/run.py [PROGRAM [COUNT]]
 
 - The program answers each row of rows.py: its status, and both streams.
 - The script of bindings/shell/README.md and the scripts of bindings/shell/examples do the same in each shell.
@@ -9,7 +9,7 @@ usage: tests/shell/run.py [PROGRAM]
 - getopt(1) reads the same options, values and free words, for tables and words that both take.
 - Tables with one byte changed have the fault that a reader of the rules here finds, or none.
 
-It says which shells it found. What is expected is computed here, by the rules, and not by the program.
+There are COUNT random lines, or 2,000. It says which shells it found. What is expected is computed here, by the rules, and not by the program.
 """
 
 import os
@@ -17,12 +17,13 @@ import random
 import re
 import shlex
 import shutil
+import sys
 from pathlib import Path
 
 from common import ROOT, expect, fail, in_each_shell, main, run, shells, text_of
 from rows import all_rows
 
-LINES = 2000
+LINES = int(sys.argv[2]) if len(sys.argv) > 2 else 2000
 # Every option may come again, so that counts play no part.
 MANY = """
 [-i|--input FILE]..

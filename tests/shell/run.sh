@@ -11,12 +11,6 @@ top=$(cd "$(dirname "$0")/../.." && pwd)
 . "$top/bindings/c/checks.sh"
 here=$top/bindings/shell
 program=$here/$(uname -m)/getopts_shell
-table='-i|--input FILE  read this file
-[-o|--output FILE]  write to FILE
-[-v|--verbose]..  say more
-[-c|--color [WHEN]]  colour the output
-[-h|--help]  print this help'
-
 if [ ! -x "$program" ]; then
     echo "there is no bindings/shell/$(uname -m)/getopts_shell"
     echo '0 passed, 1 failed'
@@ -31,28 +25,9 @@ check "the shells" python3 "$top/tests/shell/run.py" "$program" && cat "$room/sa
 check "variables" python3 "$top/tests/shell/variables.py" "$program" && cat "$room/said"
 check "completion in terminals" python3 "$top/tests/shell/complete.py" "$program" && cat "$room/said"
 
-# What a processor that isn't this machine's is asked: each way of calling the program, right and wrong.
-asked() {
-    local say=("$@")
-    each() { "${say[@]}" "$@" 2>&1; echo "status $?"; }
-    each backup "$table" -vi a -v --output=b x --color -- -y "it's" ''
-    each --words --stop backup "$table" -i a x -v
-    each --long-only backup "$table" -input=é --verbose
-    each backup "$table" --help
-    each backup "$table" --nope
-    each backup "$table" x
-    each backup '[-' x
-    each --usage backup "$table"
-    for shell in bash zsh fish none; do each --complete "$shell" backup "$table"; done
-    each --complete-words bash backup "$table" 1 -v --in
-    each backup "$table" -i "$(printf 'x%.0s' {1..100000})"
-    each backup '[-v]..  say more' "$(printf -- '-%s' "$(printf 'v%.0s' {1..20000})")"
-    # shellcheck disable=SC2046
-    each backup "$table" -i a $(seq 20000)
-    each --help
-    each
-}
-by_qemu() { cmp <(asked "$program") <(asked qemu-aarch64 "$here/aarch64/getopts_shell"); }
+# What a processor that isn't this machine's answers is the same.
+asked=$top/tests/shell/asked.sh
+by_qemu() { cmp <("$asked" "$program") <("$asked" qemu-aarch64 "$here/aarch64/getopts_shell"); }
 if [ "$(uname -m)" = aarch64 ]; then
     skip 'the program for aarch64 by qemu: this machine is one'
 elif has qemu-aarch64; then

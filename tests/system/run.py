@@ -9,7 +9,6 @@ which is one static file. The last line is 'N passed, M failed'.
 """
 
 import concurrent.futures
-import ctypes
 import errno
 import os
 import pathlib
@@ -161,24 +160,6 @@ def no_words(preload):
     ends("no words", run(), SHOWN, shown())
     ends("an empty name", run(name=b""), SHOWN, shown())
     ends("no words and no name", run(["-v"], environment={**preload, "NO_WORDS": "1"}), SHOWN, shown())
-    ends("the system's call with no words at all", called_with_none(), SHOWN, shown())
-
-
-def called_with_none():
-    """Runs the program by the system's call, with an empty list of words."""
-    global runs
-    runs += 1
-    reader, writer = os.pipe()
-    child = os.fork()
-    if child == 0:
-        os.dup2(writer, 1)
-        none = (ctypes.c_char_p * 1)(None)
-        ctypes.CDLL(None).execve(os.fsencode(SHOW), none, none)
-        os._exit(1)
-    os.close(writer)
-    with os.fdopen(reader, "rb") as said:
-        wrote = said.read()
-    return os.waitstatus_to_exitcode(os.waitpid(child, 0)[1]), wrote
 
 
 # What the program for shell scripts is given, and what it answers.

@@ -74,9 +74,12 @@ fn item(declared: &Declared, words: &[String], kinds: &mut BTreeSet<String>) -> 
                 "with an argument"
             }
         });
-        let Some((group, how)) = resolved(&declared.groups, name) else {
-            add(format!("{dashes}, unknown, {argument}"));
-            return false;
+        let (group, how) = match resolved(&declared.groups, name) {
+            Some(found) => found,
+            None => {
+                add(format!("{dashes}, unknown, {argument}"));
+                return false;
+            }
         };
         let takes = group.kind == "yes" && argument == "alone";
         add(format!("{dashes}, {}, {argument}", group.kind));
@@ -95,14 +98,17 @@ fn item(declared: &Declared, words: &[String], kinds: &mut BTreeSet<String>) -> 
         } else {
             None
         };
-        let Some((group, how)) = found else {
-            let wide = if letter.is_ascii() {
-                "unknown"
-            } else {
-                "no ASCII"
-            };
-            add(format!("cluster, {wide}, {at}"));
-            return false;
+        let (group, how) = match found {
+            Some(found) => found,
+            None => {
+                let wide = if letter.is_ascii() {
+                    "unknown"
+                } else {
+                    "no ASCII"
+                };
+                add(format!("cluster, {wide}, {at}"));
+                return false;
+            }
         };
         add(format!("cluster, {}, {at}", group.kind));
         add(format!("cluster, {how}"));

@@ -151,8 +151,9 @@ impl Declared {
         let probe = format!("--{PROBE}");
         for end in (0..=words.len()).rev() {
             let line = words[..end].iter().chain([&probe]);
-            let Ok(matches) = options.parse(line) else {
-                continue;
+            let matches = match options.parse(line) {
+                Ok(matches) => matches,
+                Err(_) => continue,
             };
             if let Some(place) = matches.opt_positions(PROBE).first() {
                 return *place == end;
