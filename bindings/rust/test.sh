@@ -177,11 +177,11 @@ if twin theirs "$crate" >"$room/said" 2>&1; then
         says "$cases cases without unicode" alike bare their_bare 3 $cases
         says "$more random cases without unicode" alike bare their_bare 4 "$more"
     fi
-    # A planted difference is told.
+    # A planted difference is found.
     cp -r "$here" "$room/other"
     sed -i 's|first_value_or(def)|first_value_or("")|' "$room/other/src/matches.rs"
     check "the twin over a planted difference" twin differs "$room/other"
-    check "a planted difference is told" differ
+    check "a planted difference is found" differ
 else
     skip "the crate getopts 0.2.24 on the same cases: it is not to be had"
 fi

@@ -32,7 +32,7 @@ refuses() {
     check "$1" in_turn "$room/refuse.so" 0 "$("$2" "${@:4}"; echo "status $?")" "status 3" "${@:3}"
 }
 
-# The rows: the program's marks tell which requests are the call's own.
+# The rows: the program's marks say which requests are the call's own.
 mapfile -t all < <("$rows")
 for row in "${all[@]}"; do
     read -r call on <<<"$row"
