@@ -41,9 +41,9 @@ tracked = [it for it in output_of("git", "ls-files", "-co", "--exclude-standard"
 pages = {name: read(name) for name in tracked if name.endswith(".md")}
 
 
-def place(page, at, text=None):
+def place(page, at):
     """A page, and the line of a place in it."""
-    return f"{page}:{(text or pages[page]).count(chr(10), 0, at) + 1}"
+    return f"{page}:{pages[page].count(chr(10), 0, at) + 1}"
 
 
 # ---- what is counted ----
@@ -165,10 +165,10 @@ NO_FIGURES = re.compile(r"""
 # ---- what is compared ----
 
 
-def table_figures(page, text):
+def table_figures(page):
     """The figures in tables of jobs, by the job and the column of each."""
     columns = []
-    for row in re.finditer(r"^\|.*\|$", text, re.M):
+    for row in re.finditer(r"^\|.*\|$", pages[page], re.M):
         cells = [(row.start() + it.start(1), it[1]) for it in re.finditer(r"(?<=\|) *([^|]*?) *(?=\|)", row[0])]
         if cells[0][1] == "job":
             columns = [it for _, it in cells]
@@ -179,42 +179,33 @@ def table_figures(page, text):
                     yield at, cell_text, re.sub(r"^\d+", lambda it: f"{int(it[0]):,}", wanted)
 
 
-def figures_of(page, text):
+def figures_of(page):
     """The figures of a page that are known: where each is, what it is, and what it has to be."""
-    yield from table_figures(page, text)
+    yield from table_figures(page)
     for name, pattern, values in FIGURES:
         if name == page:
-            it = re.search(pattern, text)
+            it = re.search(pattern, pages[page])
             for group, wanted in enumerate(values(), 1):
                 yield (it.start(group), it[group], wanted) if it else (0, f"nothing for '{pattern}'", wanted)
 
 
-def unknown_in(page, text):
+def unknown_in(page):
     """The numbers of ten or more in the prose of a page that no check knows."""
     blank = lambda it: " " * len(it[0])
-    prose = re.sub(r"^```.*?^```|^    [^\n]*$|`[^`\n]*`|\]\([^)]*\)", blank, text, flags=re.M | re.S)
+    prose = re.sub(r"^```.*?^```|^    [^\n]*$|`[^`\n]*`|\]\([^)]*\)", blank, pages[page], flags=re.M | re.S)
     prose = list(NO_FIGURES.sub(blank, prose))
-    for at, is_now, _ in figures_of(page, text):
+    for at, is_now, _ in figures_of(page):
         prose[at:at + len(is_now)] = " " * len(is_now)
     for it in re.finditer(r"(?<![\w.,-])\d[\d,]*(?:\.\d+)?(?!\w)", "".join(prose)):
         if len(re.sub(r"\D", "", it[0])) > 1:
             yield it.start(), it[0]
 
 
-def failures_of(page, text):
-    """What differs on a page, and what is not known."""
-    for at, is_now, wanted in figures_of(page, text):
-        if is_now != wanted:
-            yield f"{place(page, at, text)}: {is_now} has to be {wanted}"
-    for at, it in unknown_in(page, text):
-        yield f"{place(page, at, text)}: no check knows the figure {it}"
-
-
 def fix():
     """Puts what each figure has to be in the place of what it is."""
     for page in pages:
         text = pages[page]
-        for at, is_now, wanted in sorted(figures_of(page, text), reverse=True):
+        for at, is_now, wanted in sorted(figures_of(page), reverse=True):
             if at:
                 text = text[:at] + wanted + text[at + len(is_now):]
         if text != pages[page]:
@@ -360,8 +351,10 @@ for job, recorded, counted in counted_again():
 if sys.argv[1:] == ["--fix"]:
     fix()
 for page in pages:
-    for failure in failures_of(page, pages[page]):
-        expect(False, failure)
+    for at, is_now, wanted in figures_of(page):
+        expect(is_now == wanted, f"{place(page, at)}: {is_now} has to be {wanted}")
+    for at, it in unknown_in(page):
+        expect(False, f"{place(page, at)}: no check knows the figure {it}")
 
 for failure in failures:
     print(f"FAILED: {failure}")
