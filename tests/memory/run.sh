@@ -16,9 +16,11 @@ cd "$(dirname "$0")/../.."
 rows=$PWD/crates/getopts_refused/out/getopts_refused
 show=$PWD/crates/getopts_show/out/getopts_show
 shell=$PWD/crates/getopts_shell/out/getopts_shell
-for program in "$(command -v rt)" "$rows" "$show" "$shell"; do
-    check "'rt ci' has built ${program:-, and there is rt}" [ -x "$program" ] || { finish; exit 1; }
-done
+if ! has rt "$rows" "$show" "$shell"; then
+    skip "refused memory: there is no rt, or 'rt ci' has not built each of $rows, $show and $shell"
+    finish
+    exit
+fi
 
 # The toolchain's C compiler and linker.
 tools=$(dirname "$(rt doc)")/toolchain/bin
