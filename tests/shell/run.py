@@ -22,16 +22,9 @@ import sys
 from pathlib import Path
 
 from common import ROOT, canonical, case_of, expect, fail, in_each_shell, main, run, shells, written
-from rows import all_rows
+from rows import ask
 
 LINES = int(sys.argv[2]) if len(sys.argv) > 2 else 2000
-
-
-def rows(program):
-    """The program's answers, beside those of the rows."""
-    for words, text, status in all_rows():
-        streams = (text, "") if status == 0 else ("", text)
-        expect(f"{[word[:60] for word in words]}", run([program, *words]), status, *streams)
 
 
 def random_lines(program, found, room):
@@ -266,7 +259,7 @@ def changed_tables(program):
 def test(program, room):
     found = shells()
     print("shells:", ", ".join(" ".join(shell) for shell in found))
-    rows(program)
+    ask(program)
     random_lines(program, found, room)
     page(program, found, room)
     beside_getopt(program)
