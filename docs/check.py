@@ -16,7 +16,6 @@ Where valgrind and the built getopts_bench are there, some jobs of bench/last_ru
 'N passed, M failed'.
 """
 import functools
-import glob
 import os
 import re
 import shutil
@@ -44,19 +43,6 @@ pages = {name: read(name) for name in tracked if name.endswith(".md")}
 def place(page, at):
     """A page, and the line of a place in it."""
     return f"{page}:{pages[page].count(chr(10), 0, at) + 1}"
-
-
-# ---- what is counted ----
-
-
-def files(*patterns):
-    """How many files there are."""
-    return f"{sum(len(glob.glob(it)) for it in patterns):,}"
-
-
-def stated(name, pattern):
-    """A number that a source file states."""
-    return f"{int(re.search(pattern, read(name))[1]):,}"
 
 
 # ---- what is recorded ----
@@ -128,9 +114,9 @@ def counted_again():
 
 
 # The figures that stand in no table of jobs: a page, a pattern whose groups are figures, and what each has to be.
-EDITS = ["tests/must-fail/*/*.edit", "crates/*/must-fail/*.edit"]
+edits = {os.path.basename(name)[:-5] for name in tracked if name.endswith(".edit") and "/private/" not in name}
 FIGURES = [
-    ("README.md", r"\| ([\d,]+) named wrong bodies", lambda: [files(*EDITS)]),
+    ("README.md", r"\| ([\d,]+) named wrong bodies", lambda: [str(len(edits))]),
     ("README.md", r"logic `(\w+)`", lambda: [logic()]),
     ("README.md", r"`\(cd crates/getopts && rt lib\)` .* \| ([^|]*) \| ([^|]*) \|", lambda: minutes("rt lib")),
     ("README.md", r"`bash test.sh` .* \| ([^|]*) \| ([^|]*) \|", lambda: minutes("bash test.sh")),
@@ -143,7 +129,7 @@ FIGURES = [
      lambda: [f"{int(cell(INSTRUCTIONS, 'small', 'this library')):,}"]),
     ("CALLING.md", r"the library once, in ([^|]*?) of processor time", lambda: minutes("rt lib")[:1]),
     ("tests/differential/README.md", r"first ([\d,]+) of seed 1",
-     lambda: [stated("tests/differential/record.sh", r"choose 1 (\d+)")]),
+     lambda: [f"{int(re.search(r'choose 1 (.*?) ', read('tests/differential/record.sh'))[1]):,}"]),
     ("bindings/rust/README.md", r"Rust ([\d.]+) or later",
      lambda: re.findall(r'rust-version = "(.*)"', read("bindings/rust/Cargo.toml"))),
     ("bindings/shell/README.md", r"Rust ([\d.]+) or later",
@@ -302,10 +288,8 @@ for crate in ["getopts", "getopts_show", "getopts_bytes", "getopts_c", "getopts_
                 passed_over = it in ("mod", "use") or crate == "getopts_shell" and it[0].islower()
                 expect(passed_over or it in named, f"docs/GRAMMAR.md doesn't name {it} of {name}")
 
-for name in tracked:
-    if name.endswith(".edit") and "/private/" not in name:
-        edit = os.path.basename(name).removesuffix(".edit")
-        expect(f"`{edit}`" in pages["docs/PROOFS.md"], f"docs/PROOFS.md doesn't name the edit {edit}")
+for edit in sorted(edits):
+    expect(f"`{edit}`" in pages["docs/PROOFS.md"], f"docs/PROOFS.md doesn't name the edit {edit}")
 
 # Names of the toolchain, of Rust and of Debian's packages.
 OTHERS = """Lends LendsIfOk RestsIfErr Send Sync unicode-width x86-64-v2 POSIXLY_CORRECT optind

@@ -211,7 +211,7 @@ def ask(program, most=200_000):
 
 if __name__ == "__main__":
     program, like = sys.argv[-2:]
-    ask(program, *[10_000] * (sys.argv[1] == "--short"))
+    ask(program, 10_000 if sys.argv[1] == "--short" else 200_000)
     for shell in ("bash", "zsh", "fish"):
         words = ["--complete", shell, "backup", TABLE]
         expect(f"{words}", run([program, *words]), 0, run([like, *words]).stdout.decode())
