@@ -162,14 +162,8 @@ if [ -n "$quick" ]; then
     begin "the program by cargo" bash bindings/shell/cargo.sh 300
     begin "C" bash bindings/c/test.sh --quick
     begin "the program for shell scripts" bash tests/shell/run.sh
-    if [ -x crates/getopts_vectors/out/getopts_vectors ] && [ -x crates/getopts_show/out/getopts_show ] &&
-        [ -x crates/getopts_shell/out/getopts_shell ]; then
-        begin "refused memory" bash tests/memory/run.sh
-        begin "the programs and the system" python3 tests/system/run.py
-    else
-        echo "skipped: refused memory, and the programs and the system: the whole test builds their programs" |
-            tee -a "$room/said"
-    fi
+    begin "refused memory" bash tests/memory/run.sh
+    begin "the programs and the system" python3 tests/system/run.py
     part "tests and programs of all crates, unproved" bash tests/unproved.sh
 else
     # Each of these begins beside the proofs, and waits for what it stands on.

@@ -1,7 +1,7 @@
 #!/usr/bin/env bash
 # Checks functions of a crate over the library getopts as it was proved already.
 #
-#     bindings/over.sh RLIB only FUNCTION..   checks these functions of one crate, with those that they call
+#     bindings/over.sh RLIB FUNCTION..   checks these functions of one crate, with those that they call
 #
 # RLIB is the folder getopts.rlib that a proof of the library left (`rt ci` leaves one in crates/getopts/out/rlib). To
 # prove the library once more would give the same bytes. archive.sh and program.sh source this script, and build by it.
@@ -85,10 +85,8 @@ same() {
 }
 
 if [ "${BASH_SOURCE[0]}" = "$0" ]; then
-    if [ $# -lt 3 ] || [ "$2" != only ]; then
-        stop 'usage: bindings/over.sh RLIB only FUNCTION..'
-    fi
+    [ $# -gt 1 ] || stop 'usage: bindings/over.sh RLIB FUNCTION..'
     only=()
-    for function in "${@:3}"; do only+=(--only "$function"); done
-    over "$1" check "${3%%::*}" "${only[@]}"
+    for function in "${@:2}"; do only+=(--only "$function"); done
+    over "$1" check "${2%%::*}" "${only[@]}"
 fi

@@ -16,7 +16,6 @@ Where valgrind and the built getopts_bench are there, some jobs of bench/last_ru
 'N passed, M failed'.
 """
 import functools
-import glob
 import os
 import re
 import shutil
@@ -41,22 +40,9 @@ tracked = [it for it in output_of("git", "ls-files", "-co", "--exclude-standard"
 pages = {name: read(name) for name in tracked if name.endswith(".md")}
 
 
-def place(page, at, text=None):
+def place(page, at):
     """A page, and the line of a place in it."""
-    return f"{page}:{(text or pages[page]).count(chr(10), 0, at) + 1}"
-
-
-# ---- what is counted ----
-
-
-def files(*patterns):
-    """How many files there are."""
-    return f"{sum(len(glob.glob(it)) for it in patterns):,}"
-
-
-def stated(name, pattern):
-    """A number that a source file states."""
-    return f"{int(re.search(pattern, read(name))[1]):,}"
+    return f"{page}:{pages[page].count(chr(10), 0, at) + 1}"
 
 
 # ---- what is recorded ----
@@ -128,9 +114,9 @@ def counted_again():
 
 
 # The figures that stand in no table of jobs: a page, a pattern whose groups are figures, and what each has to be.
-EDITS = "tests/must-fail/*/*.edit"
+edits = {os.path.basename(name)[:-5] for name in tracked if name.endswith(".edit") and "/private/" not in name}
 FIGURES = [
-    ("README.md", r"\| ([\d,]+) named wrong bodies", lambda: [files(EDITS)]),
+    ("README.md", r"\| ([\d,]+) named wrong bodies", lambda: [str(len(edits))]),
     ("README.md", r"logic `(\w+)`", lambda: [logic()]),
     ("README.md", r"`\(cd crates/getopts && rt lib\)` .* \| ([^|]*) \| ([^|]*) \|", lambda: minutes("rt lib")),
     ("README.md", r"`bash test.sh` .* \| ([^|]*) \| ([^|]*) \|", lambda: minutes("bash test.sh")),
@@ -143,7 +129,7 @@ FIGURES = [
      lambda: [f"{int(cell(INSTRUCTIONS, 'small', 'this library')):,}"]),
     ("CALLING.md", r"the library once, in ([^|]*?) of processor time", lambda: minutes("rt lib")[:1]),
     ("tests/differential/README.md", r"first ([\d,]+) of seed 1",
-     lambda: [stated("tests/differential/record.sh", r"choose 1 (\d+)")]),
+     lambda: [f"{int(re.search(r'choose 1 (.*?) ', read('tests/differential/record.sh'))[1]):,}"]),
     ("bindings/rust/README.md", r"Rust ([\d.]+) or later",
      lambda: re.findall(r'rust-version = "(.*)"', read("bindings/rust/Cargo.toml"))),
     ("bindings/shell/README.md", r"Rust ([\d.]+) or later",
@@ -165,10 +151,10 @@ NO_FIGURES = re.compile(r"""
 # ---- what is compared ----
 
 
-def table_figures(page, text):
+def table_figures(page):
     """The figures in tables of jobs, by the job and the column of each."""
     columns = []
-    for row in re.finditer(r"^\|.*\|$", text, re.M):
+    for row in re.finditer(r"^\|.*\|$", pages[page], re.M):
         cells = [(row.start() + it.start(1), it[1]) for it in re.finditer(r"(?<=\|) *([^|]*?) *(?=\|)", row[0])]
         if cells[0][1] == "job":
             columns = [it for _, it in cells]
@@ -179,42 +165,33 @@ def table_figures(page, text):
                     yield at, cell_text, re.sub(r"^\d+", lambda it: f"{int(it[0]):,}", wanted)
 
 
-def figures_of(page, text):
+def figures_of(page):
     """The figures of a page that are known: where each is, what it is, and what it has to be."""
-    yield from table_figures(page, text)
+    yield from table_figures(page)
     for name, pattern, values in FIGURES:
         if name == page:
-            it = re.search(pattern, text)
+            it = re.search(pattern, pages[page])
             for group, wanted in enumerate(values(), 1):
                 yield (it.start(group), it[group], wanted) if it else (0, f"nothing for '{pattern}'", wanted)
 
 
-def unknown_in(page, text):
+def unknown_in(page):
     """The numbers of ten or more in the prose of a page that no check knows."""
     blank = lambda it: " " * len(it[0])
-    prose = re.sub(r"^```.*?^```|^    [^\n]*$|`[^`\n]*`|\]\([^)]*\)", blank, text, flags=re.M | re.S)
+    prose = re.sub(r"^```.*?^```|^    [^\n]*$|`[^`\n]*`|\]\([^)]*\)", blank, pages[page], flags=re.M | re.S)
     prose = list(NO_FIGURES.sub(blank, prose))
-    for at, is_now, _ in figures_of(page, text):
+    for at, is_now, _ in figures_of(page):
         prose[at:at + len(is_now)] = " " * len(is_now)
     for it in re.finditer(r"(?<![\w.,-])\d[\d,]*(?:\.\d+)?(?!\w)", "".join(prose)):
         if len(re.sub(r"\D", "", it[0])) > 1:
             yield it.start(), it[0]
 
 
-def failures_of(page, text):
-    """What differs on a page, and what is not known."""
-    for at, is_now, wanted in figures_of(page, text):
-        if is_now != wanted:
-            yield f"{place(page, at, text)}: {is_now} has to be {wanted}"
-    for at, it in unknown_in(page, text):
-        yield f"{place(page, at, text)}: no check knows the figure {it}"
-
-
 def fix():
     """Puts what each figure has to be in the place of what it is."""
     for page in pages:
         text = pages[page]
-        for at, is_now, wanted in sorted(figures_of(page, text), reverse=True):
+        for at, is_now, wanted in sorted(figures_of(page), reverse=True):
             if at:
                 text = text[:at] + wanted + text[at + len(is_now):]
         if text != pages[page]:
@@ -311,10 +288,8 @@ for crate in ["getopts", "getopts_show", "getopts_bytes", "getopts_c", "getopts_
                 passed_over = it in ("mod", "use") or crate == "getopts_shell" and it[0].islower()
                 expect(passed_over or it in named, f"docs/GRAMMAR.md doesn't name {it} of {name}")
 
-for name in tracked:
-    if name.endswith(".edit") and "/private/" not in name:
-        edit = os.path.basename(name).removesuffix(".edit")
-        expect(f"`{edit}`" in pages["docs/PROOFS.md"], f"docs/PROOFS.md doesn't name the edit {edit}")
+for edit in sorted(edits):
+    expect(f"`{edit}`" in pages["docs/PROOFS.md"], f"docs/PROOFS.md doesn't name the edit {edit}")
 
 # Names of the toolchain, of Rust and of Debian's packages.
 OTHERS = """Lends LendsIfOk RestsIfErr Send Sync unicode-width x86-64-v2 POSIXLY_CORRECT optind
@@ -360,8 +335,10 @@ for job, recorded, counted in counted_again():
 if sys.argv[1:] == ["--fix"]:
     fix()
 for page in pages:
-    for failure in failures_of(page, pages[page]):
-        expect(False, failure)
+    for at, is_now, wanted in figures_of(page):
+        expect(is_now == wanted, f"{place(page, at)}: {is_now} has to be {wanted}")
+    for at, it in unknown_in(page):
+        expect(False, f"{place(page, at)}: no check knows the figure {it}")
 
 for failure in failures:
     print(f"FAILED: {failure}")

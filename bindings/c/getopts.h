@@ -91,7 +91,7 @@ const char *getopts_value(const struct getopts *options, const char *name, size_
 
 /* Stores that value in *value if it is a decimal number that fits a long. Returns false, and stores nothing, if
  * it isn't. If there is no value, it stores nothing and returns true, so that a default stays: also where no option
- * has that name, which getopts_defined tells. */
+ * has that name, which getopts_defined says. */
 bool getopts_long_value(const struct getopts *options, const char *name, size_t nth, long *value);
 
 /* How many words are free. */

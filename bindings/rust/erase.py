@@ -1,10 +1,10 @@
 #!/usr/bin/env python3
 """Erases the contracts of a proved crate: what is left is Rust, and is what is proved.
 
-    bindings/rust/erase.py [--check] [CRATE [FOLDER]]
+    bindings/rust/erase.py [--check]
 
-Writes the Rust of a crate, or of all, to a folder, or to the one that CRATES names. With --check it writes nothing, and
-status 1 says that what stands there is not what it would write. It needs `rustfmt`, which lays the Rust out.
+Writes the Rust of each crate to the folder that CRATES names. With --check it writes nothing, and status 1 says that
+what stands there is not what it would write. It needs `rustfmt`, which lays the Rust out.
 
 It reads a crate's files as tokens. It deletes whole constructs that mean nothing when a program runs:
 
@@ -286,15 +286,12 @@ def rust_of(path, module, names):
 
 
 def main(arguments):
-    check = arguments[:1] == ["--check"]
-    arguments = arguments[check:]
-    if len(arguments) > 2 or arguments[:1] and arguments[0] not in CRATES:
-        print("usage: bindings/rust/erase.py [--check] [CRATE [FOLDER]]", file=sys.stderr)
+    if arguments not in ([], ["--check"]):
+        print("usage: bindings/rust/erase.py [--check]", file=sys.stderr)
         return 2
     status = 0
-    for name in arguments[:1] or CRATES:
-        folder, module, names = CRATES[name]
-        folder, files = Path(arguments[1]) if arguments[1:] else TOP / folder, {}
+    for name, (folder, module, names) in CRATES.items():
+        folder, files = TOP / folder, {}
         for path in sorted((TOP / "crates" / name / "src").glob("*.rt")):
             if path.stem not in LEFT_OUT:
                 files["mod.rs" if path.stem in ("lib", "main") else path.stem + ".rs"] = rust_of(path, module, names)
@@ -302,7 +299,7 @@ def main(arguments):
         for file in sorted(files.keys() | there.keys()):
             if files.get(file) == there.get(file):
                 continue
-            if check:
+            if arguments:
                 print(f"{folder / file} isn't what crates/{name}/src gives")
                 status = 1
             elif file in files:

@@ -30,7 +30,6 @@ same_licences() {
 check "the licences" same_licences
 
 # The source: what is there is what the eraser writes, and a second program finds the same tokens.
-source=$top/crates/getopts/src
 same_tokens() { "$here/same_tokens.py" "$top/crates/$1/src" "$2"; }
 # planted FILE EDIT: whether a file that isn't the source is found.
 planted() {
@@ -40,9 +39,9 @@ planted() {
 # stops FILE EDIT TEXT: whether the eraser stops at what it can't erase, and says so.
 stops() {
     rm -rf "$room/stops" && mkdir -p "$room/stops/bindings/rust" "$room/stops/crates/getopts" &&
-        cp "$here/erase.py" "$room/stops/bindings/rust" && cp -r "$source" "$room/stops/crates/getopts" &&
+        cp "$here/erase.py" "$room/stops/bindings/rust" && cp -r "$top/crates/getopts/src" "$room/stops/crates/getopts" &&
         sed -i "$2" "$room/stops/crates/getopts/src/$1" || return 1
-    ! "$room/stops/bindings/rust/erase.py" getopts "$room/stops/out" 2>"$room/why" && grep -x ".*$1:[0-9]*: $3" "$room/why"
+    ! "$room/stops/bindings/rust/erase.py" --check 2>"$room/why" && grep -x ".*$1:[0-9]*: $3" "$room/why"
 }
 if ! has python3; then
     skip "whether the erased source is that of today: there is no python3"
@@ -102,16 +101,12 @@ alone() {
     [ "$(sed 's/ v.*//' "$room/tree" | sort -u | tr '\n' ' ')" = "getopts unicode-width " ]
 }
 clippy=
-if cargo fmt --version >/dev/null 2>&1; then
-    check "cargo fmt" formatted
-else
-    skip "cargo fmt: it isn't there"
-fi
-if cargo clippy --version >/dev/null 2>&1; then
+if cargo fmt --version >/dev/null 2>&1 && cargo clippy --version >/dev/null 2>&1; then
     clippy=yes
+    check "cargo fmt" formatted
     check "cargo clippy" linted
 else
-    skip "cargo clippy: it isn't there"
+    skip "cargo fmt and cargo clippy: they aren't there"
 fi
 check "cargo doc" documented
 check "cargo package" packaged
@@ -177,11 +172,11 @@ if twin theirs "$crate" >"$room/said" 2>&1; then
         says "$cases cases without unicode" alike bare their_bare 3 $cases
         says "$more random cases without unicode" alike bare their_bare 4 "$more"
     fi
-    # A planted difference is told.
+    # A planted difference is found.
     cp -r "$here" "$room/other"
     sed -i 's|first_value_or(def)|first_value_or("")|' "$room/other/src/matches.rs"
     check "the twin over a planted difference" twin differs "$room/other"
-    check "a planted difference is told" differ
+    check "a planted difference is found" differ
 else
     skip "the crate getopts 0.2.24 on the same cases: it is not to be had"
 fi

@@ -37,23 +37,17 @@ fi
 ours=$room/root/bin/getopts_shell
 theirs=$here/$(uname -m)/getopts_shell
 
-# beside [--short] OTHER: whether another program answers as the static one.
-asked=$top/tests/shell/asked.sh
-beside() { cmp <("$asked" "${@:1:$#-1}" "$theirs") <("$asked" "$@"); }
-if [ -x "$theirs" ]; then
-    check "beside the static program" beside "$ours"
+rows=$top/tests/shell/rows.py
+if [ -x "$theirs" ] && has python3; then
+    check "its answers, and code as of the static program" python3 "$rows" "$ours" "$theirs"
+    check "its answers in shells" python3 "$top/tests/shell/run.py" "$ours" "${1:-2000}"
 else
-    skip "beside the static program: there is no bindings/shell/$(uname -m)/getopts_shell"
-fi
-if has python3; then
-    check "its answers by the rules" python3 "$top/tests/shell/run.py" "$ours" "${1:-2000}"
-else
-    skip "its answers by the rules: there is no python3"
+    skip "its answers: there is no python3, or no bindings/shell/$(uname -m)/getopts_shell"
 fi
 
 # Windows, by Debian's rustc 1.63. What the source has that is newer is switched on there.
 windows=x86_64-pc-windows-gnu
-if [ ! -x "$theirs" ] || ! has "$wine" x86_64-w64-mingw32-gcc /usr/bin/rustc /usr/bin/cargo ||
+if [ ! -x "$theirs" ] || ! has python3 "$wine" x86_64-w64-mingw32-gcc /usr/bin/rustc /usr/bin/cargo ||
     [ ! -d "$(/usr/bin/rustc --print target-libdir --target $windows)" ] || [ ! -f "$room/registry.toml" ]; then
     skip "Windows: there is no wine, no x86_64-w64-mingw32-gcc, no rustc with a std for it, or no static program"
 else
@@ -70,7 +64,7 @@ else
         chmod +x "$room/by_wine"
         # The first run makes wine's folder, and says so.
         "$room/by_wine" --help >/dev/null 2>&1
-        check "beside the static program, under wine" beside --short "$room/by_wine"
+        check "its answers under wine" python3 "$rows" --short "$room/by_wine" "$theirs"
     fi
 fi
 finish

@@ -236,7 +236,7 @@ class Session:
             return []
         if word in ("words", "ignoring_counts"):
             self.read = self.options.parse(fields, word == "words")
-            return [self.told("accepted", self.read)]
+            return [self.result("accepted", self.read)]
         if word == "canonical":
             return [self.canonical(fields)]
         if word == "lawful":
@@ -252,7 +252,7 @@ class Session:
             return [line(word, fields[0], "undefined")] if place is None else getattr(self, word)(own, *fields)
         return [None]
 
-    def told(self, word, read):
+    def result(self, word, read):
         if len(read) == 2:
             return line("refused", read[0], read[1], TEXTS[read[0]] % read[1])
         return line(word, "-" if read[2] is None else read[2], *read[1])
@@ -260,7 +260,7 @@ class Session:
     def canonical(self, words):
         read = self.options.parse(words)
         if len(read) == 2:
-            return b"canonical\t" + self.told("", read)
+            return b"canonical\t" + self.result("", read)
         written = self.options.canonical(read)
         return line("canonical", "none") if written is None else line("canonical", "line", *written)
 

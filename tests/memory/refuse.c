@@ -3,7 +3,7 @@
  *
  * Counted are all requests of the program, or, with REFUSE_MARKS=1, those between a request of BEFORE
  * bytes and one of AFTER bytes. The request whose number is REFUSE_AT is refused, and with REFUSE_ON=1
- * all after it too. At the end of the program a line on standard error tells how many requests were
+ * all after it too. At the end of the program a line on standard error says how many requests were
  * refused, and how many marks were met. */
 
 typedef unsigned long size;

@@ -96,7 +96,7 @@ try_edits() {
         mapfile -t functions <<<"$functions"
         for at in "${functions[@]}"; do only+=(--only "$at"); done
         if [ -n "$over" ] && [ "$crate" != getopts ]; then
-            bash "$copy/bindings/over.sh" "$over" only "${functions[@]}" >"$copy/said" 2>&1 || status=$?
+            bash "$copy/bindings/over.sh" "$over" "${functions[@]}" >"$copy/said" 2>&1 || status=$?
         else
             (cd "$folder" && rt check --jobs 1 "${only[@]}") >"$copy/said" 2>&1 || status=$?
         fi

@@ -1,7 +1,17 @@
+#!/usr/bin/env python3
 """What the program answers: its words, the text, and the status, by the rules.
 
 The text is on the standard output where the status is 0, and else on the standard error; the other is empty.
+
+usage: tests/shell/rows.py [--short] PROGRAM LIKE
+
+Asks a program each row, or with --short those that aren't too long for Windows. Its code for completion has to be that of
+the program LIKE.
 """
+
+import sys
+
+from common import expect, failed, run
 
 TABLE = """
 -i|--input FILE       read this file
@@ -189,3 +199,20 @@ def all_rows():
         yield own + ["try", table, "-v"], f"getopts_shell: {why}\n", 5
     for table, number, item, why in REFUSED:
         yield ["x", table], f"getopts_shell: line {number} of the options: {item}: {why}\n", 5
+
+
+def ask(program, most=200_000):
+    """The answers of a program to the rows with words of so many bytes at most."""
+    for words, text, status in all_rows():
+        if sum(map(len, words)) <= most:
+            streams = (text, "") if status == 0 else ("", text)
+            expect(f"{[word[:60] for word in words]}", run([program, *words]), status, *streams)
+
+
+if __name__ == "__main__":
+    program, like = sys.argv[-2:]
+    ask(program, 10_000 if sys.argv[1] == "--short" else 200_000)
+    for shell in ("bash", "zsh", "fish"):
+        words = ["--complete", shell, "backup", TABLE]
+        expect(f"{words}", run([program, *words]), 0, run([like, *words]).stdout.decode())
+    sys.exit(bool(failed))

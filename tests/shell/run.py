@@ -9,7 +9,8 @@ usage: tests/shell/run.py [PROGRAM [COUNT]]
 - getopt(1) reads the same options, values and free words, for tables and words that both take.
 - Tables with one byte changed have the fault that a reader of the rules here finds, or none.
 
-There are COUNT random lines, or 2,000. It says which shells it found. What is expected is computed here, by the rules, and not by the program.
+There are COUNT random lines, or 2,000. It says which shells it found. What is expected is computed here, by the rules,
+and not by the program.
 """
 
 import os
@@ -20,66 +21,19 @@ import shutil
 import sys
 from pathlib import Path
 
-from common import ROOT, expect, fail, in_each_shell, main, run, shells, text_of
-from rows import all_rows
+from common import ROOT, canonical, case_of, expect, fail, in_each_shell, main, run, shells, written
+from rows import ask
 
 LINES = int(sys.argv[2]) if len(sys.argv) > 2 else 2000
-# Every option may come again, so that counts play no part.
-MANY = """
-[-i|--input FILE]..
-[-o|--output FILE]..
-[-v|--verbose]..
-[-c|--color [WHEN]]..
-[-L DIR]..
-"""
-
-
-def rows(program):
-    """The program's answers, beside those of the rows."""
-    for words, text, status in all_rows():
-        streams = (text, "") if status == 0 else ("", text)
-        expect(f"{[word[:60] for word in words]}", run([program, *words]), status, *streams)
-
-
-def line_of(rng):
-    """Random words by the table MANY, and their canonical line by the rules."""
-    words, options, free = [], [], []
-    for _ in range(rng.randrange(0, 5)):
-        kind, value = rng.randrange(8), text_of(rng)
-        if kind == 0:
-            words += ["-o", value]
-            options.append("--output=" + value)
-        elif kind == 1:
-            words.append("--input=" + value)
-            options.append("--input=" + value)
-        elif kind == 2:
-            words += ["--output", value]
-            options.append("--output=" + value)
-        elif kind == 3:
-            words.append("-vvL" + value if value else "-v")
-            options += ["--verbose", "--verbose", "--L=" + value] if value else ["--verbose"]
-        elif kind == 4:
-            words.append("--color=" + value)
-            options.append("--color=" + value)
-        elif kind == 5:
-            words += ["--color", "-v"]
-            options += ["--color", "--verbose"]
-        elif value == "-" or not value.startswith("-"):
-            words.append(value)
-            free.append(value)
-    if rng.random() < 0.5:
-        rest = [text_of(rng) for _ in range(rng.randrange(0, 4))]
-        words += ["--"] + rest
-        free += rest
-    return words, options + ["--"] + free
 
 
 def random_lines(program, found, room):
     rng = random.Random(43)
     cases = []
     for place in range(LINES):
-        words, line = line_of(rng)
-        done = run([program, "try", MANY] + words)
+        options, words, given, free = case_of(rng)
+        line = canonical(options, given, free)
+        done = run([program, "try", written(options)] + words)
         if done.returncode != 0 or done.stderr:
             fail(f"random line {place}: status {done.returncode} for {words!r}: {done.stderr!r}")
         (room / f"code.{place}").write_bytes(done.stdout)
@@ -152,26 +106,24 @@ def examples(shell, path, room):
         fail(f"{' '.join(shell)}: the example notes, refused: {done}")
 
 
-def by_getopt(words):
+def by_getopt(options, words):
     """What getopt(1) reads, in canonical form, or None where it refuses the words."""
-    done = run(["getopt", "-o", "i:o:vc::L:", "--long", "input:,output:,verbose,color::", "--"] + words,
-               env={**os.environ, "LC_ALL": "C.UTF-8"})
+    colons = {"no": "", "yes": ":", "maybe": "::"}
+    shorts = "".join(short + colons[kind] for short, _, kind, _ in options if short)
+    longs = ",".join(long + colons[kind] for _, long, kind, _ in options if long)
+    done = run(["getopt", "-o", shorts, "--long", longs, "--"] + words, env={**os.environ, "LC_ALL": "C.UTF-8"})
     if done.returncode != 0:
         return None
-    names = {"-i": "--input", "-o": "--output", "-v": "--verbose", "-c": "--color", "-L": "--L"}
-    told, line, place = shlex.split(os.fsdecode(done.stdout)), [], 0
-    while told[place] != "--":
-        name = names.get(told[place], told[place])
-        if name in ("--input", "--output", "--L"):
-            place += 1
-            line.append(f"{name}={told[place]}")
-        elif name == "--color":
-            place += 1
-            line.append(name if told[place] == "" else f"{name}={told[place]}")
-        else:
-            line.append(name)
-        place += 1
-    return line + told[place:]
+    names = {}
+    for place, (short, long, _, _) in enumerate(options):
+        names |= {f"-{short}": place, f"--{long}": place}
+    wrote, given = shlex.split(os.fsdecode(done.stdout)), []
+    while (name := wrote.pop(0)) != "--":
+        place = names[name]
+        value = wrote.pop(0) if options[place][2] != "no" else None
+        # With getopt(1) an optional argument that is empty is none.
+        given.append((place, None if options[place][2] == "maybe" and not value else value))
+    return canonical(options, given, wrote)
 
 
 def beside_getopt(program):
@@ -179,23 +131,24 @@ def beside_getopt(program):
         print("no getopt(1) of util-linux here")
         return
     rng = random.Random(44)
-    refused = 0
-    for place in range(500):
-        words, _ = line_of(rng)
-        if rng.random() < 0.2:
-            words.insert(0, rng.choice(["-x", "--nope", "--verbose=a", "--nope=b", "-vx"]))
-        if rng.random() < 0.1:
-            words.append(rng.choice(["-o", "--input", "-vL"]))
-        # With getopt(1) an optional argument that is empty is none.
-        if any(word == "--color=" for word in words):
+    asked = refused = 0
+    while asked < 500:
+        options, words, given, _ = case_of(rng)
+        if any(options[place][2] == "maybe" and value == "" for place, value in given):
             continue
-        done = run([program, "-w", "try", MANY] + words)
+        if rng.random() < 0.2:
+            short, long, kind, _ = rng.choice(options)
+            flags = ([f"-{short}x"] if short else []) + ([f"--{long}=a"] if long else []) if kind == "no" else []
+            words.insert(0, rng.choice(["-x", "--nope", "--nope=b"] + flags))
+        if rng.random() < 0.1 and "--" not in words:
+            words += [f"-{short}" if short else f"--{long}" for short, long, kind, _ in options if kind == "yes"][:1]
+        done = run([program, "-w", "try", written(options)] + words)
         ours = shlex.split(os.fsdecode(done.stdout)) if done.returncode == 0 else None
-        theirs = by_getopt(words)
-        refused += ours is None
+        theirs = by_getopt(options, words)
+        asked, refused = asked + 1, refused + (ours is None)
         if ours != theirs:
             fail(f"beside getopt: {words!r}: {ours!r}, and {theirs!r}")
-    print(f"beside getopt(1): 500 lines, {refused} refused by both")
+    print(f"beside getopt(1): {asked} lines, {refused} refused by both")
 
 
 GAP = "a tab or two spaces have to come before the description"
@@ -306,7 +259,7 @@ def changed_tables(program):
 def test(program, room):
     found = shells()
     print("shells:", ", ".join(" ".join(shell) for shell in found))
-    rows(program)
+    ask(program)
     random_lines(program, found, room)
     page(program, found, room)
     beside_getopt(program)

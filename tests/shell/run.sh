@@ -24,10 +24,18 @@ fi
 check "the shells" python3 "$top/tests/shell/run.py" "$program" && cat "$room/said"
 check "variables" python3 "$top/tests/shell/variables.py" "$program" && cat "$room/said"
 check "completion in terminals" python3 "$top/tests/shell/complete.py" "$program" && cat "$room/said"
+if has valgrind; then
+    check "the instructions of a run" bash "$top/bench/shell.sh" "$program" && cat "$room/said"
+else
+    skip "the instructions of a run: there is no valgrind"
+fi
 
-# What a processor that isn't this machine's answers is the same.
-asked=$top/tests/shell/asked.sh
-by_qemu() { cmp <("$asked" "$program") <("$asked" qemu-aarch64 "$here/aarch64/getopts_shell"); }
+# The program for aarch64 gives the answers of the rows too.
+by_qemu() {
+    printf '#!/bin/sh\nexec qemu-aarch64 "%s" "$@"\n' "$here/aarch64/getopts_shell" >"$room/by_qemu"
+    chmod +x "$room/by_qemu"
+    python3 "$top/tests/shell/rows.py" "$room/by_qemu" "$program"
+}
 if [ "$(uname -m)" = aarch64 ]; then
     skip 'the program for aarch64 by qemu: this machine is one'
 elif has qemu-aarch64; then

@@ -13,77 +13,14 @@ What is expected is computed here, by the rules, and not by the program.
 import os
 import random
 
-from common import expect, fail, in_each_shell, main, run, shells, text_of
+from common import case_of, expect, fail, in_each_shell, main, run, shells, written
 from rows import TABLE
 
 LINES = 2000
 WITH_ARRAYS = ["bash", "zsh", "ksh93", "mksh", "yash"]
 
 
-def table_of(rng):
-    """A random table: for each option its short and long name, its kind and how often it may come."""
-    shorts, longs = list("abcdefgXYZ"), ["aa", "b-b", "c_c", "K3", "e-1-f", "g--h", "long-", "_x"]
-    rng.shuffle(shorts)
-    rng.shuffle(longs)
-    options = []
-    for _ in range(rng.randrange(1, 7)):
-        short, long = rng.choice([(True, False), (False, True), (True, True)])
-        names = (shorts.pop() if short else "", longs.pop() if long else "")
-        options.append((*names, rng.choice(["no", "yes", "yes", "maybe"]), rng.choice(["once", "may", "may", "many"])))
-    return options
-
-
-def written(options):
-    lines = []
-    for short, long, kind, count in options:
-        names = "|".join(([f"-{short}"] if short else []) + ([f"--{long}"] if long else []))
-        inside = names + {"no": "", "yes": " X", "maybe": " [X]"}[kind]
-        lines.append({"once": "%s", "may": "[%s]", "many": "[%s].."}[count] % inside)
-    return "\n".join(lines)
-
-
-def spelled(rng, option, value):
-    short, long, _, _ = option
-    by_short = short and (not long or rng.random() < 0.5)
-    if value is None:
-        # A short name that may have an argument would take the next word.
-        return [f"-{short}"] if by_short and option[2] == "no" else [f"--{long}"]
-    if option[2] == "maybe":
-        return [f"-{short}{value}"] if by_short and value else [f"--{long}={value}"]
-    return rng.choice([[f"-{short}", value]] + ([[f"-{short}{value}"]] if value else []) if by_short
-                      else [[f"--{long}={value}"], [f"--{long}", value]])
-
-
-def case_of(rng):
-    """Random options, words by them, the values of each option in order, and the free words."""
-    options, parts, values, free = table_of(rng), [], [], []
-    for place, option in enumerate(options):
-        for _ in range({"once": 1, "may": rng.randrange(2), "many": rng.choice([0, 0, 1, 2, 3])}[option[3]]):
-            value = None if option[2] == "no" else text_of(rng)
-            if option[2] == "maybe" and (not value and not option[1] or option[1] and rng.random() < 0.3):
-                value = None if option[1] else "v"
-            # The Korn shell declares variables by some words at the front of an array, also in quotes.
-            if option[3] == "many" and value and rng.random() < 0.2:
-                value = rng.choice(["typeset", "integer", "export", "x=1", "[0]=x"])
-            parts.append((place, value))
-    parts += [(None, text_of(rng)) for _ in range(rng.randrange(3))]
-    rng.shuffle(parts)
-    words, values = [], [[] for _ in options]
-    for place, value in parts:
-        if place is not None:
-            words += spelled(rng, options[place], value)
-            values[place].append(value or "")
-        elif value == "-" or not value.startswith("-"):
-            words.append(value)
-            free.append(value)
-    if rng.random() < 0.5:
-        rest = [text_of(rng) for _ in range(rng.randrange(3))]
-        words += ["--"] + rest
-        free += rest
-    return options, words, values, free
-
-
-def told_of(option, values):
+def shown_of(option, values):
     """What the script shows of an option's variable."""
     if option[2] == "no":
         return ["set", str(len(values))]
@@ -96,7 +33,8 @@ def random_cases(program, found, room, arrays):
     rng = random.Random(50 + arrays)
     cases, env = [], dict(os.environ)
     for number in range(LINES):
-        options, words, values, free = case_of(rng)
+        options, words, given, free = case_of(rng)
+        values = [[value or "" for at, value in given if at == place] for place in range(len(options))]
         prefix = rng.choice(["opt_", "x", "_", "Opt9"])
         own = (["-A"] if arrays else []) + ["-V", prefix]
         done = run([program] + own + ["try", written(options)] + words)
@@ -108,15 +46,15 @@ def random_cases(program, found, room, arrays):
         env.update({name: "other" for name in names})
         script = [f"unset {name}; {name}='other'" if arrays else f"{name}='other'" for name in names]
         script.append(f"code=$(cat code.{number}) || exit\neval \"$code\"\nprintf '%s\\0' \"$#\" \"$@\"")
-        told = [str(len(free))] + free
+        wanted = [str(len(free))] + free
         for name, option, each in zip(names, options, values):
             if option[2] != "no" and option[3] == "many":
                 script.append(f"set -- ${{{name}+\"${{{name}[@]}}\"}}" if arrays else f"eval \"set -- ${name}\"")
                 script.append("printf '%s\\0' \"$#\" \"$@\"")
             else:
                 script.append(f"printf '%s\\0' \"${{{name}+set}}\" \"${{{name}-}}\"")
-            told += told_of(option, each)
-        cases.append(("\n".join(script), told))
+            wanted += shown_of(option, each)
+        cases.append(("\n".join(script), wanted))
     if arrays:
         print("skipped: arrays in shells that have none:", ", ".join(shell[0] for shell in found if shell[0] not in WITH_ARRAYS))
         found = [shell for shell in found if shell[0] in WITH_ARRAYS]

@@ -128,7 +128,7 @@ static const struct row {
         "    -o, --output NAME   set the output    -v, --verbose       say more" },
 };
 
-/* Asks in buffers of these sizes, and tells whether the answer has this status, is as written where it is one, and
+/* Asks in buffers of these sizes, and returns whether the answer has this status, is as written where it is one, and
  * leaves everything else as it was. */
 static bool answers(const struct row *row, size_t numbers, size_t bytes, uint32_t status) {
     struct answer is, was;

@@ -160,7 +160,7 @@ static bool keeps(const struct getopts *options, const char *message) {
         && words[2] == NULL && getopts_trailing_start(options) == 1;
 }
 
-/* Makes a call, and tells whether it was answered as it has to be. */
+/* Makes a call, and returns whether it was answered as it has to be. */
 static bool answers(const struct call *call) {
     char *before[] = { "-obefore", "-vv", "one", "--", "two" };
     size_t at = heap.at;

@@ -2,7 +2,7 @@
  * with their answers as rows: requests COUNT ROWS. Those with a zero byte in a text are answered, and not written.
  *
  * What is only read lies between pages that can't be touched, and can't be written. The rooms have one number or
- * one byte less than was told, and then as much, between such pages too; but never less than the words need that
+ * one byte less than was reported, and then as much, between such pages too; but never less than the words need that
  * stand in them. GETOPTS_BAD has to be answered where
  * a request isn't lawful, by the rules written here once more, and only there. Every number and byte of an
  * answer has to be used when it is read back. */
@@ -70,8 +70,8 @@ static const void *copied(int array, const void *from, size_t size, bool at_end)
     return size > 0 ? memcpy(there, from, size) : there;
 }
 
-/* Texts one after the other, and their lengths, as a request tells them. */
-struct told {
+/* Texts one after the other, and their lengths, as a request has them. */
+struct texts {
     uint8_t bytes[ROOM];
     size_t len;
     size_t lens[4 * GROUPS + WORDS];
@@ -80,7 +80,7 @@ struct told {
 
 struct request {
     int export;
-    struct told texts, words, start;
+    struct texts texts, words, start;
     uint8_t kinds[GROUPS];
     size_t kinds_len;
     bool stop, long_only;
@@ -88,11 +88,11 @@ struct request {
 
 enum { PARSE, CANONICAL, USAGE, SHORT_USAGE, ROWS, EXPORTS, IGNORING_COUNTS = EXPORTS };
 
-static void tell(struct told *told, const char *text) {
+static void add_text(struct texts *to, const char *text) {
     size_t len = strlen(text);
-    memcpy(told->bytes + told->len, text, len);
-    told->len += len;
-    told->lens[told->count++] = len;
+    memcpy(to->bytes + to->len, text, len);
+    to->len += len;
+    to->lens[to->count++] = len;
 }
 
 static const char *const shorts[] = { "", "", "a", "b", "c", "-", "=", "v" };
@@ -120,18 +120,18 @@ static bool lawful_names(const char *short_name, const char *long_name) {
 }
 
 /* Adds a word, mostly one that gives an option, by one of its two names. */
-static void tell_word(struct told *to, const char *const names[2]) {
+static void add_word(struct texts *to, const char *const names[2]) {
     char word[LONGEST];
     bool is_long = names[1][0] != '\0' && (names[0][0] == '\0' || below(2) == 0);
     static const char *const after[] = { "", "", "", "1", "\u00e9", "=x" };
     if (below(5) == 0) {
-        tell(to, below(2) == 0 ? "free" : PICK(line_words));
+        add_text(to, below(2) == 0 ? "free" : PICK(line_words));
         return;
     }
     const char *value = PICK(after);
     const char *between = is_long && value[0] != '\0' && value[0] != '=' ? "=" : "";
     snprintf(word, sizeof word, "%s%s%s%s", is_long ? "--" : "-", names[is_long], between, value);
-    tell(to, word);
+    add_text(to, word);
 }
 
 static void make(struct request *request) {
@@ -146,16 +146,16 @@ static void make(struct request *request) {
             two[0] = PICK(shorts);
             two[1] = PICK(longs);
         } while (!lawful_names(two[0], two[1]));
-        tell(&request->texts, two[0]);
-        tell(&request->texts, two[1]);
-        tell(&request->texts, PICK(others));
-        tell(&request->texts, PICK(others));
+        add_text(&request->texts, two[0]);
+        add_text(&request->texts, two[1]);
+        add_text(&request->texts, PICK(others));
+        add_text(&request->texts, PICK(others));
         /* A required one is rare, since most lines lack it. */
         request->kinds[request->kinds_len++] = (uint8_t)(below(3) + (below(8) == 0 ? 4 : 8 * below(2)));
     }
     for (size_t left = below(WORDS + 1); left > 0; left--)
-        tell_word(&request->words, names[below(request->kinds_len > 0 ? request->kinds_len : 1)]);
-    tell(&request->start, PICK(others));
+        add_word(&request->words, names[below(request->kinds_len > 0 ? request->kinds_len : 1)]);
+    add_text(&request->start, PICK(others));
 }
 
 static void flip(void *of, size_t size) {
@@ -171,40 +171,40 @@ static void cut(size_t *len, size_t most) {
         ++*len;
 }
 
-static void break_texts(struct told *told) {
+static void break_texts(struct texts *texts) {
     static const char *const no_texts[] = {
         "\xff", "\xc3", "\xed\xa0\x80", "\xc0\x80", "\xf4\x90\x80\x80", "\x80", "\xf4\x8f\xbe\x80", "\xf4\x8f\xbf\xbf",
     };
     const char *bad = PICK(no_texts);
-    size_t one = below(told->count + 1), two = below(told->count + 1), half = (size_t)1 << 63;
+    size_t one = below(texts->count + 1), two = below(texts->count + 1), half = (size_t)1 << 63;
     switch (below(7)) {
     case 0:
-        flip(told->bytes, told->len);
+        flip(texts->bytes, texts->len);
         break;
     case 1:
-        flip(told->lens, told->count * sizeof *told->lens);
+        flip(texts->lens, texts->count * sizeof *texts->lens);
         break;
     case 2:
-        cut(&told->len, ROOM);
+        cut(&texts->len, ROOM);
         break;
     case 3:
-        cut(&told->count, sizeof told->lens / sizeof *told->lens);
+        cut(&texts->count, sizeof texts->lens / sizeof *texts->lens);
         break;
     case 4:
-        if (told->count > 0)
-            told->lens[one % told->count] = below(2) == 0 ? SIZE_MAX : half >> below(60);
+        if (texts->count > 0)
+            texts->lens[one % texts->count] = below(2) == 0 ? SIZE_MAX : half >> below(60);
         break;
     case 5:
         /* The sum is as before, since it wraps. */
-        if (told->count > 0 && one % told->count != two % told->count) {
+        if (texts->count > 0 && one % texts->count != two % texts->count) {
             size_t more = below(2) == 0 ? half : below(SIZE_MAX);
-            told->lens[one % told->count] += more;
-            told->lens[two % told->count] -= more;
+            texts->lens[one % texts->count] += more;
+            texts->lens[two % texts->count] -= more;
         }
         break;
     default:
-        if (told->len >= strlen(bad))
-            memcpy(told->bytes + below(told->len - strlen(bad) + 1), bad, strlen(bad));
+        if (texts->len >= strlen(bad))
+            memcpy(texts->bytes + below(texts->len - strlen(bad) + 1), bad, strlen(bad));
     }
 }
 
@@ -249,12 +249,12 @@ static bool is_text(const uint8_t *text, size_t len) {
 }
 
 /* Whether the lengths part the bytes, into such texts or into any words. */
-static bool are_parts(const struct told *told, bool texts) {
+static bool are_parts(const struct texts *to, bool texts) {
     size_t from = 0;
-    for (size_t nth = 0; nth < told->count; from += told->lens[nth++])
-        if (told->lens[nth] > told->len - from || (texts && !is_text(told->bytes + from, told->lens[nth])))
+    for (size_t nth = 0; nth < to->count; from += to->lens[nth++])
+        if (to->lens[nth] > to->len - from || (texts && !is_text(to->bytes + from, to->lens[nth])))
             return false;
-    return from == told->len;
+    return from == to->len;
 }
 
 static bool reads_words(const struct request *request) {
@@ -263,11 +263,11 @@ static bool reads_words(const struct request *request) {
 
 /* By the rules of getopts_c.h: whether something lawful is what the request says. */
 static bool is_lawful(const struct request *request) {
-    const struct told *told = &request->texts;
-    if (told->count != 4 * request->kinds_len || !are_parts(told, true))
+    const struct texts *to = &request->texts;
+    if (to->count != 4 * request->kinds_len || !are_parts(to, true))
         return false;
     for (size_t group = 0; group < request->kinds_len; group++) {
-        size_t short_len = told->lens[4 * group], long_len = told->lens[4 * group + 1];
+        size_t short_len = to->lens[4 * group], long_len = to->lens[4 * group + 1];
         uint8_t kind = request->kinds[group];
         if (kind > 10 || kind % 4 > 2 || short_len > 1 || long_len == 1 || short_len + long_len == 0)
             return false;
@@ -287,10 +287,10 @@ struct room {
 
 static uint32_t ask(const struct request *request, struct room *room) {
     bool at_end = below(2) == 0;
-    const struct told *told = &request->texts, *line = &request->words, *start = &request->start;
+    const struct texts *to = &request->texts, *line = &request->words, *start = &request->start;
     protect(PROT_READ | PROT_WRITE);
-    const uint8_t *t = copied(TEXTS, told->bytes, told->len, at_end);
-    const size_t *l = copied(LENS, told->lens, told->count * sizeof(size_t), at_end);
+    const uint8_t *t = copied(TEXTS, to->bytes, to->len, at_end);
+    const size_t *l = copied(LENS, to->lens, to->count * sizeof(size_t), at_end);
     const uint8_t *k = copied(KINDS, request->kinds, request->kinds_len, at_end);
     const uint8_t *s = copied(START, start->bytes, start->len, at_end);
     protect(PROT_READ);
@@ -306,25 +306,25 @@ static uint32_t ask(const struct request *request, struct room *room) {
     memcpy(before[BYTES], memory[BYTES], ROOM);
     switch (request->export) {
     case PARSE:
-        return getopts_c_parse(t, told->len, l, told->count, k, request->kinds_len, request->stop,
+        return getopts_c_parse(t, to->len, l, to->count, k, request->kinds_len, request->stop,
             request->long_only, line->count, line->len, room->numbers, room->numbers_len, room->bytes,
             room->bytes_len, &room->sizes);
     case IGNORING_COUNTS:
-        return getopts_c_parse_ignoring_counts(t, told->len, l, told->count, k, request->kinds_len, request->stop,
+        return getopts_c_parse_ignoring_counts(t, to->len, l, to->count, k, request->kinds_len, request->stop,
             request->long_only, line->count, line->len, room->numbers, room->numbers_len, room->bytes,
             room->bytes_len, &room->sizes);
     case CANONICAL:
-        return getopts_c_canonical(t, told->len, l, told->count, k, request->kinds_len, request->stop,
+        return getopts_c_canonical(t, to->len, l, to->count, k, request->kinds_len, request->stop,
             request->long_only, line->count, line->len, room->numbers, room->numbers_len, room->bytes,
             room->bytes_len, &room->sizes);
     case USAGE:
-        return getopts_c_usage(t, told->len, l, told->count, k, request->kinds_len, request->long_only, s,
+        return getopts_c_usage(t, to->len, l, to->count, k, request->kinds_len, request->long_only, s,
             start->len, room->bytes, room->bytes_len, &room->sizes);
     case SHORT_USAGE:
-        return getopts_c_short_usage(t, told->len, l, told->count, k, request->kinds_len, s, start->len,
+        return getopts_c_short_usage(t, to->len, l, to->count, k, request->kinds_len, s, start->len,
             room->bytes, room->bytes_len, &room->sizes);
     default:
-        return getopts_c_usage_rows(t, told->len, l, told->count, k, request->kinds_len, request->long_only,
+        return getopts_c_usage_rows(t, to->len, l, to->count, k, request->kinds_len, request->long_only,
             room->numbers, room->numbers_len, room->bytes, room->bytes_len, &room->sizes);
     }
 }
@@ -391,10 +391,10 @@ static void field(const uint8_t *text, size_t len) {
     put(text, len);
 }
 
-static void fields(const struct told *told) {
-    const uint8_t *from = told->bytes;
-    for (size_t nth = 0; nth < told->count; from += told->lens[nth++])
-        field(from, told->lens[nth]);
+static void fields(const struct texts *to) {
+    const uint8_t *from = to->bytes;
+    for (size_t nth = 0; nth < to->count; from += to->lens[nth++])
+        field(from, to->lens[nth]);
     putc('\n', out);
 }
 
@@ -448,9 +448,9 @@ static void of_name(const uint8_t *name, size_t len, const size_t *at, const uin
 }
 
 static void matches(const struct request *request) {
-    const struct told *told = &request->texts;
+    const struct texts *to = &request->texts;
     const size_t *places = next_number, *groups[GROUPS];
-    const uint8_t *values[GROUPS], *name = told->bytes;
+    const uint8_t *values[GROUPS], *name = to->bytes;
     for (size_t nth = 0; nth < 2 * request->kinds_len; nth++)
         demand(number() <= request->kinds_len, "a name stands for no group");
     demand(number() == request->kinds_len, "not as many groups");
@@ -464,7 +464,7 @@ static void matches(const struct request *request) {
         }
     }
     fputs("> accepted", out);
-    /* The trailing start is told last, and comes first in a row. */
+    /* The trailing start is to last, and comes first in a row. */
     size_t count = number(), trailing;
     demand(count < numbers_left, "too many free words");
     trailing = next_number[count];
@@ -475,11 +475,11 @@ static void matches(const struct request *request) {
     texts_of_answer(count);
     number();
     putc('\n', out);
-    for (size_t nth = 0; nth < told->count; name += told->lens[nth++]) {
-        if (nth % 4 > 1 || told->lens[nth] == 0)
+    for (size_t nth = 0; nth < to->count; name += to->lens[nth++]) {
+        if (nth % 4 > 1 || to->lens[nth] == 0)
             continue;
         size_t place_of_group = places[nth / 4 * 2 + nth % 4];
-        of_name(name, told->lens[nth], place_of_group > 0 ? groups[place_of_group - 1] : NULL,
+        of_name(name, to->lens[nth], place_of_group > 0 ? groups[place_of_group - 1] : NULL,
             place_of_group > 0 ? values[place_of_group - 1] : NULL);
     }
 }
@@ -525,12 +525,12 @@ static void ignored(const struct request *request, uint32_t status) {
 static void written(const struct request *request, uint32_t status) {
     static const char *const arguments[] = { "no", "yes", "maybe" };
     static const char *const occurrences[] = { "optional", "req", "multi" };
-    const struct told *told = &request->texts, *start = &request->start;
-    const uint8_t *from = told->bytes;
+    const struct texts *to = &request->texts, *start = &request->start;
+    const uint8_t *from = to->bytes;
     fprintf(out, "case\trequest-%zu\nstyle\t%s\nmode\t%s\n", number_of_case,
         request->stop ? "stop" : "floating", request->long_only ? "long-only" : "ordinary");
     for (size_t group = 0; group < request->kinds_len; group++) {
-        const size_t *len = told->lens + 4 * group;
+        const size_t *len = to->lens + 4 * group;
         fputs("opt", out);
         field(from, len[0]);
         field(from + len[0], len[1]);
@@ -587,7 +587,7 @@ static bool has_zero(const struct request *request) {
         || memchr(request->start.bytes, 0, request->start.len) != NULL;
 }
 
-/* Asks with no room but for the words, with the room told, and with one less, and tells whether the request was
+/* Asks with no room but for the words, with the room reported, and with one less, and returns whether the request was
  * lawful. */
 static bool answered(const struct request *request, FILE *rows, FILE *nowhere) {
     size_t words = reads_words(request) ? request->words.count : 0;
@@ -601,26 +601,26 @@ static bool answered(const struct request *request, FILE *rows, FILE *nowhere) {
         demand(untouched() && room.sizes.numbers == 77 && room.sizes.bytes == 78, "written with a refusal");
         return false;
     }
-    struct getopts_sizes told = room.sizes;
+    struct getopts_sizes to = room.sizes;
     bool has_numbers = request->export != USAGE && request->export != SHORT_USAGE;
-    demand(has_numbers || told.numbers == 0, "numbers of a text");
-    demand((status == GETOPTS_TOO_SMALL) == (told.numbers > words || told.bytes > words_len), "no room, and it fits");
+    demand(has_numbers || to.numbers == 0, "numbers of a text");
+    demand((status == GETOPTS_TOO_SMALL) == (to.numbers > words || to.bytes > words_len), "no room, and it fits");
     for (int less = 2; less >= 0; less--) {
         /* One number less, then one byte less, then none less. */
-        if ((less == 2 && told.numbers <= words) || (less == 1 && told.bytes <= words_len))
+        if ((less == 2 && to.numbers <= words) || (less == 1 && to.bytes <= words_len))
             continue;
-        room.numbers_len = told.numbers > words ? told.numbers - (less == 2) : words;
-        room.bytes_len = told.bytes > words_len ? told.bytes - (less == 1) : words_len;
+        room.numbers_len = to.numbers > words ? to.numbers - (less == 2) : words;
+        room.bytes_len = to.bytes > words_len ? to.bytes - (less == 1) : words_len;
         status = ask(request, &room);
-        demand(room.sizes.numbers == told.numbers && room.sizes.bytes == told.bytes, "other sizes are told");
-        demand(less == 0 || (status == GETOPTS_TOO_SMALL && untouched()), "answered in less room than told");
+        demand(room.sizes.numbers == to.numbers && room.sizes.bytes == to.bytes, "other sizes are to");
+        demand(less == 0 || (status == GETOPTS_TOO_SMALL && untouched()), "answered in less room than to");
     }
-    demand(status < GETOPTS_NO_MEMORY, "the room told doesn't suffice");
+    demand(status < GETOPTS_NO_MEMORY, "the room to doesn't suffice");
     out = has_zero(request) ? nowhere : rows;
     next_number = room.numbers;
     next_byte = room.bytes != NULL ? room.bytes : (const uint8_t *)"";
-    numbers_left = told.numbers;
-    bytes_left = told.bytes;
+    numbers_left = to.numbers;
+    bytes_left = to.bytes;
     written(request, status);
     demand(numbers_left == 0 && bytes_left == 0, "there is more than the answer");
     demand(only_rooms(&room), "written beside the rooms");

@@ -159,7 +159,7 @@ static int kind_of(const char *kind, const char *occurrence) {
         + (occurrence[0] == 'r' ? GETOPTS_REQ : occurrence[0] == 'o' ? GETOPTS_OPTIONAL : GETOPTS_MULTI);
 }
 
-/* Does what a line says that has no answer, and tells whether it is such a line. */
+/* Does what a line says that has no answer, and returns whether it is such a line. */
 static bool declares(void) {
     static const struct { const char *word; int kind; } adding[] = {
         { "optflag", GETOPTS_NO + GETOPTS_OPTIONAL }, { "optflagmulti", GETOPTS_NO + GETOPTS_MULTI },
@@ -307,7 +307,7 @@ static void of_options(const char *what) {
     getopts_delete(options);
 }
 
-/* Answers a line, and tells whether the layer can. */
+/* Answers a line, and returns whether the layer can. */
 static bool answers(void) {
     static const char *const of_names[] = {
         "option", "positions", "opt_present", "opt_count", "opt_str", "opt_default", "opt_strs",

@@ -18,8 +18,8 @@
 //! assert!(options.usage("Usage: copy FILE").contains("-o, --output NAME"));
 //! ```
 //!
-//! What differs from the crate, what is proved and what it costs is told in `README.md`. The feature `proved` makes the
-//! proved source itself public, for who wants calls that report refused memory.
+//! `README.md` says what differs from the crate, what is proved and what it costs. The feature `proved` makes the proved
+//! source itself public, for who wants calls that report refused memory.
 #![forbid(unsafe_code)]
 #![warn(missing_docs)]
 

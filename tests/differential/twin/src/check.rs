@@ -24,7 +24,7 @@ fn answer_beside(lines: &mut Peekable<Lines>) -> String {
     answer
 }
 
-/// Prints each difference and how many answers are alike, and tells whether some are and none differs. Lines of these
+/// Prints each difference and how many answers are alike, and returns whether some are and none differs. Lines of these
 /// words are passed over.
 pub fn check(rows: &str, words: &[String]) -> bool {
     let mut lines = rows.lines().peekable();
