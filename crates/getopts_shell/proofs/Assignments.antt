@@ -22,8 +22,8 @@ use Rattle.getopts.specs.Wrap.{lines_of, parting}
 use Rattle.getopts_shell.specs.Held.{group_of_row, groups_of, held_signatures}
 use Rattle.getopts_shell.specs.Quote.{quoted, quoted_words, spaced}
 use Rattle.getopts_shell.specs.Table.{is_passed, line_number}
-use Rattle.getopts_shell.specs.Variables.{all_values, any_has_variable, first_fault, HaveOwnVariables, is_variable}
-use Rattle.getopts_shell.specs.Variables.{is_variable_byte, name_fault, option_lines, setting}
+use Rattle.getopts_shell.specs.Variables.{any_has_variable, first_fault, HaveOwnVariables, is_variable}
+use Rattle.getopts_shell.specs.Variables.{is_variable_byte, name_fault, option_lines}
 use Rattle.getopts_shell.specs.Variables.{texts_found, variable, variable_byte, VariableFault, variable_of}
 use Rattle.getopts_shell.specs.declared.row.Row.{Row}
 

@@ -17,3 +17,4 @@ mod Shell
 mod Assignments
 mod Asked
 mod GoesOn
+mod Alone

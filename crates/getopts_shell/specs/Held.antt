@@ -4,9 +4,10 @@ use Rattle.std.specs.List.{AllByRecursion}
 use Rattle.std.specs.Option.{option_map}
 use Rattle.std.specs.String.{string_bytes}
 use Rattle.getopts.specs.Matches.{MatchedGroup, matched}
-use Rattle.getopts.specs.Names.{main_name}
+use Rattle.getopts.specs.Names.{Text, main_name}
 use Rattle.getopts.specs.Options.{Declared, Group, Signature, group_of, signatures_of, with_group}
-use Rattle.getopts.specs.Reading.{Occurrence, holds_equals}
+use Rattle.getopts.specs.Parse.{Reads}
+use Rattle.getopts.specs.Reading.{Occurrence, Reading, holds_equals}
 use Rattle.getopts_shell.specs.Program.{Answer, Asked, own_groups}
 use Rattle.getopts_shell.specs.Variables.{VariableFault, no_prefix, no_variable, variable_twice, with_words}
 use Rattle.getopts_shell.specs.Table.{TableFault, no_option, name_twice}
@@ -62,6 +63,10 @@ HasOwnGroups groups = (occurrences : List Occurrence) × (groups ≡ matched 0 (
 -- no main name holds `=`
 abbrev pub ArePlainlyNamed : List Group → Type 0
 ArePlainlyNamed groups = AllByRecursion (λ group. holds_equals (main_name group.signature.names) ≡ false) groups
+
+-- the words have a reading
+abbrev pub HaveReading : Declared → List Text → Type 0
+HaveReading options words = (reading : Reading) × Reads options words reading
 
 -- the options with these groups too, the last ones
 abbrev pub with_groups : Declared → List Group → Declared

@@ -111,7 +111,7 @@ fn push_setting(
 }
 
 /// The main name of an option.
-fn main_name<'t>(row: Row<'t>) -> &'t str
+pub(crate) fn main_name<'t>(row: Row<'t>) -> &'t str
     ensures { result.now ≡ main_name (group_of_row row.entry).signature.names }
 {
     if row.long.is_empty() {
