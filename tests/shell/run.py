@@ -215,6 +215,9 @@ def examples(shell, path, room):
     done = run(shell + [str(folder / "backup"), "-vi", "a", "x"], env=env)
     if done.stdout.decode() != "input: a\noutput: \nverbose: 1\ncolor: never\nfolders:\nfree: x\n":
         fail(f"{' '.join(shell)}: the example backup: {done}")
+    done = run(shell + [str(folder / "backup"), "-vV", "x"], env=env)
+    if (done.returncode, done.stdout, done.stderr) != (0, b"backup 1.0\n", b""):
+        fail(f"{' '.join(shell)}: the version of the example backup: {done}")
     done = run(shell + [str(folder / "backup"), "--completion", "fish"], env=env)
     if done.returncode != 0 or b"\ncomplete -c 'backup' -f -a " not in done.stdout:
         fail(f"{' '.join(shell)}: the completion of the example backup: {done}")
@@ -287,6 +290,7 @@ OPEN = "no ']'"
 BYTES = "a name may hold letters, digits, '-', '_', '.', '+', ':' and bytes from 128 on"
 DASHES = "a short name comes after '-', a long one after '--'"
 BRACKETS = "brackets stand around the option or its argument, and dots only after ']'"
+MARK = "'!' comes only after ']' of an option without an argument"
 LONG_NAME = re.compile(r"[A-Za-z0-9_.+:\x80-\U0010ffff-]*")
 
 
@@ -315,6 +319,7 @@ def names_of(inside):
 
 def reason_of(item):
     """What is wrong with an item that is none, by the first rule of the page that it breaks."""
+    right = MARK if item.endswith("!") else BRACKETS
     if "[" in item and "]" not in item:
         return OPEN
     names, _, rest = re.match(r"(?s)([^ \]]*)([ \]]?)(.*)", item).groups()
@@ -332,7 +337,7 @@ def reason_of(item):
         if not is_short(short):
             return BYTES
         if not more:
-            return BRACKETS
+            return right
         if not more.startswith("|--"):
             return DASHES
         long = more[3:]
@@ -340,7 +345,7 @@ def reason_of(item):
         return LONG
     if not LONG_NAME.fullmatch(long):
         return BYTES
-    return DASHES if long[0] == "-" else BRACKETS
+    return DASHES if long[0] == "-" else right
 
 
 def table_fault(table):
@@ -352,11 +357,11 @@ def table_fault(table):
             continue
         item = re.split("\t|  ", line)[0]
         inside = item
-        for end in ("]...", "]..", "]"):
+        for end in ("]...", "]..", "]!", "]"):
             if item.startswith("[") and item.endswith(end):
                 inside = item[1:-len(end)]
                 break
-        names = names_of(inside)
+        names = None if end == "]!" and " " in inside else names_of(inside)
         if names is None:
             return f"line {number} of the options: {item}: {reason_of(item)}"
         for name in names:
@@ -368,7 +373,8 @@ def table_fault(table):
 
 def changed_tables(program):
     """Each byte of good lines, changed in turn to each of many others, left out and doubled."""
-    good = ["-v|--verbose  say more", "[-c|--color [WHEN]]..\tcolour it", "[-o|--output FILE]  write"]
+    good = ["-v|--verbose  say more", "[-c|--color [WHEN]]..\tcolour it", "[-o|--output FILE]  write",
+            "[-V|--version]!  print it"]
     others = [chr(c) for c in range(32, 128)] + ["", "\t", "\n", "\r", "\x01"]
     tables, refused = 0, 0
     for at, line in enumerate(good):

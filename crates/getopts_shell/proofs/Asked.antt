@@ -1,6 +1,6 @@
 -- The variables that are asked for.
 use Rattle.std.proofs.Common.{◌≡◌, ℕ, ◌+◌, Bool, true, false, cond, List, [], ◌∷◌, Option, Some, None, ap, refl, sym, subst, ◌∙◌, map}
-use Rattle.std.specs.Option.{option_and_then}
+use Rattle.std.specs.Option.{option_map_or}
 use Rattle.getopts.specs.Accessors.{held_names}
 use Rattle.getopts.specs.Matches.{Matched, MatchedGroup, matched}
 use Rattle.getopts.specs.Names.{Text, Names}
@@ -11,7 +11,7 @@ use Rattle.getopts.specs.Wrap.{lines_of}
 use Rattle.getopts_shell.specs.Held.{held_signatures}
 use Rattle.getopts_shell.specs.Program.{Asked, asked_fault}
 use Rattle.getopts_shell.specs.Variables.{first_fault, HaveOwnVariables, is_prefix, option_lines, prefix_fault}
-use Rattle.getopts_shell.specs.Variables.{VariableFault, with_words}
+use Rattle.getopts_shell.specs.Variables.{VariableFault, arrays_only, with_words}
 use Rattle.getopts_shell.proofs.Assignments.{own_variables}
 
 matched_signatures : (place : ℕ) (signatures : List Signature) (occurrences : List Occurrence)
@@ -64,8 +64,9 @@ asked_own asked table prefix groups given none =
     let lines = option_lines 0 (lines_of table) in
     let first = first_fault prefix lines [] (names_of groups) in
     let at : cond asked.words (Some with_words) (prefix_fault prefix table (names_of groups)) ≡ None =
-    sym (ap (option_and_then (λ (prefix : Text). cond asked.words (Some with_words)
-    (prefix_fault prefix table (names_of groups)))) given) ∙ none in
+    sym (ap (λ (variables : Option Text). option_map_or (λ (prefix : Text). cond asked.words (Some with_words)
+    (prefix_fault prefix table (names_of groups))) variables (cond asked.arrays (Some arrays_only) None)) given)
+    ∙ none in
     own_variables prefix lines [] (names_of groups)
     (begun (is_prefix prefix) first _ (without_words asked.words (prefix_fault prefix table (names_of groups)) at))
 

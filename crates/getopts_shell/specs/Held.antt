@@ -9,7 +9,7 @@ use Rattle.getopts.specs.Options.{Declared, Group, Signature, group_of, signatur
 use Rattle.getopts.specs.Parse.{Reads}
 use Rattle.getopts.specs.Reading.{Occurrence, Reading, holds_equals}
 use Rattle.getopts_shell.specs.Program.{Answer, Asked, own_groups}
-use Rattle.getopts_shell.specs.Variables.{VariableFault, no_prefix, no_variable, variable_twice, with_words}
+use Rattle.getopts_shell.specs.Variables.{VariableFault, arrays_only, no_prefix, no_variable, variable_twice, with_words}
 use Rattle.getopts_shell.specs.Table.{TableFault, no_option, name_twice}
 use Rattle.getopts_shell.specs.declared.answer.Asked.{Asked as AskedHeld}
 use Rattle.getopts_shell.specs.declared.answer.Outcome.{Outcome}
@@ -80,6 +80,7 @@ held_signatures groups = map (λ group. group.signature) groups
 -- the fault that an error of variables tells
 abbrev pub variable_fault_told : VariableError → VariableFault
 variable_fault_told variable.WithWords = with_words
+variable_fault_told variable.ArraysOnly = arrays_only
 variable_fault_told (variable.NoPrefix prefix) = no_prefix prefix.now
 variable_fault_told (variable.NoVariable number name) = no_variable number name.now
 variable_fault_told (variable.VariableTwice number name) = variable_twice number name.now

@@ -3,7 +3,7 @@ use Rattle.std.specs.Prelude.{◌≡◌, ◌≢◌, ◌≤◌, ◌&&◌, ◌||�
 use Rattle.std.specs.Prelude.{Some, None, codes, decimal, if◌then◌else◌, length, take}
 use Rattle.std.specs.Io.KnownBytes.{Appends}
 use Rattle.std.specs.List.{AllByRecursion, find, list_any}
-use Rattle.std.specs.Option.{option_and_then, option_map_or, unwrap_or}
+use Rattle.std.specs.Option.{option_map_or, unwrap_or}
 use Rattle.std.specs.Str.{bytes_eq}
 use Rattle.getopts.specs.Accessors.{first_value, found_of, is_present}
 use Rattle.getopts.specs.Canon.{HasCanonicalLine, canonical_word}
@@ -26,7 +26,7 @@ use Rattle.getopts_shell.specs.Quote.{AreCommands, quoted, quoted_words, shell_w
 use Rattle.getopts_shell.specs.Table.{DeclaresOptions, IsTableFault, TableFault, alone_mark, no_option, name_twice}
 use Rattle.getopts_shell.specs.Table.{reason_of}
 use Rattle.getopts_shell.specs.Variables.{SetsVariables, VariableFault, no_prefix, no_variable, prefix_fault}
-use Rattle.getopts_shell.specs.Variables.{variable_twice, variables_code, with_words}
+use Rattle.getopts_shell.specs.Variables.{arrays_only, variable_twice, variables_code, with_words}
 
 -- ---- the program's own options
 
@@ -187,16 +187,18 @@ alone_line group = main_word group ∷ stop_word ∷ []
 -- the line of a fault of variables
 abbrev pub variable_fault_line : VariableFault → Text
 variable_fault_line with_words = codes "getopts_shell: --words and --variables don't go together\n"
+variable_fault_line arrays_only = codes "getopts_shell: --arrays needs --variables\n"
 variable_fault_line (no_prefix prefix) = codes "getopts_shell: '" ++ (prefix ++ codes "' makes no variable\n")
 variable_fault_line (no_variable number name) = codes "getopts_shell: line "
     ++ (decimal number ++ (codes " of the options: '" ++ (name ++ codes "' makes no variable\n")))
 variable_fault_line (variable_twice number name) = codes "getopts_shell: line "
     ++ (decimal number ++ (codes " of the options: '" ++ (name ++ codes "' makes the variable of another option\n")))
 
--- the fault of the variables that are asked for, with a table of these options
+-- the fault of the variables or the arrays that are asked for, with a table of these options
 abbrev pub asked_fault : Asked → Text → List Group → Option VariableFault
-asked_fault asked table groups = option_and_then
+asked_fault asked table groups = option_map_or
     (λ prefix. if asked.words then Some with_words else prefix_fault prefix table (names_of groups)) asked.variables
+    (if asked.arrays then Some arrays_only else None)
 
 -- the code that sets a script's words to those of a line, or the words alone
 abbrev pub line_code : Asked → List Text → Text

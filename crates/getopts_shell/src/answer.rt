@@ -401,7 +401,7 @@ fn declared_answer(
     }
 }
 
-/// Why there are no variables where they are asked for.
+/// Why there are no variables where they, or arrays, are asked for.
 fn asked_error<'t>(asked: &'t Asked, table: &'t str, rows: &[Row<'t>]) -> Option<VariableError<'t>>
     ensures { option_map variable_fault_told result
         ≡ asked_fault (asked_of asked.now) table.now (groups_of rows.now) }
@@ -414,7 +414,13 @@ fn asked_error<'t>(asked: &'t Asked, table: &'t str, rows: &[Row<'t>]) -> Option
                 variable_error(prefix.as_str(), table, rows)
             }
         }
-        None => None,
+        None => {
+            if asked.arrays {
+                Some(VariableError::ArraysOnly)
+            } else {
+                None
+            }
+        }
     }
 }
 
@@ -427,6 +433,9 @@ fn variable_refusal(alloc: Global, error: VariableError<'_>) -> Result<String, A
         VariableError::WithWords => format!(in alloc;
             "getopts_shell: --words and --variables don't go together\n"
         ),
+        VariableError::ArraysOnly => {
+            format!(in alloc; "getopts_shell: --arrays needs --variables\n")
+        }
         VariableError::NoPrefix(prefix) => {
             format!(in alloc; "getopts_shell: '{prefix}' makes no variable\n")
         }

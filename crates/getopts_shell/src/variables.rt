@@ -33,6 +33,8 @@ pub(crate) struct Variables<'p> {
 pub(crate) enum VariableError<'t> {
     /// The words alone are asked for too.
     WithWords,
+    /// Arrays are asked for, and no variables.
+    ArraysOnly,
     /// The prefix begins no name of a variable.
     NoPrefix(&'t str),
     /// The option in the line with this number makes no variable. Holds its main name.
