@@ -84,7 +84,8 @@ def table_of(rng):
     for _ in range(rng.randrange(1, 7)):
         short, long = rng.choice([(True, False), (False, True), (True, True)])
         names = (shorts.pop() if short else "", longs.pop() if long else "")
-        options.append((*names, rng.choice(["no", "yes", "yes", "maybe"]), rng.choice(["once", "may", "may", "many"])))
+        kind, count = rng.choice(["no", "yes", "yes", "maybe"]), rng.choice(["once", "may", "may", "many"])
+        options.append((*names, *(("no", "alone") if rng.random() < 0.1 else (kind, count))))
     return options
 
 
@@ -93,7 +94,7 @@ def written(options):
     for short, long, kind, count in options:
         names = "|".join(([f"-{short}"] if short else []) + ([f"--{long}"] if long else []))
         inside = names + {"no": "", "yes": " X", "maybe": " [X]"}[kind]
-        lines.append({"once": "%s", "may": "[%s]", "many": "[%s].."}[count] % inside)
+        lines.append({"once": "%s", "may": "[%s]", "many": "[%s]..", "alone": "[%s]!"}[count] % inside)
     return "\n".join(lines)
 
 
@@ -110,10 +111,12 @@ def spelled(rng, option, value):
 
 
 def case_of(rng):
-    """Random options, words by them, the values of each option in order, and the free words."""
+    """Random options, words by them, the values of each option in order, and the free words. Where the words have an
+    option that stands alone, these are those of the first one of the table by itself."""
     options, parts, values, free = table_of(rng), [], [], []
     for place, option in enumerate(options):
-        for _ in range({"once": 1, "may": rng.randrange(2), "many": rng.choice([0, 0, 1, 2, 3])}[option[3]]):
+        many = rng.choice([0, 0, 1, 2, 3])
+        for _ in range({"once": 1, "may": rng.randrange(2), "many": many, "alone": many}[option[3]]):
             value = None if option[2] == "no" else text_of(rng)
             if option[2] == "maybe" and (not value and not option[1] or option[1] and rng.random() < 0.3):
                 value = None if option[1] else "v"
@@ -121,6 +124,9 @@ def case_of(rng):
             if option[3] == "many" and value and rng.random() < 0.2:
                 value = rng.choice(["typeset", "integer", "export", "x=1", "[0]=x"])
             parts.append((place, value))
+    alone = [place for place, _ in parts if options[place][3] == "alone"]
+    if alone and rng.random() < 0.5:
+        parts = [part for part in parts if options[part[0]][3] != "once"]
     parts += [(None, text_of(rng)) for _ in range(rng.randrange(3))]
     rng.shuffle(parts)
     words, values = [], [[] for _ in options]
@@ -135,6 +141,8 @@ def case_of(rng):
         rest = [text_of(rng) for _ in range(rng.randrange(3))]
         words += ["--"] + rest
         free += rest
+    if alone:
+        return options, words, [[""] if place == alone[0] else [] for place in range(len(options))], []
     return options, words, values, free
 
 
