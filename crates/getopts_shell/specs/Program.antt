@@ -172,9 +172,9 @@ pub record AskAlone (options : Declared) (words : List Text) (group : Group) : T
   pub read : HasReading options words matches
   pub first : find (is_alone matches) options.groups ≡ Some group
 
--- all that the words say counts: they ask neither for help nor for one option alone
-abbrev pub AllCounts : Declared → List Text → Type 0
-AllCounts options words = ¬ (AskHelp options words) × ((group : Group) → ¬ (AskAlone options words group))
+-- the counts of the words are checked: they ask neither for help nor for one option alone
+abbrev pub AreCounted : Declared → List Text → Type 0
+AreCounted options words = ¬ (AskHelp options words) × ((group : Group) → ¬ (AskAlone options words group))
 
 -- the word of an option by its main name
 abbrev pub main_word : Group → Text
@@ -279,14 +279,14 @@ pub data AnswersScript (asked : Asked) (name : Text) (options : Declared) (words
       → AnswersScript asked name options words (done (help_code help))
   alone : (group : Group) (answer : Answer) → ReadsWords asked → AskAlone options words group
       → AnswersAlone asked options group answer → AnswersScript asked name options words answer
-  accepted : (line : List Text) → ReadsWords asked → AllCounts options words
+  accepted : (line : List Text) → ReadsWords asked → AreCounted options words
       → asked.variables ≡ None → TellsWords asked options words line
       → AnswersScript asked name options words (done (line_code asked line))
-  variables : (prefix : Text) (matches : Matched) → ReadsWords asked → AllCounts options words
+  variables : (prefix : Text) (matches : Matched) → ReadsWords asked → AreCounted options words
       → asked.variables ≡ Some prefix → IsAccepted options words matches
       → SetsVariables prefix asked.arrays matches
       → AnswersScript asked name options words (done (variables_code prefix asked.arrays matches))
-  refused : (fault : Fault) → ReadsWords asked → AllCounts options words
+  refused : (fault : Fault) → ReadsWords asked → AreCounted options words
       → IsRefused options words fault → AnswersScript asked name options words
       (record { text = refused_text options name fault; status = 2 })
 

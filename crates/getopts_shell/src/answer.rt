@@ -23,7 +23,7 @@ ghost use Rattle.getopts_shell.specs.Program.{AnswersTable, AnswersFree, IsAnswe
 ghost use Rattle.getopts_shell.specs.Program.{AnswersOffer, AnswersNumbered, AnswersPlace};
 ghost use Rattle.getopts_shell.specs.Program.{completion_answer, has_completion, no_completion};
 ghost use Rattle.getopts_shell.specs.Program.{asked_fault, variable_fault_line};
-ghost use Rattle.getopts_shell.specs.Program.{AllCounts, AnswersAlone, AskAlone, is_alone, main_word, stands_alone};
+ghost use Rattle.getopts_shell.specs.Program.{AreCounted, AnswersAlone, AskAlone, is_alone, main_word, stands_alone};
 ghost use Rattle.getopts_shell.specs.Table.{DeclaresOptions, TableFault, no_option, name_twice};
 ghost use Rattle.getopts_shell.specs.Held.{with_groups};
 
@@ -407,20 +407,10 @@ fn asked_error<'t>(asked: &'t Asked, table: &'t str, rows: &[Row<'t>]) -> Option
         ≡ asked_fault (asked_of asked.now) table.now (groups_of rows.now) }
 {
     match &asked.variables {
-        Some(prefix) => {
-            if asked.words {
-                Some(VariableError::WithWords)
-            } else {
-                variable_error(prefix.as_str(), table, rows)
-            }
-        }
-        None => {
-            if asked.arrays {
-                Some(VariableError::ArraysOnly)
-            } else {
-                None
-            }
-        }
+        Some(_) if asked.words => Some(VariableError::WithWords),
+        Some(prefix) => variable_error(prefix.as_str(), table, rows),
+        None if asked.arrays => Some(VariableError::ArraysOnly),
+        None => None,
     }
 }
 
@@ -820,10 +810,10 @@ fn help_code(alloc: Global, script: Script<'_>) -> Result<String, AllocError>
     Ok(text)
 }
 
-/// The answer to words of which all counts: variables or the canonical line, or the first fault.
+/// The answer to words whose counts are checked: variables or the canonical line, or the first fault.
 fn counted_answer(alloc: Global, script: Script<'_>, words: &[&str]) -> Result<Outcome, AllocError>
     requires asked { ReadsWords (asked_of script.asked.now) }
-    requires all { AllCounts script.options.now (texts words.now) }
+    requires counted { AreCounted script.options.now (texts words.now) }
     requires rows { script.options.now.groups ≡ groups_of script.rows.now }
     requires declared { DeclaresOptions script.table.now (groups_of script.rows.now) }
     requires variables { asked_fault (asked_of script.asked.now) script.table.now (groups_of script.rows.now) ≡ None }
@@ -836,11 +826,11 @@ fn counted_answer(alloc: Global, script: Script<'_>, words: &[&str]) -> Result<O
     }
 }
 
-/// The canonical line of accepted words of which all counts, or the first fault.
+/// The canonical line of words whose counts are checked, or the first fault.
 fn line_answer(alloc: Global, script: Script<'_>, words: &[&str]) -> Result<Outcome, AllocError>
     requires asked { ReadsWords (asked_of script.asked.now) }
     requires no_variables { (asked_of script.asked.now).variables ≡ None }
-    requires all { AllCounts script.options.now (texts words.now) }
+    requires counted { AreCounted script.options.now (texts words.now) }
     requires plain { ArePlainlyNamed script.options.now.groups }
     ensures { IfOk result (λ outcome. AnswersScript (asked_of script.entry.asked.now) script.entry.name.now
         script.entry.options.now (texts words.now) (answer_of outcome)) }
@@ -859,7 +849,7 @@ fn line_answer(alloc: Global, script: Script<'_>, words: &[&str]) -> Result<Outc
     }
 }
 
-/// The code that sets variables by accepted words of which all counts, or the first fault.
+/// The code that sets variables by words whose counts are checked, or the first fault.
 fn variables_answer(
     alloc: Global,
     script: Script<'_>,
@@ -868,7 +858,7 @@ fn variables_answer(
 ) -> Result<Outcome, AllocError>
     requires asked { ReadsWords (asked_of script.asked.now) }
     requires prefix { (asked_of script.asked.now).variables ≡ Some prefix.now }
-    requires all { AllCounts script.options.now (texts words.now) }
+    requires counted { AreCounted script.options.now (texts words.now) }
     requires rows { script.options.now.groups ≡ groups_of script.rows.now }
     requires variables { asked_fault (asked_of script.asked.now) script.table.now (groups_of script.rows.now) ≡ None }
     ensures { IfOk result (λ outcome. AnswersScript (asked_of script.entry.asked.now) script.entry.name.now

@@ -314,20 +314,10 @@ fn declared_answer(
 /// Why there are no variables where they, or arrays, are asked for.
 fn asked_error<'t>(asked: &'t Asked, table: &'t str, rows: &[Row<'t>]) -> Option<VariableError<'t>> {
     match &asked.variables {
-        Some(prefix) => {
-            if asked.words {
-                Some(VariableError::WithWords)
-            } else {
-                variable_error(prefix.as_str(), table, rows)
-            }
-        }
-        None => {
-            if asked.arrays {
-                Some(VariableError::ArraysOnly)
-            } else {
-                None
-            }
-        }
+        Some(_) if asked.words => Some(VariableError::WithWords),
+        Some(prefix) => variable_error(prefix.as_str(), table, rows),
+        None if asked.arrays => Some(VariableError::ArraysOnly),
+        None => None,
     }
 }
 
@@ -633,7 +623,7 @@ fn help_code(alloc: Global, script: Script<'_>) -> Result<String, AllocError> {
     Ok(text)
 }
 
-/// The answer to words of which all counts: variables or the canonical line, or the first fault.
+/// The answer to words whose counts are checked: variables or the canonical line, or the first fault.
 fn counted_answer(alloc: Global, script: Script<'_>, words: &[&str]) -> Result<Outcome, AllocError> {
     match &script.asked.variables {
         Some(prefix) => variables_answer(alloc, script, prefix.as_str(), words),
@@ -641,7 +631,7 @@ fn counted_answer(alloc: Global, script: Script<'_>, words: &[&str]) -> Result<O
     }
 }
 
-/// The canonical line of accepted words of which all counts, or the first fault.
+/// The canonical line of words whose counts are checked, or the first fault.
 fn line_answer(alloc: Global, script: Script<'_>, words: &[&str]) -> Result<Outcome, AllocError> {
     names_resolve(script.options);
     match script.options.canonical_words(alloc, words) {
@@ -657,7 +647,7 @@ fn line_answer(alloc: Global, script: Script<'_>, words: &[&str]) -> Result<Outc
     }
 }
 
-/// The code that sets variables by accepted words of which all counts, or the first fault.
+/// The code that sets variables by words whose counts are checked, or the first fault.
 fn variables_answer(
     alloc: Global,
     script: Script<'_>,

@@ -18,7 +18,7 @@ returns-in_ok-variables_code-in-Ok c =
     let prefix = c.args.prefix.now in
     let accepted = c.in-Ok.ensures.accepted in
     rw c.in_ok-variables_code-in-Ok.ensures
-    (variables prefix _ c.requires.asked c.requires.all c.requires.prefix accepted
+    (variables prefix _ c.requires.asked c.requires.counted c.requires.prefix accepted
     (code_sets prefix asked.arrays _
     (held_own asked c.args.script.table.now prefix c.args.script.options.now (groups_of c.args.script.rows.now)
     (texts c.args.words.now) _ c.requires.prefix c.requires.variables c.requires.rows accepted.read)))
@@ -26,4 +26,4 @@ returns-in_ok-variables_code-in-Ok c =
 pub returns-in_ok-refusal-in-Err : goal.returns-in_ok-refusal-in-Err
 returns-in_ok-refusal-in-Err c =
     let said = c.in_ok-refusal-in-Err.ensures in
-    rw said.2 (refused said.0 c.requires.asked c.requires.all (rw said.1 at c.in-Err.ensures.refused))
+    rw said.2 (refused said.0 c.requires.asked c.requires.counted (rw said.1 at c.in-Err.ensures.refused))

@@ -27,8 +27,8 @@ alone_answer-requires-clause-readable c =
     c.requires.declared)
     asks.first
 
-pub counted_answer-requires-clause-all : goal.counted_answer-requires-clause-all
-counted_answer-requires-clause-all c = (
+pub counted_answer-requires-clause-counted : goal.counted_answer-requires-clause-counted
+counted_answer-requires-clause-counted c = (
   λ asks. false≢true (sym c.if-asked.false ∙ c.in_ok-asked.ensures.1 asks),
   rw c.in-None.is at c.in_ok-alone.ensures,
 )
