@@ -11,6 +11,7 @@ import subprocess
 import sys
 
 OWN = [["--stop"], ["--long-only"], ["--words"], ["--usage"], ["-b", "brief"], ["--help"], ["--nope"], ["-sl"]]
+OWN += [["-V", "o_"], ["--arrays", "--variables=o_"], ["-A"]]
 OWN += [["--complete", "bash"], ["--complete", "zsh"], ["--complete=fish"], ["--complete", "csh"]]
 NAMES = ["a", "b", "v", "verbose", "output", "help", "h", "name", "long-name", "é", "日本", "x=y", "-x", ""]
 HINTS = ["FILE", "WHEN", "[N]", "A B", "", "日", "x]"]
@@ -22,7 +23,7 @@ def item_of(rng):
     short, long = rng.choice(NAMES), rng.choice(NAMES)
     names = rng.choice([f"-{short}", f"--{long}", f"-{short}|--{long}", f"-{short}|--{long}"])
     item = names + rng.choice(["", "", " " + rng.choice(HINTS), f" [{rng.choice(HINTS)}]"])
-    return rng.choice([item, f"[{item}]", f"[{item}]", f"[{item}]..", f"[{item}]...", f"[{item}"])
+    return rng.choice([item, f"[{item}]", f"[{item}]!", f"[{item}]..", f"[{item}]...", f"[{item}"])
 
 
 def table_of(rng):
@@ -30,7 +31,8 @@ def table_of(rng):
     for place in range(rng.randrange(0, 6)):
         # Most lines are options with names of their own.
         item = item_of(rng) if rng.random() < 0.1 else rng.choice(
-            [f"[-{'abcde'[place]}|--long-{place}]..", f"[-{'abcde'[place]} FILE]", f"[--long-{place} [WHEN]]"])
+            [f"[-{'abcde'[place]}|--long-{place}]..", f"[-{'abcde'[place]} FILE]", f"[--long-{place} [WHEN]]",
+             f"[-{'abcde'[place]}|--long-{place}]!"])
         lines.append(rng.choice(["", " "]) + item + rng.choice(["", "  ", "\t", "   what it does, in many words " * 3]))
     return rng.choice(["\n", "\n", "\n# a remark\n", "\r\n"]).join(lines + rng.choice([[], ["[-h|--help]  print this"]])).encode()
 
