@@ -47,10 +47,12 @@ for words in "--output=x.txt --verbose in.txt" "-vvLd -La -Lb -c auto -o x.txt f
     refuses "getopts_show $words" "$show" "$show" "${line[@]}"
 done
 
-# shells PROGRAM: its own help, a script's help, words, a completion script, and accepted words.
-table=$'[-v|--verbose]..  say more\n-o|--output FILE  write to FILE\n[-h|--help]  print this help'
+# shells PROGRAM: its own help, a script's help, words, an option that stands alone, a completion script, and accepted
+# words.
+table=$'[-v|--verbose]..  say more\n-o|--output FILE  write to FILE\n[-V|--version]!  print it\n[-h|--help]  print this help'
 shells() {
-    for words in "-h" "-u backup TABLE" "backup TABLE -h" "-c zsh backup TABLE" "backup TABLE -vo x y"; do
+    for words in "-h" "-u backup TABLE" "backup TABLE -h" "backup TABLE -V" "-V o_ backup TABLE -vV" "-c zsh backup TABLE" \
+        "backup TABLE -vo x y"; do
         read -r -a line <<<"$words"
         refuses "$(basename "$1") $words" "$shell" "$1" "${line[@]/#TABLE/$table}"
     done

@@ -72,8 +72,9 @@ def text_of(rng):
     return "".join(chars)
 
 
-def table_of(rng):
-    """A random table: for each option its short and long name, its kind and how often it may come."""
+def table_of(rng, alone):
+    """A random table: for each option its short and long name, its kind and how often it may come. An option stands
+    alone with this probability."""
     shorts, longs = list("abcdefgXYZ"), ["aa", "b-b", "c_c", "K3", "e-1-f", "g--h", "long-", "_x"]
     rng.shuffle(shorts)
     rng.shuffle(longs)
@@ -81,7 +82,8 @@ def table_of(rng):
     for _ in range(rng.randrange(1, 7)):
         short, long = rng.choice([(True, False), (False, True), (True, True)])
         names = (shorts.pop() if short else "", longs.pop() if long else "")
-        options.append((*names, rng.choice(["no", "yes", "yes", "maybe"]), rng.choice(["once", "may", "may", "many"])))
+        kind, count = rng.choice(["no", "yes", "yes", "maybe"]), rng.choice(["once", "may", "may", "many"])
+        options.append((*names, *(("no", "alone") if rng.random() < alone else (kind, count))))
     return options
 
 
@@ -90,7 +92,7 @@ def written(options):
     for short, long, kind, count in options:
         names = "|".join(([f"-{short}"] if short else []) + ([f"--{long}"] if long else []))
         inside = names + {"no": "", "yes": " X", "maybe": " [X]"}[kind]
-        lines.append({"once": "%s", "may": "[%s]", "many": "[%s].."}[count] % inside)
+        lines.append({"once": "%s", "may": "[%s]", "many": "[%s]..", "alone": "[%s]!"}[count] % inside)
     return "\n".join(lines)
 
 
@@ -106,12 +108,13 @@ def spelled(rng, option, value):
                       else [[f"--{long}={value}"], [f"--{long}", value]])
 
 
-def case_of(rng):
+def case_of(rng, alone=0.1):
     """Random options, words by them, what these give in order (the place of an option, and its value), and the free
-    words."""
-    options, parts = table_of(rng), []
+    words. Where the words have an option that stands alone, they give the first one of the table, and nothing else."""
+    options, parts = table_of(rng, alone), []
     for place, option in enumerate(options):
-        for _ in range({"once": 1, "may": rng.randrange(2), "many": rng.choice([0, 0, 1, 2, 3])}[option[3]]):
+        many = rng.choice([0, 0, 1, 2, 3])
+        for _ in range({"once": 1, "may": rng.randrange(2), "many": many, "alone": many}[option[3]]):
             value = None if option[2] == "no" else text_of(rng)
             if option[2] == "maybe" and (not value and not option[1] or option[1] and rng.random() < 0.3):
                 value = None if option[1] else "v"
@@ -119,6 +122,9 @@ def case_of(rng):
             if option[3] == "many" and value and rng.random() < 0.2:
                 value = rng.choice(["typeset", "integer", "export", "x=1", "[0]=x"])
             parts.append((place, value))
+    apart = [(place, None) for place, _ in parts if options[place][3] == "alone"][:1]
+    if apart and rng.random() < 0.5:
+        parts = [part for part in parts if options[part[0]][3] != "once"]
     parts += [(None, text_of(rng)) for _ in range(rng.randrange(3))]
     rng.shuffle(parts)
     words, given, free, after_flag = [], [], [], False
@@ -138,7 +144,7 @@ def case_of(rng):
         rest = [text_of(rng) for _ in range(rng.randrange(3))]
         words += ["--"] + rest
         free += rest
-    return options, words, given, free
+    return (options, words, apart, []) if apart else (options, words, given, free)
 
 
 def canonical(options, given, free):

@@ -66,6 +66,47 @@ MISSING = "backup: Required option 'input' missing\n" + SHORT_HELP
 TWICE = "backup: Option 'output' given more than once\n" + SHORT_HELP
 UNKNOWN = "backup: Unrecognized option: 'nope'\n" + SHORT_HELP
 
+# A table with options that stand alone, and what it gives.
+ALONE = """
+-i|--input FILE    read this file
+[-v|--verbose]..   say more
+[-V|--version]!    print the version
+[--licence]!       print the licence
+[-h|--help]        print this help
+"""
+ALONE_MISSING = """\
+backup: Required option 'input' missing
+Usage: backup -i FILE [-v].. [-V] [--licence] [-h]
+"""
+ALONE_HELP = """\
+\\printf %s 'Do it.
+
+Options:
+    -i, --input FILE    read this file
+    -v, --verbose       say more
+    -V, --version       print the version
+        --licence       print the licence
+    -h, --help          print this help
+'; \\exit
+"""
+ALONE_VARIABLES = """\
+\\unset -v o_input
+o_verbose=0
+o_version=1
+o_licence=0
+o_help=0
+""" + "\\set -- \n"
+
+# Why an item is refused.
+DASHES = "a short name comes after '-', a long one after '--'"
+SHORT = "a short name has one byte"
+LONG = "a long name has at least two bytes"
+BYTES = "a name may hold letters, digits, '-', '_', '.', '+', ':' and bytes from 128 on"
+OPEN = "no ']'"
+BRACKETS = "brackets stand around the option or its argument, and dots only after ']'"
+MARK = "'!' comes only after ']' of an option without an argument"
+SPACES = "a tab or two spaces have to come before the description"
+
 # The program's own options, and how it is called.
 OWN = [
     (["--help"], OWN_HELP, 0),
@@ -106,6 +147,10 @@ WORDS = [
     (["-s", "backup", TABLE, "-iy", "x", "-v"], "\\set -- '--input=y' '--' 'x' '-v'\n", 0),
     (["-l", "backup", TABLE, "-input", "y", "-v"], "\\set -- '--input=y' '--verbose' '--'\n", 0),
     (["-w", "backup", TABLE, "-iy", "x"], "'--input=y' '--' 'x'\n", 0),
+    (["-A", "x", "-v"], "getopts_shell: --arrays needs --variables\n", 5),
+    (["-AwV", "opt_", "x", "-v"], "getopts_shell: --words and --variables don't go together\n", 5),
+    (["-Au", "x", "[-v]"], "getopts_shell: --arrays needs --variables\n", 5),
+    (["-A", "x", "-v\n-"], f"getopts_shell: line 2 of the options: -: {DASHES}\n", 5),
     (["-w", "x", ""], "'--'\n", 0),
     (["x", "", "\n", "\\", "$HOME", "é"], "\\set -- '--' '\n' '\\' '$HOME' 'é'\n", 0),
     (["x", "[--help FILE]", "--help", "a"], "\\set -- '--help=a' '--'\n", 0),
@@ -140,6 +185,41 @@ NO_VARIABLES = [
     (["-wV", "opt_"], "-v", "--words and --variables don't go together"),
 ]
 
+# Words with an option that stands alone, and words without one.
+BY_ONE = [
+    (["backup", ALONE, "--version"], "\\set -- '--version' '--'\n", 0),
+    (["backup", ALONE, "-ia", "x", "-vV"], "\\set -- '--version' '--'\n", 0),
+    (["backup", ALONE, "--licence", "-V", "-ia", "-ib", "-V"], "\\set -- '--version' '--'\n", 0),
+    (["backup", ALONE, "--licence", "-v"], "\\set -- '--licence' '--'\n", 0),
+    (["-w", "backup", ALONE, "-V"], "'--version' '--'\n", 0),
+    (["-l", "backup", ALONE, "-version"], "\\set -- '--version' '--'\n", 0),
+    (["-s", "backup", ALONE, "-V", "x"], "\\set -- '--version' '--'\n", 0),
+    (["-s", "backup", ALONE, "x", "-V"], ALONE_MISSING, 2),
+    (["backup", ALONE, "--", "-V"], ALONE_MISSING, 2),
+    (["backup", ALONE, "-ia", "--", "-V"], "\\set -- '--input=a' '--' '-V'\n", 0),
+    (["backup", ALONE, "-i", "-V"], "\\set -- '--input=-V' '--'\n", 0),
+    (["backup", ALONE, "-ia", "-ib"],
+     ALONE_MISSING.replace("Required option 'input' missing", "Option 'input' given more than once"), 2),
+    (["backup", ALONE, "-V", "--nope"],
+     ALONE_MISSING.replace("Required option 'input' missing", "Unrecognized option: 'nope'"), 2),
+    (["backup", ALONE, "-V", "--version=2"],
+     ALONE_MISSING.replace("Required option 'input' missing", "Option 'version' does not take an argument"), 2),
+    (["-b", "Do it.", "backup", ALONE, "-Vh"], ALONE_HELP, 0),
+    (["-V", "o_", "backup", ALONE, "-vV", "x"], ALONE_VARIABLES, 0),
+    (["-sV", "o_", "backup", ALONE, "-VV", "x"], ALONE_VARIABLES, 0),
+    (["-AV", "o_", "x", "[-L D]..\n-i\n[-q]!", "-qLa"], "o_L=(${o_L+} )\no_i=0\no_q=1\n\\set -- \n", 0),
+    (["--complete-words", "fish", "backup", ALONE, "0", "--v"], "--verbose\tsay more\n--version\tprint the version\n", 0),
+    (["x", "-a\n[-h|--help]!\n[-q]!", "-q"], "\\set -- '--q' '--'\n", 0),
+    (["-bU", "x", "-a\n[--help]!\n[-q]!", "-q", "--help"],
+     "\\printf %s 'U\n\nOptions:\n    -a                  \n        --help          \n    -q                  \n'; \\exit\n", 0),
+    (["x", "-a\n[-!]!", "-!"], "\\set -- '--!' '--'\n", 0),
+    (["x", "-a\n[-!]", "-!"], "x: Required option 'a' missing\nUsage: x -a [-!]\n", 2),
+    (["x", "-a\n[-s !]", "-s!"], "x: Required option 'a' missing\nUsage: x -a [-s !]\n", 2),
+    (["x", "-s !", "-s!"], "\\set -- '--s=!' '--'\n", 0),
+    (["x", "-V\n[-V]!"], "getopts_shell: line 2 of the options: the name 'V' stands there already\n", 5),
+    (["-V", "o_", "x", "[--a.b]!", "--a.b"], "getopts_shell: line 1 of the options: 'a.b' makes no variable\n", 5),
+]
+
 # Tables: what their lines are.
 TABLES = [
     (["x", "#\n # -a\n\t-a\r\n  [--bc]", "-a", "--bc"], "\\set -- '--a' '--bc' '--'\n", 0),
@@ -151,15 +231,6 @@ TABLES = [
     (["x", "-v\n-v\n-\n"], "getopts_shell: line 2 of the options: the name 'v' stands there already\n", 5),
     (["x", "--é.b+c:d_e-1", "--é.b+c:d_e-1"], "\\set -- '--é.b+c:d_e-1' '--'\n", 0),
 ]
-
-# Why an item is refused.
-DASHES = "a short name comes after '-', a long one after '--'"
-SHORT = "a short name has one byte"
-LONG = "a long name has at least two bytes"
-BYTES = "a name may hold letters, digits, '-', '_', '.', '+', ':' and bytes from 128 on"
-OPEN = "no ']'"
-BRACKETS = "brackets stand around the option or its argument, and dots only after ']'"
-SPACES = "a tab or two spaces have to come before the description"
 
 # Tables with an item that is refused: the table, the number of its line, the item, and why.
 REFUSED = [
@@ -174,6 +245,11 @@ REFUSED = [
     ("[-x|--exclude PATTERN].. leave PATTERN out", 1, "[-x|--exclude PATTERN].. leave PATTERN out", SPACES),
     ("[-v] verbose", 1, "[-v] verbose", SPACES), ("-s X..", 1, "-s X..", BRACKETS),
     ("--semi;colon", 1, "--semi;colon", BYTES), ("-=", 1, "-=", BYTES),
+    ("[-x ARG]!", 1, "[-x ARG]!", MARK), ("[-x [ARG]]!", 1, "[-x [ARG]]!", MARK), ("-x [ARG]!", 1, "-x [ARG]!", MARK),
+    ("[-v]..!", 1, "[-v]..!", MARK), ("[-v]!!", 1, "[-v]!!", MARK), ("[-v]!..", 1, "[-v]!..", BRACKETS),
+    ("-v!", 1, "-v!", SHORT), ("--version!", 1, "--version!", BYTES), ("[-v!]", 1, "[-v!]", SHORT),
+    ("[-vw]!", 1, "[-vw]!", SHORT), ("[v]!", 1, "[v]!", DASHES), ("]!", 1, "]!", DASHES), ("[]!", 1, "[]!", DASHES),
+    ("[-v]! say more!", 1, "[-v]! say more!", SPACES), ("[-v!", 1, "[-v!", OPEN),
 ]
 
 # Large tables and long lines, near the longest word that Linux hands on.
@@ -192,7 +268,7 @@ REFUSED.append(("-" + OFTEN, 1, "-" + OFTEN, SHORT))
 
 def all_rows():
     """Every row, as words, text and status."""
-    yield from OWN + WORDS + TABLES + LARGE
+    yield from OWN + WORDS + BY_ONE + TABLES + LARGE
     for own, words, text in VARIABLES:
         yield own + ["try", TABLE] + words, text, 0
     for own, table, why in NO_VARIABLES:

@@ -88,6 +88,8 @@ def examples(shell, path, room):
     done = run(shell + [str(folder / "backup"), "-vi", "a", "x"], env=env)
     shown = "input: a\noutput: \nverbose: 1\ncolor: never\nfolders:\nfree: x\n"
     expect(f"{' '.join(shell)}: the example backup", done, 0, shown)
+    expect(f"{' '.join(shell)}: the version of the example backup",
+           run(shell + [str(folder / "backup"), "-vV", "x"], env=env), 0, "backup 1.0\n")
     done = run(shell + [str(folder / "backup"), "--completion", "fish"], env=env)
     if done.returncode != 0 or b"\ncomplete -c 'backup' -f -a " not in done.stdout:
         fail(f"{' '.join(shell)}: the completion of the example backup: {done}")
@@ -133,7 +135,7 @@ def beside_getopt(program):
     rng = random.Random(44)
     asked = refused = 0
     while asked < 500:
-        options, words, given, _ = case_of(rng)
+        options, words, given, _ = case_of(rng, alone=0)
         if any(options[place][2] == "maybe" and value == "" for place, value in given):
             continue
         if rng.random() < 0.2:
@@ -158,6 +160,7 @@ OPEN = "no ']'"
 BYTES = "a name may hold letters, digits, '-', '_', '.', '+', ':' and bytes from 128 on"
 DASHES = "a short name comes after '-', a long one after '--'"
 BRACKETS = "brackets stand around the option or its argument, and dots only after ']'"
+MARK = "'!' comes only after ']' of an option without an argument"
 LONG_NAME = re.compile(r"[A-Za-z0-9_.+:\x80-\U0010ffff-]*")
 
 
@@ -186,6 +189,7 @@ def names_of(inside):
 
 def reason_of(item):
     """What is wrong with an item that is none, by the first rule of the page that it breaks."""
+    right = MARK if item.endswith("!") else BRACKETS
     if "[" in item and "]" not in item:
         return OPEN
     names, _, rest = re.match(r"(?s)([^ \]]*)([ \]]?)(.*)", item).groups()
@@ -203,7 +207,7 @@ def reason_of(item):
         if not is_short(short):
             return BYTES
         if not more:
-            return BRACKETS
+            return right
         if not more.startswith("|--"):
             return DASHES
         long = more[3:]
@@ -211,7 +215,7 @@ def reason_of(item):
         return LONG
     if not LONG_NAME.fullmatch(long):
         return BYTES
-    return DASHES if long[0] == "-" else BRACKETS
+    return DASHES if long[0] == "-" else right
 
 
 def table_fault(table):
@@ -223,11 +227,11 @@ def table_fault(table):
             continue
         item = re.split("\t|  ", line)[0]
         inside = item
-        for end in ("]...", "]..", "]"):
+        for end in ("]...", "]..", "]!", "]"):
             if item.startswith("[") and item.endswith(end):
                 inside = item[1:-len(end)]
                 break
-        names = names_of(inside)
+        names = None if end == "]!" and " " in inside else names_of(inside)
         if names is None:
             return f"line {number} of the options: {item}: {reason_of(item)}"
         for name in names:
@@ -239,7 +243,8 @@ def table_fault(table):
 
 def changed_tables(program):
     """Each byte of good lines, changed in turn to each of many others, left out and doubled."""
-    good = ["-v|--verbose  say more", "[-c|--color [WHEN]]..\tcolour it", "[-o|--output FILE]  write"]
+    good = ["-v|--verbose  say more", "[-c|--color [WHEN]]..\tcolour it", "[-o|--output FILE]  write",
+            "[-V|--version]!  print it"]
     others = [chr(c) for c in range(32, 128)] + ["", "\t", "\n", "\r", "\x01"]
     tables, refused = 0, 0
     for at, line in enumerate(good):

@@ -1,17 +1,17 @@
 -- The variables that are asked for.
-use Rattle.std.proofs.Common.{◌≡◌, ℕ, ◌+◌, Bool, true, false, cond, List, [], ◌∷◌, Option, Some, None, ap, refl, sym, ◌∙◌, map}
-use Rattle.std.specs.Option.{option_and_then}
+use Rattle.std.proofs.Common.{◌≡◌, ℕ, ◌+◌, Bool, true, false, cond, List, [], ◌∷◌, Option, Some, None, ap, refl, sym, subst, ◌∙◌, map}
+use Rattle.std.specs.Option.{option_map_or}
 use Rattle.getopts.specs.Accessors.{held_names}
 use Rattle.getopts.specs.Matches.{Matched, MatchedGroup, matched}
 use Rattle.getopts.specs.Names.{Text, Names}
 use Rattle.getopts.specs.Options.{Declared, Group, Signature, names_of, signatures_of}
-use Rattle.getopts.specs.Parse.{IsAccepted}
+use Rattle.getopts.specs.Parse.{HasReading}
 use Rattle.getopts.specs.Reading.{Occurrence}
 use Rattle.getopts.specs.Wrap.{lines_of}
 use Rattle.getopts_shell.specs.Held.{held_signatures}
 use Rattle.getopts_shell.specs.Program.{Asked, asked_fault}
 use Rattle.getopts_shell.specs.Variables.{first_fault, HaveOwnVariables, is_prefix, option_lines, prefix_fault}
-use Rattle.getopts_shell.specs.Variables.{VariableFault, with_words}
+use Rattle.getopts_shell.specs.Variables.{VariableFault, arrays_only, with_words}
 use Rattle.getopts_shell.proofs.Assignments.{own_variables}
 
 matched_signatures : (place : ℕ) (signatures : List Signature) (occurrences : List Occurrence)
@@ -20,11 +20,11 @@ matched_signatures place [] occurrences = refl
 matched_signatures place (signature ∷ signatures) occurrences =
     ap (λ (others : List Signature). signature ∷ others) (matched_signatures (place + 1) signatures occurrences)
 
--- accepted matches have the signatures of the options
+-- the matches of a reading have the signatures of the options
 pub held_signatures_are : (options : Declared) (words : List Text) (matches : Matched)
-    → IsAccepted options words matches → held_signatures matches.groups ≡ signatures_of options.groups
+    → HasReading options words matches → held_signatures matches.groups ≡ signatures_of options.groups
 held_signatures_are options words matches is =
-    ap (λ (m : Matched). held_signatures m.groups) is.read.matches_are
+    ap (λ (m : Matched). held_signatures m.groups) is.matches_are
     ∙ matched_signatures 0 (signatures_of options.groups) _
 
 names_of_held : (groups : List MatchedGroup)
@@ -40,8 +40,8 @@ names_of_signatures (group ∷ groups) =
     ap (λ (names : List Names). group.signature.names ∷ names) (names_of_signatures groups)
 
 -- and their names
-pub held_names_are : (options : Declared) (words : List Text) (matches : Matched)
-    → IsAccepted options words matches → held_names matches.groups ≡ names_of options.groups
+held_names_are : (options : Declared) (words : List Text) (matches : Matched)
+    → HasReading options words matches → held_names matches.groups ≡ names_of options.groups
 held_names_are options words matches is =
     names_of_held matches.groups
     ∙ ap (map (λ (signature : Signature). signature.names)) (held_signatures_are options words matches is)
@@ -58,13 +58,24 @@ begun true first fault is = is
 begun false first fault is = absurd cc
 
 -- where there is no fault, the options make their own variables
-pub asked_own : (asked : Asked) (table prefix : Text) (groups : List Group) → asked.variables ≡ Some prefix
+asked_own : (asked : Asked) (table prefix : Text) (groups : List Group) → asked.variables ≡ Some prefix
     → asked_fault asked table groups ≡ None → HaveOwnVariables prefix [] (names_of groups)
 asked_own asked table prefix groups given none =
     let lines = option_lines 0 (lines_of table) in
     let first = first_fault prefix lines [] (names_of groups) in
     let at : cond asked.words (Some with_words) (prefix_fault prefix table (names_of groups)) ≡ None =
-    sym (ap (option_and_then (λ (prefix : Text). cond asked.words (Some with_words)
-    (prefix_fault prefix table (names_of groups)))) given) ∙ none in
+    sym (ap (λ (variables : Option Text). option_map_or (λ (prefix : Text). cond asked.words (Some with_words)
+    (prefix_fault prefix table (names_of groups))) variables (cond asked.arrays (Some arrays_only) None)) given)
+    ∙ none in
     own_variables prefix lines [] (names_of groups)
     (begun (is_prefix prefix) first _ (without_words asked.words (prefix_fault prefix table (names_of groups)) at))
+
+-- and so do the groups of such matches
+pub held_own : (asked : Asked) (table prefix : Text) (options : Declared) (groups : List Group) (words : List Text)
+    (matches : Matched) → asked.variables ≡ Some prefix → asked_fault asked table groups ≡ None
+    → options.groups ≡ groups → HasReading options words matches
+    → HaveOwnVariables prefix [] (held_names matches.groups)
+held_own asked table prefix options groups words matches given none groups_are read =
+    subst (λ (names : List Names). HaveOwnVariables prefix [] names)
+    (sym (held_names_are options words matches read ∙ ap (λ (groups : List Group). names_of groups) groups_are))
+    (asked_own asked table prefix groups given none)

@@ -10,10 +10,10 @@ use Rattle.getopts.specs.Fail.{Fault, fault_of}
 use Rattle.getopts.specs.Matches.{Matched, MatchedGroup, matches_of}
 use Rattle.getopts.specs.Names.{Text}
 use Rattle.getopts.specs.Options.{Declared, Group}
-use Rattle.getopts.specs.Parse.{HasReading, HasNoReading}
+use Rattle.getopts.specs.Parse.{HasReading}
 use Rattle.getopts.specs.declared.fail.Fail.{Fail}
 use Rattle.getopts.specs.declared.fail.Fail.TheVariants as fail
-use Rattle.getopts_shell.specs.Held.{group_of_row, groups_of}
+use Rattle.getopts_shell.specs.Held.{HaveReading, group_of_row, groups_of}
 use Rattle.getopts_shell.specs.Program.{AskHelp, is_no, offers_help}
 use Rattle.getopts_shell.specs.declared.row.Row.{Row}
 use Rattle.getopts_shell.proofs.Lines.{list_any-map}
@@ -58,17 +58,17 @@ asked_is options words matches asked read offers is = (
       (sym (one_reading options words matches asks.0 read asks.1)) ∙ asks.3,
 )
 
--- words that have no reading have no matches of one
-pub never_read : (options : Declared) (words : List Text) (matches : Matched) (fault : Fault)
-    → HasNoReading options words fault → ¬ (HasReading options words matches)
-never_read options words matches fault none read = none.no_reading read.reading ((read.only read.reading).1 refl)
+-- words that have the matches of one reading have a reading
+pub has_reading : (options : Declared) (words : List Text) (matches : Matched) → HasReading options words matches
+    → HaveReading options words
+has_reading options words matches read = (read.reading, (read.only read.reading).1 refl)
 
 -- words that have no reading don't ask for help
-pub never_asked : (options : Declared) (words : List Text) (fault : Fault)
-    → HasNoReading options words fault → (false ≡ true) ↔ AskHelp options words
-never_asked options words fault none = (
+pub never_asked : (options : Declared) (words : List Text) → ¬ (HaveReading options words)
+    → (false ≡ true) ↔ AskHelp options words
+never_asked options words none = (
   λ bad. cc,
-  λ asks. absurd (never_read options words asks.0 fault none asks.1),
+  λ asks. absurd (none (has_reading options words asks.0 asks.1)),
 )
 
 -- what a refusal tells, unless it tells that memory was refused

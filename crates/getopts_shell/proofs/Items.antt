@@ -15,6 +15,9 @@ use Rattle.getopts.specs.declared.groups.Occur.{Occur}
 use Rattle.getopts.specs.declared.groups.Occur.TheVariants.{Req, Optional, Multi}
 use Rattle.getopts_shell.specs.Table.{is_name, is_hint, names_text, MayBeNames, AreNames, IsArgument}
 use Rattle.getopts_shell.specs.Table.{HasParts, IsBracketed, IsItem, is_hint_byte}
+use Rattle.getopts_shell.specs.Table.{IsMarked, IsOption, unmarked, marked}
+use Rattle.getopts_shell.specs.Held.{group_of_row}
+use Rattle.getopts_shell.specs.declared.row.Row.{Row}
 
 -- ---- the end of a text
 
@@ -389,3 +392,55 @@ no_hint text rest opens none Yes hint is =
     hint_open rest (subst (λ (t : Text). is_hint t ≡ true) (sym is.1 ∙ opens) is.0)
 no_hint text rest opens none Maybe hint is =
     let same : 91 ∷ rest ≡ 91 ∷ (hint ++ (93 ∷ [])) = sym opens ∙ is.1 in none hint cc
+
+-- ---- marked items
+
+-- names before the mark are those after the bracket
+marked_names : (opened inside names : Text) → opened ≡ 91 ∷ inside
+    → opened ++ (93 ∷ 33 ∷ []) ≡ 91 ∷ (names ++ (93 ∷ 33 ∷ [])) → names ≡ inside
+marked_names opened inside names opens written =
+    let same : opened ≡ 91 ∷ names = append_cancel_right opened (91 ∷ names) (93 ∷ 33 ∷ []) written in
+    let both : 91 ∷ names ≡ 91 ∷ inside = sym same ∙ opens in cc
+
+-- a text that doesn't begin with `[` is no front of a marked item
+pub no_marked_bracket : (opened : Text) → ((rest : Text) → opened ≢ 91 ∷ rest)
+    → (known : Signature) (hint : Text) → ¬ (IsMarked (opened ++ (93 ∷ 33 ∷ [])) known hint)
+no_marked_bracket opened none known hint is =
+    none is.names (append_cancel_right opened (91 ∷ is.names) (93 ∷ 33 ∷ []) is.written)
+
+pub no_marked_names : (opened inside : Text) → opened ≡ 91 ∷ inside → ((names : Names) → ¬ (AreNames names inside))
+    → (known : Signature) (hint : Text) → ¬ (IsMarked (opened ++ (93 ∷ 33 ∷ [])) known hint)
+no_marked_names opened inside opens none known hint is =
+    none known.names (subst (AreNames known.names) (marked_names opened inside is.names opens is.written) is.names_are)
+
+-- a marked item ends in the mark
+pub ends_marked : (text : Text) (known : Signature) (hint : Text) → ((front : Text) → text ≢ front ++ (93 ∷ 33 ∷ []))
+    → ¬ (IsMarked text known hint)
+ends_marked text known hint plain is = plain (91 ∷ is.names) is.written
+
+-- a text that ends in the mark is an option where it is a marked item
+pub by_mark : (result : Option Row) (text opened : Text) → text ≡ opened ++ (93 ∷ 33 ∷ [])
+    → MatchOption result ((known : Signature) (hint : Text) → ¬ (IsMarked (opened ++ (93 ∷ 33 ∷ [])) known hint))
+    (λ row. IsMarked (opened ++ (93 ∷ 33 ∷ [])) (group_of_row row).signature row.hint.now)
+    → MatchOption result ((known : Signature) (hint : Text) → ¬ (IsOption text known hint))
+    (λ row. IsOption text (group_of_row row).signature row.hint.now)
+by_mark None text opened ends none = by_case
+  where
+    by_case : (known : Signature) (hint : Text) → ¬ (IsOption text known hint)
+    by_case known hint (unmarked plain is) = plain opened ends
+    by_case known hint (marked is) = none known hint (subst (λ (t : Text). IsMarked t known hint) ends is)
+by_mark (Some row) text opened ends is =
+    marked (subst (λ (t : Text). IsMarked t (group_of_row row).signature row.hint.now) (sym ends) is)
+
+-- another text is an option where it is an item
+pub by_item : (result : Option Row) (text : Text) → ((front : Text) → text ≢ front ++ (93 ∷ 33 ∷ []))
+    → MatchOption result ((known : Signature) (hint : Text) → ¬ (IsItem text known hint))
+    (λ row. IsItem text (group_of_row row).signature row.hint.now)
+    → MatchOption result ((known : Signature) (hint : Text) → ¬ (IsOption text known hint))
+    (λ row. IsOption text (group_of_row row).signature row.hint.now)
+by_item None text plain none = by_case
+  where
+    by_case : (known : Signature) (hint : Text) → ¬ (IsOption text known hint)
+    by_case known hint (unmarked also is) = none known hint is
+    by_case known hint (marked is) = ends_marked text known hint plain is
+by_item (Some row) text plain is = unmarked plain is

@@ -18,3 +18,4 @@ mod Shell
 mod Assignments
 mod Asked
 mod GoesOn
+mod Alone

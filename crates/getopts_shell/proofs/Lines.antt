@@ -18,7 +18,7 @@ use Rattle.getopts_shell.specs.Held.{TellsFault}
 use Rattle.getopts_shell.specs.declared.table.TableError.{TableError}
 use Rattle.getopts_shell.specs.declared.table.TableError.TheVariants as error
 use Rattle.getopts_shell.specs.Table.{is_blank, before_blanks, after_blanks, trimmed, before_gap, from_gap}
-use Rattle.getopts_shell.specs.Table.{is_passed, IsItem, DeclaresGroup, Declares}
+use Rattle.getopts_shell.specs.Table.{is_passed, IsOption, DeclaresGroup, Declares}
 use Rattle.getopts_shell.specs.Table.{HaveNewNames, DeclareOptions, TableFault}
 use Rattle.getopts_shell.specs.Table.{IsLineFault, IsTableFault, no_option, none}
 
@@ -58,22 +58,22 @@ ends_before_blanks (byte ∷ text) (suc n) below plain blanks =
 
 -- ---- what a line declares
 
--- a line that isn't passed over and has an item declares its option
+-- a line that isn't passed over and has an option declares it
 pub declares_group : (line text item rest description : Text) (group : Group) → text ≡ trimmed line
     → (is_empty text || (slice_index text 0 == 35)) ≡ false
     → item ≡ before_gap text → rest ≡ from_gap text → description ≡ trimmed rest
-    → group.description ≡ description → IsItem item group.signature group.hint → DeclaresGroup line group
+    → group.description ≡ description → IsOption item group.signature group.hint → DeclaresGroup line group
 declares_group line text item rest description group text_is there item_is rest_is description_is is of_item =
     record {
       there = ap (λ (t : Text). is_empty t || (slice_index t 0 == 35)) (sym text_is) ∙ there;
-      item = subst (λ (t : Text). IsItem t group.signature group.hint) (item_is ∙ ap before_gap text_is) of_item;
+      item = subst (λ (t : Text). IsOption t group.signature group.hint) (item_is ∙ ap before_gap text_is) of_item;
       description = is ∙ description_is ∙ ap trimmed (rest_is ∙ ap from_gap text_is);
     }
 
--- a line that isn't passed over and has no item has a fault
+-- a line that isn't passed over and has no option has a fault
 pub faulty_line : (line text item : Text) (number : ℕ) (groups : List Group) → text ≡ trimmed line
     → (is_empty text || (slice_index text 0 == 35)) ≡ false → item ≡ before_gap text
-    → ((known : Signature) (hint : Text) → ¬ (IsItem item known hint))
+    → ((known : Signature) (hint : Text) → ¬ (IsOption item known hint))
     → IsLineFault number groups line (no_option number item)
 faulty_line line text item number groups text_is there item_is none_of =
     subst (λ (t : Text). IsLineFault number groups line (no_option number t))
@@ -86,7 +86,7 @@ faulty_line line text item number groups text_is there item_is none_of =
     declares_not : (declared : Option Group) → ¬ (Declares line declared)
     declares_not None is = let both : true ≡ false = sym is ∙ passed_not in cc
     declares_not (Some group) is = none_of group.signature group.hint
-        (subst (λ (t : Text). IsItem t group.signature group.hint) (sym (item_is ∙ ap before_gap text_is)) is.item)
+        (subst (λ (t : Text). IsOption t group.signature group.hint) (sym (item_is ∙ ap before_gap text_is)) is.item)
 
 -- ---- lines, one after the other
 

@@ -13,7 +13,7 @@ use Rattle.getopts.specs.CanonAnswers.{IsWritten}
 use Rattle.getopts.specs.Matches.{Matched, MatchedGroup, found_at, found_part, matched}
 use Rattle.getopts.specs.Names.{Text}
 use Rattle.getopts.specs.Options.{Declared, Grammar, Group, Signature, grammar_of, signatures_of}
-use Rattle.getopts.specs.Parse.{IsAccepted}
+use Rattle.getopts.specs.Parse.{HasReading}
 use Rattle.getopts.specs.Reading.{Argument, none, attached, separate, flags, ends_in, Item, free, long, cluster}
 use Rattle.getopts.specs.Reading.{Tail, line_end, stop, rest, Reading, IsReading, Mention, Occurrence, at_position}
 use Rattle.getopts.specs.Reading.{attached_argument, argument_words, dash_text}
@@ -161,14 +161,13 @@ groups_none place (signature ∷ signatures) occurrences frees are clear =
     (AllByRecursion-append (λ (word : Text). holds_nul word ≡ false) founds (others ++ frees)
     (found_none place occurrences are) (groups_none (place + 1) signatures occurrences frees are clear))
 
--- what accepted words without NUL bytes give holds none
-pub matches_none : (options : Declared) (words : List Text) (matches : Matched) → IsAccepted options words matches
+-- what words without NUL bytes give holds none
+pub matches_none : (options : Declared) (words : List Text) (matches : Matched) → HasReading options words matches
     → HoldNoNul words → HoldNoNul (texts_held matches)
 matches_none options words matches is clear =
-    let gives = reading_none (grammar_of options) is.read.reading words
-    ((is.read.only is.read.reading).1 refl) clear in
-    subst (λ (m : Matched). HoldNoNul (texts_held m)) (sym is.read.matches_are)
-    (groups_none 0 (signatures_of options.groups) _ (free_words is.read.reading) gives.values gives.frees)
+    let gives = reading_none (grammar_of options) is.reading words ((is.only is.reading).1 refl) clear in
+    subst (λ (m : Matched). HoldNoNul (texts_held m)) (sym is.matches_are)
+    (groups_none 0 (signatures_of options.groups) _ (free_words is.reading) gives.values gives.frees)
 
 -- ---- canonical lines
 

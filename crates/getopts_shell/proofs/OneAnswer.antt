@@ -13,11 +13,14 @@ use Rattle.getopts_shell.specs.Completion.{IsOffer, word_at}
 use Rattle.getopts_shell.specs.Program.{Answer, Asked, asked_by, done, misused, own_options, is_given, help_code}
 use Rattle.getopts_shell.specs.Program.{fault_line, refused_text, table_fault_line, script_options, line_code}
 use Rattle.getopts_shell.specs.Program.{AnswersPlace, offered, no_place, AnswersNumbered, AnswersOffer, at_place, no_shell, completion_answer}
-use Rattle.getopts_shell.specs.Program.{AnswersScript, usage, offers, help, accepted, variables, refused, ReadsWords}
+use Rattle.getopts_shell.specs.Program.{AnswersScript, usage, offers, help, alone, accepted, variables, refused, ReadsWords}
+use Rattle.getopts_shell.specs.Program.{AnswersAlone, as_line, as_variables}
 use Rattle.getopts_shell.specs.Program.{faulty, completion, no_variables, declared, AnswersFree, asked_fault, variable_fault_line}
 use Rattle.getopts_shell.specs.Program.{refused_own, own_help, own_version, accepted_own, OneAnswer}
 use Rattle.getopts_shell.specs.Table.{TableFault}
 use Rattle.getopts_shell.specs.Variables.{VariableFault, variables_code}
+use Rattle.getopts_shell.proofs.Alone.{same_alone}
+use Rattle.getopts_shell.proofs.Help.{one_reading}
 use Rattle.getopts_shell.proofs.Offers.{one_offer, one_number}
 use Rattle.getopts_shell.proofs.Only.{one_table, one_fault, no_fault}
 
@@ -65,6 +68,22 @@ no_code asked shell given none = let both : Some shell ≡ None = sym given ∙ 
 no_prefix : {X : Type 0} (asked : Asked) (prefix : Text) → asked.variables ≡ Some prefix → asked.variables ≡ None → X
 no_prefix asked prefix given none = let both : Some prefix ≡ None = sym given ∙ none in absurd cc
 
+-- one option alone has one answer
+one_alone : (asked : Asked) (options : Declared) (group : Group) {answer other : Answer}
+    → AnswersAlone asked options group answer → AnswersAlone asked options group other → other ≡ answer
+one_alone asked options group (as_line plain is) (as_line simple also) = refl
+one_alone asked options group (as_line plain is) (as_variables prefix matches by read sets) =
+    no_prefix asked prefix by plain
+one_alone asked options group (as_variables prefix matches by read sets) (as_line plain is) =
+    no_prefix asked prefix by plain
+one_alone asked options group (as_variables prefix matches by read sets)
+    (as_variables other others also_by also_read also_sets) =
+    let both : Some other ≡ Some prefix = sym also_by ∙ by in
+    let same_prefix : other ≡ prefix = cc in
+    ap (λ (p : Text). done (variables_code p asked.arrays others)) same_prefix
+    ∙ ap (λ (m : Matched). done (variables_code prefix asked.arrays m))
+    (one_reading options _ matches others read also_read)
+
 module _ (parse : (options : Declared) (words : List Text) → AtMostOne (IsParseAnswer options words))
     (canonical : (options : Declared) (words : List Text) → AtMostOne (IsCanonicalAnswer options words)) where
   one_script : (asked : Asked) (name : Text) (options : Declared) (words : List Text)
@@ -99,13 +118,13 @@ module _ (parse : (options : Declared) (words : List Text) → AtMostOne (IsPars
       no_place_asked asked shell shell_is reads
   one_script asked name options words (help text reads ask is commands) (help another again also_ask also others) =
       ap (λ (t : Text). done (help_code t)) (one_only _ text another is also)
-  one_script asked name options words (help text reads ask is commands) (accepted line again none plain also) = absurd (none ask)
-  one_script asked name options words (help text reads ask is commands) (refused fault again none also) = absurd (none ask)
+  one_script asked name options words (help text reads ask is commands) (accepted line again none plain also) = absurd (none.0 ask)
+  one_script asked name options words (help text reads ask is commands) (refused fault again none also) = absurd (none.0 ask)
   one_script asked name options words (accepted line reads no_help plain is) (usage text given also) =
       no_usage asked given reads.0
   one_script asked name options words (accepted line reads no_help plain is)
       (offers shell other none shell_is also) = no_place_asked asked shell shell_is reads
-  one_script asked name options words (accepted line reads none plain is) (help text again ask also commands) = absurd (none ask)
+  one_script asked name options words (accepted line reads none plain is) (help text again ask also commands) = absurd (none.0 ask)
   one_script asked name options words (accepted line reads none plain is) (accepted another again never simple also) =
       let same : Ok (Some another) ≡ Ok (Some line) =
       canonical options words (Ok (Some another)) (Ok (Some line)) also.written is.written in
@@ -118,7 +137,7 @@ module _ (parse : (options : Declared) (words : List Text) → AtMostOne (IsPars
       no_usage asked given reads.0
   one_script asked name options words (refused fault reads no_help is)
       (offers shell other none shell_is also) = no_place_asked asked shell shell_is reads
-  one_script asked name options words (refused fault reads none is) (help text again ask also commands) = absurd (none ask)
+  one_script asked name options words (refused fault reads none is) (help text again ask also commands) = absurd (none.0 ask)
   one_script asked name options words (refused fault reads none is) (accepted line again never plain also) =
       let same : Ok (Some line) ≡ Err fault = canonical options words (Ok (Some line)) (Err fault) also.written is in
       absurd cc
@@ -131,7 +150,7 @@ module _ (parse : (options : Declared) (words : List Text) → AtMostOne (IsPars
   one_script asked name options words (offers shell answer none shell_is is)
       (variables prefix matches reads no_help by also sets) = no_place_asked asked shell shell_is reads
   one_script asked name options words (help text reads ask is commands)
-      (variables prefix matches again none by also sets) = absurd (none ask)
+      (variables prefix matches again none by also sets) = absurd (none.0 ask)
   one_script asked name options words (accepted line reads no_help plain is)
       (variables prefix matches again none by also sets) = no_prefix asked prefix by plain
   one_script asked name options words (refused fault reads no_help is)
@@ -142,7 +161,7 @@ module _ (parse : (options : Declared) (words : List Text) → AtMostOne (IsPars
   one_script asked name options words (variables prefix matches reads no_help by is sets)
       (offers shell other none shell_is also) = no_place_asked asked shell shell_is reads
   one_script asked name options words (variables prefix matches reads none by is sets)
-      (help text again ask also commands) = absurd (none ask)
+      (help text again ask also commands) = absurd (none.0 ask)
   one_script asked name options words (variables prefix matches reads no_help by is sets)
       (accepted line again none plain also) = no_prefix asked prefix by plain
   one_script asked name options words (variables prefix matches reads no_help by is sets)
@@ -156,6 +175,33 @@ module _ (parse : (options : Declared) (words : List Text) → AtMostOne (IsPars
       let same_matches : others ≡ matches = cc in
       ap (λ (p : Text). done (variables_code p asked.arrays others)) same_prefix
       ∙ ap (λ (m : Matched). done (variables_code prefix asked.arrays m)) same_matches
+  one_script asked name options words (usage text given is) (alone group other reads asks also) =
+      no_usage asked given reads.0
+  one_script asked name options words (offers shell answer none shell_is is) (alone group other reads asks also) =
+      no_place_asked asked shell shell_is reads
+  one_script asked name options words (help text reads ask is commands) (alone group other again asks also) =
+      absurd (asks.no_help ask)
+  one_script asked name options words (alone group answer reads asks is) (usage text given also) =
+      no_usage asked given reads.0
+  one_script asked name options words (alone group answer reads asks is) (offers shell other none shell_is also) =
+      no_place_asked asked shell shell_is reads
+  one_script asked name options words (alone group answer reads asks is) (help text again ask also commands) =
+      absurd (asks.no_help ask)
+  one_script asked name options words (alone group answer reads asks is) (alone another other again also_asks also) =
+      one_alone asked options group is (subst (λ (g : Group). AnswersAlone asked options g other)
+      (same_alone options words group another asks also_asks) also)
+  one_script asked name options words (alone group answer reads asks is) (accepted line again none plain also) =
+      absurd (none.1 group asks)
+  one_script asked name options words (alone group answer reads asks is)
+      (variables prefix matches again none by also sets) = absurd (none.1 group asks)
+  one_script asked name options words (alone group answer reads asks is) (refused fault again none also) =
+      absurd (none.1 group asks)
+  one_script asked name options words (accepted line reads none plain is) (alone group other again asks also) =
+      absurd (none.1 group asks)
+  one_script asked name options words (variables prefix matches reads none by is sets)
+      (alone group other again asks also) = absurd (none.1 group asks)
+  one_script asked name options words (refused fault reads none is) (alone group other again asks also) =
+      absurd (none.1 group asks)
 
   one_free : (asked : Asked) (words : List Text) {answer other : Answer}
       → AnswersFree asked words answer → AnswersFree asked words other → other ≡ answer

@@ -2,14 +2,16 @@
 use Rattle.std.proofs.Common.{◌≡◌, ℕ, true, false, List, [], ◌∷◌, ◌++◌, length, Option, Some, None}
 use Rattle.std.proofs.Common.{refl, sym, ap, subst, ◌∙◌, append_assoc, append-nil}
 use Rattle.std.specs.List.{AllZip, filter_map}
+use Rattle.std.proofs.lemmas.List.{append_cancel_right}
 use Rattle.std.proofs.lemmas.List.Elements.{filter_map-append}
 use Rattle.getopts.specs.Names.{Text}
 use Rattle.getopts.specs.Options.{Group, Signature}
 use Rattle.getopts.specs.Wrap.{lines_of}
-use Rattle.getopts_shell.specs.Table.{AreNames, IsItem, HasParts, IsArgument, Declares, DeclaresOptions}
+use Rattle.getopts_shell.specs.Table.{AreNames, IsItem, IsMarked, IsOption, unmarked, marked, HasParts, IsArgument}
+use Rattle.getopts_shell.specs.Table.{Declares, DeclaresOptions}
 use Rattle.getopts_shell.specs.Table.{OneTableOneList, DeclareOptions, name_again, HaveNewNames, TableFault, name_twice}
 use Rattle.getopts_shell.specs.Table.{IsLineFault, none, twice, IsTableFault, line_number}
-use Rattle.getopts_shell.proofs.Items.{one_bracketed, one_pair, one_names, one_argument}
+use Rattle.getopts_shell.proofs.Items.{one_bracketed, one_pair, one_names, one_argument, ends_marked}
 
 -- an item has one meaning
 one_item : (text : Text) (known other : Signature) (hint another : Text) → IsItem text known hint
@@ -28,6 +30,35 @@ one_item text known other hint another is also =
       argument.1,
     )
 
+-- a marked item has one meaning
+one_marked : (text : Text) (known other : Signature) (hint another : Text) → IsMarked text known hint
+    → IsMarked text other another → (other ≡ known) × (another ≡ hint)
+one_marked text known other hint another is also =
+    let written : 91 ∷ (also.names ++ (93 ∷ 33 ∷ [])) ≡ 91 ∷ (is.names ++ (93 ∷ 33 ∷ [])) =
+    sym also.written ∙ is.written in
+    let text_is = append_cancel_right also.names is.names (93 ∷ 33 ∷ []) cc in
+    let names = one_names known.names other.names is.names is.names_are
+    (subst (AreNames other.names) text_is also.names_are) in (
+      ap (λ n. record { names = n; kind = other.kind; occurrence = other.occurrence }) names
+          ∙ ap (λ k. record { names = known.names; kind = k; occurrence = other.occurrence })
+          (also.kind_is ∙ sym is.kind_is)
+          ∙ ap (λ o. record { names = known.names; kind = known.kind; occurrence = o })
+          (also.occurrence_is ∙ sym is.occurrence_is),
+      also.hint_is ∙ sym is.hint_is,
+    )
+
+-- an option as it is written has one meaning
+one_option : (text : Text) (known other : Signature) (hint another : Text) → IsOption text known hint
+    → IsOption text other another → (other ≡ known) × (another ≡ hint)
+one_option text known other hint another (unmarked plain is) (unmarked simple also) =
+    one_item text known other hint another is also
+one_option text known other hint another (unmarked plain is) (marked also) =
+    absurd (ends_marked text other another plain also)
+one_option text known other hint another (marked is) (unmarked plain also) =
+    absurd (ends_marked text known hint plain is)
+one_option text known other hint another (marked is) (marked also) =
+    one_marked text known other hint another is also
+
 -- a line declares one thing
 one_declared : (line : Text) (declared other : Option Group) → Declares line declared
     → Declares line other → other ≡ declared
@@ -35,7 +66,7 @@ one_declared line None None is also = refl
 one_declared line None (Some group) is also = let both : true ≡ false = sym is ∙ also.there in cc
 one_declared line (Some group) None is also = let both : true ≡ false = sym also ∙ is.there in cc
 one_declared line (Some group) (Some other) is also =
-    let same = one_item _ group.signature other.signature group.hint other.hint is.item also.item in
+    let same = one_option _ group.signature other.signature group.hint other.hint is.item also.item in
     ap Some (ap (λ (k : Signature). record { signature = k; hint = other.hint; description = other.description }) same.0
     ∙ ap (λ (h : Text). record { signature = group.signature; hint = h; description = other.description }) same.1
     ∙ ap (λ (d : Text). record { signature = group.signature; hint = group.hint; description = d })
@@ -86,7 +117,7 @@ declares_at (first ∷ before) after line (declared ∷ front) (other ∷ each) 
         let same = one_declared first declared other is.0 also.0 in stands found back declares cc
 
 -- a group among groups has no name of one before it
-new_at : (before groups : List Group) (group : Group) (more : List Group)
+pub new_at : (before groups : List Group) (group : Group) (more : List Group)
     → HaveNewNames before (groups ++ group ∷ more) → name_again (before ++ groups) group ≡ None
 new_at before [] group more new =
     ap (λ (gs : List Group). name_again gs group) (append-nil before) ∙ new.0

@@ -2,10 +2,11 @@
 use Rattle.std.proofs.Common.{◌≢◌, ◌≤◌, ℕ, List, [], ◌∷◌, Option, Some, None, sym, subst, arith}
 use Rattle.std.specs.Option.{option_map_or}
 use Rattle.getopts.specs.Names.{Text}
-use Rattle.getopts.specs.Options.{Declared}
+use Rattle.getopts.specs.Options.{Declared, Group}
 use Rattle.getopts_shell.specs.Completion.{stub}
 use Rattle.getopts_shell.specs.Program.{Answer, Asked, done, misused, no_completion, AnswersPlace, AnswersNumbered, AnswersOffer, at_place, no_shell, offered, no_place}
-use Rattle.getopts_shell.specs.Program.{AnswersScript, usage, offers, help, accepted, variables, refused}
+use Rattle.getopts_shell.specs.Program.{AnswersScript, usage, offers, help, alone, accepted, variables, refused}
+use Rattle.getopts_shell.specs.Program.{AnswersAlone, as_line, as_variables}
 use Rattle.getopts_shell.specs.Program.{faulty, completion, no_variables, declared, AnswersFree, IsStatus}
 use Rattle.getopts_shell.specs.Program.{IsAnswer, refused_own, own_help, own_version, accepted_own}
 
@@ -45,11 +46,17 @@ of_offer : {shell : Text} {options : Declared} {words : List Text} {answer : Ans
 of_offer {options = options} {words = words} (at_place answer has is) = of_numbered options words answer is
 of_offer (no_shell none) = is_misused
 
+of_alone : {asked : Asked} {options : Declared} {group : Group} {answer : Answer}
+    → AnswersAlone asked options group answer → AnswersBy answer.status
+of_alone (as_line plain is) = is_done
+of_alone (as_variables prefix matches by read sets) = is_done
+
 of_script : {asked : Asked} {name : Text} {options : Declared} {words : List Text} {answer : Answer}
     → AnswersScript asked name options words answer → AnswersBy answer.status
 of_script (usage text given is) = is_done
 of_script (offers shell answer none given is) = of_offer is
 of_script (help text reads asks is commands) = is_done
+of_script (alone group answer reads asks is) = of_alone is
 of_script (accepted line reads none plain is) = is_done
 of_script (variables prefix matches reads none by is sets) = is_done
 of_script (refused fault reads none is) = is_refused

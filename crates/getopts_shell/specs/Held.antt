@@ -4,12 +4,13 @@ use Rattle.std.specs.List.{AllByRecursion}
 use Rattle.std.specs.Option.{option_map}
 use Rattle.std.specs.String.{string_bytes}
 use Rattle.getopts.specs.Matches.{MatchedGroup, matched}
-use Rattle.getopts.specs.Names.{main_name}
+use Rattle.getopts.specs.Names.{Text, main_name}
 use Rattle.getopts.specs.Options.{Declared, Group, Signature, group_of, signatures_of, with_group}
-use Rattle.getopts.specs.Reading.{Occurrence, holds_equals}
+use Rattle.getopts.specs.Parse.{Reads}
+use Rattle.getopts.specs.Reading.{Occurrence, Reading, holds_equals}
 use Rattle.getopts_shell.specs.Program.{Answer, Asked, own_groups}
 use Rattle.getopts_shell.specs.Quote.{holds_nul}
-use Rattle.getopts_shell.specs.Variables.{VariableFault, no_prefix, no_variable, variable_twice, with_words}
+use Rattle.getopts_shell.specs.Variables.{VariableFault, arrays_only, no_prefix, no_variable, variable_twice, with_words}
 use Rattle.getopts_shell.specs.Table.{TableFault, no_option, name_twice}
 use Rattle.getopts_shell.specs.declared.answer.Asked.{Asked as AskedHeld}
 use Rattle.getopts_shell.specs.declared.answer.Outcome.{Outcome}
@@ -66,6 +67,10 @@ ArePlainlyNamed groups = AllByRecursion
     (λ group. (holds_equals (main_name group.signature.names) ≡ false)
     × (holds_nul (main_name group.signature.names) ≡ false)) groups
 
+-- the words have a reading
+abbrev pub HaveReading : Declared → List Text → Type 0
+HaveReading options words = (reading : Reading) × Reads options words reading
+
 -- the options with these groups too, the last ones
 abbrev pub with_groups : Declared → List Group → Declared
 with_groups options [] = options
@@ -78,6 +83,7 @@ held_signatures groups = map (λ group. group.signature) groups
 -- the fault that an error of variables tells
 abbrev pub variable_fault_told : VariableError → VariableFault
 variable_fault_told variable.WithWords = with_words
+variable_fault_told variable.ArraysOnly = arrays_only
 variable_fault_told (variable.NoPrefix prefix) = no_prefix prefix.now
 variable_fault_told (variable.NoVariable number name) = no_variable number name.now
 variable_fault_told (variable.VariableTwice number name) = variable_twice number name.now

@@ -2,15 +2,15 @@
 use Rattle.std.specs.Prelude.{◌≡◌, ◌≢◌, ◌≤◌, ◌&&◌, ◌||◌, ℕ, Bool, true, false, List, [], ◌∷◌, ◌++◌, Option}
 use Rattle.std.specs.Prelude.{Some, None, codes, decimal, if◌then◌else◌, length, take}
 use Rattle.std.specs.Io.KnownBytes.{Appends}
-use Rattle.std.specs.List.{AllByRecursion, list_any}
-use Rattle.std.specs.Option.{option_and_then, option_map_or, unwrap_or}
+use Rattle.std.specs.List.{AllByRecursion, find, list_any}
+use Rattle.std.specs.Option.{option_map_or, unwrap_or}
 use Rattle.std.specs.Str.{bytes_eq}
 use Rattle.getopts.specs.Accessors.{first_value, found_of, is_present}
 use Rattle.getopts.specs.Canon.{HasCanonicalLine, canonical_word}
 use Rattle.getopts.specs.CanonAnswers.{IsWritten}
 use Rattle.getopts.specs.Fail.{Fault, fault_text}
 use Rattle.getopts.specs.Matches.{Matched}
-use Rattle.getopts.specs.Names.{Text}
+use Rattle.getopts.specs.Names.{Text, main_name}
 use Rattle.getopts.specs.Only.{IsTheOnly}
 use Rattle.getopts.specs.Options.{Group, Declared, group_of, names_of}
 use Rattle.getopts.specs.Parse.{HasReading, IsAccepted, IsRefused}
@@ -23,9 +23,10 @@ use Rattle.getopts.specs.declared.groups.ParsingStyle.TheVariants.{FloatingFrees
 use Rattle.getopts_shell.specs.Completion.{IsOffer, WritesNumber, stub, word_at}
 use Rattle.getopts_bytes.specs.Marks.{bytes_of}
 use Rattle.getopts_shell.specs.Quote.{AreCommands, HoldNoNul, holds_nul, quoted, quoted_words, shell_words}
-use Rattle.getopts_shell.specs.Table.{DeclaresOptions, IsTableFault, TableFault, no_option, name_twice, reason_of}
+use Rattle.getopts_shell.specs.Table.{DeclaresOptions, IsTableFault, TableFault, alone_mark, no_option, name_twice}
+use Rattle.getopts_shell.specs.Table.{reason_of}
 use Rattle.getopts_shell.specs.Variables.{SetsVariables, VariableFault, no_prefix, no_variable, prefix_fault}
-use Rattle.getopts_shell.specs.Variables.{variable_twice, variables_code, with_words}
+use Rattle.getopts_shell.specs.Variables.{arrays_only, variable_twice, variables_code, with_words}
 
 -- ---- the program's own options
 
@@ -155,19 +156,49 @@ abbrev pub AskHelp : Declared → List Text → Type 0
 AskHelp options words = (matches : Matched) × HasReading options words matches
     × (offers_help options.groups ≡ true) × (is_present matches.groups (codes "help") ≡ true)
 
+-- whether an option stands alone: it takes no argument, and has the hint that tells so
+abbrev pub stands_alone : Group → Bool
+stands_alone group = is_no group.signature.kind && bytes_eq group.hint alone_mark
+
+-- whether it does, and matches have it
+abbrev pub is_alone : Matched → Group → Bool
+is_alone matches group = stands_alone group && is_present matches.groups (main_name group.signature.names)
+
+-- The words ask for this option alone: they don't ask for help, and have a reading, whatever its counts, with
+-- options that stand alone, of which it is the first in the table.
+pub record AskAlone (options : Declared) (words : List Text) (group : Group) : Type 0 where
+  pub no_help : ¬ (AskHelp options words)
+  pub matches : Matched
+  pub read : HasReading options words matches
+  pub first : find (is_alone matches) options.groups ≡ Some group
+
+-- the counts of the words are checked: they ask neither for help nor for one option alone
+abbrev pub AreCounted : Declared → List Text → Type 0
+AreCounted options words = ¬ (AskHelp options words) × ((group : Group) → ¬ (AskAlone options words group))
+
+-- the word of an option by its main name
+abbrev pub main_word : Group → Text
+main_word group = codes "--" ++ main_name group.signature.names
+
+-- the line of an option alone: that word, and the stop
+abbrev pub alone_line : Group → List Text
+alone_line group = main_word group ∷ stop_word ∷ []
+
 -- the line of a fault of variables
 abbrev pub variable_fault_line : VariableFault → Text
 variable_fault_line with_words = codes "getopts_shell: --words and --variables don't go together\n"
+variable_fault_line arrays_only = codes "getopts_shell: --arrays needs --variables\n"
 variable_fault_line (no_prefix prefix) = codes "getopts_shell: '" ++ (prefix ++ codes "' makes no variable\n")
 variable_fault_line (no_variable number name) = codes "getopts_shell: line "
     ++ (decimal number ++ (codes " of the options: '" ++ (name ++ codes "' makes no variable\n")))
 variable_fault_line (variable_twice number name) = codes "getopts_shell: line "
     ++ (decimal number ++ (codes " of the options: '" ++ (name ++ codes "' makes the variable of another option\n")))
 
--- the fault of the variables that are asked for, with a table of these options
+-- the fault of the variables or the arrays that are asked for, with a table of these options
 abbrev pub asked_fault : Asked → Text → List Group → Option VariableFault
-asked_fault asked table groups = option_and_then
+asked_fault asked table groups = option_map_or
     (λ prefix. if asked.words then Some with_words else prefix_fault prefix table (names_of groups)) asked.variables
+    (if asked.arrays then Some arrays_only else None)
 
 -- the code that sets a script's words to those of a line, or the words alone
 abbrev pub line_code : Asked → List Text → Text
@@ -224,9 +255,19 @@ pub data AnswersOffer (shell : Text) (options : Declared) (words : List Text) : 
       → AnswersOffer shell options words answer
   no_shell : has_completion shell ≡ false → AnswersOffer shell options words (misused (no_completion shell))
 
+-- The answer to words that ask for one option alone: the code of its line, which a shell has to make of it, or
+-- the code that sets variables to what its one word gives, whatever its counts.
+pub data AnswersAlone (asked : Asked) (options : Declared) (group : Group) : Answer → Type 0 where
+  as_line : asked.variables ≡ None
+      → shell_words (line_code asked (alone_line group)) ≡ Some (code_words asked (alone_line group))
+      → AnswersAlone asked options group (done (line_code asked (alone_line group)))
+  as_variables : (prefix : Text) (matches : Matched) → asked.variables ≡ Some prefix
+      → HasReading options (main_word group ∷ []) matches → SetsVariables prefix asked.arrays matches
+      → AnswersAlone asked options group (done (variables_code prefix asked.arrays matches))
+
 -- The answer for a script with these options: its help, what may come at a word, or what its words are. That
--- is the code that prints its help where they ask for it, and else their canonical line, the code that sets
--- variables, or the first fault.
+-- is the code that prints its help where they ask for it, and else the code of the one option that they ask
+-- for alone, their canonical line, the code that sets variables, or the first fault.
 pub data AnswersScript (asked : Asked) (name : Text) (options : Declared) (words : List Text)
     : Answer → Type 0 where
   usage : (help : Text) → asked.usage ≡ true → IsHelp asked name options help
@@ -237,14 +278,16 @@ pub data AnswersScript (asked : Asked) (name : Text) (options : Declared) (words
       → (holds_nul help ≡ false
       → AreCommands (help_code help) (codes "printf" ∷ codes "%s" ∷ help ∷ []) (codes "exit" ∷ []))
       → AnswersScript asked name options words (done (help_code help))
-  accepted : (line : List Text) → ReadsWords asked → ¬ (AskHelp options words)
+  alone : (group : Group) (answer : Answer) → ReadsWords asked → AskAlone options words group
+      → AnswersAlone asked options group answer → AnswersScript asked name options words answer
+  accepted : (line : List Text) → ReadsWords asked → AreCounted options words
       → asked.variables ≡ None → TellsWords asked options words line
       → AnswersScript asked name options words (done (line_code asked line))
-  variables : (prefix : Text) (matches : Matched) → ReadsWords asked → ¬ (AskHelp options words)
+  variables : (prefix : Text) (matches : Matched) → ReadsWords asked → AreCounted options words
       → asked.variables ≡ Some prefix → IsAccepted options words matches
       → (HoldNoNul words → SetsVariables prefix asked.arrays matches)
       → AnswersScript asked name options words (done (variables_code prefix asked.arrays matches))
-  refused : (fault : Fault) → ReadsWords asked → ¬ (AskHelp options words)
+  refused : (fault : Fault) → ReadsWords asked → AreCounted options words
       → IsRefused options words fault → AnswersScript asked name options words
       (record { text = refused_text options name fault; status = 2 })
 

@@ -92,6 +92,24 @@ pub record IsItem (text : Text) (known : Signature) (hint : Text) : Type 0 where
   pub names_are : AreNames known.names names
   pub argument_is : IsArgument known.kind hint argument
 
+-- the hint of an option that stands alone, which no text shows
+abbrev pub alone_mark : Text
+alone_mark = codes "!"
+
+-- A marked item: names in `[` and `]!`. Its option takes no argument and stands alone, as its hint tells.
+pub record IsMarked (text : Text) (known : Signature) (hint : Text) : Type 0 where
+  pub names : Text
+  pub written : text ≡ codes "[" ++ (names ++ codes "]!")
+  pub names_are : AreNames known.names names
+  pub kind_is : known.kind ≡ No
+  pub occurrence_is : known.occurrence ≡ Optional
+  pub hint_is : hint ≡ alone_mark
+
+-- an option as it is written: an item, or one that is marked and so ends in `]!`
+pub data IsOption (text : Text) (known : Signature) (hint : Text) : Type 0 where
+  unmarked : ((front : Text) → text ≢ front ++ codes "]!") → IsItem text known hint → IsOption text known hint
+  marked : IsMarked text known hint → IsOption text known hint
+
 -- ---- lines
 
 -- whether a byte is a space, a tab or a carriage return
@@ -137,10 +155,10 @@ item_of line = before_gap (trimmed line)
 abbrev pub is_passed : Text → Bool
 is_passed line = is_empty (trimmed line) || slice_index (trimmed line) 0 == 35
 
--- A line declares a group: an item, and after a tab or two spaces its description.
+-- A line declares a group: its option, and after a tab or two spaces its description.
 pub record DeclaresGroup (line : Text) (group : Group) : Type 0 where
   pub there : is_passed line ≡ false
-  pub item : IsItem (item_of line) group.signature group.hint
+  pub item : IsOption (item_of line) group.signature group.hint
   pub description : group.description ≡ trimmed (from_gap (trimmed line))
 
 -- what a line declares: nothing, or a group
@@ -189,8 +207,9 @@ OneTableOneList = (table : Text) (groups others : List Group) → DeclaresOption
 
 -- ---- faults
 
--- Why a text is no item, in one of these texts. The first that fits counts: no bracket closes one that is
--- open; a space stands after the argument or the brackets; the names are wrong; or else the brackets are.
+-- Why a text is no option, in one of these texts. The first that fits counts: no bracket closes one that is
+-- open; a space stands after the argument or the brackets; the names are wrong; or else the brackets are, or
+-- the mark.
 
 -- what stands before the first space or `]`, and after it
 abbrev pub before_end : Text → Text
@@ -206,8 +225,10 @@ abbrev pub holds : ℕ → Text → Bool
 holds byte text = list_any (λ other. other == byte) text
 
 -- where the names are right
-abbrev pub brackets_reason : Text
-brackets_reason = codes "brackets stand around the option or its argument, and dots only after ']'"
+abbrev pub brackets_reason : Text → Text
+brackets_reason item =
+    if ends_with ◌==◌ item (codes "!") then codes "'!' comes only after ']' of an option without an argument"
+    else codes "brackets stand around the option or its argument, and dots only after ']'"
 
 abbrev pub bytes_reason : Text
 bytes_reason = codes "a name may hold letters, digits, '-', '_', '.', '+', ':' and bytes from 128 on"
@@ -215,28 +236,28 @@ bytes_reason = codes "a name may hold letters, digits, '-', '_', '.', '+', ':' a
 abbrev pub dashes_reason : Text
 dashes_reason = codes "a short name comes after '-', a long one after '--'"
 
--- of a long name
-abbrev pub long_reason : Text → Text
-long_reason long =
+-- of a long name, where this is the reason if it is right
+abbrev pub long_reason : Text → Text → Text
+long_reason right long =
     if nat_lt (length long) 2 then codes "a long name has at least two bytes"
     else (if not (list_all is_long_byte long) then bytes_reason
-    else (if slice_index long 0 == 45 then dashes_reason else brackets_reason))
+    else (if slice_index long 0 == 45 then dashes_reason else right))
 
 -- of a short name, and what follows it
-abbrev pub short_reason : ℕ → Text → Text
-short_reason short more =
+abbrev pub short_reason : Text → ℕ → Text → Text
+short_reason right short more =
     if not (is_empty more) && not (slice_index more 0 == 124) then codes "a short name has one byte"
     else (if not (is_name_byte short) then bytes_reason
-    else (if is_empty more then brackets_reason
-    else (if slice_index more 1 == 45 && slice_index more 2 == 45 then long_reason (drop 3 more)
+    else (if is_empty more then right
+    else (if slice_index more 1 == 45 && slice_index more 2 == 45 then long_reason right (drop 3 more)
     else dashes_reason)))
 
 -- of names
-abbrev pub names_reason : Text → Text
-names_reason names =
+abbrev pub names_reason : Text → Text → Text
+names_reason right names =
     if nat_lt (length names) 2 || not (slice_index names 0 == 45) then dashes_reason
-    else (if slice_index names 1 == 45 then long_reason (drop 2 names)
-    else short_reason (slice_index names 1) (drop 2 names))
+    else (if slice_index names 1 == 45 then long_reason right (drop 2 names)
+    else short_reason right (slice_index names 1) (drop 2 names))
 
 -- a text without a `[` that it begins with
 abbrev pub after_bracket : Text → Text
@@ -246,7 +267,7 @@ abbrev pub reason_of : Text → Text
 reason_of item =
     if holds 91 item && not (holds 93 item) then codes "no ']'"
     else (if holds 32 (after_end item) then codes "a tab or two spaces have to come before the description"
-    else names_reason (after_bracket (before_end item)))
+    else names_reason (brackets_reason item) (after_bracket (before_end item)))
 
 -- a fault of a table: the number of a line, and its item or a name
 pub data TableFault : Type 0 where

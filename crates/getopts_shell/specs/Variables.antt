@@ -230,10 +230,11 @@ CodeSetsVariables = (prefix : Text) (arrays : Bool) (matches : Matched)
 
 -- ---- faults
 
--- a fault of variables: they are asked for with the words alone, or that of the prefix, or of a name in the
--- line with this number
+-- a fault of variables: they are asked for with the words alone, or arrays without them, or that of the
+-- prefix, or of a name in the line with this number
 pub data VariableFault : Type 0 where
   with_words : VariableFault
+  arrays_only : VariableFault
   no_prefix : Text → VariableFault
   no_variable : ℕ → Text → VariableFault
   variable_twice : ℕ → Text → VariableFault

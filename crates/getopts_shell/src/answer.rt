@@ -1,20 +1,20 @@
 //! What the program answers to words.
 
 ghost use Rattle.std.specs.Prelude.{◌≡◌, ◌≢◌, ◌≤◌, ◌⊎◌, ℕ, ◌++◌, ◌↔◌, ◌&&◌, codes, map, true, false, IsTrue, List};
-ghost use Rattle.std.specs.Prelude.{Option, IfOk, OnOk, Some, None};
+ghost use Rattle.std.specs.Prelude.{Option, IfOk, MatchOption, OnOk, Some, None, ◌∷◌, []};
 ghost use Rattle.std.specs.Option.{option_map};
 ghost use Rattle.std.specs.Io.KnownBytes.{Appends};
-ghost use Rattle.std.specs.List.{list_any};
+ghost use Rattle.std.specs.List.{find, list_any};
 ghost use Rattle.std.specs.Str.{bytes_eq};
 ghost use Rattle.std.specs.String.{string_bytes};
 ghost use Rattle.getopts.specs.Accessors.{is_present};
 ghost use Rattle.getopts.specs.Fail.{Fault, Tells, fault_of, fault_text};
 ghost use Rattle.getopts.specs.Matches.{Matched};
 ghost use Rattle.getopts.specs.Names.{Text, texts};
-ghost use Rattle.getopts.specs.Options.{with_group};
+ghost use Rattle.getopts.specs.Options.{Group, with_group};
 ghost use Rattle.getopts.specs.Parse.{IsAccepted, IsRefused};
 ghost use Rattle.getopts_shell.specs.Held.{group_of_row, groups_of, fault_told, answer_of, HasOwnGroups};
-ghost use Rattle.getopts_shell.specs.Held.{ArePlainlyNamed, asked_of, variable_fault_told};
+ghost use Rattle.getopts_shell.specs.Held.{ArePlainlyNamed, HaveReading, asked_of, variable_fault_told};
 ghost use Rattle.getopts_shell.specs.Program.{own_groups, own_options, script_options, done, misused};
 ghost use Rattle.getopts_shell.specs.Program.{table_fault_line, fault_line, refused_text};
 ghost use Rattle.getopts_shell.specs.Program.{IsHelp, help_code, AskHelp, is_no, offers_help, line_code};
@@ -23,15 +23,17 @@ ghost use Rattle.getopts_shell.specs.Program.{AnswersTable, AnswersFree, IsAnswe
 ghost use Rattle.getopts_shell.specs.Program.{AnswersOffer, AnswersNumbered, AnswersPlace};
 ghost use Rattle.getopts_shell.specs.Program.{completion_answer, has_completion, no_completion};
 ghost use Rattle.getopts_shell.specs.Program.{asked_fault, variable_fault_line};
+ghost use Rattle.getopts_shell.specs.Program.{AreCounted, AnswersAlone, AskAlone, is_alone, main_word, stands_alone};
+ghost use Rattle.getopts_shell.specs.Quote.{holds_nul};
 ghost use Rattle.getopts_shell.specs.Table.{DeclaresOptions, TableFault, no_option, name_twice};
 ghost use Rattle.getopts_shell.specs.Held.{with_groups};
 
-use crate::complete::{is_given, offers_at, place_of, stub};
-use crate::item::reason_of;
+use crate::complete::{is_given, offers_at, place_of, read_words, stub};
+use crate::item::{ALONE, reason_of};
 use crate::quote::{push_quoted, push_quoted_words};
 use crate::row::Row;
 use crate::table::{TableError, rows_of};
-use crate::variables::{VariableError, Variables, variable_error, variables_code};
+use crate::variables::{VariableError, Variables, main_name, variable_error, variables_code};
 use crate::words::texts_of;
 use getopts::{Fail, HasArg, Matches, Options, ParsingStyle, names_resolve};
 use getopts_bytes::push_bytes;
@@ -350,9 +352,9 @@ fn completed_answer(
     rows: &[Row<'_>],
     words: &[&str],
 ) -> Result<Outcome, AllocError>
-    requires plain { ArePlainlyNamed (groups_of rows.now) }
-    ensures { IfOk result (λ outcome. DeclaresOptions table.now (groups_of rows.now)
-        → AnswersTable (asked_of asked.now) name.now table.now (texts words.now) (answer_of outcome)) }
+    requires declared { DeclaresOptions table.now (groups_of rows.now) }
+    ensures { IfOk result (λ outcome.
+        AnswersTable (asked_of asked.now) name.now table.now (texts words.now) (answer_of outcome)) }
 {
     match &asked.complete {
         Some(shell) => completion_answer(alloc, asked, shell.as_str(), name, table),
@@ -386,10 +388,10 @@ fn declared_answer(
     rows: &[Row<'_>],
     words: &[&str],
 ) -> Result<Outcome, AllocError>
-    requires plain { ArePlainlyNamed (groups_of rows.now) }
+    requires declared { DeclaresOptions table.now (groups_of rows.now) }
     requires no_code { (asked_of asked.now).complete ≡ None }
-    ensures { IfOk result (λ outcome. DeclaresOptions table.now (groups_of rows.now)
-        → AnswersTable (asked_of asked.now) name.now table.now (texts words.now) (answer_of outcome)) }
+    ensures { IfOk result (λ outcome.
+        AnswersTable (asked_of asked.now) name.now table.now (texts words.now) (answer_of outcome)) }
 {
     match asked_error(asked, table, rows) {
         Some(error) => Ok(Outcome {
@@ -400,19 +402,15 @@ fn declared_answer(
     }
 }
 
-/// Why there are no variables where they are asked for.
+/// Why there are no variables where they, or arrays, are asked for.
 fn asked_error<'t>(asked: &'t Asked, table: &'t str, rows: &[Row<'t>]) -> Option<VariableError<'t>>
     ensures { option_map variable_fault_told result
         ≡ asked_fault (asked_of asked.now) table.now (groups_of rows.now) }
 {
     match &asked.variables {
-        Some(prefix) => {
-            if asked.words {
-                Some(VariableError::WithWords)
-            } else {
-                variable_error(prefix.as_str(), table, rows)
-            }
-        }
+        Some(_) if asked.words => Some(VariableError::WithWords),
+        Some(prefix) => variable_error(prefix.as_str(), table, rows),
+        None if asked.arrays => Some(VariableError::ArraysOnly),
         None => None,
     }
 }
@@ -426,6 +424,9 @@ fn variable_refusal(alloc: Global, error: VariableError<'_>) -> Result<String, A
         VariableError::WithWords => format!(in alloc;
             "getopts_shell: --words and --variables don't go together\n"
         ),
+        VariableError::ArraysOnly => {
+            format!(in alloc; "getopts_shell: --arrays needs --variables\n")
+        }
         VariableError::NoPrefix(prefix) => {
             format!(in alloc; "getopts_shell: '{prefix}' makes no variable\n")
         }
@@ -447,7 +448,7 @@ fn rows_answer(
     rows: &[Row<'_>],
     words: &[&str],
 ) -> Result<Outcome, AllocError>
-    requires plain { ArePlainlyNamed (groups_of rows.now) }
+    requires declared { DeclaresOptions table.now (groups_of rows.now) }
     requires variables { asked_fault (asked_of asked.now) table.now (groups_of rows.now) ≡ None }
     ensures { IfOk result (λ outcome. AnswersScript (asked_of asked.now) name.now
         (script_options (asked_of asked.now) (groups_of rows.now)) (texts words.now) (answer_of outcome)) }
@@ -497,7 +498,7 @@ fn add_rows(options: &mut Options, rows: &[Row<'_>]) -> Result<(), AllocError>
 fn script_answer(alloc: Global, script: Script<'_>, words: &[&str]) -> Result<Outcome, AllocError>
     requires rows { script.options.now.groups ≡ groups_of script.rows.now }
     requires mode { script.options.now.long_only ≡ script.asked.now.long_only }
-    requires plain { ArePlainlyNamed (groups_of script.rows.now) }
+    requires declared { DeclaresOptions script.table.now (groups_of script.rows.now) }
     requires variables { asked_fault (asked_of script.asked.now) script.table.now (groups_of script.rows.now) ≡ None }
     ensures { IfOk result (λ outcome. AnswersScript (asked_of script.entry.asked.now) script.entry.name.now
         script.entry.options.now (texts words.now) (answer_of outcome)) }
@@ -624,12 +625,12 @@ fn place_answer(
     }
 }
 
-/// The answer to the words of a script: the code that prints its help where they ask for it, and else what
-/// they are.
+/// The answer to the words of a script: the code that prints its help where they ask for it, the code of the one
+/// option that they ask for alone, and else what they are.
 fn words_answer(alloc: Global, script: Script<'_>, words: &[&str]) -> Result<Outcome, AllocError>
     requires asked { ReadsWords (asked_of script.asked.now) }
     requires rows { script.options.now.groups ≡ groups_of script.rows.now }
-    requires plain { ArePlainlyNamed (groups_of script.rows.now) }
+    requires declared { DeclaresOptions script.table.now (groups_of script.rows.now) }
     requires variables { asked_fault (asked_of script.asked.now) script.table.now (groups_of script.rows.now) ≡ None }
     ensures { IfOk result (λ outcome. AnswersScript (asked_of script.entry.asked.now) script.entry.name.now
         script.entry.options.now (texts words.now) (answer_of outcome)) }
@@ -641,9 +642,10 @@ fn words_answer(alloc: Global, script: Script<'_>, words: &[&str]) -> Result<Out
             status: DONE,
         });
     }
-    match &script.asked.variables {
-        Some(prefix) => variables_answer(alloc, script, prefix.as_str(), words),
-        None => line_answer(alloc, script, words),
+    let alone = asked_alone(alloc, script, words)?;
+    match alone {
+        Some(row) => alone_answer(alloc, script, row),
+        None => counted_answer(alloc, script, words),
     }
 }
 
@@ -657,20 +659,10 @@ fn asks_help(alloc: Global, script: Script<'_>, words: &[&str]) -> Result<bool, 
     if !offered {
         return Ok(false);
     }
-    match script.options.parse_ignoring_counts(alloc, words) {
-        Ok(matches) => Ok(is_given(&matches, "help")),
-        Err(fail) => not_asked(&fail),
-    }
-}
-
-/// Words that have no reading don't ask for help. An error comes where the refusal tells that memory was
-/// refused.
-fn not_asked(fail: &Fail) -> Result<bool, AllocError>
-    ensures { IfOk result (λ asked. (asked ≡ false) × (fault : Fault) × (fault_of fail.now ≡ Some fault)) }
-{
-    match fail {
-        Fail::OutOfMemory => Err(AllocError),
-        _ => Ok(false),
+    let found = read_words(alloc, script.options, words)?;
+    match found {
+        Some(matches) => Ok(is_given(&matches, "help")),
+        None => Ok(false),
     }
 }
 
@@ -680,6 +672,133 @@ fn offers_help(rows: &[Row<'_>]) -> bool
 {
     rows.iter()
         .any(|row| row.long == "help" && matches!(row.kind, HasArg::No))
+}
+
+/// The option that words ask for alone, where they don't ask for help: the first row that stands alone and that they
+/// give, whatever counts they have.
+fn asked_alone<'s>(
+    alloc: Global,
+    script: Script<'s>,
+    words: &[&str],
+) -> Result<Option<Row<'s>>, AllocError>
+    requires rows { script.options.now.groups ≡ groups_of script.rows.now }
+    requires no_help { ¬ (AskHelp script.options.now (texts words.now)) }
+    ensures { IfOk result (λ found. MatchOption found
+        ((group : Group) → ¬ (AskAlone script.entry.options.now (texts words.now) group))
+        (λ row. AskAlone script.entry.options.now (texts words.now) (group_of_row row))) }
+{
+    let marked = any_stands_alone(script.rows);
+    if !marked {
+        return Ok(None);
+    }
+    let found = read_words(alloc, script.options, words)?;
+    match found {
+        Some(matches) => Ok(first_alone(script.rows, &matches)),
+        None => Ok(None),
+    }
+}
+
+/// Whether one of the rows stands alone.
+fn any_stands_alone(rows: &[Row<'_>]) -> bool
+    ensures { result ≡ list_any (λ row. stands_alone (group_of_row row)) rows.now }
+{
+    rows.iter().any(|row| stands_alone(*row))
+}
+
+/// Whether a row stands alone.
+fn stands_alone(row: Row<'_>) -> bool
+    ensures { result ≡ stands_alone (group_of_row row.entry) }
+{
+    matches!(row.kind, HasArg::No) && row.hint == ALONE
+}
+
+/// The first row that stands alone and is given by matches.
+fn first_alone<'t>(rows: &[Row<'t>], matches: &Matches) -> Option<Row<'t>>
+    ensures { option_map group_of_row result ≡ find (is_alone matches.now) (groups_of rows.now) }
+{
+    for at in 0..rows.len() {
+        let row = rows[at];
+        if is_alone(row, matches) {
+            return Some(row);
+        }
+    }
+    None
+}
+
+/// Whether a row stands alone and is given by matches.
+fn is_alone(row: Row<'_>, matches: &Matches) -> bool
+    ensures { result ≡ is_alone matches.now (group_of_row row.entry) }
+{
+    stands_alone(row) && is_given(matches, main_name(row))
+}
+
+/// The answer to words that ask for one option alone: its line, or the code that sets variables to what it gives.
+fn alone_answer(alloc: Global, script: Script<'_>, row: Row<'_>) -> Result<Outcome, AllocError>
+    requires rows { script.options.now.groups ≡ groups_of script.rows.now }
+    requires variables { asked_fault (asked_of script.asked.now) script.table.now (groups_of script.rows.now) ≡ None }
+    requires readable { HaveReading script.options.now (main_word (group_of_row row) ∷ []) }
+    requires clear { holds_nul (main_word (group_of_row row)) ≡ false }
+    ensures { IfOk result (λ outcome. AnswersAlone (asked_of script.entry.asked.now)
+        script.entry.options.now (group_of_row row.entry) (answer_of outcome)) }
+{
+    match &script.asked.variables {
+        Some(prefix) => alone_variables(alloc, script, prefix.as_str(), row),
+        None => alone_line(alloc, script, row),
+    }
+}
+
+/// The code of the line of one option alone.
+fn alone_line(alloc: Global, script: Script<'_>, row: Row<'_>) -> Result<Outcome, AllocError>
+    requires no_variables { (asked_of script.asked.now).variables ≡ None }
+    requires clear { holds_nul (main_word (group_of_row row)) ≡ false }
+    ensures { IfOk result (λ outcome. AnswersAlone (asked_of script.entry.asked.now)
+        script.entry.options.now (group_of_row row.entry) (answer_of outcome)) }
+{
+    let word = main_word(alloc, row)?;
+    let stop = String::from_str(alloc, "--")?;
+    Ok(Outcome {
+        text: line_code(alloc, script.asked, &[word, stop])?,
+        status: DONE,
+    })
+}
+
+/// The code that sets variables to what the word of one option gives.
+fn alone_variables(
+    alloc: Global,
+    script: Script<'_>,
+    prefix: &str,
+    row: Row<'_>,
+) -> Result<Outcome, AllocError>
+    requires prefix { (asked_of script.asked.now).variables ≡ Some prefix.now }
+    requires rows { script.options.now.groups ≡ groups_of script.rows.now }
+    requires variables { asked_fault (asked_of script.asked.now) script.table.now (groups_of script.rows.now) ≡ None }
+    requires readable { HaveReading script.options.now (main_word (group_of_row row) ∷ []) }
+    requires clear { holds_nul (main_word (group_of_row row)) ≡ false }
+    ensures { IfOk result (λ outcome. AnswersAlone (asked_of script.entry.asked.now)
+        script.entry.options.now (group_of_row row.entry) (answer_of outcome)) }
+{
+    let variables = Variables {
+        prefix,
+        arrays: script.asked.arrays,
+    };
+    let word = main_word(alloc, row)?;
+    let found = read_words(alloc, script.options, &[word.as_str()])?;
+    match found {
+        Some(matches) => Ok(Outcome {
+            text: variables_code(alloc, variables, script.rows, &matches)?,
+            status: DONE,
+        }),
+        None => unreachable!(),
+    }
+}
+
+/// The word of an option by its main name.
+fn main_word(alloc: Global, row: Row<'_>) -> Result<String, AllocError>
+    ensures { IfOk result (λ word. string_bytes word ≡ main_word (group_of_row row.entry)) }
+{
+    let mut word = String::from_str(alloc, "--")?;
+    word.push_str(main_name(row))?;
+    Ok(word)
 }
 
 /// The code that prints the help of a script, and ends it.
@@ -695,11 +814,27 @@ fn help_code(alloc: Global, script: Script<'_>) -> Result<String, AllocError>
     Ok(text)
 }
 
-/// The answer to words that don't ask for help: the canonical line of accepted words, or the first fault.
+/// The answer to words whose counts are checked: variables or the canonical line, or the first fault.
+fn counted_answer(alloc: Global, script: Script<'_>, words: &[&str]) -> Result<Outcome, AllocError>
+    requires asked { ReadsWords (asked_of script.asked.now) }
+    requires counted { AreCounted script.options.now (texts words.now) }
+    requires rows { script.options.now.groups ≡ groups_of script.rows.now }
+    requires declared { DeclaresOptions script.table.now (groups_of script.rows.now) }
+    requires variables { asked_fault (asked_of script.asked.now) script.table.now (groups_of script.rows.now) ≡ None }
+    ensures { IfOk result (λ outcome. AnswersScript (asked_of script.entry.asked.now) script.entry.name.now
+        script.entry.options.now (texts words.now) (answer_of outcome)) }
+{
+    match &script.asked.variables {
+        Some(prefix) => variables_answer(alloc, script, prefix.as_str(), words),
+        None => line_answer(alloc, script, words),
+    }
+}
+
+/// The canonical line of words whose counts are checked, or the first fault.
 fn line_answer(alloc: Global, script: Script<'_>, words: &[&str]) -> Result<Outcome, AllocError>
     requires asked { ReadsWords (asked_of script.asked.now) }
     requires no_variables { (asked_of script.asked.now).variables ≡ None }
-    requires no_help { ¬ (AskHelp script.options.now (texts words.now)) }
+    requires counted { AreCounted script.options.now (texts words.now) }
     requires plain { ArePlainlyNamed script.options.now.groups }
     ensures { IfOk result (λ outcome. AnswersScript (asked_of script.entry.asked.now) script.entry.name.now
         script.entry.options.now (texts words.now) (answer_of outcome)) }
@@ -718,7 +853,7 @@ fn line_answer(alloc: Global, script: Script<'_>, words: &[&str]) -> Result<Outc
     }
 }
 
-/// The answer to words that don't ask for help, by variables: the code that sets them, or the first fault.
+/// The code that sets variables by words whose counts are checked, or the first fault.
 fn variables_answer(
     alloc: Global,
     script: Script<'_>,
@@ -727,7 +862,7 @@ fn variables_answer(
 ) -> Result<Outcome, AllocError>
     requires asked { ReadsWords (asked_of script.asked.now) }
     requires prefix { (asked_of script.asked.now).variables ≡ Some prefix.now }
-    requires no_help { ¬ (AskHelp script.options.now (texts words.now)) }
+    requires counted { AreCounted script.options.now (texts words.now) }
     requires rows { script.options.now.groups ≡ groups_of script.rows.now }
     requires variables { asked_fault (asked_of script.asked.now) script.table.now (groups_of script.rows.now) ≡ None }
     ensures { IfOk result (λ outcome. AnswersScript (asked_of script.entry.asked.now) script.entry.name.now

@@ -11,9 +11,10 @@ ghost use Rattle.getopts.specs.Accessors.{is_present};
 ghost use Rattle.getopts.specs.Fail.{Fault, fault_of};
 ghost use Rattle.getopts.specs.Matches.{Matched};
 ghost use Rattle.getopts.specs.Names.{Names, Text, main_name, texts};
+ghost use Rattle.getopts.specs.Parse.{HasReading};
 ghost use Rattle.getopts.specs.Reading.{begins_with_dash, stop_word};
 ghost use Rattle.getopts_shell.specs.Completion as Spec;
-ghost use Rattle.getopts_shell.specs.Held.{group_of_row, groups_of};
+ghost use Rattle.getopts_shell.specs.Held.{HaveReading, group_of_row, groups_of};
 
 use crate::quote::push_quoted;
 use crate::row::Row;
@@ -291,14 +292,30 @@ fn goes_on(alloc: Global, options: &Options, before: &[&str]) -> Result<Option<M
         (Spec.MayGoOn options.now (texts before.now))) }
 {
     let words = with_stop(alloc, before)?;
-    match options.parse_ignoring_counts(alloc, &words) {
-        Ok(matches) => {
+    let found = read_words(alloc, options, &words)?;
+    match found {
+        Some(matches) => {
             if is_last_after_stop(&matches) {
                 Ok(Some(matches))
             } else {
                 Ok(None)
             }
         }
+        None => Ok(None),
+    }
+}
+
+/// The matches of words, whatever counts they have, if they have a reading.
+pub(crate) fn read_words(
+    alloc: Global,
+    options: &Options,
+    words: &[&str],
+) -> Result<Option<Matches>, AllocError>
+    ensures { IfOk result (λ found. MatchOption found (¬ (HaveReading options.now (texts words.now)))
+        (HasReading options.now (texts words.now))) }
+{
+    match options.parse_ignoring_counts(alloc, words) {
+        Ok(matches) => Ok(Some(matches)),
         Err(fail) => no_matches(&fail),
     }
 }

@@ -1,6 +1,6 @@
 //! Items of a table: the names, the argument and the occurrence of an option.
 
-ghost use Rattle.std.specs.Prelude.{◌≡◌, ◌==◌, codes, MatchOption, true, false};
+ghost use Rattle.std.specs.Prelude.{◌≡◌, ◌==◌, ◌++◌, codes, MatchOption, true, false};
 ghost use Rattle.std.specs.List.{ends_with, list_all};
 ghost use Rattle.std.specs.Option.{option_copied};
 ghost use Rattle.getopts.specs.Names.{Text, Names};
@@ -10,14 +10,49 @@ ghost use Rattle.getopts.specs.declared.groups.Occur.{Occur as Occurrence};
 ghost use Rattle.getopts_shell.specs.Held.{group_of_row};
 ghost use Rattle.getopts_shell.specs.Table.{is_name, is_name_byte, is_hint, is_hint_byte, AreNames};
 ghost use Rattle.getopts_shell.specs.Table.{is_long_name, is_long_byte, holds, before_end, after_end, after_bracket};
-ghost use Rattle.getopts_shell.specs.Table.{reason_of, names_reason, short_reason, long_reason};
-ghost use Rattle.getopts_shell.specs.Table.{MayBeNames, IsArgument, HasParts, IsBracketed, IsItem};
+ghost use Rattle.getopts_shell.specs.Table.{reason_of, brackets_reason, names_reason, short_reason, long_reason};
+ghost use Rattle.getopts_shell.specs.Table.{MayBeNames, IsArgument, HasParts, IsBracketed, IsItem, IsMarked};
+ghost use Rattle.getopts_shell.specs.Table.{IsOption};
 
 use crate::row::Row;
 use getopts::{HasArg, Occur, names_lawful};
 
-/// The option of an item with this description, if the text is an item.
-pub(crate) fn row_of<'t>(item: &'t str, description: &'t str) -> Option<Row<'t>>
+/// The hint of an option that stands alone, which no text shows.
+pub(crate) const ALONE: &str = "!";
+
+/// The option of a text with this description, if the text is an item, or one that is marked and stands alone.
+pub(crate) fn row_of<'t>(text: &'t str, description: &'t str) -> Option<Row<'t>>
+    ensures option { MatchOption result ((known : Signature) (hint : Text) → ¬ (IsOption text.now known hint))
+        (λ row. IsOption text.now (group_of_row row).signature row.hint.now) }
+    ensures description { MatchOption result (Unit {0}) (λ row. row.description.now ≡ description.now) }
+{
+    match text.strip_suffix("]!") {
+        Some(opened) => marked_row(opened, description),
+        None => item_row(text, description),
+    }
+}
+
+/// The option that stands alone, of a marked item that is this text and `]!`, if there is one.
+fn marked_row<'t>(opened: &'t str, description: &'t str) -> Option<Row<'t>>
+    ensures option { MatchOption result
+        ((known : Signature) (hint : Text) → ¬ (IsMarked (opened.now ++ codes "]!") known hint))
+        (λ row. IsMarked (opened.now ++ codes "]!") (group_of_row row).signature row.hint.now) }
+    ensures description { MatchOption result (Unit {0}) (λ row. row.description.now ≡ description.now) }
+{
+    let names = opened.strip_prefix('[')?;
+    let (short, long) = names_of(names)?;
+    Some(Row {
+        short,
+        long,
+        kind: HasArg::No,
+        occurrence: Occur::Optional,
+        hint: ALONE,
+        description,
+    })
+}
+
+/// The option of an item.
+fn item_row<'t>(item: &'t str, description: &'t str) -> Option<Row<'t>>
     ensures option { MatchOption result ((known : Signature) (hint : Text) → ¬ (IsItem item.now known hint))
         (λ row. IsItem item.now (group_of_row row).signature row.hint.now) }
     ensures description { MatchOption result (Unit {0}) (λ row. row.description.now ≡ description.now) }
@@ -207,6 +242,8 @@ fn is_hint_byte(byte: u8) -> bool
     !matches!(byte, b' ' | b'\t' | b'[' | b']')
 }
 
+/// Why names that are right stand in no item with a mark.
+const MARK: &str = "'!' comes only after ']' of an option without an argument";
 /// Why names that are right stand in no item.
 const BRACKETS: &str = "brackets stand around the option or its argument, and dots only after ']'";
 /// Why a name is wrong that has a wrong byte.
@@ -215,7 +252,7 @@ const BYTES: &str =
 /// Why names are wrong that have wrong dashes.
 const DASHES: &str = "a short name comes after '-', a long one after '--'";
 
-/// Why a text is no item.
+/// Why a text is no option.
 pub(crate) fn reason_of(item: &str) -> &'static str
     ensures { result.now ≡ reason_of item.now }
 {
@@ -227,7 +264,21 @@ pub(crate) fn reason_of(item: &str) -> &'static str
     if holds(rest, b' ') {
         return "a tab or two spaces have to come before the description";
     }
-    names_reason(after_bracket(names))
+    names_reason(brackets_reason(item), after_bracket(names))
+}
+
+/// Why a text is no option, where its names are right.
+fn brackets_reason(item: &str) -> &'static str
+    ensures { result.now ≡ brackets_reason item.now }
+{
+    if ends_in_mark(item) { MARK } else { BRACKETS }
+}
+
+/// Whether a text ends in `!`.
+fn ends_in_mark(text: &str) -> bool
+    ensures { result ≡ ends_with ◌==◌ text.now (codes "!") }
+{
+    text.ends_with("!")
 }
 
 /// Whether bytes hold a byte.
@@ -260,39 +311,39 @@ fn after_bracket(bytes: &[u8]) -> &[u8]
     }
 }
 
-/// Why names are wrong, or what they stand in.
-fn names_reason(names: &[u8]) -> &'static str
-    ensures { result.now ≡ names_reason names.now }
+/// Why names are wrong, or what is wrong where they are right.
+fn names_reason(right: &'static str, names: &[u8]) -> &'static str
+    ensures { result.now ≡ names_reason right.now names.now }
 {
     if names.len() < 2 || names[0] != b'-' {
         DASHES
     } else if names[1] == b'-' {
-        long_reason(&names[2..])
+        long_reason(right, &names[2..])
     } else {
-        short_reason(names[1], &names[2..])
+        short_reason(right, names[1], &names[2..])
     }
 }
 
 /// The same of a short name, and what follows it.
-fn short_reason(short: u8, more: &[u8]) -> &'static str
-    ensures { result.now ≡ short_reason short more.now }
+fn short_reason(right: &'static str, short: u8, more: &[u8]) -> &'static str
+    ensures { result.now ≡ short_reason right.now short more.now }
 {
     if !more.is_empty() && more[0] != b'|' {
         "a short name has one byte"
     } else if !is_name_byte(short) {
         BYTES
     } else if more.is_empty() {
-        BRACKETS
+        right
     } else if more.len() > 2 && more[1] == b'-' && more[2] == b'-' {
-        long_reason(&more[3..])
+        long_reason(right, &more[3..])
     } else {
         DASHES
     }
 }
 
 /// The same of a long name.
-fn long_reason(long: &[u8]) -> &'static str
-    ensures { result.now ≡ long_reason long.now }
+fn long_reason(right: &'static str, long: &[u8]) -> &'static str
+    ensures { result.now ≡ long_reason right.now long.now }
 {
     if long.len() < 2 {
         "a long name has at least two bytes"
@@ -301,6 +352,6 @@ fn long_reason(long: &[u8]) -> &'static str
     } else if long[0] == b'-' {
         DASHES
     } else {
-        BRACKETS
+        right
     }
 }

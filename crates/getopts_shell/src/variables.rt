@@ -33,6 +33,8 @@ pub(crate) struct Variables<'p> {
 pub(crate) enum VariableError<'t> {
     /// The words alone are asked for too.
     WithWords,
+    /// Arrays are asked for, and no variables.
+    ArraysOnly,
     /// The prefix begins no name of a variable.
     NoPrefix(&'t str),
     /// The option in the line with this number makes no variable. Holds its main name.
@@ -111,7 +113,7 @@ fn push_setting(
 }
 
 /// The main name of an option.
-fn main_name<'t>(row: Row<'t>) -> &'t str
+pub(crate) fn main_name<'t>(row: Row<'t>) -> &'t str
     ensures { result.now ≡ main_name (group_of_row row.entry).signature.names }
 {
     if row.long.is_empty() {

@@ -3,12 +3,12 @@
 
 use crate::host::*;
 
-use super::complete::{is_given, offers_at, place_of, stub};
-use super::item::reason_of;
+use super::complete::{is_given, offers_at, place_of, read_words, stub};
+use super::item::{ALONE, reason_of};
 use super::quote::{push_quoted, push_quoted_words};
 use super::row::Row;
 use super::table::{TableError, rows_of};
-use super::variables::{VariableError, Variables, variable_error, variables_code};
+use super::variables::{VariableError, Variables, main_name, variable_error, variables_code};
 use super::words::texts_of;
 use crate::getopts::{Fail, HasArg, Matches, Options, ParsingStyle, names_resolve};
 use crate::getopts_bytes::push_bytes;
@@ -311,20 +311,16 @@ fn declared_answer(
     }
 }
 
-/// Why there are no variables where they are asked for.
+/// Why there are no variables where they, or arrays, are asked for.
 fn asked_error<'t>(
     asked: &'t Asked,
     table: &'t str,
     rows: &[Row<'t>],
 ) -> Option<VariableError<'t>> {
     match &asked.variables {
-        Some(prefix) => {
-            if asked.words {
-                Some(VariableError::WithWords)
-            } else {
-                variable_error(prefix.as_str(), table, rows)
-            }
-        }
+        Some(_) if asked.words => Some(VariableError::WithWords),
+        Some(prefix) => variable_error(prefix.as_str(), table, rows),
+        None if asked.arrays => Some(VariableError::ArraysOnly),
         None => None,
     }
 }
@@ -335,6 +331,9 @@ fn variable_refusal(alloc: Global, error: VariableError<'_>) -> Result<String, A
         VariableError::WithWords => text!(in alloc;
             "getopts_shell: --words and --variables don't go together\n"
         ),
+        VariableError::ArraysOnly => {
+            text!(in alloc; "getopts_shell: --arrays needs --variables\n")
+        }
         VariableError::NoPrefix(prefix) => {
             text!(in alloc; "getopts_shell: '{prefix}' makes no variable\n")
         }
@@ -496,8 +495,8 @@ fn place_answer(
     }
 }
 
-/// The answer to the words of a script: the code that prints its help where they ask for it, and else what
-/// they are.
+/// The answer to the words of a script: the code that prints its help where they ask for it, the code of the one
+/// option that they ask for alone, and else what they are.
 fn words_answer(alloc: Global, script: Script<'_>, words: &[&str]) -> Result<Outcome, AllocError> {
     let asked = asks_help(alloc, script, words)?;
     if asked {
@@ -506,9 +505,10 @@ fn words_answer(alloc: Global, script: Script<'_>, words: &[&str]) -> Result<Out
             status: DONE,
         });
     }
-    match &script.asked.variables {
-        Some(prefix) => variables_answer(alloc, script, prefix.as_str(), words),
-        None => line_answer(alloc, script, words),
+    let alone = asked_alone(alloc, script, words)?;
+    match alone {
+        Some(row) => alone_answer(alloc, script, row),
+        None => counted_answer(alloc, script, words),
     }
 }
 
@@ -518,18 +518,10 @@ fn asks_help(alloc: Global, script: Script<'_>, words: &[&str]) -> Result<bool, 
     if !offered {
         return Ok(false);
     }
-    match script.options.parse_ignoring_counts(alloc, words) {
-        Ok(matches) => Ok(is_given(&matches, "help")),
-        Err(fail) => not_asked(&fail),
-    }
-}
-
-/// Words that have no reading don't ask for help. An error comes where the refusal tells that memory was
-/// refused.
-fn not_asked(fail: &Fail) -> Result<bool, AllocError> {
-    match fail {
-        Fail::OutOfMemory => Err(AllocError),
-        _ => Ok(false),
+    let found = read_words(alloc, script.options, words)?;
+    match found {
+        Some(matches) => Ok(is_given(&matches, "help")),
+        None => Ok(false),
     }
 }
 
@@ -537,6 +529,97 @@ fn not_asked(fail: &Fail) -> Result<bool, AllocError> {
 fn offers_help(rows: &[Row<'_>]) -> bool {
     rows.iter()
         .any(|row| row.long == "help" && matches!(row.kind, HasArg::No))
+}
+
+/// The option that words ask for alone, where they don't ask for help: the first row that stands alone and that they
+/// give, whatever counts they have.
+fn asked_alone<'s>(
+    alloc: Global,
+    script: Script<'s>,
+    words: &[&str],
+) -> Result<Option<Row<'s>>, AllocError> {
+    let marked = any_stands_alone(script.rows);
+    if !marked {
+        return Ok(None);
+    }
+    let found = read_words(alloc, script.options, words)?;
+    match found {
+        Some(matches) => Ok(first_alone(script.rows, &matches)),
+        None => Ok(None),
+    }
+}
+
+/// Whether one of the rows stands alone.
+fn any_stands_alone(rows: &[Row<'_>]) -> bool {
+    rows.iter().any(|row| stands_alone(*row))
+}
+
+/// Whether a row stands alone.
+fn stands_alone(row: Row<'_>) -> bool {
+    matches!(row.kind, HasArg::No) && row.hint == ALONE
+}
+
+/// The first row that stands alone and is given by matches.
+fn first_alone<'t>(rows: &[Row<'t>], matches: &Matches) -> Option<Row<'t>> {
+    for at in 0..rows.len() {
+        let row = rows[at];
+        if is_alone(row, matches) {
+            return Some(row);
+        }
+    }
+    None
+}
+
+/// Whether a row stands alone and is given by matches.
+fn is_alone(row: Row<'_>, matches: &Matches) -> bool {
+    stands_alone(row) && is_given(matches, main_name(row))
+}
+
+/// The answer to words that ask for one option alone: its line, or the code that sets variables to what it gives.
+fn alone_answer(alloc: Global, script: Script<'_>, row: Row<'_>) -> Result<Outcome, AllocError> {
+    match &script.asked.variables {
+        Some(prefix) => alone_variables(alloc, script, prefix.as_str(), row),
+        None => alone_line(alloc, script, row),
+    }
+}
+
+/// The code of the line of one option alone.
+fn alone_line(alloc: Global, script: Script<'_>, row: Row<'_>) -> Result<Outcome, AllocError> {
+    let word = main_word(alloc, row)?;
+    let stop = String::copy_of(alloc, "--")?;
+    Ok(Outcome {
+        text: line_code(alloc, script.asked, &[word, stop])?,
+        status: DONE,
+    })
+}
+
+/// The code that sets variables to what the word of one option gives.
+fn alone_variables(
+    alloc: Global,
+    script: Script<'_>,
+    prefix: &str,
+    row: Row<'_>,
+) -> Result<Outcome, AllocError> {
+    let variables = Variables {
+        prefix,
+        arrays: script.asked.arrays,
+    };
+    let word = main_word(alloc, row)?;
+    let found = read_words(alloc, script.options, &[word.as_str()])?;
+    match found {
+        Some(matches) => Ok(Outcome {
+            text: variables_code(alloc, variables, script.rows, &matches)?,
+            status: DONE,
+        }),
+        None => unreachable!(),
+    }
+}
+
+/// The word of an option by its main name.
+fn main_word(alloc: Global, row: Row<'_>) -> Result<String, AllocError> {
+    let mut word = String::copy_of(alloc, "--")?;
+    word.try_push_str(main_name(row))?;
+    Ok(word)
 }
 
 /// The code that prints the help of a script, and ends it.
@@ -548,7 +631,19 @@ fn help_code(alloc: Global, script: Script<'_>) -> Result<String, AllocError> {
     Ok(text)
 }
 
-/// The answer to words that don't ask for help: the canonical line of accepted words, or the first fault.
+/// The answer to words whose counts are checked: variables or the canonical line, or the first fault.
+fn counted_answer(
+    alloc: Global,
+    script: Script<'_>,
+    words: &[&str],
+) -> Result<Outcome, AllocError> {
+    match &script.asked.variables {
+        Some(prefix) => variables_answer(alloc, script, prefix.as_str(), words),
+        None => line_answer(alloc, script, words),
+    }
+}
+
+/// The canonical line of words whose counts are checked, or the first fault.
 fn line_answer(alloc: Global, script: Script<'_>, words: &[&str]) -> Result<Outcome, AllocError> {
     names_resolve(script.options);
     match script.options.canonical_words(alloc, words) {
@@ -564,7 +659,7 @@ fn line_answer(alloc: Global, script: Script<'_>, words: &[&str]) -> Result<Outc
     }
 }
 
-/// The answer to words that don't ask for help, by variables: the code that sets them, or the first fault.
+/// The code that sets variables by words whose counts are checked, or the first fault.
 fn variables_answer(
     alloc: Global,
     script: Script<'_>,

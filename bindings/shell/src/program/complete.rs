@@ -237,14 +237,27 @@ fn goes_on(
     before: &[&str],
 ) -> Result<Option<Matches>, AllocError> {
     let words = with_stop(alloc, before)?;
-    match options.parse_ignoring_counts(alloc, &words) {
-        Ok(matches) => {
+    let found = read_words(alloc, options, &words)?;
+    match found {
+        Some(matches) => {
             if is_last_after_stop(&matches) {
                 Ok(Some(matches))
             } else {
                 Ok(None)
             }
         }
+        None => Ok(None),
+    }
+}
+
+/// The matches of words, whatever counts they have, if they have a reading.
+pub(crate) fn read_words(
+    alloc: Global,
+    options: &Options,
+    words: &[&str],
+) -> Result<Option<Matches>, AllocError> {
+    match options.parse_ignoring_counts(alloc, words) {
+        Ok(matches) => Ok(Some(matches)),
         Err(fail) => no_matches(&fail),
     }
 }

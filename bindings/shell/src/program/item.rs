@@ -6,8 +6,33 @@ use crate::host::*;
 use super::row::Row;
 use crate::getopts::{HasArg, Occur, names_lawful};
 
-/// The option of an item with this description, if the text is an item.
-pub(crate) fn row_of<'t>(item: &'t str, description: &'t str) -> Option<Row<'t>> {
+/// The hint of an option that stands alone, which no text shows.
+pub(crate) const ALONE: &str = "!";
+
+/// The option of a text with this description, if the text is an item, or one that is marked and stands alone.
+pub(crate) fn row_of<'t>(text: &'t str, description: &'t str) -> Option<Row<'t>> {
+    match text.strip_suffix("]!") {
+        Some(opened) => marked_row(opened, description),
+        None => item_row(text, description),
+    }
+}
+
+/// The option that stands alone, of a marked item that is this text and `]!`, if there is one.
+fn marked_row<'t>(opened: &'t str, description: &'t str) -> Option<Row<'t>> {
+    let names = opened.strip_prefix('[')?;
+    let (short, long) = names_of(names)?;
+    Some(Row {
+        short,
+        long,
+        kind: HasArg::No,
+        occurrence: Occur::Optional,
+        hint: ALONE,
+        description,
+    })
+}
+
+/// The option of an item.
+fn item_row<'t>(item: &'t str, description: &'t str) -> Option<Row<'t>> {
     let (inside, occurrence) = unbracketed(item)?;
     let (names, argument) = parts_of(inside);
     let (short, long) = names_of(names)?;
@@ -154,6 +179,8 @@ fn is_hint_byte(byte: u8) -> bool {
     !matches!(byte, b' ' | b'\t' | b'[' | b']')
 }
 
+/// Why names that are right stand in no item with a mark.
+const MARK: &str = "'!' comes only after ']' of an option without an argument";
 /// Why names that are right stand in no item.
 const BRACKETS: &str = "brackets stand around the option or its argument, and dots only after ']'";
 /// Why a name is wrong that has a wrong byte.
@@ -162,7 +189,7 @@ const BYTES: &str =
 /// Why names are wrong that have wrong dashes.
 const DASHES: &str = "a short name comes after '-', a long one after '--'";
 
-/// Why a text is no item.
+/// Why a text is no option.
 pub(crate) fn reason_of(item: &str) -> &'static str {
     let bytes = item.as_bytes();
     if holds(bytes, b'[') && !holds(bytes, b']') {
@@ -172,7 +199,17 @@ pub(crate) fn reason_of(item: &str) -> &'static str {
     if holds(rest, b' ') {
         return "a tab or two spaces have to come before the description";
     }
-    names_reason(after_bracket(names))
+    names_reason(brackets_reason(item), after_bracket(names))
+}
+
+/// Why a text is no option, where its names are right.
+fn brackets_reason(item: &str) -> &'static str {
+    if ends_in_mark(item) { MARK } else { BRACKETS }
+}
+
+/// Whether a text ends in `!`.
+fn ends_in_mark(text: &str) -> bool {
+    text.ends_with("!")
 }
 
 /// Whether bytes hold a byte.
@@ -198,34 +235,34 @@ fn after_bracket(bytes: &[u8]) -> &[u8] {
     }
 }
 
-/// Why names are wrong, or what they stand in.
-fn names_reason(names: &[u8]) -> &'static str {
+/// Why names are wrong, or what is wrong where they are right.
+fn names_reason(right: &'static str, names: &[u8]) -> &'static str {
     if names.len() < 2 || names[0] != b'-' {
         DASHES
     } else if names[1] == b'-' {
-        long_reason(&names[2..])
+        long_reason(right, &names[2..])
     } else {
-        short_reason(names[1], &names[2..])
+        short_reason(right, names[1], &names[2..])
     }
 }
 
 /// The same of a short name, and what follows it.
-fn short_reason(short: u8, more: &[u8]) -> &'static str {
+fn short_reason(right: &'static str, short: u8, more: &[u8]) -> &'static str {
     if !more.is_empty() && more[0] != b'|' {
         "a short name has one byte"
     } else if !is_name_byte(short) {
         BYTES
     } else if more.is_empty() {
-        BRACKETS
+        right
     } else if more.len() > 2 && more[1] == b'-' && more[2] == b'-' {
-        long_reason(&more[3..])
+        long_reason(right, &more[3..])
     } else {
         DASHES
     }
 }
 
 /// The same of a long name.
-fn long_reason(long: &[u8]) -> &'static str {
+fn long_reason(right: &'static str, long: &[u8]) -> &'static str {
     if long.len() < 2 {
         "a long name has at least two bytes"
     } else if !are_long_bytes(long) {
@@ -233,6 +270,6 @@ fn long_reason(long: &[u8]) -> &'static str {
     } else if long[0] == b'-' {
         DASHES
     } else {
-        BRACKETS
+        right
     }
 }

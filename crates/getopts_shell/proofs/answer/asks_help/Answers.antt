@@ -1,7 +1,6 @@
-use Rattle.std.proofs.Common.{◌≡◌, ◌↔◌, Bool, true, ap, subst, sym, ◌∙◌}
-use Rattle.std.proofs.lemmas.Result.{IfOk-weaker}
+use Rattle.std.proofs.Common.{ap, sym, ◌∙◌}
 use Rattle.getopts.specs.Names.{texts}
-use Rattle.getopts_shell.specs.Program.{AskHelp, offers_help}
+use Rattle.getopts_shell.specs.Program.{offers_help}
 use Rattle.getopts_shell.proofs.Help.{asked_is, never_asked, never_offered, offers_rows}
 use Rattle.getopts_shell.proofs.answer.asks_help.Goals as goal
 
@@ -11,17 +10,14 @@ returns-then-not-offered c =
     (ap (λ groups. offers_help groups) c.requires ∙ offers_rows c.args.script.rows.now
     ∙ sym c.offers_help-offered.ensures ∙ c.if-not-offered.true)
 
-pub returns-in-Ok : goal.returns-in-Ok
-returns-in-Ok c =
-    asked_is c.args.script.options.now (texts c.args.words.now) _ c.is_given.result c.in-Ok.ensures.read
+pub returns-in-Some : goal.returns-in-Some
+returns-in-Some c =
+    asked_is c.args.script.options.now (texts c.args.words.now) c.in-Some.matches c.is_given.result
+    (rw c.in-Some.is at c.in_ok-found.ensures)
     (ap (λ groups. offers_help groups) c.requires ∙ offers_rows c.args.script.rows.now
     ∙ sym c.offers_help-offered.ensures ∙ c.if-not-offered.false)
     c.is_given.ensures
 
-pub returns-in-Err : goal.returns-in-Err
-returns-in-Err c =
-    IfOk-weaker c.not_asked.result _ _
-    (λ asked is. subst (λ (b : Bool). (b ≡ true) ↔ AskHelp c.args.script.options.now (texts c.args.words.now))
-    (sym is.0)
-    (never_asked c.args.script.options.now (texts c.args.words.now) is.1 (rw is.2 at c.in-Err.ensures.refused)))
-    c.not_asked.ensures
+pub returns-in-None : goal.returns-in-None
+returns-in-None c =
+    never_asked c.args.script.options.now (texts c.args.words.now) (rw c.in-None.is at c.in_ok-found.ensures)

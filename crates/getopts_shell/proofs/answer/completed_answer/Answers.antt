@@ -9,9 +9,9 @@ use Rattle.getopts_shell.proofs.answer.completed_answer.Goals as goal
 pub returns-in-Some : goal.returns-in-Some
 returns-in-Some c =
     IfOk-weaker c.completion_answer.result _ _
-    (λ outcome is. λ are. subst (λ (a : Answer). AnswersTable (asked_of c.args.asked.now) c.args.name.now
+    (λ outcome is. subst (λ (a : Answer). AnswersTable (asked_of c.args.asked.now) c.args.name.now
     c.args.table.now (texts c.args.words.now) a) (sym is)
-    (completion (groups_of c.args.rows.now) c.as_str.result.now are
+    (completion (groups_of c.args.rows.now) c.as_str.result.now c.requires.declared
     (ap (option_map string_bytes) c.in-Some.is ∙ ap Some (sym c.as_str.ensures.value))))
     c.completion_answer.ensures
 

@@ -21,10 +21,10 @@ returns-in_ok-line_code-in-Ok-Some c =
     (texts c.args.words.now) (record { text = t; status = 0 }))
     (sym (c.in_ok-line_code-in-Ok-Some.ensures
     ∙ ap (λ items. line_code asked (map string_bytes items)) c.deref.ensures.value))
-    (accepted (map string_bytes c.in-Ok-Some.line.items) c.requires.asked c.requires.no_help
+    (accepted (map string_bytes c.in-Ok-Some.line.items) c.requires.asked c.requires.counted
     c.requires.no_variables tells)
 
 pub returns-in_ok-refusal-in-Err : goal.returns-in_ok-refusal-in-Err
 returns-in_ok-refusal-in-Err c =
     let said = c.in_ok-refusal-in-Err.ensures in
-    rw said.2 (refused said.0 c.requires.asked c.requires.no_help (rw said.1 at c.in-Err.ensures.refused))
+    rw said.2 (refused said.0 c.requires.asked c.requires.counted (rw said.1 at c.in-Err.ensures.refused))

@@ -1,13 +1,13 @@
-use Rattle.std.proofs.Common.{ap, string_bytes, Some, sym, ◌∙◌}
-use Rattle.std.specs.Option.{option_map}
+use Rattle.std.proofs.Common.{List, subst, sym, ◌∙◌}
 use Rattle.std.proofs.lemmas.Bool.{false≢true}
-use Rattle.getopts_shell.specs.Program.{help}
+use Rattle.std.proofs.lemmas.Result.{IfOk-weaker}
+use Rattle.getopts.specs.Options.{Group}
+use Rattle.getopts_shell.specs.Held.{group_of_row}
+use Rattle.getopts_shell.specs.Program.{alone, help}
+use Rattle.getopts_shell.specs.Table.{DeclaresOptions}
+use Rattle.getopts_shell.proofs.Alone.{alone_clear, alone_reads}
 use Rattle.getopts_shell.proofs.Quoting.{help_same}
 use Rattle.getopts_shell.proofs.answer.words_answer.Goals as goal
-
-pub line_answer-requires-clause-no_help : goal.line_answer-requires-clause-no_help
-line_answer-requires-clause-no_help c =
-    λ asks. false≢true (sym c.if-asked.false ∙ c.in_ok-asked.ensures.1 asks)
 
 pub returns-then-asked : goal.returns-then-asked
 returns-then-asked c =
@@ -15,10 +15,34 @@ returns-then-asked c =
     let code = c.in_ok-help_code.ensures in
     rw code.2 (help code.0 c.requires.asked (asked.0 c.if-asked.true) code.1 (help_same code.0))
 
-pub variables_answer-requires-clause-no_help : goal.variables_answer-requires-clause-no_help
-variables_answer-requires-clause-no_help c =
+pub asked_alone-requires-clause-no_help : goal.asked_alone-requires-clause-no_help
+asked_alone-requires-clause-no_help c =
     λ asks. false≢true (sym c.if-asked.false ∙ c.in_ok-asked.ensures.1 asks)
 
-pub variables_answer-requires-clause-prefix : goal.variables_answer-requires-clause-prefix
-variables_answer-requires-clause-prefix c =
-    ap (option_map string_bytes) c.in-Some.is ∙ ap Some (sym c.as_str.ensures.value)
+pub alone_answer-requires-clause-readable : goal.alone_answer-requires-clause-readable
+alone_answer-requires-clause-readable c =
+    let asks = rw c.in-Some.is at c.in_ok-alone.ensures in
+    alone_reads c.args.script.table.now c.args.script.options.now asks.matches (group_of_row c.in-Some.row)
+    (subst (λ (groups : List Group). DeclaresOptions c.args.script.table.now groups) (sym c.requires.rows)
+    c.requires.declared)
+    asks.first
+
+pub alone_answer-requires-clause-clear : goal.alone_answer-requires-clause-clear
+alone_answer-requires-clause-clear c =
+    let asks = rw c.in-Some.is at c.in_ok-alone.ensures in
+    alone_clear c.args.script.table.now c.args.script.options.now asks.matches (group_of_row c.in-Some.row)
+    (subst (λ (groups : List Group). DeclaresOptions c.args.script.table.now groups) (sym c.requires.rows)
+    c.requires.declared)
+    asks.first
+
+pub counted_answer-requires-clause-counted : goal.counted_answer-requires-clause-counted
+counted_answer-requires-clause-counted c = (
+  λ asks. false≢true (sym c.if-asked.false ∙ c.in_ok-asked.ensures.1 asks),
+  rw c.in-None.is at c.in_ok-alone.ensures,
+)
+
+pub returns-in-Some : goal.returns-in-Some
+returns-in-Some c =
+    IfOk-weaker c.alone_answer.result _ _
+    (λ outcome is. alone (group_of_row c.in-Some.row) _ c.requires.asked (rw c.in-Some.is at c.in_ok-alone.ensures) is)
+    c.alone_answer.ensures
