@@ -5,7 +5,8 @@ usage: tests/shell/run.py [PROGRAM [COUNT]]
 
 - The program answers each row of rows.py: its status, and both streams.
 - The script of bindings/shell/README.md and the scripts of bindings/shell/examples do the same in each shell.
-- The words of random lines come out of `eval` in each shell as the canonical line.
+- After random words each shell holds what they say, as words, in variables, and in arrays where it has them.
+- Help and faults are those that come without variables.
 - getopt(1) reads the same options, values and free words, for tables and words that both take.
 - Tables with one byte changed have the fault that a reader of the rules here finds, or none.
 
@@ -21,25 +22,20 @@ import shutil
 import sys
 from pathlib import Path
 
-from common import ROOT, canonical, case_of, expect, fail, in_each_shell, main, run, shells, written
-from rows import ask
+from common import ROOT, expect, fail, main, run, shells
+from lines import canonical, case_of, random_lines, written
+from rows import TABLE, ask
 
 LINES = int(sys.argv[2]) if len(sys.argv) > 2 else 2000
 
 
-def random_lines(program, found, room):
-    rng = random.Random(43)
-    cases = []
-    for place in range(LINES):
-        options, words, given, free = case_of(rng)
-        line = canonical(options, given, free)
-        done = run([program, "try", written(options)] + words)
-        if done.returncode != 0 or done.stderr:
-            fail(f"random line {place}: status {done.returncode} for {words!r}: {done.stderr!r}")
-        (room / f"code.{place}").write_bytes(done.stdout)
-        script = f"code=$(cat code.{place}) || exit\neval \"$code\"\nprintf '%s\\0' \"$#\" \"$@\""
-        cases.append((script, [str(len(line)), *line]))
-    in_each_shell("the words", found, room, cases, os.environ)
+def without_variables(program):
+    """Help and faults are the same with and without variables."""
+    for own in (["-V", "opt_"], ["-AV", "opt_"]):
+        for words in (["--help"], ["-x"], ["x"], ["-ia", "-ib"], ["-i"]):
+            plain = run([program, "try", TABLE] + words)
+            expect(f"{own} {words}", run([program] + own + ["try", TABLE] + words),
+                   plain.returncode, plain.stdout.decode(), plain.stderr.decode())
 
 
 def page_scripts(room):
@@ -265,7 +261,9 @@ def test(program, room):
     found = shells()
     print("shells:", ", ".join(" ".join(shell) for shell in found))
     ask(program)
-    random_lines(program, found, room)
+    without_variables(program)
+    for way in ("words", "variables", "arrays"):
+        random_lines(program, found, room, LINES, way)
     page(program, found, room)
     beside_getopt(program)
     changed_tables(program)

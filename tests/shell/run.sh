@@ -22,7 +22,6 @@ else
     skip "whether the programs are of the proved source: 'rt ci' has not built it here"
 fi
 check "the shells" python3 "$top/tests/shell/run.py" "$program" && cat "$room/said"
-check "variables" python3 "$top/tests/shell/variables.py" "$program" && cat "$room/said"
 check "completion in terminals" python3 "$top/tests/shell/complete.py" "$program" && cat "$room/said"
 if has valgrind; then
     check "the instructions of a run" bash "$top/bench/shell.sh" "$program" && cat "$room/said"
