@@ -60,7 +60,14 @@ else
                     /usr/bin/cargo build --release --offline --ignore-rust-version --target $windows)
     }
     if check "the build for Windows" on_windows; then
-        printf '#!/bin/sh\nexec "%s" "%s" "$@"\n' "$wine" "$room/target/$windows/release/getopts_shell.exe" >"$room/by_wine"
+        cat >"$room/by_wine" <<END
+#!/usr/bin/env bash
+# What wine itself says is left out.
+{
+    "$wine" "$room/target/$windows/release/getopts_shell.exe" "\$@" 2>&1 >&3 | sed '/^wine: /d' >&2
+    exit "\${PIPESTATUS[0]}"
+} 3>&1
+END
         chmod +x "$room/by_wine"
         # The first run makes wine's folder, and says so.
         "$room/by_wine" --help >/dev/null 2>&1
