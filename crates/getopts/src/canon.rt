@@ -76,9 +76,8 @@ fn canonical_line(alloc: Global, groups: &Groups, line: Line) -> Result<Vec<Stri
     let room = found.len().saturating_add(free.len()).saturating_add(1);
     let mut words = Vec::with_capacity(alloc, room)?;
     for place in 0..found.len() {
-        let occurrence = found.at(place);
-        let main = groups.main(occurrence.group);
-        words.push(canonical_word(alloc, main, occurrence.value)?)?;
+        let (group, (_, value)) = found.at(place);
+        words.push(canonical_word(alloc, groups.main(group), value)?)?;
     }
     words.push(String::from_str(alloc, "--")?)?;
     for word in free {

@@ -54,9 +54,8 @@ fn canonical_line(alloc: Global, groups: &Groups, line: Line) -> Result<Vec<Stri
     let room = found.len().saturating_add(free.len()).saturating_add(1);
     let mut words = Vec::of_capacity(alloc, room)?;
     for place in 0..found.len() {
-        let occurrence = found.at(place);
-        let main = groups.main(occurrence.group);
-        words.try_push(canonical_word(alloc, main, occurrence.value)?)?;
+        let (group, (_, value)) = found.at(place);
+        words.try_push(canonical_word(alloc, groups.main(group), value)?)?;
     }
     words.try_push(String::copy_of(alloc, "--")?)?;
     for word in free {

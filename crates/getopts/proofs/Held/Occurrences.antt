@@ -70,26 +70,6 @@ module _ (occurrences : List Occurrence) (places : List ℕ)
       ∙ ap (λ (o : Option Occurrence). option_map found_part o)
       (slice_get-at_places occurrences places i place all at)
 
--- a part of an occurrence that may be there has its position
-pub position-part : (o : Option Occurrence) → option_map (λ (o : Occurrence). o.position) o
-    ≡ option_map (λ (found : Found). found.position) (option_map found_part o)
-position-part None = refl
-position-part (Some occurrence) = refl
-
--- one more occurrence of a front has its position
-pub positions-next : (founds : List Found) (i : ℕ) → positions_of (take (i + 1) founds)
-    ≡ positions_of (take i founds)
-    ++ cons_option (option_map (λ (found : Found). found.position) (slice_get founds i)) []
-positions-next founds i =
-    ap positions_of (take-more founds i)
-    ∙ map-append (λ (found : Found). found.position) (take i founds)
-    (cons_option (slice_get founds i) [])
-    ∙ ap (λ more. positions_of (take i founds) ++ more) (alone (slice_get founds i)) where
-      alone : (o : Option Found) → positions_of (cons_option o [])
-          ≡ cons_option (option_map (λ (found : Found). found.position) o) []
-      alone None = refl
-      alone (Some found) = refl
-
 module _ (founds : List Found) (i : ℕ) (next : Option (ℕ × Option (Bor Text)))
     (is : option_map held_found next ≡ slice_get founds i) where
   -- one more occurrence of a front, as it is read
