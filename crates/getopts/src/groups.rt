@@ -10,8 +10,8 @@ ghost use Rattle.std.proofs.Common.{rules};
 ghost use Rattle.getopts.specs.Names.{AreLawful};
 ghost use Rattle.getopts.specs.Options.{MayBeDeclared, group_of, signatures_of, names_of};
 ghost use Rattle.getopts.specs.Canon.{main_at};
-ghost use Rattle.getopts.specs.Held.Groups.{signature_view};
-ghost use Rattle.getopts.specs.Held.Table.{name_at, HaveNamesOfBytes};
+ghost use Rattle.getopts.specs.Held.Groups.{signature_view, names_view};
+ghost use Rattle.getopts.specs.Held.Table.{names_at, name_at, HaveNamesOfBytes};
 
 use crate::names::{Names, is_of_bytes};
 use std::alloc::{AllocError, Global};
@@ -232,12 +232,11 @@ impl Groups {
         self.signature(place).names.main()
     }
 
-    /// The two names of the group at a place, by their numbers.
+    /// The two names of the group at a place.
     #[inline]
     pub(crate) fn names(&self, place: usize) -> Names<'_>
         requires { place < length self.now }
-        ensures short { result.short.now ≡ name_at (names_of self.now) (2 * place) }
-        ensures long { result.long.now ≡ name_at (names_of self.now) (2 * place + 1) }
+        ensures { names_view result ≡ names_at (names_of self.now) place }
     {
         self.signature(place).names
     }
@@ -251,7 +250,7 @@ impl Groups {
         if place >= self.len() {
             return "";
         }
-        let names = self.signature(place).names;
+        let names = self.names(place);
         if number % 2 == 0 {
             names.short
         } else {

@@ -157,7 +157,7 @@ impl Groups {
         self.signature(place).names.main()
     }
 
-    /// The two names of the group at a place, by their numbers.
+    /// The two names of the group at a place.
     #[inline]
     pub(crate) fn names(&self, place: usize) -> Names<'_> {
         self.signature(place).names
@@ -170,7 +170,7 @@ impl Groups {
         if place >= self.len() {
             return "";
         }
-        let names = self.signature(place).names;
+        let names = self.names(place);
         if number % 2 == 0 {
             names.short
         } else {

@@ -6,8 +6,7 @@ use Rattle.std.specs.Str.{IsUtf8}
 use Rattle.std.proofs.lemmas.List.{map-append, length-map}
 use Rattle.getopts.specs.Names.{Text}
 use Rattle.getopts.specs.Reading.{Occurrence}
-use Rattle.getopts.specs.Held.Pieces.{pieces}
-use Rattle.getopts.specs.Held.Pieces.{IsWellCut}
+use Rattle.getopts.specs.Held.Pieces.{pieces, IsWellCut}
 use Rattle.getopts.specs.Held.Occurrences.{values_end, record_view, value_ends, with_values}
 use Rattle.getopts.specs.declared.occurrences.OccurrenceRecord.{OccurrenceRecord}
 use Rattle.getopts.proofs.Held.Pieces.{length-pieces, pieces-at}

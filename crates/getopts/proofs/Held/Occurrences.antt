@@ -10,11 +10,9 @@ use Rattle.std.proofs.lemmas.Bool.{and_from, and_parts, and_left, and_right, fal
 use Rattle.std.proofs.lemmas.List.Elements.{filter_map-append}
 use Rattle.std.proofs.lemmas.Option.{slice_get-map}
 use Rattle.getopts.specs.Names.{Text}
-use Rattle.getopts.specs.Matches.{Found}
-use Rattle.getopts.specs.Accessors.{positions_of, values_of, pair_of, pairs_of}
+use Rattle.getopts.specs.Matches.{Found, found_part}
+use Rattle.getopts.specs.Accessors.{positions_of, values_of, pair_of, pairs_of, held_found}
 use Rattle.getopts.specs.Reading.{Occurrence}
-use Rattle.getopts.specs.Accessors.{held_found}
-use Rattle.getopts.specs.Matches.{found_part}
 use Rattle.getopts.specs.Same.{same_found}
 use Rattle.getopts.proofs.Lists.{element, take-more}
 

@@ -7,8 +7,7 @@ use Rattle.getopts.specs.Fail.{Fault}
 use Rattle.getopts.specs.Reading.{Reading, IsReading, IsScanFault}
 use Rattle.getopts.specs.Matches.{Matched, MatchedGroup, matches_of, KeepsCounts, IsCountFault}
 use Rattle.getopts.specs.Parse.{IsAccepted, BreaksCounts, HasReading, HasNoReading, IsRefused}
-use Rattle.getopts.specs.Canon.{IsPlain, IsCountKeeping}
-use Rattle.getopts.specs.Canon.{HasCanonicalLine, Content, Says}
+use Rattle.getopts.specs.Canon.{IsPlain, IsCountKeeping, HasCanonicalLine, Content, Says}
 use Rattle.getopts.specs.CanonAnswers.{IsParseAnswer}
 use Rattle.getopts.specs.Theorem.{OneReading, AcceptedExactlyWhen, RefusedExactlyWhen}
 use Rattle.getopts.specs.Theorem.{HaveOneAnswer, OneLineOneContent}

@@ -9,8 +9,7 @@ use Rattle.getopts.specs.Names.{Text}
 use Rattle.getopts.specs.Options.{Grammar}
 use Rattle.getopts.specs.Reading.{none, flags, ends_in, cluster, IsFlag, Occurrence, at_position}
 use Rattle.getopts.specs.Reading.{mention_of, mentions}
-use Rattle.getopts.specs.Turn.{chosen_end, chosen_turn, byte_turn, cluster_turn, Chooses}
-use Rattle.getopts.specs.Turn.{AddsItem}
+use Rattle.getopts.specs.Turn.{chosen_end, chosen_turn, byte_turn, cluster_turn, Chooses, AddsItem}
 use Rattle.getopts.specs.declared.groups.HasArg.{HasArg}
 use Rattle.getopts.specs.declared.groups.HasArg.TheVariants.{No}
 use Rattle.getopts.proofs.Reading.Steps.{byte_turn-end}

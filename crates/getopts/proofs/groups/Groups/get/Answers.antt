@@ -10,8 +10,7 @@ use Rattle.getopts.specs.Held.Groups.{signature_view}
 use Rattle.std.proofs.lemmas.List.{get_or_read}
 use Rattle.getopts.proofs.Lists.{slice_get-read}
 use Rattle.getopts.proofs.Held.Groups.{start_at, record_within, groups_from-at, AreEndsOf}
-use Rattle.getopts.proofs.Held.Groups.{AreEndsOf-at}
-use Rattle.getopts.proofs.Held.Groups.{group_by, between}
+use Rattle.getopts.proofs.Held.Groups.{AreEndsOf-at, group_by, between}
 use Rattle.getopts.proofs.groups.Groups.get.Goals as goal
 use Rattle.getopts.proofs.groups.Groups.get.Goals.{After-deref}
 

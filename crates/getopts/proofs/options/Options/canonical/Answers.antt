@@ -3,9 +3,8 @@ use Rattle.std.proofs.Common.{List, map, ◌∙◌, subst, Bor, IfSome, IfNone}
 use Rattle.std.specs.Iterator.Runs.{WholeRun}
 use Rattle.std.specs.String.{string_bytes}
 use Rattle.std.proofs.lemmas.Result.{IfOk-weaker, IfErr-weaker}
-use Rattle.getopts.specs.Names.{Text}
+use Rattle.getopts.specs.Names.{Text, texts}
 use Rattle.getopts.specs.Fail.{Fault, Tells}
-use Rattle.getopts.specs.Names.{texts}
 use Rattle.getopts.specs.Parse.{IsRefused}
 use Rattle.getopts.specs.CanonAnswers.{IsWritten, IsUnwritable}
 use Rattle.getopts.specs.declared.fail.Fail.{Fail}
