@@ -147,12 +147,11 @@ impl LineOccurrences {
             (record { group = result.0; value = option_copied result.1.1 })) }
     {
         let held = self.records[place];
-        let value = if held.has_value() {
-            Some(&self.values[values_start(&self.records, place)..held.values_end()])
-        } else {
-            None
-        };
-        (held.group, (held.position, value))
+        if !held.has_value() {
+            return (held.group, (held.position, None));
+        }
+        let value = &self.values[values_start(&self.records, place)..held.values_end()];
+        (held.group, (held.position, Some(value)))
     }
 
     /// Adds an occurrence as the last.

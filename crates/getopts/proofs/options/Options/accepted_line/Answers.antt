@@ -2,7 +2,6 @@
 use Rattle.std.proofs.Common.{inl, inr, map}
 use Rattle.std.specs.String.{string_bytes}
 use Rattle.std.proofs.lemmas.Result.{err_from_is_err_and}
-use Rattle.getopts.specs.Names.{texts}
 use Rattle.getopts.specs.Options.{signatures_of}
 use Rattle.getopts.specs.Matches.{matched}
 use Rattle.getopts.proofs.Parsing.Faults.{Tells-weaker}
@@ -32,8 +31,7 @@ returns-in_err-check_counts-clause-refused c =
         free = map string_bytes line.free.items;
         trailing_start = line.trailing_start;
       };
-      read = HasReading-line c.args.self.now (texts c.args.words.now) c.in_ok-read.read
-          c.in_ok-read.ensures.read;
+      read = HasReading-line _ _ c.in_ok-read.read c.in_ok-read.ensures.read;
       breaks = is;
     })))
 
