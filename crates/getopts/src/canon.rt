@@ -46,24 +46,15 @@ fn canonical_word(alloc: Global, main: &str, value: Option<&str>) -> Result<Stri
     ensures { IfOk result (λ word.
         string_bytes word ≡ Scan.long_word Scan.two main.now (option_copied value.entry)) }
 {
-    let room = main.len().saturating_add(2);
-    match value {
-        Some(value) => {
-            let room = room.saturating_add(1).saturating_add(value.len());
-            let mut word = String::with_capacity(alloc, room)?;
-            word.push_str("--")?;
-            word.push_str(main)?;
-            word.push('=')?;
-            word.push_str(value)?;
-            Ok(word)
-        }
-        None => {
-            let mut word = String::with_capacity(alloc, room)?;
-            word.push_str("--")?;
-            word.push_str(main)?;
-            Ok(word)
-        }
+    let room = main.len() + value.unwrap_or("").len();
+    let mut word = String::with_capacity(alloc, room.saturating_add(3))?;
+    word.push_str("--")?;
+    word.push_str(main)?;
+    if let Some(value) = value {
+        word.push('=')?;
+        word.push_str(value)?;
     }
+    Ok(word)
 }
 
 /// The words of the occurrences, then `--`, then the free words.
@@ -76,9 +67,8 @@ fn canonical_line(alloc: Global, groups: &Groups, line: Line) -> Result<Vec<Stri
     let room = found.len().saturating_add(free.len()).saturating_add(1);
     let mut words = Vec::with_capacity(alloc, room)?;
     for place in 0..found.len() {
-        let occurrence = found.at(place);
-        let main = groups.main(occurrence.group);
-        words.push(canonical_word(alloc, main, occurrence.value)?)?;
+        let (group, (_, value)) = found.at(place);
+        words.push(canonical_word(alloc, groups.main(group), value)?)?;
     }
     words.push(String::from_str(alloc, "--")?)?;
     for word in free {

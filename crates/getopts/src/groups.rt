@@ -10,8 +10,8 @@ ghost use Rattle.std.proofs.Common.{rules};
 ghost use Rattle.getopts.specs.Names.{AreLawful};
 ghost use Rattle.getopts.specs.Options.{MayBeDeclared, group_of, signatures_of, names_of};
 ghost use Rattle.getopts.specs.Canon.{main_at};
-ghost use Rattle.getopts.specs.Held.Groups.{signature_view};
-ghost use Rattle.getopts.specs.Held.Table.{name_at, HaveNamesOfBytes};
+ghost use Rattle.getopts.specs.Held.Groups.{signature_view, names_view};
+ghost use Rattle.getopts.specs.Held.Table.{names_at, name_at, HaveNamesOfBytes};
 
 use crate::names::{Names, is_of_bytes};
 use std::alloc::{AllocError, Global};
@@ -221,7 +221,7 @@ impl Groups {
         ensures { Some result
             ≡ option_map (λ group. kinds_of group.signature) (slice_get self.now place) }
     {
-        self.records[place].kinds
+        self.get(place).signature.kinds
     }
 
     /// The main name of the group at a place.
@@ -232,12 +232,11 @@ impl Groups {
         self.signature(place).names.main()
     }
 
-    /// The two names of the group at a place, by their numbers.
+    /// The two names of the group at a place.
     #[inline]
     pub(crate) fn names(&self, place: usize) -> Names<'_>
         requires { place < length self.now }
-        ensures short { result.short.now ≡ name_at (names_of self.now) (2 * place) }
-        ensures long { result.long.now ≡ name_at (names_of self.now) (2 * place + 1) }
+        ensures { names_view result ≡ names_at (names_of self.now) place }
     {
         self.signature(place).names
     }
@@ -251,7 +250,7 @@ impl Groups {
         if place >= self.len() {
             return "";
         }
-        let names = self.signature(place).names;
+        let names = self.names(place);
         if number % 2 == 0 {
             names.short
         } else {
@@ -266,33 +265,33 @@ impl Groups {
         is_of_bytes(&self.text);
     }
 
-    /// What reading asks of the group at a place: its texts start where those of the one before it end.
+    /// What reading asks of the group at a place.
     #[inline]
     pub(crate) fn signature(&self, place: usize) -> Signature<'_>
         requires { place < length self.now }
         ensures { Some (signature_view result)
             ≡ option_map (λ group. group.signature) (slice_get self.now place) }
     {
-        let group = self.records[place];
-        let start = start_of(&self.records, place);
-        let short = &self.text[start..group.short_end];
-        let long = &self.text[group.short_end..group.long_end];
-        let names = Names { short, long };
-        let kinds = group.kinds;
-        Signature { names, kinds }
+        self.get(place).signature
     }
 
-    /// The group at a place.
+    /// The group at a place: its texts start where those of the one before it end.
+    #[inline]
     pub(crate) fn get(&self, place: usize) -> Group<'_>
         requires { place < length self.now }
         ensures { Some (group_view result) ≡ slice_get self.now place }
     {
         let group = self.records[place];
-        let signature = self.signature(place);
+        let start = start_of(&self.records, place);
+        let short = &self.text[start..group.short_end];
+        let long = &self.text[group.short_end..group.long_end];
         let hint = &self.text[group.long_end..group.hint_end];
         let desc = &self.text[group.hint_end..group.desc_end];
         Group {
-            signature,
+            signature: Signature {
+                names: Names { short, long },
+                kinds: group.kinds,
+            },
             hint,
             desc,
         }

@@ -9,22 +9,14 @@ ghost use Rattle.std.specs.Option.{option_copied, option_map};
 ghost use Rattle.std.specs.String.{string_bytes};
 ghost use Rattle.getopts.specs.Accessors as Spec;
 ghost use Rattle.getopts.specs.Held.Occurrences.{founds_at, ArePlacesOf, value_ends};
+ghost use Rattle.getopts.specs.Reading.{at_position};
 ghost use Rattle.getopts.specs.Same.{same_found};
 
 use std::alloc::{AllocError, Global};
 use std::marker::Model;
 
-/// One option that the words give: the place of its group, the index of its item's first word, and its
-/// value.
-#[derive(Clone, Copy)]
-pub(crate) struct Occurrence<'w> {
-    pub group: usize,
-    pub position: usize,
-    pub value: Option<&'w str>,
-}
-
-/// One option that a line gives. One number says where the values of the line end up to this option's
-/// own, and whether it has one.
+/// One option that a line gives: the place of its group, and the index of its item's first word. One number
+/// says where the values of the line end up to this option's own, and whether it has one.
 #[derive(Clone, Copy, Debug)]
 pub(crate) struct OccurrenceRecord {
     pub group: usize,
@@ -124,8 +116,6 @@ impl Model for LineOccurrences {
 }
 
 impl LineOccurrences {
-    ghost use Rattle.getopts.specs.Held.Line.{occurrence_view};
-
     /// No options, with room for so many.
     pub(crate) fn with_capacity(alloc: Global, room: usize) -> Result<LineOccurrences, AllocError>
         ensures { IfOk result (λ found. found ≡ []) }
@@ -149,46 +139,40 @@ impl LineOccurrences {
         self.records.len()
     }
 
-    /// The occurrence at a place.
+    /// The occurrence at a place: its group, and its position and value.
     #[inline(always)]
-    pub(crate) fn at(&self, place: usize) -> Occurrence<'_>
+    pub(crate) fn at(&self, place: usize) -> (usize, (usize, Option<&str>))
         requires { place < length self.now }
-        ensures { slice_get self.now place ≡ Some (occurrence_view result) }
+        ensures { slice_get self.now place ≡ Some (at_position result.1.0
+            (record { group = result.0; value = option_copied result.1.1 })) }
     {
         let held = self.records[place];
-        let value = if held.has_value() {
-            Some(&self.values[values_start(&self.records, place)..held.values_end()])
-        } else {
-            None
-        };
-        Occurrence {
-            group: held.group,
-            position: held.position,
-            value,
+        if !held.has_value() {
+            return (held.group, (held.position, None));
         }
-    }
-
-    /// The position of the occurrence at a place, of which no value is read.
-    #[inline]
-    pub(crate) fn position_at(&self, place: usize) -> usize
-        requires { place < length self.now }
-        ensures { Some result ≡ option_map (λ o. o.position) (slice_get self.now place) }
-    {
-        self.records[place].position
+        let value = &self.values[values_start(&self.records, place)..held.values_end()];
+        (held.group, (held.position, Some(value)))
     }
 
     /// Adds an occurrence as the last.
     #[inline(always)]
-    pub(crate) fn push(&mut self, occurrence: Occurrence<'_>) -> Result<(), AllocError>
-        ensures { OnOk result (self.new ≡ self.old ++ occurrence_view occurrence.entry ∷ []) }
+    pub(crate) fn push(
+        &mut self,
+        group: usize,
+        position: usize,
+        value: Option<&str>,
+    ) -> Result<(), AllocError>
+        ensures { OnOk result (self.new ≡ self.old ++ at_position position
+            (record { group = group; value = option_copied value.entry }) ∷ []) }
     {
         self.records.reserve(1)?;
-        let value = occurrence.value.unwrap_or("");
-        push_value(&mut self.values, value, self.records.capacity())?;
+        let text = value.unwrap_or("");
+        push_value(&mut self.values, text, self.records.capacity())?;
+        let packed = packed(self.values.len(), value.is_some());
         self.records.push_reserved(OccurrenceRecord {
-            group: occurrence.group,
-            position: occurrence.position,
-            packed: packed(self.values.len(), occurrence.value.is_some()),
+            group,
+            position,
+            packed,
         });
         Ok(())
     }
@@ -274,16 +258,7 @@ impl<'m> Occurrences<'m> {
         requires { nth < length self.now }
         ensures { slice_get self.now nth ≡ Some (Spec.held_found result) }
     {
-        let occurrence = self.found.at(self.places[nth]);
-        (occurrence.position, occurrence.value)
-    }
-
-    /// The position of one that is there, of which no value is read.
-    fn position_at(&self, nth: usize) -> usize
-        requires { nth < length self.now }
-        ensures { Some result ≡ option_map (λ found. found.position) (slice_get self.now nth) }
-    {
-        self.found.position_at(self.places[nth])
+        self.found.at(self.places[nth]).1
     }
 
     pub(crate) fn positions(&self, alloc: Global) -> Result<Vec<usize>, AllocError>
@@ -291,7 +266,7 @@ impl<'m> Occurrences<'m> {
     {
         let mut positions = Vec::with_capacity(alloc, self.len())?;
         for nth in 0..self.len() {
-            positions.push(self.position_at(nth))?;
+            positions.push(self.at(nth).0)?;
         }
         Ok(positions)
     }

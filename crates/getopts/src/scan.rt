@@ -12,7 +12,7 @@ ghost use Rattle.getopts.specs.Turn.{with_equals, first_char, chosen_end, Choose
 
 use crate::fail::Fail;
 use crate::groups::{HasArg, ParsingStyle};
-use crate::occurrences::{LineOccurrences, Occurrence};
+use crate::occurrences::LineOccurrences;
 use crate::options::Options;
 use crate::table::Table;
 use std::alloc::{AllocError, Global};
@@ -261,11 +261,7 @@ impl<'o> Scanner<'o> {
             (HasArg::Yes, Some(value)) => (Some(value), 0),
             (HasArg::Maybe, argument) => (argument, 0),
         };
-        found.push(Occurrence {
-            group,
-            position,
-            value,
-        })?;
+        found.push(group, position, value)?;
         Ok(used)
     }
 
@@ -315,18 +311,10 @@ impl<'o> Scanner<'o> {
                     let name = first_character(&text[at..]);
                     return Err(Fail::unrecognized_option(alloc, name));
                 }
-                Some((_, group, HasArg::No)) => found.push(Occurrence {
-                    group,
-                    position,
-                    value: None,
-                })?,
+                Some((_, group, HasArg::No)) => found.push(group, position, None)?,
                 Some((name, group, kind)) => {
                     let (value, used) = ending(alloc, kind, name, &text[at + 1..], after)?;
-                    found.push(Occurrence {
-                        group,
-                        position,
-                        value,
-                    })?;
+                    found.push(group, position, value)?;
                     return Ok(used);
                 }
             }

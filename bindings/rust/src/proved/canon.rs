@@ -28,24 +28,15 @@ fn are_plain(groups: &Groups, read: &ReadLine) -> bool {
 
 /// The word of an occurrence: `--main`, or `--main=value` where it has a value.
 fn canonical_word(alloc: Global, main: &str, value: Option<&str>) -> Result<String, AllocError> {
-    let room = main.len().saturating_add(2);
-    match value {
-        Some(value) => {
-            let room = room.saturating_add(1).saturating_add(value.len());
-            let mut word = String::of_capacity(alloc, room)?;
-            word.try_push_str("--")?;
-            word.try_push_str(main)?;
-            word.try_push('=')?;
-            word.try_push_str(value)?;
-            Ok(word)
-        }
-        None => {
-            let mut word = String::of_capacity(alloc, room)?;
-            word.try_push_str("--")?;
-            word.try_push_str(main)?;
-            Ok(word)
-        }
+    let room = main.len() + value.unwrap_or("").len();
+    let mut word = String::of_capacity(alloc, room.saturating_add(3))?;
+    word.try_push_str("--")?;
+    word.try_push_str(main)?;
+    if let Some(value) = value {
+        word.try_push('=')?;
+        word.try_push_str(value)?;
     }
+    Ok(word)
 }
 
 /// The words of the occurrences, then `--`, then the free words.
@@ -54,9 +45,8 @@ fn canonical_line(alloc: Global, groups: &Groups, line: Line) -> Result<Vec<Stri
     let room = found.len().saturating_add(free.len()).saturating_add(1);
     let mut words = Vec::of_capacity(alloc, room)?;
     for place in 0..found.len() {
-        let occurrence = found.at(place);
-        let main = groups.main(occurrence.group);
-        words.try_push(canonical_word(alloc, main, occurrence.value)?)?;
+        let (group, (_, value)) = found.at(place);
+        words.try_push(canonical_word(alloc, groups.main(group), value)?)?;
     }
     words.try_push(String::copy_of(alloc, "--")?)?;
     for word in free {

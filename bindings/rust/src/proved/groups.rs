@@ -149,7 +149,7 @@ impl Groups {
     /// The kinds of the group at a place.
     #[inline(always)]
     pub(crate) fn kinds_at(&self, place: usize) -> Kinds {
-        self.records[place].kinds
+        self.get(place).signature.kinds
     }
 
     /// The main name of the group at a place.
@@ -157,7 +157,7 @@ impl Groups {
         self.signature(place).names.main()
     }
 
-    /// The two names of the group at a place, by their numbers.
+    /// The two names of the group at a place.
     #[inline]
     pub(crate) fn names(&self, place: usize) -> Names<'_> {
         self.signature(place).names
@@ -170,7 +170,7 @@ impl Groups {
         if place >= self.len() {
             return "";
         }
-        let names = self.signature(place).names;
+        let names = self.names(place);
         if number % 2 == 0 {
             names.short
         } else {
@@ -183,26 +183,26 @@ impl Groups {
         is_of_bytes(&self.text);
     }
 
-    /// What reading asks of the group at a place: its texts start where those of the one before it end.
+    /// What reading asks of the group at a place.
     #[inline]
     pub(crate) fn signature(&self, place: usize) -> Signature<'_> {
+        self.get(place).signature
+    }
+
+    /// The group at a place: its texts start where those of the one before it end.
+    #[inline]
+    pub(crate) fn get(&self, place: usize) -> Group<'_> {
         let group = self.records[place];
         let start = start_of(&self.records, place);
         let short = &self.text[start..group.short_end];
         let long = &self.text[group.short_end..group.long_end];
-        let names = Names { short, long };
-        let kinds = group.kinds;
-        Signature { names, kinds }
-    }
-
-    /// The group at a place.
-    pub(crate) fn get(&self, place: usize) -> Group<'_> {
-        let group = self.records[place];
-        let signature = self.signature(place);
         let hint = &self.text[group.long_end..group.hint_end];
         let desc = &self.text[group.hint_end..group.desc_end];
         Group {
-            signature,
+            signature: Signature {
+                names: Names { short, long },
+                kinds: group.kinds,
+            },
             hint,
             desc,
         }

@@ -5,17 +5,8 @@ use crate::fallible::*;
 
 use crate::alloc::{AllocError, Global};
 
-/// One option that the words give: the place of its group, the index of its item's first word, and its
-/// value.
-#[derive(Clone, Copy)]
-pub(crate) struct Occurrence<'w> {
-    pub group: usize,
-    pub position: usize,
-    pub value: Option<&'w str>,
-}
-
-/// One option that a line gives. One number says where the values of the line end up to this option's
-/// own, and whether it has one.
+/// One option that a line gives: the place of its group, and the index of its item's first word. One number
+/// says where the values of the line end up to this option's own, and whether it has one.
 #[derive(Clone, Copy, Debug)]
 pub(crate) struct OccurrenceRecord {
     pub group: usize,
@@ -95,38 +86,33 @@ impl LineOccurrences {
         self.records.len()
     }
 
-    /// The occurrence at a place.
+    /// The occurrence at a place: its group, and its position and value.
     #[inline(always)]
-    pub(crate) fn at(&self, place: usize) -> Occurrence<'_> {
+    pub(crate) fn at(&self, place: usize) -> (usize, (usize, Option<&str>)) {
         let held = self.records[place];
-        let value = if held.has_value() {
-            Some(&self.values[values_start(&self.records, place)..held.values_end()])
-        } else {
-            None
-        };
-        Occurrence {
-            group: held.group,
-            position: held.position,
-            value,
+        if !held.has_value() {
+            return (held.group, (held.position, None));
         }
-    }
-
-    /// The position of the occurrence at a place, of which no value is read.
-    #[inline]
-    pub(crate) fn position_at(&self, place: usize) -> usize {
-        self.records[place].position
+        let value = &self.values[values_start(&self.records, place)..held.values_end()];
+        (held.group, (held.position, Some(value)))
     }
 
     /// Adds an occurrence as the last.
     #[inline(always)]
-    pub(crate) fn try_push(&mut self, occurrence: Occurrence<'_>) -> Result<(), AllocError> {
+    pub(crate) fn try_push(
+        &mut self,
+        group: usize,
+        position: usize,
+        value: Option<&str>,
+    ) -> Result<(), AllocError> {
         self.records.try_grow(1)?;
-        let value = occurrence.value.unwrap_or("");
-        push_value(&mut self.values, value, self.records.capacity())?;
+        let text = value.unwrap_or("");
+        push_value(&mut self.values, text, self.records.capacity())?;
+        let packed = packed(self.values.len(), value.is_some());
         self.records.push_reserved(OccurrenceRecord {
-            group: occurrence.group,
-            position: occurrence.position,
-            packed: packed(self.values.len(), occurrence.value.is_some()),
+            group,
+            position,
+            packed,
         });
         Ok(())
     }
@@ -186,19 +172,13 @@ impl<'m> Occurrences<'m> {
     /// The position and the value of one that is there.
     #[inline]
     fn at(&self, nth: usize) -> (usize, Option<&'m str>) {
-        let occurrence = self.found.at(self.places[nth]);
-        (occurrence.position, occurrence.value)
-    }
-
-    /// The position of one that is there, of which no value is read.
-    fn position_at(&self, nth: usize) -> usize {
-        self.found.position_at(self.places[nth])
+        self.found.at(self.places[nth]).1
     }
 
     pub(crate) fn positions(&self, alloc: Global) -> Result<Vec<usize>, AllocError> {
         let mut positions = Vec::of_capacity(alloc, self.len())?;
         for nth in 0..self.len() {
-            positions.try_push(self.position_at(nth))?;
+            positions.try_push(self.at(nth).0)?;
         }
         Ok(positions)
     }

@@ -5,7 +5,7 @@ use crate::fallible::*;
 
 use super::fail::Fail;
 use super::groups::{HasArg, ParsingStyle};
-use super::occurrences::{LineOccurrences, Occurrence};
+use super::occurrences::LineOccurrences;
 use super::options::Options;
 use super::table::Table;
 use crate::alloc::{AllocError, Global};
@@ -198,11 +198,7 @@ impl<'o> Scanner<'o> {
             (HasArg::Yes, Some(value)) => (Some(value), 0),
             (HasArg::Maybe, argument) => (argument, 0),
         };
-        found.try_push(Occurrence {
-            group,
-            position,
-            value,
-        })?;
+        found.try_push(group, position, value)?;
         Ok(used)
     }
 
@@ -233,18 +229,10 @@ impl<'o> Scanner<'o> {
                     let name = first_character(&text[at..]);
                     return Err(Fail::unrecognized_option(alloc, name));
                 }
-                Some((_, group, HasArg::No)) => found.try_push(Occurrence {
-                    group,
-                    position,
-                    value: None,
-                })?,
+                Some((_, group, HasArg::No)) => found.try_push(group, position, None)?,
                 Some((name, group, kind)) => {
                     let (value, used) = ending(alloc, kind, name, &text[at + 1..], after)?;
-                    found.try_push(Occurrence {
-                        group,
-                        position,
-                        value,
-                    })?;
+                    found.try_push(group, position, value)?;
                     return Ok(used);
                 }
             }

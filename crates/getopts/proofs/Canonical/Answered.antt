@@ -23,8 +23,7 @@ use Rattle.getopts.specs.CanonAnswers.{IsWritten, IsUnwritable, IsParseAnswer}
 use Rattle.getopts.specs.CanonAnswers.{IsCanonicalAnswer, KeepsLineLaws}
 use Rattle.getopts.specs.declared.matches.ReadLine.{ReadLine}
 use Rattle.getopts.proofs.Canonical.Lines.{is_plain-true, is_plain-false, HasCanonicalLine-says}
-use Rattle.getopts.proofs.Canonical.Lines.{Says-accepted, IsSound-says}
-use Rattle.getopts.proofs.Canonical.Lines.{HasUnwritable-content}
+use Rattle.getopts.proofs.Canonical.Lines.{Says-accepted, IsSound-says, HasUnwritable-content}
 use Rattle.getopts.proofs.Canonical.Lines.{FitsGroup, FitsGroup-within, IsFitting-reading}
 use Rattle.getopts.proofs.Lists.{AllByRecursion-follows, AllByRecursion-unmap}
 use Rattle.getopts.proofs.Parsing.Counts.{broken_count}

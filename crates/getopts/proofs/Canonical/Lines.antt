@@ -1,8 +1,7 @@
 -- The laws of the canonical line.
 use Rattle.std.proofs.Common.{◌≡◌, ◌<◌, ◌≢◌, ◌⊎◌, ◌↔◌, ℕ, zero, suc, ◌+◌, ◌==◌, Bool, true, false}
-use Rattle.std.proofs.Common.{not}
-use Rattle.std.proofs.Common.{List, [], ◌∷◌, ◌++◌, length, map, Option, Some, None, refl, sym, ap}
-use Rattle.std.proofs.Common.{◌∙◌, subst, inl, inr, arith, append-nil}
+use Rattle.std.proofs.Common.{not, List, [], ◌∷◌, ◌++◌, length, map, Option, Some, None, refl, sym}
+use Rattle.std.proofs.Common.{ap, ◌∙◌, subst, inl, inr, arith, append-nil}
 use Rattle.std.proofs.lemmas.Bool.{cases_Bool, and_parts, not-true, or_cases, or_left, or_right}
 use Rattle.std.proofs.lemmas.Bool.{true≢false}
 use Rattle.std.proofs.lemmas.List.{append_cancel_right, length-map}
@@ -12,12 +11,11 @@ use Rattle.std.specs.List.{AllByRecursion, Contains, filter, flat_map, list_all}
 use Rattle.std.specs.Option.{option_and_then, option_map, unwrap_or}
 use Rattle.getopts.specs.Names.{Text, IsLawfullyNamed, resolution}
 use Rattle.getopts.specs.Options.{Signature, Group, Declared, AreLawfullyNamed, names_of}
-use Rattle.getopts.specs.Options.{signatures_of}
-use Rattle.getopts.specs.Options.{Grammar, kind_of, grammar_of}
+use Rattle.getopts.specs.Options.{signatures_of, Grammar, kind_of, grammar_of}
 use Rattle.getopts.specs.Reading.{dash, equals_sign, begins_with_dash, holds_equals, stop_word}
 use Rattle.getopts.specs.Reading.{Argument, none, attached, separate, one, two, flags, ends_in}
 use Rattle.getopts.specs.Reading.{end_text, attached_argument, argument_words, value_of, FitsKind}
-use Rattle.getopts.specs.Turn.{with_equals}
+use Rattle.getopts.specs.Turn.{with_equals, cut_at_equals}
 use Rattle.getopts.specs.Reading.{Item, free, long, cluster, spelled_all, FitsLong, FitsEnd, IsFlag}
 use Rattle.getopts.specs.Reading.{IsLawfulItem, AreWellFollowed, Reading, IsReading, Mention}
 use Rattle.getopts.specs.Reading.{mention_of, mentions, Occurrence, occurrences_of, free_items}
@@ -39,7 +37,6 @@ use Rattle.getopts.proofs.Reading.Positions.{mentions_of-items}
 use Rattle.getopts.proofs.Reading.Readings.{only_reading}
 use Rattle.getopts.proofs.Reading.Texts.{begins_with_dash-append, cut_at_equals-append}
 use Rattle.getopts.proofs.Reading.Turns.{IsNamed}
-use Rattle.getopts.specs.Turn.{cut_at_equals}
 
 -- the group at this place has a main name that holds no `=`
 abbrev HasPlainMain : List Group → ℕ → Type 0

@@ -11,9 +11,8 @@ use Rattle.std.proofs.lemmas.Bool.Decides.{Decides-like, same_from_decides}
 use Rattle.std.proofs.lemmas.Option.{same_Some}
 use Rattle.std.proofs.lemmas.List.{append_cancel_left, append_cancel_right}
 use Rattle.getopts.specs.Names.{Text}
-use Rattle.getopts.specs.Fail.{Fault, argument_missing, unrecognized_option, option_missing}
-use Rattle.getopts.specs.Fail.{option_duplicated, unexpected_argument, fault_of, fault_text}
-use Rattle.getopts.specs.Fail.{fail_text}
+use Rattle.getopts.specs.Fail.{Fault, unrecognized_option, option_duplicated, unexpected_argument}
+use Rattle.getopts.specs.Fail.{argument_missing, option_missing, fault_of, fault_text, fail_text}
 use Rattle.getopts.specs.Same.{same_fail}
 use Rattle.getopts.specs.declared.fail.Fail.{Fail}
 

@@ -1,8 +1,8 @@
 -- Groups by their records: where their texts end, also after one more, the numbers of their names,
 -- and when two lists of groups are the same.
 use Rattle.std.proofs.Common.{◌≡◌, ◌&&◌, ℕ, zero, suc, ◌-◌, ◌<◌, ◌≤◌, List, [], ◌∷◌, map, ◌++◌}
-use Rattle.std.proofs.Common.{length, get_or, take, drop, slice_get, Option, Some, refl, ap}
-use Rattle.std.proofs.Common.{sym, ◌∙◌, ◌*◌, ◌+◌, ◌/◌, ◌%◌, subst, arith}
+use Rattle.std.proofs.Common.{length, get_or, take, drop, slice_get, Some, refl, ap}
+use Rattle.std.proofs.Common.{sym, ◌∙◌, ◌*◌, subst, arith}
 use Rattle.std.specs.Bool.{Decides}
 use Rattle.std.specs.List.{All}
 use Rattle.std.specs.Cmp.Lexicographic.{pointwise, pointwise_decides}
@@ -15,10 +15,9 @@ use Rattle.std.proofs.lemmas.Option.{same_Some}
 use Rattle.std.proofs.lemmas.Slice.Eq.{bytes_eq-Decides}
 use Rattle.getopts.specs.Names.{Text}
 use Rattle.getopts.specs.Options.{Signature, Group, names_of}
-use Rattle.getopts.specs.Held.Pieces.{pieces, AreEnds, IsWellCut}
+use Rattle.getopts.specs.Held.Pieces.{pieces, AreEnds, IsWellCut, IsOfBytes}
 use Rattle.getopts.specs.Same.{same_group}
-use Rattle.getopts.specs.Held.Table.{name_at, HaveNamesOfBytes}
-use Rattle.getopts.specs.Held.Pieces.{IsOfBytes}
+use Rattle.getopts.specs.Held.Table.{names_at, HaveNamesOfBytes}
 use Rattle.getopts.specs.Held.Groups.{signature_with, kinds_of, same_kinds, same_record}
 use Rattle.getopts.specs.Held.Groups.{text_ends, groups_with}
 use Rattle.getopts.specs.declared.groups.GroupRecord.{GroupRecord}
@@ -102,69 +101,32 @@ AreEndsOf-at text start (first ∷ records) (suc i) r starts in_order cut at =
     AreEndsOf-at text first.desc_end records i r (cut 3 0 (omega arith)) in_order.1.1.1.1
     (λ k d within. cut (suc (suc (suc (suc k)))) d (omega (arith, within))) at
 
--- ---- the numbers of names
+-- ---- the names
 
 -- where the text of all is of bytes, each name is
 pub HaveNamesOfBytes-from : (text : Text) → IsOfBytes text
     → (start : ℕ) (records : List GroupRecord)
     → HaveNamesOfBytes (names_of (groups_from text start records))
-HaveNamesOfBytes-from text bytes start [] number = All-nil (λ byte. byte < 256)
-HaveNamesOfBytes-from text bytes start (r ∷ records) zero =
-    All-take (λ byte. byte < 256) (r.short_end - start) (drop start text)
-    (All-drop (λ byte. byte < 256) start text bytes)
-HaveNamesOfBytes-from text bytes start (r ∷ records) (suc zero) =
-    All-take (λ byte. byte < 256) (r.long_end - r.short_end) (drop r.short_end text)
-    (All-drop (λ byte. byte < 256) r.short_end text bytes)
-HaveNamesOfBytes-from text bytes start (r ∷ records) (suc (suc number)) =
-    HaveNamesOfBytes-from text bytes r.desc_end records number
+HaveNamesOfBytes-from text bytes start [] place =
+    (All-nil (λ byte. byte < 256), All-nil (λ byte. byte < 256))
+HaveNamesOfBytes-from text bytes start (r ∷ records) zero = (
+  All-take (λ byte. byte < 256) (r.short_end - start) (drop start text)
+      (All-drop (λ byte. byte < 256) start text bytes),
+  All-take (λ byte. byte < 256) (r.long_end - r.short_end) (drop r.short_end text)
+      (All-drop (λ byte. byte < 256) r.short_end text bytes),
+)
+HaveNamesOfBytes-from text bytes start (r ∷ records) (suc place) =
+    HaveNamesOfBytes-from text bytes r.desc_end records place
 
--- what is known of the group at a place
-abbrev signature_at : List Group → ℕ → Option Signature
-signature_at groups i = option_map (λ group. group.signature) (slice_get groups i)
-
--- the name of a number is one of the two names of the group at half the number
-pub name_at-short : (groups : List Group) (number : ℕ) (signature : Signature)
-    → signature_at groups (number / 2) ≡ Some signature → number % 2 ≡ 0
-    → name_at (names_of groups) number ≡ signature.names.short
-name_at-short [] number signature at even = cc at
-name_at-short (first ∷ groups) zero signature at even =
-    ap (λ k. k.names.short) (same_Some first.signature signature at)
-name_at-short (first ∷ groups) (suc zero) signature at even = absurd (omega (arith, even))
-name_at-short (first ∷ groups) (suc (suc number)) signature at even =
-    let half : suc (suc number) / 2 ≡ suc (number / 2) = omega arith in
-    name_at-short groups number signature (rw half at at) (omega (arith, even))
-
-pub name_at-long : (groups : List Group) (number : ℕ) (signature : Signature)
-    → signature_at groups (number / 2) ≡ Some signature → 0 < number % 2
-    → name_at (names_of groups) number ≡ signature.names.long
-name_at-long [] number signature at odd = cc at
-name_at-long (first ∷ groups) zero signature at odd = absurd (omega (arith, odd))
-name_at-long (first ∷ groups) (suc zero) signature at odd =
-    ap (λ k. k.names.long) (same_Some first.signature signature at)
-name_at-long (first ∷ groups) (suc (suc number)) signature at odd =
-    let half : suc (suc number) / 2 ≡ suc (number / 2) = omega arith in
-    name_at-long groups number signature (rw half at at) (omega (arith, odd))
-
--- the names of a group have the numbers of its place
-pub name_at-place : (groups : List Group) (place : ℕ) (signature : Signature)
+-- the names at a place are those of the group there
+pub names_at-signature : (groups : List Group) (place : ℕ) (signature : Signature)
     → Some signature ≡ option_map (λ (group : Group). group.signature) (slice_get groups place)
-    → (signature.names.short ≡ name_at (names_of groups) (2 * place))
-    × (signature.names.long ≡ name_at (names_of groups) (2 * place + 1))
-name_at-place groups place signature is =
-    let half : 2 * place / 2 ≡ place = omega arith in
-    let other : (2 * place + 1) / 2 ≡ place = omega arith in (
-      sym (name_at-short groups (2 * place) signature (rw half (sym is)) (omega arith)),
-      sym (name_at-long groups (2 * place + 1) signature (rw other (sym is)) (omega arith)),
-    )
-
--- past the last group there is none
-pub name_at-past : (groups : List Group) (number : ℕ) → length groups ≤ number / 2
-    → name_at (names_of groups) number ≡ []
-name_at-past [] number past = refl
-name_at-past (first ∷ groups) zero past = absurd (omega (arith, past))
-name_at-past (first ∷ groups) (suc zero) past = absurd (omega (arith, past))
-name_at-past (first ∷ groups) (suc (suc number)) past =
-    name_at-past groups number (omega (arith, past))
+    → names_at (names_of groups) place ≡ signature.names
+names_at-signature [] place signature is = cc is
+names_at-signature (first ∷ groups) zero signature is =
+    ap (λ k. k.names) (same_Some first.signature signature (sym is))
+names_at-signature (first ∷ groups) (suc place) signature is =
+    names_at-signature groups place signature is
 
 -- ---- one more group
 

@@ -3,13 +3,10 @@ use Rattle.std.proofs.Common.{◌≡◌, ◌<◌, ◌-◌, ℕ, zero, suc, List,
 use Rattle.std.proofs.Common.{take, drop, get_or, slice_get, Some, refl, ap, ◌∙◌, arith}
 use Rattle.std.specs.List.{zip}
 use Rattle.std.specs.Str.{IsUtf8}
-use Rattle.std.proofs.lemmas.List.{map-append, length-map, get_or-map}
-use Rattle.std.proofs.lemmas.Option.{slice_get_within, get_or_from_slice_get}
-use Rattle.std.specs.Option.{option_map}
+use Rattle.std.proofs.lemmas.List.{map-append, length-map}
 use Rattle.getopts.specs.Names.{Text}
 use Rattle.getopts.specs.Reading.{Occurrence}
-use Rattle.getopts.specs.Held.Pieces.{pieces}
-use Rattle.getopts.specs.Held.Pieces.{IsWellCut}
+use Rattle.getopts.specs.Held.Pieces.{pieces, IsWellCut}
 use Rattle.getopts.specs.Held.Occurrences.{values_end, record_view, value_ends, with_values}
 use Rattle.getopts.specs.declared.occurrences.OccurrenceRecord.{OccurrenceRecord}
 use Rattle.getopts.proofs.Held.Pieces.{length-pieces, pieces-at}
@@ -64,19 +61,6 @@ with_values-at values records place start g within there ends starts =
     slice_get-beside records (pieces values 0 (value_ends records)) place g _ there
     (pieces-at values 0 (value_ends records) place start (values_end g)
     (omega (arith, length-map records values_end)) starts ends)
-
--- its position is the one that is held
-pub position-at : (values : Text) (records : List OccurrenceRecord) (place : ℕ)
-    (g : OccurrenceRecord) → slice_get records place ≡ Some g
-    → option_map (λ (o : Occurrence). o.position) (slice_get (with_values values records) place)
-    ≡ Some g.position
-position-at values records place g at =
-    let within = slice_get_within records place g at in
-    let ends : get_or (value_ends records) place 0 ≡ values_end g =
-    get_or-map values_end records place g 0 within
-    ∙ ap values_end (get_or_from_slice_get records place g g at) in
-    ap (option_map (λ (o : Occurrence). o.position))
-    (with_values-at values records place _ g within at ends refl)
 
 -- one more occurrence beside one more text
 beside-push : (records : List OccurrenceRecord) (texts : List Text) (g : OccurrenceRecord)

@@ -15,14 +15,12 @@ use Rattle.std.proofs.lemmas.List.Elements.{recursion_from_All}
 use Rattle.std.proofs.lemmas.Option.{slice_get_past}
 use Rattle.getopts.specs.Names.{Text, Names, resolution}
 use Rattle.getopts.specs.Options.{Signature, Group, AreLawfullyNamed, signatures_of, names_of}
-use Rattle.getopts.specs.Held.Index.{places_of}
+use Rattle.getopts.specs.Held.Index.{places_of, index_of}
 use Rattle.getopts.specs.Reading.{Occurrence}
-use Rattle.getopts.specs.Matches.{Found, MatchedGroup, found_at, matched}
+use Rattle.getopts.specs.Matches.{Found, MatchedGroup, found_at, matched, found_part}
 use Rattle.getopts.specs.Accessors.{AreHeldLawfully, found_in, place_of, values_of, pairs_of}
 use Rattle.getopts.specs.Same.{same_signature, same_found, same_matched_group}
 use Rattle.getopts.specs.Accessors.{pair_view}
-use Rattle.getopts.specs.Matches.{found_part}
-use Rattle.getopts.specs.Held.Index.{index_of}
 use Rattle.getopts.proofs.Parsing.Counts.{length-matched}
 use Rattle.getopts.proofs.Held.Signatures.{length-signatures_of, names-signatures_of}
 use Rattle.getopts.proofs.Held.Index.{filter_map-places_of, places_of-within}

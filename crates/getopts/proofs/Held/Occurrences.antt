@@ -10,11 +10,9 @@ use Rattle.std.proofs.lemmas.Bool.{and_from, and_parts, and_left, and_right, fal
 use Rattle.std.proofs.lemmas.List.Elements.{filter_map-append}
 use Rattle.std.proofs.lemmas.Option.{slice_get-map}
 use Rattle.getopts.specs.Names.{Text}
-use Rattle.getopts.specs.Matches.{Found}
-use Rattle.getopts.specs.Accessors.{positions_of, values_of, pair_of, pairs_of}
+use Rattle.getopts.specs.Matches.{Found, found_part}
+use Rattle.getopts.specs.Accessors.{positions_of, values_of, pair_of, pairs_of, held_found}
 use Rattle.getopts.specs.Reading.{Occurrence}
-use Rattle.getopts.specs.Accessors.{held_found}
-use Rattle.getopts.specs.Matches.{found_part}
 use Rattle.getopts.specs.Same.{same_found}
 use Rattle.getopts.proofs.Lists.{element, take-more}
 
@@ -69,26 +67,6 @@ module _ (occurrences : List Occurrence) (places : List ℕ)
       slice_get-map found_part (filter_map (λ place. slice_get occurrences place) places) i
       ∙ ap (λ (o : Option Occurrence). option_map found_part o)
       (slice_get-at_places occurrences places i place all at)
-
--- a part of an occurrence that may be there has its position
-pub position-part : (o : Option Occurrence) → option_map (λ (o : Occurrence). o.position) o
-    ≡ option_map (λ (found : Found). found.position) (option_map found_part o)
-position-part None = refl
-position-part (Some occurrence) = refl
-
--- one more occurrence of a front has its position
-pub positions-next : (founds : List Found) (i : ℕ) → positions_of (take (i + 1) founds)
-    ≡ positions_of (take i founds)
-    ++ cons_option (option_map (λ (found : Found). found.position) (slice_get founds i)) []
-positions-next founds i =
-    ap positions_of (take-more founds i)
-    ∙ map-append (λ (found : Found). found.position) (take i founds)
-    (cons_option (slice_get founds i) [])
-    ∙ ap (λ more. positions_of (take i founds) ++ more) (alone (slice_get founds i)) where
-      alone : (o : Option Found) → positions_of (cons_option o [])
-          ≡ cons_option (option_map (λ (found : Found). found.position) o) []
-      alone None = refl
-      alone (Some found) = refl
 
 module _ (founds : List Found) (i : ℕ) (next : Option (ℕ × Option (Bor Text)))
     (is : option_map held_found next ≡ slice_get founds i) where

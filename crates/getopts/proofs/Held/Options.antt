@@ -7,8 +7,7 @@ use Rattle.std.proofs.lemmas.Bool.Decides.{Decides-and, Decides-like, Decides-eq
 use Rattle.getopts.specs.Names.{Names}
 use Rattle.getopts.specs.Options.{Signature, Group, Declared}
 use Rattle.getopts.specs.Same.{kind_index, occurrence_index, style_index, same_names}
-use Rattle.getopts.specs.Same.{same_signature}
-use Rattle.getopts.specs.Same.{same_group, same_options}
+use Rattle.getopts.specs.Same.{same_signature, same_group, same_options}
 use Rattle.getopts.specs.declared.groups.HasArg.{HasArg}
 use Rattle.getopts.specs.declared.groups.Occur.{Occur}
 use Rattle.getopts.specs.declared.groups.ParsingStyle.{ParsingStyle}

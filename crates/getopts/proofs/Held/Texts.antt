@@ -6,8 +6,7 @@ use Rattle.std.proofs.lemmas.Bool.{cases_lt}
 use Rattle.std.proofs.lemmas.List.{get_or_append_left}
 use Rattle.std.proofs.lemmas.List.Elements.{All-push, All-weaker}
 use Rattle.std.proofs.lemmas.Str.{IsCharBoundary-at_seam, IsCharBoundary-end}
-use Rattle.getopts.specs.Held.Pieces.{pieces}
-use Rattle.getopts.specs.Held.Pieces.{IsWellCut}
+use Rattle.getopts.specs.Held.Pieces.{pieces, IsWellCut}
 use Rattle.getopts.proofs.Held.Pieces.{AreEnds-push, pieces-push}
 
 -- where a text may be cut, it may also be cut with more after it

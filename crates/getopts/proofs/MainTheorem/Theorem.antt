@@ -7,8 +7,7 @@ use Rattle.getopts.specs.Fail.{Fault}
 use Rattle.getopts.specs.Reading.{Reading, IsReading, IsScanFault}
 use Rattle.getopts.specs.Matches.{Matched, MatchedGroup, matches_of, KeepsCounts, IsCountFault}
 use Rattle.getopts.specs.Parse.{IsAccepted, BreaksCounts, HasReading, HasNoReading, IsRefused}
-use Rattle.getopts.specs.Canon.{content_of, IsPlain, IsCountKeeping}
-use Rattle.getopts.specs.Canon.{HasCanonicalLine, Content, IsAcceptedWith, Says}
+use Rattle.getopts.specs.Canon.{IsPlain, IsCountKeeping, HasCanonicalLine, Content, Says}
 use Rattle.getopts.specs.CanonAnswers.{IsParseAnswer}
 use Rattle.getopts.specs.Theorem.{OneReading, AcceptedExactlyWhen, RefusedExactlyWhen}
 use Rattle.getopts.specs.Theorem.{HaveOneAnswer, OneLineOneContent}
@@ -56,15 +55,6 @@ module _ (options : Declared) (declared : MayBeDeclared options.groups) where
   accepted words reading keeps = record {
     read = has_reading words reading keeps.reads;
     counts = keeps.keeps;
-  }
-
-  accepted_with : (words : List Text) (reading : Reading) → IsCountKeeping options reading words
-      → IsAcceptedWith options words (content_of options reading)
-  accepted_with words reading keeps = record {
-    reading = reading;
-    only = only_reads options declared words reading keeps.reads;
-    counts = keeps.keeps;
-    content_is = refl;
   }
 
   -- canonical lines keep their laws

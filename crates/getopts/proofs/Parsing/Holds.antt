@@ -10,13 +10,12 @@ use Rattle.std.specs.Borrow.{Bor}
 use Rattle.getopts.specs.Names.{Text, Names, resolution, texts}
 use Rattle.getopts.specs.Options.{Signature, Group, Grammar, Declared, names_of, signatures_of}
 use Rattle.getopts.specs.Options.{grammar_of, Declares, kind_of, occur_of}
-use Rattle.getopts.specs.Reading.{Occurrence, Item, free, long, cluster, Tail, line_end, stop, rest}
-use Rattle.getopts.specs.Reading.{stop_word, spelled_all, tail_words, tail_frees, free_items}
-use Rattle.getopts.specs.Reading.{free_words, IsLawfulItem, Reading, IsReading, occurrences_of}
+use Rattle.getopts.specs.Reading.{Occurrence, spelled_all, tail_words, IsLawfulItem, occurrences_of}
+use Rattle.getopts.specs.Reading.{Item, free, long, Tail, line_end, stop, rest, Reading, FitsKind}
+use Rattle.getopts.specs.Reading.{cluster, stop_word, tail_frees, free_items, free_words, IsReading}
 use Rattle.getopts.specs.Matches.{Found, Matched, MatchedGroup, found_at, matched, FitsCount}
 use Rattle.getopts.specs.Matches.{KeepsCounts}
 use Rattle.getopts.specs.Accessors.{IsDefined, place_of, found_of, found_in, first_value}
-use Rattle.getopts.specs.Reading.{FitsKind}
 use Rattle.getopts.specs.Parse.{IsAccepted, HasReading}
 use Rattle.getopts.specs.Holds.{HaveLastWordsFree, AreGroupsOf, HaveValuesByKind}
 use Rattle.getopts.specs.Holds.{HoldGiven, HoldDeclared, Accepts}

@@ -11,23 +11,21 @@ use Rattle.std.proofs.lemmas.List.{append-nil, append_assoc, length-append}
 use Rattle.std.proofs.lemmas.Grind.{flat_map-append}
 use Rattle.getopts.specs.Names.{Text}
 use Rattle.getopts.specs.Options.{Signature, Grammar}
-use Rattle.getopts.specs.Reading.{dash, is_dashed, begins_with_dash, Argument, none, attached}
-use Rattle.getopts.specs.Reading.{separate, Dashes, one, two, End, flags, ends_in, Item, free, long}
-use Rattle.getopts.specs.Reading.{item_words, cluster, dash_text, end_text, spelled_all}
-use Rattle.getopts.specs.Reading.{MayStandBefore, FitsLong, FitsEnd, IsLawfulEnd, IsLawfulLong}
-use Rattle.getopts.specs.Reading.{IsLawfulCluster, IsLawfulItem, is_bare, EndsOrIsDashed}
-use Rattle.getopts.specs.Reading.{AreWellFollowed, Tail, line_end, stop, rest, tail_words, Reading}
-use Rattle.getopts.specs.Reading.{IsReading, Mention, mentions, Occurrence, at_position, word_count}
-use Rattle.getopts.specs.Reading.{occurrences_after, occurrences_of, free_items, tail_frees}
-use Rattle.getopts.specs.Reading.{free_words, trailing_after}
+use Rattle.getopts.specs.Reading.{dash, item_words, tail_words, Occurrence, at_position, word_count}
+use Rattle.getopts.specs.Reading.{is_dashed, ends_in, dash_text, free_items, tail_frees, free_words}
+use Rattle.getopts.specs.Reading.{begins_with_dash, spelled_all, IsLawfulCluster, occurrences_after}
+use Rattle.getopts.specs.Reading.{Argument, IsLawfulEnd, IsLawfulLong, IsLawfulItem, trailing_after}
+use Rattle.getopts.specs.Reading.{none, attached, separate, end_text, FitsLong, line_end, IsReading}
+use Rattle.getopts.specs.Reading.{Dashes, cluster, FitsEnd, is_bare, Reading, Mention, mentions}
+use Rattle.getopts.specs.Reading.{one, two, End, flags, Item, free, long, Tail, stop, rest}
+use Rattle.getopts.specs.Reading.{MayStandBefore, EndsOrIsDashed, AreWellFollowed, occurrences_of}
 use Rattle.getopts.specs.Matches.{Found, found_at, matched}
 use Rattle.getopts.specs.ReadingLaws.{AreHigherAfter, ReadsAlike, Respells, mentions_of}
-use Rattle.getopts.specs.ReadingLaws.{positions_in}
-use Rattle.getopts.specs.ReadingLaws.{LongAttachedOrSeparate, ShortAttachedOrSeparate}
-use Rattle.getopts.specs.ReadingLaws.{ClusterSplits}
-use Rattle.getopts.specs.ReadingLaws.{OneDashOrTwo, is_last_bare, joined_reading, HasContentOfBoth}
-use Rattle.getopts.specs.ReadingLaws.{LinesCompose, IsAfterStop, TrailingStartIsAfterStop}
-use Rattle.getopts.specs.ReadingLaws.{IsSubsequence, FreeWordsAreSubsequence, HavePositionsInOrder}
+use Rattle.getopts.specs.ReadingLaws.{positions_in, LongAttachedOrSeparate, ShortAttachedOrSeparate}
+use Rattle.getopts.specs.ReadingLaws.{ClusterSplits, OneDashOrTwo, is_last_bare, joined_reading}
+use Rattle.getopts.specs.ReadingLaws.{HasContentOfBoth, LinesCompose, IsAfterStop}
+use Rattle.getopts.specs.ReadingLaws.{TrailingStartIsAfterStop, IsSubsequence}
+use Rattle.getopts.specs.ReadingLaws.{FreeWordsAreSubsequence, HavePositionsInOrder}
 use Rattle.getopts.specs.declared.groups.HasArg.TheVariants.{Yes}
 use Rattle.getopts.proofs.Lists.{AllByRecursion-append, AllByRecursion-left, AllByRecursion-right}
 use Rattle.getopts.proofs.Reading.Positions.{mentions_of-items, positions_in-one_higher}

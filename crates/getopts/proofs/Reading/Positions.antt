@@ -12,9 +12,8 @@ use Rattle.std.proofs.lemmas.Bool.Decides.{nat_tests}
 use Rattle.getopts.specs.Names.{Text}
 use Rattle.getopts.specs.Options.{Signature, Grammar}
 use Rattle.getopts.specs.Reading.{Item, free, long, cluster, item_words, spelled_all, Tail}
-use Rattle.getopts.specs.Reading.{tail_words}
-use Rattle.getopts.specs.Reading.{Reading, IsReading, Mention, mentions, Occurrence, at_position}
-use Rattle.getopts.specs.Reading.{word_count, occurrences_after, occurrences_of}
+use Rattle.getopts.specs.Reading.{tail_words, Reading, IsReading, Mention, mentions, Occurrence}
+use Rattle.getopts.specs.Reading.{at_position, word_count, occurrences_after, occurrences_of}
 use Rattle.getopts.specs.Matches.{Found, found_at, matched}
 use Rattle.getopts.specs.ReadingLaws.{mentions_of, positions_in, one_higher_after, StandsInItem}
 use Rattle.getopts.specs.ReadingLaws.{PositionsAreWords, HavePositionsBelow}

@@ -6,19 +6,17 @@ use Rattle.std.specs.Str.{IsUtf8}
 use Rattle.getopts.specs.Names.{Text, AreTexts}
 use Rattle.getopts.specs.Options.{Grammar}
 use Rattle.getopts.specs.Fail.{Fault}
-use Rattle.getopts.specs.Reading.{stop_word, Argument, separate, Item, free, long, cluster}
-use Rattle.getopts.specs.Reading.{argument_words, item_words, spelled_all, IsLawfulItem}
-use Rattle.getopts.specs.Reading.{EndsOrIsDashed, AreWellFollowed, Tail, line_end, stop, rest}
-use Rattle.getopts.specs.Reading.{tail_words, IsLawfulTail, Reading, IsReading, IsFaultAt}
-use Rattle.getopts.specs.Reading.{IsScanFault}
+use Rattle.getopts.specs.Reading.{stop_word, Argument, separate, line_end, IsReading, IsFaultAt}
+use Rattle.getopts.specs.Reading.{Item, free, long, cluster, Tail, stop, rest, Reading}
+use Rattle.getopts.specs.Reading.{argument_words, IsLawfulItem, EndsOrIsDashed, AreWellFollowed}
+use Rattle.getopts.specs.Reading.{item_words, spelled_all, tail_words, IsLawfulTail, IsScanFault}
 use Rattle.getopts.specs.declared.groups.ParsingStyle.{ParsingStyle}
 use Rattle.getopts.proofs.Lists.{AllByRecursion-right}
 use Rattle.getopts.specs.Turn.{Turn, ends, takes, faults}
 use Rattle.getopts.proofs.Reading.Turns.{IsNamed, turn, spelled, free_turn, with_items, after_turn}
 use Rattle.getopts.proofs.Reading.Turns.{read_both, read}
-use Rattle.getopts.proofs.Reading.Steps.{BeginsWith, TakesItem, spelled_turn, fault_turn}
-use Rattle.getopts.proofs.Reading.Steps.{fault_dashed}
-use Rattle.getopts.proofs.Reading.Steps.{turn_free, turn_stop, IsSoundTurn, turn_sound}
+use Rattle.getopts.proofs.Reading.Steps.{BeginsWith, spelled_turn, fault_dashed, IsSoundTurn}
+use Rattle.getopts.proofs.Reading.Steps.{TakesItem, fault_turn, turn_free, turn_stop, turn_sound}
 
 -- One step of `read`, by the turn of the first word.
 module _ (grammar : Grammar) (word : Text) (more : List Text) where

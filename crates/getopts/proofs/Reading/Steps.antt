@@ -10,17 +10,14 @@ use Rattle.std.proofs.lemmas.Str.{length-encode, len_utf8_bounds}
 use Rattle.getopts.specs.Names.{Text}
 use Rattle.getopts.specs.Options.{Grammar}
 use Rattle.getopts.specs.Fail.{Fault, unrecognized_option}
-use Rattle.getopts.specs.Reading.{dash, is_dashed, holds_equals, stop_word, Argument, none}
-use Rattle.getopts.specs.Reading.{attached}
-use Rattle.getopts.specs.Reading.{separate, Dashes, one, two, End, flags, ends_in, Item, free, long}
-use Rattle.getopts.specs.Reading.{cluster, long_word, attached_argument, argument_words, item_words}
-use Rattle.getopts.specs.Reading.{end_text, end_words, MayStandBefore, FitsLong, FitsEnd, IsFlag}
-use Rattle.getopts.specs.Reading.{IsLawfulEnd, IsLawfulCluster, IsLawfulItem, is_bare}
-use Rattle.getopts.specs.Reading.{EndsOrIsDashed}
-use Rattle.getopts.specs.Reading.{stop, tail_words, IsLawfulTail, IsLongForm, HasAfterFlags}
-use Rattle.getopts.specs.Reading.{dash_text}
-use Rattle.getopts.specs.Reading.{IsFaultAt, unknown_name, unknown_character, unwanted_argument}
-use Rattle.getopts.specs.Reading.{long_unfinished, short_unfinished}
+use Rattle.getopts.specs.Reading.{dash, Dashes, flags, ends_in, cluster, FitsEnd, IsFlag, is_bare}
+use Rattle.getopts.specs.Reading.{is_dashed, stop_word, attached, long_word, tail_words, IsLongForm}
+use Rattle.getopts.specs.Reading.{holds_equals, one, argument_words, MayStandBefore, EndsOrIsDashed}
+use Rattle.getopts.specs.Reading.{Argument, attached_argument, unknown_character, unwanted_argument}
+use Rattle.getopts.specs.Reading.{none, two, End, Item, free, long, stop}
+use Rattle.getopts.specs.Reading.{separate, end_text, end_words, FitsLong, dash_text, IsFaultAt}
+use Rattle.getopts.specs.Reading.{item_words, IsLawfulEnd, IsLawfulItem, IsLawfulTail, unknown_name}
+use Rattle.getopts.specs.Reading.{IsLawfulCluster, HasAfterFlags, long_unfinished, short_unfinished}
 use Rattle.getopts.specs.Turn.{with_equals, Turn, ends, takes, faults, IsInLongForm, IsShortForm}
 use Rattle.getopts.specs.Turn.{chosen_long, chosen_end, chosen_turn, named_turn, cut_at_equals}
 use Rattle.getopts.specs.Turn.{long_turn, first_char, byte_turn, cluster_turn}

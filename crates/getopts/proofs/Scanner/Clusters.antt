@@ -9,8 +9,7 @@ use Rattle.getopts.specs.Names.{Text}
 use Rattle.getopts.specs.Options.{Grammar}
 use Rattle.getopts.specs.Reading.{none, flags, ends_in, cluster, IsFlag, Occurrence, at_position}
 use Rattle.getopts.specs.Reading.{mention_of, mentions}
-use Rattle.getopts.specs.Turn.{chosen_end, chosen_turn, byte_turn, cluster_turn, Chooses}
-use Rattle.getopts.specs.Turn.{AddsItem}
+use Rattle.getopts.specs.Turn.{chosen_end, chosen_turn, byte_turn, cluster_turn, Chooses, AddsItem}
 use Rattle.getopts.specs.declared.groups.HasArg.{HasArg}
 use Rattle.getopts.specs.declared.groups.HasArg.TheVariants.{No}
 use Rattle.getopts.proofs.Reading.Steps.{byte_turn-end}
@@ -33,7 +32,7 @@ pub text_from : (text : Text) (at : ℕ) → at < length text
     → drop at text ≡ slice_index text at ∷ drop (at + 1) text
 text_from text at within = rw (add-one, drop-cons text at 0) refl
 
-module _ (grammar : Grammar) (position : ℕ) (text : Text) (after : List Text) where
+module _ {grammar : Grammar} {position : ℕ} {text : Text} {after : List Text} where
   -- before the first byte nothing was read
   pub FlagsRead-none : (old : List Occurrence) → IsUtf8 text
       → FlagsRead grammar position text after 0 old old
@@ -44,11 +43,11 @@ module _ (grammar : Grammar) (position : ℕ) (text : Text) (after : List Text) 
   }
 
   -- flags to the end of the word
-  pub AddsItem-flags : (at : ℕ) (old new : List Occurrence) → length text ≤ at
+  pub AddsItem-flags : {at : ℕ} {old new : List Occurrence} → length text ≤ at
       → FlagsRead grammar position text after at old new
       → AddsItem grammar (cluster_turn grammar [] text after) position 0 old new
   unfolding cluster_turn
-  AddsItem-flags at old new past before = record {
+  AddsItem-flags {at} {old} past before = record {
     item = cluster text flags;
     argument = none;
     turn_is = before.turn_is ∙ rw (take_all at text past, drop_all at text past) refl;
@@ -58,7 +57,7 @@ module _ (grammar : Grammar) (position : ℕ) (text : Text) (after : List Text) 
         (take_all at text past);
   }
 
-  module _ (at : ℕ) (old new : List Occurrence) (within : at < length text)
+  module _ {at : ℕ} {old new : List Occurrence} (within : at < length text)
       (before : FlagsRead grammar position text after at old new) where
     -- flags, and one more byte, by its kind
     pub cluster_turn-byte : (kind : Option HasArg)

@@ -85,9 +85,8 @@ argument_words-most (separate word) = omega arith
 argument_words-most argument = omega arith
 
 -- A line of borrowed words that was read up to a place.
-module _ (grammar : Grammar) (named : IsNamed grammar) (words : List (Bor Text))
-    (are_texts : AreTexts (texts words)) (at : ℕ)
-    (occurrences : List Occurrence) (frees : List Text)
+module _ {grammar : Grammar} (named : IsNamed grammar) (words : List (Bor Text))
+    (are_texts : AreTexts (texts words)) {at : ℕ} {occurrences : List Occurrence} {frees : List Text}
     (before : ReadSoFar grammar (texts words) at occurrences frees) where
   -- what is left is a tail
   pub IsReading-tail : (tail : Tail)

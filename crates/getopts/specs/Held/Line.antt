@@ -1,26 +1,17 @@
 -- What the functions of `scan` find in the words that they are given.
 use Rattle.std.specs.Prelude.{◌≡◌, false, None, List, [], map}
-use Rattle.std.specs.Option.{option_copied}
 use Rattle.std.specs.String.{string_bytes}
 use Rattle.getopts.specs.Names.{Text}
 use Rattle.getopts.specs.Options.{Grammar, MayBeDeclared, names_of, grammar_of}
 use Rattle.getopts.specs.Held.Table.{IsTableOf}
 use Rattle.getopts.specs.Canon.{Content}
-use Rattle.getopts.specs.Reading.{Dashes, is_dashed, stop_word, Occurrence, Reading, IsReading}
+use Rattle.getopts.specs.Reading.{Dashes, is_dashed, stop_word, Reading, IsReading}
 use Rattle.getopts.specs.Reading.{occurrences_of, free_words, trailing_start}
 use Rattle.getopts.specs.Turn.{IsInLongForm, IsShortForm}
-use Rattle.getopts.specs.declared.occurrences.Occurrence.{Occurrence as Held}
 use Rattle.getopts.specs.declared.scan.Line.{Line}
 use Rattle.getopts.specs.declared.scan.Scanner.{Scanner}
 use Rattle.getopts.specs.declared.scan.Shape.{Shape}
 use Rattle.getopts.specs.declared.scan.Shape.TheVariants as shape
-
--- an occurrence as the code holds it
-abbrev pub occurrence_view : Held → Occurrence
-occurrence_view held = record {
-  mention = record { group = held.group; value = option_copied held.value };
-  position = held.position;
-}
 
 -- the grammar of a scanner's options
 abbrev pub scanner_grammar : Scanner → Grammar

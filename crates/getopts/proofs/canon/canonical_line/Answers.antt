@@ -1,19 +1,18 @@
 -- One more occurrence has its word.
 use Rattle.std.proofs.Common.{◌≡◌, ◌<◌, ◌++◌, ◌∷◌, [], ◌+◌, List, length, map, take, sym, ap, ◌∙◌}
 use Rattle.std.proofs.lemmas.List.{map-append}
+use Rattle.std.specs.Option.{option_copied}
 use Rattle.std.specs.String.{string_bytes}
 use Rattle.getopts.specs.Names.{Text}
-use Rattle.getopts.specs.Reading.{two, long_word, Occurrence}
+use Rattle.getopts.specs.Reading.{two, long_word, Occurrence, at_position}
 use Rattle.getopts.specs.Canon.{canonical_word}
-use Rattle.getopts.specs.Held.Line.{occurrence_view}
 use Rattle.getopts.proofs.Lists.{take-get, AllByRecursion-at}
 use Rattle.getopts.proofs.canon.canonical_line.Goals as goal
 
-pub main-main-requires : goal.main-main-requires
-main-main-requires c =
+pub main-requires : goal.main-requires
+main-requires c =
     AllByRecursion-at (λ (o : Occurrence). o.mention.group < length c.args.groups.now)
-    c.args.line.found c.loop-place.place
-    (occurrence_view c.at-occurrence.result) c.requires c.at-occurrence.ensures
+    c.args.line.found c.loop-place.place _ c.requires c.at-group.ensures
 
 pub loop-place-preserved : goal.loop-place-preserved
 loop-place-preserved c =
@@ -21,14 +20,15 @@ loop-place-preserved c =
     let found = c.args.line.found in
     let words_of = λ (os : List Occurrence). map (canonical_word groups)
     (map (λ (o : Occurrence). o.mention) os) in
-    let occurrence = occurrence_view c.at-occurrence.result in
+    let occurrence : Occurrence = at_position c.at-group.result.1.0
+    (record { group = c.at-group.result.0; value = option_copied c.at-group.result.1.1 }) in
     let word : string_bytes c.in_ok-canonical_word.field-0
     ≡ canonical_word groups occurrence.mention =
     c.in_ok-canonical_word.ensures
-    ∙ ap (λ (main : Text). long_word two main occurrence.mention.value) c.main-main.ensures in
+    ∙ ap (λ (main : Text). long_word two main occurrence.mention.value) c.main.ensures in
     let more : words_of (take (c.loop-place.place + 1) found) ≡ words_of
     (take c.loop-place.place found) ++ canonical_word groups occurrence.mention ∷ [] =
-    ap words_of (take-get found c.loop-place.place occurrence c.at-occurrence.ensures)
+    ap words_of (take-get found c.loop-place.place occurrence c.at-group.ensures)
     ∙ ap (map (canonical_word groups)) (map-append (λ (o : Occurrence). o.mention)
     (take c.loop-place.place found) (occurrence ∷ []))
     ∙ map-append (canonical_word groups)

@@ -5,8 +5,7 @@ use Rattle.getopts.proofs.Canonical.Lines.{IsSound-says}
 use Rattle.getopts.proofs.Parsing.Parsed.{keeps_laws}
 use Rattle.getopts.proofs.MainTheorem.Theorem.{OneReading-options, AcceptedExactlyWhen-options}
 use Rattle.getopts.proofs.MainTheorem.Theorem.{RefusedExactlyWhen-options, HaveOneAnswer-options}
-use Rattle.getopts.proofs.MainTheorem.Theorem.{OneLineOneContent-options}
-use Rattle.getopts.proofs.MainTheorem.Theorem.{HasCanonicalLine-options}
+use Rattle.getopts.proofs.MainTheorem.Theorem.{OneLineOneContent-options, HasCanonicalLine-options}
 use Rattle.getopts.proofs.Canonical.Answered.{KeepsLineLaws-lawful}
 use Rattle.getopts.proofs.laws.one_reading_one_canonical_line.Goals as goal
 

@@ -5,7 +5,7 @@ use Rattle.std.specs.Option.{option_map_or}
 use Rattle.std.proofs.lemmas.List.{take_all}
 use Rattle.getopts.specs.Names.{Text, main_name}
 use Rattle.getopts.specs.Options.{Signature, signatures_of}
-use Rattle.getopts.specs.Matches.{matched, found_at, count_fault, FitsCount, IsCountFault}
+use Rattle.getopts.specs.Matches.{matched, found_at, count_fault, FitsCount}
 use Rattle.getopts.specs.declared.groups.Occur.{Occur}
 use Rattle.getopts.proofs.Parsing.Counts.{KeepsCounts-more, IsCountFault-at, length-found_at}
 use Rattle.getopts.proofs.Parsing.Counts.{length-matched, signature-there}
@@ -62,9 +62,7 @@ returns-then-not-fits_count-clause-err c =
           fits),
       c.if-not-fits_count.true,
     )) in
-    Tells-weaker c.count_fault.result (λ fault. fault ≡ count_fault c.main.result.now count)
-    (IsCountFault (matched 0 (signatures_of c.args.groups.now) c.args.read.now.line.found))
-    c.count_fault.ensures
+    Tells-weaker c.count_fault.result _ _ c.count_fault.ensures
     (λ fault told. IsCountFault-at (signatures_of c.args.groups.now) c.args.read.now.line.found
     c.loop-place.place there.0 there.1
     c.loop-place.invariant count counted fault broken

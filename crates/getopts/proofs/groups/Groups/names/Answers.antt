@@ -1,14 +1,10 @@
--- The names of a group have the numbers of its place.
+-- The names of a group are those of its signature.
+use Rattle.std.proofs.Common.{sym}
 use Rattle.getopts.specs.Held.Groups.{signature_view}
-use Rattle.getopts.proofs.Held.Groups.{name_at-place}
+use Rattle.getopts.proofs.Held.Groups.{names_at-signature}
 use Rattle.getopts.proofs.groups.Groups.names.Goals as goal
 
-pub returns-clause-short : goal.returns-clause-short
-returns-clause-short c =
-    (name_at-place c.args.self.now c.args.place
-    (signature_view c.signature.result) c.signature.ensures).0
-
-pub returns-clause-long : goal.returns-clause-long
-returns-clause-long c =
-    (name_at-place c.args.self.now c.args.place
-    (signature_view c.signature.result) c.signature.ensures).1
+pub returns : goal.returns
+returns c =
+    sym (names_at-signature c.args.self.now c.args.place (signature_view c.signature.result)
+    c.signature.ensures)

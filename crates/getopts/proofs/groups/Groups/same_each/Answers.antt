@@ -1,6 +1,5 @@
 -- Groups are known alike where each of them is.
-use Rattle.std.proofs.Common.{◌≡◌, ◌∙◌, not, sym, ap, inl, inr, arith}
-use Rattle.std.proofs.Common.{slice_get, length}
+use Rattle.std.proofs.Common.{◌≡◌, ◌∙◌, not, sym, ap, inl, inr, arith, slice_get, length}
 use Rattle.std.proofs.lemmas.Bool.{cases_Bool, cases_lt, not-true, not-false, false≢true}
 use Rattle.std.proofs.lemmas.List.{length-map}
 use Rattle.std.proofs.lemmas.Option.{slice_get-map}

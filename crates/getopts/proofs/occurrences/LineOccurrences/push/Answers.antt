@@ -14,25 +14,25 @@ use Rattle.getopts.proofs.occurrences.LineOccurrences.push.Goals as goal
 
 abbrev last : goal.After-push_reserved → OccurrenceRecord
 last c = record {
-  group = c.args.occurrence.group;
-  position = c.args.occurrence.position;
-  packed = c.packed.result;
+  group = c.args.group;
+  position = c.args.position;
+  packed = c.packed-packed.result;
 }
 
 added : (c : goal.After-push_reserved)
     → IsWellCut (string_bytes c.push_value.new.values) (value_ends c.push_reserved.new.self.items)
     × (with_values (string_bytes c.push_value.new.values) c.push_reserved.new.self.items
     ≡ with_values (string_bytes c.self.inside.values) c.self.inside.records.items
-    ++ record_view (last c, c.unwrap_or-value.result.now) ∷ [])
+    ++ record_view (last c, c.unwrap_or-text.result.now) ∷ [])
 added c =
-    let ends : c.packed.result / 2 ≡ length (string_bytes c.push_value.new.values) =
+    let ends : c.packed-packed.result / 2 ≡ length (string_bytes c.push_value.new.values) =
     grind (arith, common_steps) in
-    with_values-push (string_bytes c.self.inside.values) c.unwrap_or-value.result.now
+    with_values-push (string_bytes c.self.inside.values) c.unwrap_or-text.result.now
     (string_bytes c.push_value.new.values) c.self.inside.records.items
     c.push_reserved.new.self.items (last c)
     (grind (arith, common_steps))
     (c.push_reserved.ensures.items ∙ ap (λ items. items ++ last c ∷ []) c.reserve.ensures.items)
-    ends c.unwrap_or-value.utf8 c.self.invariant
+    ends c.unwrap_or-text.utf8 c.self.invariant
 
 pub invariant_of-self-2 : goal.invariant_of-self-2
 invariant_of-self-2 c = (added c).0
@@ -44,12 +44,12 @@ value_seen None empty = refl
 
 pub returns : goal.returns
 returns c =
-    let has = c.packed.ensures.value ∙ c.is_some.ensures in
-    let text = c.unwrap_or-value.ensures in
-    let value : (record_view (last c, c.unwrap_or-value.result.now)).mention.value
-    ≡ option_copied c.args.occurrence.value =
-    (λ i. cond (has i) (Some (text i).now) None) ∙ value_seen c.args.occurrence.value _ in
+    let has = c.packed-packed.ensures.value ∙ c.is_some.ensures in
+    let text = c.unwrap_or-text.ensures in
+    let value : (record_view (last c, c.unwrap_or-text.result.now)).mention.value
+    ≡ option_copied c.args.value =
+    (λ i. cond (has i) (Some (text i).now) None) ∙ value_seen c.args.value _ in
     (added c).1 ∙ (λ i. c.self.view_is i ++ record {
-      mention = record { group = c.args.occurrence.group; value = value i };
-      position = c.args.occurrence.position;
+      mention = record { group = c.args.group; value = value i };
+      position = c.args.position;
     } ∷ [])

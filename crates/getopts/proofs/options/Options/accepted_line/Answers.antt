@@ -2,10 +2,8 @@
 use Rattle.std.proofs.Common.{inl, inr, map}
 use Rattle.std.specs.String.{string_bytes}
 use Rattle.std.proofs.lemmas.Result.{err_from_is_err_and}
-use Rattle.getopts.specs.Names.{texts}
 use Rattle.getopts.specs.Options.{signatures_of}
-use Rattle.getopts.specs.Matches.{matched, IsCountFault}
-use Rattle.getopts.specs.Parse.{IsRefused, HasNoReading}
+use Rattle.getopts.specs.Matches.{matched}
 use Rattle.getopts.proofs.Parsing.Faults.{Tells-weaker}
 use Rattle.getopts.proofs.Canonical.Answered.{HasReading-line}
 use Rattle.getopts.proofs.options.Options.accepted_line.Goals as goal
@@ -14,9 +12,7 @@ pub returns-in_err-read-clause-refused : goal.returns-in_err-read-clause-refused
 returns-in_err-read-clause-refused c =
     let left = err_from_is_err_and c.from_residual.result c.from_residual.ensures.1 in
     rw (left.1, left.2)
-    (Tells-weaker c.in_err-read.field-0.0 (HasNoReading c.args.self.now (texts c.args.words.now))
-    (IsRefused c.args.self.now (texts c.args.words.now)) c.in_err-read.ensures.refused
-    (λ fault is. inl is))
+    (Tells-weaker c.in_err-read.field-0.0 _ _ c.in_err-read.ensures.refused (λ fault is. inl is))
 
 pub check_counts-requires : goal.check_counts-requires
 check_counts-requires c = rw (c.groups.ensures.groups) c.in_ok-read.ensures.read.of_groups
@@ -27,9 +23,7 @@ returns-in_err-check_counts-clause-refused c =
     let left = err_from_is_err_and c.from_residual-in_err-check_counts.result
     c.from_residual-in_err-check_counts.ensures.1 in
     rw (left.1, left.2)
-    (Tells-weaker c.in_err-check_counts.field-0.0
-    (IsCountFault (matched 0 (signatures_of c.args.self.now.groups) line.found))
-    (IsRefused c.args.self.now (texts c.args.words.now))
+    (Tells-weaker c.in_err-check_counts.field-0.0 _ _
     (rw c.groups.ensures.groups at c.in_err-check_counts.ensures.err)
     (λ fault is. inr (record {
       matches = record {
@@ -37,8 +31,7 @@ returns-in_err-check_counts-clause-refused c =
         free = map string_bytes line.free.items;
         trailing_start = line.trailing_start;
       };
-      read = HasReading-line c.args.self.now (texts c.args.words.now) c.in_ok-read.read
-          c.in_ok-read.ensures.read;
+      read = HasReading-line _ _ c.in_ok-read.read c.in_ok-read.ensures.read;
       breaks = is;
     })))
 

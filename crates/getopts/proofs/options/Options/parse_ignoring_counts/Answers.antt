@@ -1,6 +1,5 @@
 -- The line that was read gives the matches of its reading.
 use Rattle.std.proofs.Common.{◌≡◌, ◌∙◌}
-use Rattle.getopts.specs.Names.{texts}
 use Rattle.getopts.proofs.Canonical.Answered.{HasReading-line}
 use Rattle.getopts.proofs.Parsing.Holds.{HoldGiven-read}
 use Rattle.getopts.proofs.options.Options.parse_ignoring_counts.Goals as goal
@@ -10,9 +9,7 @@ returns-clause-read c =
     let groups : c.in_ok-clone.field-0 ≡ c.args.self.now.groups = c.in_ok-clone.ensures.cases
     ∙ c.groups.ensures.groups in
     rw (c.of_line.ensures, groups)
-    (HasReading-line c.args.self.now (texts c.args.words.now) c.in_ok-read.read
-    c.in_ok-read.ensures.read)
+    (HasReading-line _ _ c.in_ok-read.read c.in_ok-read.ensures.read)
 
 pub returns-clause-given : goal.returns-clause-given
-returns-clause-given c =
-    HoldGiven-read c.args.self.now (texts c.args.words.now) c.of_line.result (returns-clause-read c)
+returns-clause-given c = HoldGiven-read _ _ _ (returns-clause-read c)

@@ -1,6 +1,5 @@
 -- The line that was read gives accepted matches, and its options keep the laws of readings.
 use Rattle.std.proofs.Common.{◌≡◌, ◌∙◌, subst}
-use Rattle.getopts.specs.Names.{texts}
 use Rattle.getopts.specs.ReadingLaws.{HavePositionsBelow}
 use Rattle.getopts.proofs.Canonical.Answered.{IsAccepted-line}
 use Rattle.getopts.proofs.Parsing.Parsed.{positions_below-read, keeps_laws}
@@ -13,24 +12,18 @@ returns-clause-accepted c =
     let groups : c.in_ok-clone.field-0 ≡ c.args.self.now.groups = c.in_ok-clone.ensures.cases
     ∙ c.groups.ensures.groups in
     rw (c.of_line.ensures, groups)
-    (IsAccepted-line c.args.self.now (texts c.args.words.now) c.in_ok-accepted.accepted
-    c.in_ok-accepted.ensures.accepted)
+    (IsAccepted-line _ _ c.in_ok-accepted.accepted c.in_ok-accepted.ensures.accepted)
 
 pub returns-clause-declared : goal.returns-clause-declared
-returns-clause-declared c =
-    HoldDeclared-accepted c.args.self.now (texts c.args.words.now) c.of_line.result
-    (returns-clause-accepted c)
+returns-clause-declared c = HoldDeclared-accepted _ _ _ (returns-clause-accepted c)
 
 pub returns-clause-positions_below : goal.returns-clause-positions_below
 returns-clause-positions_below c =
     subst (λ n. HavePositionsBelow n c.of_line.result.groups) (length-texts c.args.words.now)
-    (positions_below-read c.args.self.now (texts c.args.words.now) c.of_line.result
-    (returns-clause-accepted c).read)
+    (positions_below-read _ _ _ (returns-clause-accepted c).read)
 
 pub returns-clause-free_last : goal.returns-clause-free_last
-returns-clause-free_last c =
-    HaveLastWordsFree-read c.args.self.now (texts c.args.words.now) c.of_line.result
-    (returns-clause-accepted c).read
+returns-clause-free_last c = HaveLastWordsFree-read _ _ _ (returns-clause-accepted c).read
 
 pub returns-clause-laws : goal.returns-clause-laws
 returns-clause-laws c = keeps_laws c.args.self.now c.groups.ensures.declared

@@ -1,9 +1,5 @@
 -- The line that was read and its scan fault are those of the declared options.
 use Rattle.std.proofs.lemmas.Result.{err_from_is_err_and}
-use Rattle.getopts.specs.Names.{texts}
-use Rattle.getopts.specs.Options.{grammar_of}
-use Rattle.getopts.specs.Reading.{IsScanFault}
-use Rattle.getopts.specs.Parse.{HasNoReading}
 use Rattle.getopts.proofs.Parsing.Faults.{Tells-weaker}
 use Rattle.getopts.proofs.Parsing.Parsed.{HasNoReading-fault}
 use Rattle.getopts.proofs.options.Options.read_line.Goals as goal
@@ -22,11 +18,8 @@ returns-in_err-line-clause-refused c =
     let left = err_from_is_err_and c.from_residual-in_err-line.result
     c.from_residual-in_err-line.ensures.1 in
     rw (left.1, left.2)
-    (Tells-weaker c.in_err-line.field-0.0
-    (IsScanFault (grammar_of c.args.self.now) (texts c.args.words.now))
-    (HasNoReading c.args.self.now (texts c.args.words.now)) c.in_err-line.ensures.err
-    (HasNoReading-fault c.args.self.now c.groups-groups.ensures.declared
-    (texts c.args.words.now) c.are_texts.ensures))
+    (Tells-weaker c.in_err-line.field-0.0 _ _ c.in_err-line.ensures.err
+    (HasNoReading-fault _ c.groups-groups.ensures.declared _ c.are_texts.ensures))
 
 pub returns-clause-read : goal.returns-clause-read
 returns-clause-read c = record {

@@ -1,13 +1,11 @@
 -- Each name of a cluster is a flag, ends it, or is a fault.
-use Rattle.std.proofs.Common.{◌≡◌, [], take, slice_index, sym, ◌∙◌, ap, arith, None, rules}
+use Rattle.std.proofs.Common.{take, slice_index, sym, ◌∙◌, ap, arith, None, rules}
 use Rattle.std.specs.Option.{option_copied}
 use Rattle.std.proofs.lemmas.Str.{IsCharBoundary-after_ascii}
 use Rattle.std.proofs.lemmas.Result.{err_from_is_err_and}
 use Rattle.getopts.specs.Fail.{unrecognized_option}
-use Rattle.getopts.specs.Names.{texts}
-use Rattle.getopts.specs.Held.Line.{scanner_grammar}
 use Rattle.getopts.specs.Reading.{cluster, ends_in}
-use Rattle.getopts.specs.Turn.{faults, first_char, chosen_turn, cluster_turn}
+use Rattle.getopts.specs.Turn.{faults, first_char, chosen_turn}
 use Rattle.getopts.proofs.Parsing.Faults.{Tells-one, Tells-weaker}
 use Rattle.getopts.proofs.Scanner.Clusters.{FlagsRead-none, FlagsRead-more, AddsItem-flags}
 use Rattle.getopts.proofs.Scanner.Clusters.{AddsItem-ends, cluster_turn-byte, cluster_turn-ends}
@@ -15,20 +13,15 @@ use Rattle.getopts.proofs.Scanner.Clusters.{text_from}
 use Rattle.getopts.proofs.scan.Scanner.cluster.Goals as goal
 
 pub names-init : goal.names-init
-names-init c = FlagsRead-none (scanner_grammar c.args.self.now) c.args.position c.args.text.now _
-    c.args.found.now c.utf8.text
+names-init c = FlagsRead-none c.args.found.now c.utf8.text
 
 pub returns-in-None-clause-err : goal.returns-in-None-clause-err
 returns-in-None-clause-err c =
     let first = c.first_character-name.ensures
     ∙ ap first_char (c.range_from.ensures.value
     ∙ text_from c.args.text.now c.names.at (omega arith)) in
-    Tells-one c.unrecognized_option.result (unrecognized_option c.first_character-name.result.now)
-    (λ fault. cluster_turn (scanner_grammar c.args.self.now) [] c.args.text.now
-    (texts c.args.after.now) ≡ faults fault)
-    c.unrecognized_option.ensures
-    (cluster_turn-byte _ c.args.position c.args.text.now _ c.names.at _ _
-    (omega arith) c.names.invariant None c.in-None.ensures.option
+    Tells-one c.unrecognized_option.result _ _ c.unrecognized_option.ensures
+    (cluster_turn-byte (omega arith) c.names.invariant None c.in-None.ensures.option
     ∙ ap (λ name. faults (unrecognized_option name)) (sym first))
 
 pub range_from-requires-in-Some : goal.range_from-requires-in-Some
@@ -39,8 +32,7 @@ range_from-requires-in-Some c =
 pub returns-in-Some-clause-ok : goal.returns-in-Some-clause-ok
 returns-in-Some-clause-ok c =
     let option = c.in-Some.ensures.option in
-    AddsItem-ends _ c.args.position c.args.text.now _ c.names.at _ _
-    (omega arith) c.names.invariant c.in-Some.group c.in-Some.kind
+    AddsItem-ends (omega arith) c.names.invariant c.in-Some.group c.in-Some.kind
     (option_copied c.in_ok-value-in-Some.value) c.in_ok-value-in-Some.used _ option.1
     (search rules) option.2
     (rw (option.0, c.range_from-in-Some.ensures.value) at c.in_ok-value-in-Some.ensures.ok)
@@ -53,24 +45,19 @@ returns-in_err-value-in-Some-clause-err c =
     let option = c.in-Some.ensures.option in
     let bytes = take c.names.at c.args.text.now in
     let byte = slice_index c.args.text.now c.names.at in
-    rw (left.1, left.2) (Tells-weaker c.in_err-value-in-Some.field-0.0 _
-    (λ fault. cluster_turn (scanner_grammar c.args.self.now) [] c.args.text.now
-    (texts c.args.after.now) ≡ faults fault)
+    rw (left.1, left.2) (Tells-weaker c.in_err-value-in-Some.field-0.0 _ _
     (rw (option.0, c.range_from-in-Some.ensures.value) at c.in_err-value-in-Some.ensures.err)
-    (λ fault told. cluster_turn-ends _ c.args.position c.args.text.now _ c.names.at _ _
-    (omega arith) c.names.invariant
+    (λ fault told. cluster_turn-ends (omega arith) c.names.invariant
     c.in-Some.kind (search rules) option.2
     ∙ ap (chosen_turn (λ a. cluster bytes (ends_in byte a))) told))
 
 pub names-preserved : goal.names-preserved
 names-preserved c =
     let option = c.in-Some-default-default-No.ensures.option in
-    FlagsRead-more _ c.args.position c.args.text.now _ c.names.at _ _
-    (omega arith) c.names.invariant
+    FlagsRead-more (omega arith) c.names.invariant
     c.in-Some-default-default-No.group _ c.utf8.text c.in-Some-default-default-No.ensures.ascii
     option.1 (rw c.in-Some-default-default-No.field-0-2-is at option.2)
     c.in_ok-push-in-Some-default-default-No.ensures
 
 pub returns-clause-ok : goal.returns-clause-ok
-returns-clause-ok c = AddsItem-flags _ c.args.position c.args.text.now _ c.names.at _ _
-    (omega arith) c.names.invariant
+returns-clause-ok c = AddsItem-flags (omega arith) c.names.invariant

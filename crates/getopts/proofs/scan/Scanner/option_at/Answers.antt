@@ -1,5 +1,5 @@
 -- One ASCII byte is a text of its own, and no other byte names an option.
-use Rattle.std.proofs.Common.{◌≡◌, ◌<◌, ◌≤◌, ◌∷◌, [], slice_index, ◌∙◌, arith}
+use Rattle.std.proofs.Common.{◌<◌, ◌≤◌, slice_index, ◌∙◌, arith}
 use Rattle.std.proofs.lemmas.Grind.{common_steps}
 use Rattle.std.proofs.lemmas.Str.{IsCharBoundary-after_ascii}
 use Rattle.getopts.proofs.Lookup.Names.{wide_unknown}

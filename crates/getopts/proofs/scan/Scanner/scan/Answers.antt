@@ -36,8 +36,7 @@ returns-clause-ok c =
     let before = c.items.invariant.read in
     record {
       reading = record { items = before.items; tail = line_end };
-      reads = IsReading-tail (scanner_grammar c.args.self.now) (named _ c.requires.lawful)
-          c.args.words.now c.requires.texts c.items.at _ _ before line_end
+      reads = IsReading-tail (named _ c.requires.lawful) _ c.requires.texts before line_end
           (ap (read (scanner_grammar c.args.self.now))
           (drop_all c.items.at (texts c.args.words.now)
           (omega (arith, length-texts c.args.words.now)))
@@ -56,8 +55,7 @@ returns-then-stops-clause-ok c =
         items = before.items;
         tail = rest (drop c.items.at (texts c.args.words.now));
       };
-      reads = IsReading-rest _ (named _ c.requires.lawful) c.args.words.now c.requires.texts
-          c.items.at _ _ before _
+      reads = IsReading-rest (named _ c.requires.lawful) _ c.requires.texts before _
           (omega arith) c.in-Free.ensures stops;
       occurrences = before.occurrences_are;
       free = rw (
@@ -78,8 +76,7 @@ returns-in-Stop-clause-ok c =
         items = before.items;
         tail = stop (texts (drop (c.items.at + 1) c.args.words.now));
       };
-      reads = IsReading-stop _ (named _ c.requires.lawful) c.args.words.now c.requires.texts
-          c.items.at _ _ before _
+      reads = IsReading-stop (named _ c.requires.lawful) _ c.requires.texts before _
           (omega arith) c.in-Stop.ensures;
       occurrences = before.occurrences_are;
       free = rw (c.in_ok-push_copies-in-Stop.ensures, after, before.free_are);
@@ -96,8 +93,7 @@ pub returns-in_err-long-in-Long-clause-err : goal.returns-in_err-long-in-Long-cl
 returns-in_err-long-in-Long-clause-err c =
     let left = err_from_is_err_and c.from_residual-in_err-long-in-Long.result
     c.from_residual-in_err-long-in-Long.ensures.1 in
-    rw (left.1, left.2) (Tells-word _ (named _ c.requires.lawful) c.args.words.now c.requires.texts
-    c.items.at _ _
+    rw (left.1, left.2) (Tells-word (named _ c.requires.lawful) _ c.requires.texts
     c.items.invariant.read _ (omega arith) _ c.in_err-long-in-Long.field-0.0
     (turn_long _ _ _ _ _ c.in-Long.ensures.1)
     (rw (take-drop c.args.words.now (c.items.at + 1)) at c.in_err-long-in-Long.ensures.err
@@ -107,8 +103,7 @@ pub returns-in_err-at-in-Cluster-clause-err : goal.returns-in_err-at-in-Cluster-
 returns-in_err-at-in-Cluster-clause-err c =
     let left = err_from_is_err_and c.from_residual-in_err-at-in-Cluster.result
     c.from_residual-in_err-at-in-Cluster.ensures.1 in
-    rw (left.1, left.2) (Tells-word _ (named _ c.requires.lawful) c.args.words.now c.requires.texts
-    c.items.at _ _
+    rw (left.1, left.2) (Tells-word (named _ c.requires.lawful) _ c.requires.texts
     c.items.invariant.read _ (omega arith) _ c.in_err-at-in-Cluster.field-0.0
     (turn_short _ _ _ _ c.in-Cluster.ensures)
     (rw (take-drop c.args.words.now (c.items.at + 1)) at c.in_err-at-in-Cluster.ensures.err))
@@ -127,8 +122,7 @@ pub items-preserved-in_ok-push_copy-in-Free : goal.items-preserved-in_ok-push_co
 items-preserved-in_ok-push_copy-in-Free c =
     let floating : c.args.self.now.options.now.style ≡ FloatingFrees = search rules in
     record {
-      read = ReadSoFar-free _ (named _ c.requires.lawful) c.args.words.now c.requires.texts
-          c.items.at _ _
+      read = ReadSoFar-free (named _ c.requires.lawful) _ c.requires.texts
           c.items.invariant.read _ (omega arith) _ c.in-Free.ensures floating
           c.in_ok-push_copy-in-Free.ensures;
       trailing = c.items.invariant.trailing;
@@ -136,9 +130,8 @@ items-preserved-in_ok-push_copy-in-Free c =
 
 pub items-preserved-in_ok-long-in-Long : goal.items-preserved-in_ok-long-in-Long
 items-preserved-in_ok-long-in-Long c = record {
-  read = ReadSoFar-added _ (named _ c.requires.lawful) c.args.words.now c.requires.texts c.items.at
-      _ _
-      c.items.invariant.read _ (omega arith) _ c.in_ok-long-in-Long.field-0 _
+  read = ReadSoFar-added (named _ c.requires.lawful) _ c.requires.texts c.items.invariant.read _
+      (omega arith) _ c.in_ok-long-in-Long.field-0 _
       (turn_long _ _ _ _ _ c.in-Long.ensures.1)
       (rw (take-drop c.args.words.now (c.items.at + 1)) at c.in_ok-long-in-Long.ensures.ok
       c.in-Long.ensures.0);
@@ -147,9 +140,8 @@ items-preserved-in_ok-long-in-Long c = record {
 
 pub items-preserved : goal.items-preserved
 items-preserved c = record {
-  read = ReadSoFar-added _ (named _ c.requires.lawful) c.args.words.now c.requires.texts c.items.at
-      _ _
-      c.items.invariant.read _ (omega arith) _ c.in_ok-at-in-Cluster.field-0 _
+  read = ReadSoFar-added (named _ c.requires.lawful) _ c.requires.texts c.items.invariant.read _
+      (omega arith) _ c.in_ok-at-in-Cluster.field-0 _
       (turn_short _ _ _ _ c.in-Cluster.ensures)
       (rw (take-drop c.args.words.now (c.items.at + 1)) at c.in_ok-at-in-Cluster.ensures.ok);
   trailing = c.items.invariant.trailing;
