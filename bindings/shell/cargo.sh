@@ -69,9 +69,12 @@ else
 } 3>&1
 END
         chmod +x "$room/by_wine"
-        # The first run makes wine's folder, and says so.
+        # The first run makes wine's folder, and says so. The server stays, so that no run meets one that is ending.
         "$room/by_wine" --help >/dev/null 2>&1
+        server=$(dirname "$wine")/wineserver
+        ! has "$server" || "$server" -p
         check "its answers under wine" python3 "$rows" --short "$room/by_wine" "$theirs"
+        ! has "$server" || "$server" -k
     fi
 fi
 finish
