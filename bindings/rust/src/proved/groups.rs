@@ -149,7 +149,7 @@ impl Groups {
     /// The kinds of the group at a place.
     #[inline(always)]
     pub(crate) fn kinds_at(&self, place: usize) -> Kinds {
-        self.get(place).signature.kinds
+        self.records[place].kinds
     }
 
     /// The main name of the group at a place.
@@ -183,26 +183,26 @@ impl Groups {
         is_of_bytes(&self.text);
     }
 
-    /// What reading asks of the group at a place.
+    /// What reading asks of the group at a place: its texts start where those of the one before it end.
     #[inline]
     pub(crate) fn signature(&self, place: usize) -> Signature<'_> {
-        self.get(place).signature
-    }
-
-    /// The group at a place: its texts start where those of the one before it end.
-    #[inline]
-    pub(crate) fn get(&self, place: usize) -> Group<'_> {
         let group = self.records[place];
         let start = start_of(&self.records, place);
         let short = &self.text[start..group.short_end];
         let long = &self.text[group.short_end..group.long_end];
+        let names = Names { short, long };
+        let kinds = group.kinds;
+        Signature { names, kinds }
+    }
+
+    /// The group at a place.
+    pub(crate) fn get(&self, place: usize) -> Group<'_> {
+        let group = self.records[place];
+        let signature = self.signature(place);
         let hint = &self.text[group.long_end..group.hint_end];
         let desc = &self.text[group.hint_end..group.desc_end];
         Group {
-            signature: Signature {
-                names: Names { short, long },
-                kinds: group.kinds,
-            },
+            signature,
             hint,
             desc,
         }

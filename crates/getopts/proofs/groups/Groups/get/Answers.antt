@@ -1,20 +1,25 @@
--- The texts of a group start where those of the one before it end.
-use Rattle.std.proofs.Common.{◌≡◌, Some, slice_get, refl, sym, subst, arith}
-use Rattle.std.specs.String.{string_bytes}
-use Rattle.std.proofs.lemmas.List.{get_or_read}
+-- The help of a group stands after its names.
+use Rattle.std.proofs.Common.{◌≡◌, ◌∙◌, Some, slice_get, sym, ap, arith}
+use Rattle.std.proofs.lemmas.Option.{same_Some}
 use Rattle.std.proofs.lemmas.Str.{IsUtf8-string_bytes, IsCharBoundary-start}
+use Rattle.std.specs.Option.{option_map}
+use Rattle.std.specs.String.{string_bytes}
+use Rattle.getopts.specs.Names.{Text}
+use Rattle.getopts.specs.Options.{Group}
+use Rattle.getopts.specs.Held.Groups.{signature_view}
+use Rattle.std.proofs.lemmas.List.{get_or_read}
 use Rattle.getopts.proofs.Lists.{slice_get-read}
 use Rattle.getopts.proofs.Held.Groups.{start_at, record_within, groups_from-at, AreEndsOf}
-use Rattle.getopts.proofs.Held.Groups.{AreEndsOf-at}
+use Rattle.getopts.proofs.Held.Groups.{AreEndsOf-at, group_by, between}
 use Rattle.getopts.proofs.groups.Groups.get.Goals as goal
-use Rattle.getopts.proofs.groups.Groups.get.Goals.{After-deref-2}
+use Rattle.getopts.proofs.groups.Groups.get.Goals.{After-deref}
 
 pub index-group-requires : goal.index-group-requires
 index-group-requires c =
     let within = record_within _ _ c.self.inside.records.items _ _ c.self.view_is c.requires in
     omega (arith, within)
 
-record_at : (c : After-deref-2)
+record_at : (c : After-deref)
     → slice_get c.self.inside.records.items c.args.place ≡ Some c.index-group.result.now
 record_at c =
     let records = c.self.inside.records.items in
@@ -22,89 +27,54 @@ record_at c =
     slice_get-read records c.args.place c.index-group.result.now within
     (λ d. get_or_read records c.args.place c.index-group.result.now within c.index-group.ensures d)
 
-starts : (c : After-deref-2)
-    → start_at 0 c.self.inside.records.items c.args.place ≡ c.start_of-start.result
-starts c = sym (rw c.deref.ensures.value at c.start_of-start.ensures)
-
-ends : (c : After-deref-2)
-    → AreEndsOf (string_bytes c.self.inside.text) c.start_of-start.result c.index-group.result.now
-ends c = let text = string_bytes c.self.inside.text in
-    subst (λ start. AreEndsOf text start c.index-group.result.now) (starts c)
-    (AreEndsOf-at text 0 c.self.inside.records.items c.args.place c.index-group.result.now
-    (IsCharBoundary-start text (IsUtf8-string_bytes c.self.inside.text))
-    c.self.invariant.cut.in_order
-    c.self.invariant.cut.between_characters (record_at c))
-
-pub start_of-start-requires : goal.start_of-start-requires
-start_of-start-requires c =
-    let within = record_within _ _ c.self.inside.records.items _ _ c.self.view_is c.requires in
-    rw c.deref.ensures.value (omega (arith, within))
-
-pub range-short-requires-clause-start_le_end : goal.range-short-requires-clause-start_le_end
-range-short-requires-clause-start_le_end c = (ends c).short.0
-
-pub range-short-requires-clause-start_boundary : goal.range-short-requires-clause-start_boundary
-range-short-requires-clause-start_boundary c = λ _. rw c.deref-2.ensures (ends c).start_at
-
-pub range-short-requires-clause-end_boundary : goal.range-short-requires-clause-end_boundary
-range-short-requires-clause-end_boundary c = rw c.deref-2.ensures (ends c).short.1
-
-pub range-long-requires-clause-start_le_end : goal.range-long-requires-clause-start_le_end
-range-long-requires-clause-start_le_end c =
-    (ends (goal.at.range-long-requires-clause-start_le_end c).After-deref-2).long.0
-
-pub range-long-requires-clause-start_boundary : goal.range-long-requires-clause-start_boundary
-range-long-requires-clause-start_boundary c =
-    λ _. rw c.deref-3.ensures
-    (ends (goal.at.range-long-requires-clause-start_boundary c).After-deref-2).short.1
-
-pub range-long-requires-clause-end_boundary : goal.range-long-requires-clause-end_boundary
-range-long-requires-clause-end_boundary c =
-    rw c.deref-3.ensures
-    (ends (goal.at.range-long-requires-clause-end_boundary c).After-deref-2).long.1
+ends : (c : After-deref) → AreEndsOf (string_bytes c.self.inside.text)
+    (start_at 0 c.self.inside.records.items c.args.place) c.index-group.result.now
+ends c = AreEndsOf-at (string_bytes c.self.inside.text) 0 c.self.inside.records.items c.args.place
+    c.index-group.result.now
+    (IsCharBoundary-start (string_bytes c.self.inside.text)
+    (IsUtf8-string_bytes c.self.inside.text))
+    c.self.invariant.cut.in_order c.self.invariant.cut.between_characters (record_at c)
 
 pub range-hint-requires-clause-start_le_end : goal.range-hint-requires-clause-start_le_end
-range-hint-requires-clause-start_le_end c =
-    (ends (goal.at.range-hint-requires-clause-start_le_end c).After-deref-2).hint.0
+range-hint-requires-clause-start_le_end c = (ends c).hint.0
 
 pub range-hint-requires-clause-start_boundary : goal.range-hint-requires-clause-start_boundary
-range-hint-requires-clause-start_boundary c =
-    λ _. rw c.deref-4.ensures
-    (ends (goal.at.range-hint-requires-clause-start_boundary c).After-deref-2).long.1
+range-hint-requires-clause-start_boundary c = λ _. rw c.deref.ensures (ends c).long.1
 
 pub range-hint-requires-clause-end_boundary : goal.range-hint-requires-clause-end_boundary
-range-hint-requires-clause-end_boundary c =
-    rw c.deref-4.ensures
-    (ends (goal.at.range-hint-requires-clause-end_boundary c).After-deref-2).hint.1
+range-hint-requires-clause-end_boundary c = rw c.deref.ensures (ends c).hint.1
 
 pub range-desc-requires-clause-start_le_end : goal.range-desc-requires-clause-start_le_end
 range-desc-requires-clause-start_le_end c =
-    (ends (goal.at.range-desc-requires-clause-start_le_end c).After-deref-2).description.0
+    (ends (goal.at.range-desc-requires-clause-start_le_end c).After-deref).description.0
 
 pub range-desc-requires-clause-start_boundary : goal.range-desc-requires-clause-start_boundary
 range-desc-requires-clause-start_boundary c =
-    λ _. rw c.deref-5.ensures
-    (ends (goal.at.range-desc-requires-clause-start_boundary c).After-deref-2).hint.1
+    λ _. rw c.deref-2.ensures
+    (ends (goal.at.range-desc-requires-clause-start_boundary c).After-deref).hint.1
 
 pub range-desc-requires-clause-end_boundary : goal.range-desc-requires-clause-end_boundary
 range-desc-requires-clause-end_boundary c =
-    rw c.deref-5.ensures
-    (ends (goal.at.range-desc-requires-clause-end_boundary c).After-deref-2).description.1
+    rw c.deref-2.ensures
+    (ends (goal.at.range-desc-requires-clause-end_boundary c).After-deref).description.1
 
 pub returns : goal.returns
 returns c =
-    let at = (goal.at.returns c).After-deref-2 in
-    rw (
-      ← c.self.view_is,
-      c.range-short.ensures.value,
-      c.range-long.ensures.value,
-      c.range-hint.ensures.value,
-      c.range-desc.ensures.value,
-      c.deref-2.ensures,
-      c.deref-3.ensures,
-      c.deref-4.ensures,
-      c.deref-5.ensures,
-      groups_from-at (string_bytes c.self.inside.text) 0 c.self.inside.records.items c.args.place,
-      record_at at,
-      starts at,
-    ) refl
+    let at = (goal.at.returns c).After-deref in
+    let text = string_bytes c.self.inside.text in
+    let records = c.self.inside.records.items in
+    let start = start_at 0 records c.args.place in
+    let r = c.index-group.result.now in
+    let there : slice_get c.args.self.now c.args.place ≡ Some (group_by text start r) =
+    rw (← c.self.view_is) (groups_from-at text 0 records c.args.place
+    ∙ ap (option_map (group_by text start)) (record_at at)) in
+    let signature : signature_view c.signature-signature.result
+    ≡ (group_by text start r).signature =
+    same_Some _ _ (c.signature-signature.ensures
+    ∙ ap (option_map (λ (g : Group). g.signature)) there) in
+    let hint = c.range-hint.ensures.value
+    ∙ ap (λ (t : Text). between t r.long_end r.hint_end) c.deref.ensures in
+    let description = c.range-desc.ensures.value
+    ∙ ap (λ (t : Text). between t r.hint_end r.desc_end) c.deref-2.ensures in
+    (λ i. Some (record { signature = signature i; hint = hint i; description = description i }))
+    ∙ sym there
