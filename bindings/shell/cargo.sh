@@ -63,10 +63,10 @@ else
         cat >"$room/by_wine" <<END
 #!/usr/bin/env bash
 # What wine itself says is left out.
-{
-    "$wine" "$room/target/$windows/release/getopts_shell.exe" "\$@" 2>&1 >&3 | sed '/^wine: /d' >&2
-    exit "\${PIPESTATUS[0]}"
-} 3>&1
+"$wine" "$room/target/$windows/release/getopts_shell.exe" "\$@" 2>"$room/errors"
+status=\$?
+sed '/^wine: /d' "$room/errors" >&2
+exit \$status
 END
         chmod +x "$room/by_wine"
         # The first run makes wine's folder, and says so. The server stays, so that no run meets one that is ending.
