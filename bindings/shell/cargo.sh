@@ -69,10 +69,12 @@ sed '/^wine: /d' "$room/errors" >&2
 exit \$status
 END
         chmod +x "$room/by_wine"
-        # The first run makes wine's folder, and says so. The server stays, so that no run meets one that is ending.
-        "$room/by_wine" --help >/dev/null 2>&1
+        # The server stays, so that no run meets one that is ending. The first run makes wine's folder, and begins what
+        # would hold a later run's pipes.
         server=$(dirname "$wine")/wineserver
+        mkdir "$WINEPREFIX"
         ! has "$server" || "$server" -p
+        "$room/by_wine" --help >/dev/null 2>&1
         check "its answers under wine" python3 "$rows" --short "$room/by_wine" "$theirs"
         ! has "$server" || "$server" -k
     fi
