@@ -43,10 +43,13 @@ verdict() {
 
 # part WHAT COMMAND..: does a part. What it says is kept for the end too.
 part() {
-    local start=$SECONDS status=0
+    local start=$SECONDS status=0 before
     echo "== $1"
+    times >"$room/times"
+    before=$(processor "$room/times")
     "${@:2}" 2>&1 | tee -a "$room/said" || status=$?
-    verdict "$1" $status $((SECONDS - start))
+    times >"$room/times"
+    verdict "$1" $status $((SECONDS - start)) $(($(processor "$room/times") - before))
 }
 
 # begin WHAT COMMAND..: begins a part beside the others. ended: waits for each, and shows its last lines.
