@@ -43,13 +43,14 @@ verdict() {
 
 # part WHAT COMMAND..: does a part. What it says is kept for the end too.
 part() {
-    local start=$SECONDS status=0 before
+    local start=$SECONDS status=0
     echo "== $1"
-    times >"$room/times"
-    before=$(processor "$room/times")
-    "${@:2}" 2>&1 | tee -a "$room/said" || status=$?
-    times >"$room/times"
-    verdict "$1" $status $((SECONDS - start)) $(($(processor "$room/times") - before))
+    {
+        "${@:2}" 2>&1 || status=$?
+        times >"$room/part.times"
+        (exit "$status")
+    } | tee -a "$room/said" || status=$?
+    verdict "$1" "$status" $((SECONDS - start)) "$(processor "$room/part.times")"
 }
 
 # begin WHAT COMMAND..: begins a part beside the others. ended: waits for each, and shows its last lines.
