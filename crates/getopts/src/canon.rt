@@ -2,7 +2,7 @@
 
 ghost use Rattle.std.specs.Prelude.{◌≡◌, ◌<◌, length, map, IfOk, IfErr, IfSome, IfNone, OnOk, not};
 ghost use Rattle.std.specs.List.{AllByRecursion, list_all};
-ghost use Rattle.std.specs.Option.{option_copied};
+ghost use Rattle.std.specs.Option.{option_copied, option_map};
 ghost use Rattle.std.specs.String.{string_bytes};
 ghost use Rattle.getopts.specs.Reading as Scan;
 ghost use Rattle.getopts.specs.Canon as Spec;
@@ -81,6 +81,7 @@ impl Options {
     ghost use Rattle.std.specs.Iterator.{IsFinite};
     ghost use Rattle.std.specs.Iterator.Runs.{WholeRun};
     ghost use Rattle.getopts.specs.Parse.{IsRefused};
+    ghost use Rattle.getopts.specs.Results.{GivesResultAs, canonical_result};
     ghost use Rattle.getopts.specs.CanonAnswers.{IsWritten, IsUnwritable, KeepsLineLaws};
 
     /// Writes an accepted line again with main names alone, for a program that logs, compares or caches
@@ -135,7 +136,10 @@ impl Options {
         ensures refused { IfErr result (λ fail. Tells fail
             (IsRefused self.now (texts words.now))) }
         ensures laws { OnOk result (KeepsLineLaws self.now) }
+        ensures result { GivesResultAs (option_map (λ line. map string_bytes line.items)) result
+            (canonical_result self.now (texts words.now)) }
     {
+        self.has_results(words);
         let accepted = self.accepted_line(alloc, words)?;
         let groups = self.groups();
         if are_plain(groups, &accepted) {

@@ -7,6 +7,8 @@ ghost use Rattle.std.specs.Prelude.{List, Bool};
 ghost use Rattle.getopts.specs.Accessors.{held_names};
 ghost use Rattle.getopts.specs.CanonAnswers.{IsParseAnswer, IsCanonicalAnswer};
 ghost use Rattle.getopts.specs.CanonAnswers.{KeepsLineLaws};
+ghost use Rattle.getopts.specs.Results.{HasResults};
+ghost use Rattle.getopts.specs.Names.{AreTexts};
 ghost use Rattle.getopts.specs.Names.{Text, MainNameResolves, OneByteIsShort, EmptyResolvesNot};
 ghost use Rattle.getopts.specs.Only.{AtMostOne};
 ghost use Rattle.getopts.specs.Options.{Declared, MayBeDeclared, names_of, grammar_of};
@@ -104,4 +106,10 @@ pub fn equal_input_equal_answers()
         → AtMostOne (IsParseAnswer options words) }
     ensures canonical { (options : Declared) (words : List Text)
         → AtMostOne (IsCanonicalAnswer options words) }
+{}
+
+/// The results, computed: a law to cite, which does nothing.
+pub fn results_are_computed()
+    ensures { (options : Declared) (words : List Text) → MayBeDeclared options.groups
+        → AreTexts words → HasResults options words }
 {}

@@ -23,6 +23,7 @@ impl Options {
     ghost use Rattle.getopts.specs.ReadingLaws.{HavePositionsBelow};
     ghost use Rattle.getopts.specs.Parse.{IsAccepted, IsRefused, HasReading, HasNoReading};
     ghost use Rattle.getopts.specs.Parse.{KeepsReadingLaws};
+    ghost use Rattle.getopts.specs.Results.{GivesResult, HasResults, parse_result, read_result};
     ghost use Rattle.getopts.specs.Holds.{HoldDeclared, HoldGiven, HaveLastWordsFree, Accepts};
     ghost use Rattle.getopts.specs.Held.Matches.{IsReadLine, IsAcceptedLine};
 
@@ -43,6 +44,7 @@ impl Options {
         ensures accepted { IfOk result (IsAccepted self.now (texts words.now)) }
         ensures refused { IfErr result (λ fail. Tells fail
             (IsRefused self.now (texts words.now))) }
+        ensures result { GivesResult result (parse_result self.now (texts words.now)) }
 
         // What was found of each declared option is as it is declared.
         ensures declared { IfOk result (λ matches. HoldDeclared self.now matches.groups) }
@@ -55,6 +57,7 @@ impl Options {
         // occurrences stand.
         ensures laws { OnOk result (KeepsReadingLaws (grammar_of self.now)) }
     {
+        self.has_results(words);
         let accepted = self.accepted_line(alloc, words)?;
         Ok(Matches::of_line(self.groups().clone()?, accepted))
     }
@@ -71,7 +74,9 @@ impl Options {
         ensures refused { IfErr result (λ fail. Tells fail
             (HasNoReading self.now (texts words.now))) }
         ensures given { IfOk result (λ matches. HoldGiven self.now matches.groups) }
+        ensures result { GivesResult result (read_result self.now (texts words.now)) }
     {
+        self.has_results(words);
         let read = self.read_line(alloc, words)?;
         Ok(Matches::of_line(self.groups().clone()?, read))
     }
@@ -97,6 +102,14 @@ impl Options {
     {
         let words = words_from(alloc, args)?;
         self.parse_words(alloc, &words)
+    }
+
+    /// The words have the results that are computed: for the proofs alone, which does nothing.
+    pub(crate) fn has_results(&self, words: &[&str])
+        ensures { HasResults self.now (texts words.now) }
+    {
+        are_texts(words);
+        let _groups = self.groups();
     }
 
     /// Reads a line, and checks its counts.
