@@ -1,6 +1,7 @@
 -- The results, computed. Nobody has to believe these definitions: the law `HasResults` says that
 -- what they give is what the relations of `Parse` and `CanonAnswers` say.
-use Rattle.std.specs.Prelude.{◌≡◌, ◌==◌, if◌then◌else◌, ℕ, Bool, true, nat_lt, not, List, [], ◌∷◌, ◌++◌, length}
+use Rattle.std.specs.Prelude.{◌≡◌, ◌==◌, if◌then◌else◌, ℕ, Bool, true, nat_lt, not, List, [], ◌∷◌}
+use Rattle.std.specs.Prelude.{◌++◌, length}
 use Rattle.std.specs.Prelude.{Option, Some, None, Result, Ok, Err, MatchResult}
 use Rattle.std.specs.List.{list_all}
 use Rattle.getopts.specs.Only.{IsTheOnly}
@@ -143,12 +144,15 @@ pub record HasResults (options : Declared) (words : List Text) : Type 0 where
   pub read : IsTheOnly (IsReadAnswer options words) (read_result options words)
   pub canonical : IsTheOnly (IsCanonicalAnswer options words) (canonical_result options words)
 
+-- what is seen of a call's answer is so, or memory is out
+abbrev pub GivesAs : {A X : Type 0} → (A → X) → Result A Fail → (Result X Fault → Type 0) → Type 0
+GivesAs see answer Is =
+    MatchResult answer (λ value. Is (Ok (see value))) (λ fail. Tells fail (λ fault. Is (Err fault)))
+
+-- a call's answer is so, or memory is out
+abbrev pub Gives : {X : Type 0} → Result X Fail → (Result X Fault → Type 0) → Type 0
+Gives answer Is = GivesAs (λ value. value) answer Is
+
 -- a call answers this result, or that memory is out
 abbrev pub GivesResult : {X : Type 0} → Result X Fail → Result X Fault → Type 0
-GivesResult answer result =
-    MatchResult answer (λ x. result ≡ Ok x) (λ fail. Tells fail (λ fault. result ≡ Err fault))
-
--- a call answers this result, of what is seen of its value, or that memory is out
-abbrev pub GivesResultAs : {A X : Type 0} → (A → X) → Result A Fail → Result X Fault → Type 0
-GivesResultAs see answer result =
-    MatchResult answer (λ a. result ≡ Ok (see a)) (λ fail. Tells fail (λ fault. result ≡ Err fault))
+GivesResult answer result = Gives answer (λ it. result ≡ it)

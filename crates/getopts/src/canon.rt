@@ -81,8 +81,9 @@ impl Options {
     ghost use Rattle.std.specs.Iterator.{IsFinite};
     ghost use Rattle.std.specs.Iterator.Runs.{WholeRun};
     ghost use Rattle.getopts.specs.Parse.{IsRefused};
-    ghost use Rattle.getopts.specs.Results.{GivesResultAs, canonical_result};
+    ghost use Rattle.getopts.specs.Results.{GivesAs, canonical_result};
     ghost use Rattle.getopts.specs.CanonAnswers.{IsWritten, IsUnwritable, KeepsLineLaws};
+    ghost use Rattle.getopts.specs.Theorem.{LinesReadAgain};
 
     /// Writes an accepted line again with main names alone, for a program that logs, compares or caches
     /// by command lines.
@@ -114,7 +115,11 @@ impl Options {
             (λ run. IsUnwritable self.now (texts run.items)))) }
         ensures refused { IfErr result (λ fail. Tells fail (λ fault. WholeRun I.next_gives args
             (λ run. IsRefused self.now (texts run.items) fault))) }
+        ensures result { GivesAs (option_map (λ line. map string_bytes line.items)) result
+            (λ answer. WholeRun I.next_gives args
+            (λ run. canonical_result self.now (texts run.items) ≡ answer)) }
         ensures laws { OnOk result (KeepsLineLaws self.now) }
+        ensures read_again { OnOk result (LinesReadAgain self.now) }
     {
         let words = words_from(alloc, args)?;
         self.canonical_words(alloc, &words)
@@ -135,11 +140,11 @@ impl Options {
             (IsUnwritable self.now (texts words.now))) }
         ensures refused { IfErr result (λ fail. Tells fail
             (IsRefused self.now (texts words.now))) }
+        ensures result { GivesAs (option_map (λ line. map string_bytes line.items)) result
+            (λ answer. canonical_result self.now (texts words.now) ≡ answer) }
         ensures laws { OnOk result (KeepsLineLaws self.now) }
-        ensures result { GivesResultAs (option_map (λ line. map string_bytes line.items)) result
-            (canonical_result self.now (texts words.now)) }
+        ensures read_again { OnOk result (LinesReadAgain self.now) }
     {
-        self.has_results(words);
         let accepted = self.accepted_line(alloc, words)?;
         let groups = self.groups();
         if are_plain(groups, &accepted) {

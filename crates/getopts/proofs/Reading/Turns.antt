@@ -4,7 +4,8 @@ use Rattle.std.proofs.Common.{◌≡◌, ◌⊎◌, ℕ, ◌<◌, List, [], ◌�
 use Rattle.getopts.specs.Names.{Text}
 use Rattle.getopts.specs.Options.{Grammar}
 use Rattle.getopts.specs.Reading.{Item, item_words}
-pub use Rattle.getopts.specs.Results.{free_turn, two_dashes_turn, one_dash_turn, with_items, after_turn}
+pub use Rattle.getopts.specs.Results.{free_turn, two_dashes_turn, one_dash_turn, with_items}
+pub use Rattle.getopts.specs.Results.{after_turn}
 unfoldable pub use Rattle.getopts.specs.Results.{turn, read_both, read}
 
 -- the words of an item, before those that follow
