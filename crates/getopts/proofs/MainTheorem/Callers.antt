@@ -2,12 +2,14 @@
 use Rattle.std.proofs.Common.{◌≡◌, ◌==◌, ℕ, zero, suc, ◌+◌, Bool, true, false, cond, List, [], ◌∷◌}
 use Rattle.std.proofs.Common.{length, map, nat_lt, unwrap_or, Option, Some, None, Result, Ok, Err}
 use Rattle.std.proofs.Common.{refl, ap, sym}
-use Rattle.std.proofs.Common.{subst, ◌∙◌}
+use Rattle.std.proofs.Common.{IfOk, IfSome, subst, ◌∙◌}
+use Rattle.std.specs.Prelude.{OnOk}
 use Rattle.std.specs.List.{filter, filter_map, cons_option}
 use Rattle.getopts.specs.Names.{Text, resolution}
 use Rattle.std.specs.Option.{option_map_or}
 use Rattle.std.specs.Str.Parse.{ParsesUnsigned}
 use Rattle.std.proofs.lemmas.List.{length-map}
+use Rattle.getopts.specs.declared.fail.Fail.{Fail}
 use Rattle.getopts.specs.Options.{Signature, Declared, MayBeDeclared, names_of, signatures_of}
 use Rattle.getopts.specs.Options.{grammar_of}
 use Rattle.getopts.specs.Reading.{Reading, Mention, Occurrence, occurrences_of, free_words}
@@ -257,3 +259,19 @@ module _ (matches other : Matched) (same : HoldSame matches other) where
   -- Of matches that hold the same, an option was given in both or in neither.
   pub same_present : (name : Text) → is_present other.groups name ≡ is_present matches.groups name
   same_present name = ap (λ (count : ℕ). nat_lt 0 count) (same_count name)
+
+-- What a program asks of matches, and so of all that hold the same, it asks of a canonical line
+-- that is read again.
+pub lines_again : {X Y : Type 0} (Asks : Matched → X → Type 0)
+    → ((m n : Matched) → HoldSame m n → (x : X) → Asks m x → Asks n x) → (options : Declared)
+    → (words : List Text) (see : Y → List Text) (answer : Result (Option Y) Fail)
+    → OnOk answer (LinesReadAgain options)
+    → IfOk answer (λ line. IfSome line (λ y. IsWritten options words (see y)))
+    → IfOk answer (λ line. IfSome line (λ y. (x : X)
+    → ((m : Matched) × IsAccepted options words m × Asks m x)
+    → (m : Matched) × IsAccepted options (see y) m × Asks m x))
+lines_again Asks again options words see (Ok (Some y)) law written = λ x asked.
+    let back = law words (see y) asked.0 written asked.1.read in
+    (back.again, back.accepted, again asked.0 back.again back.same x asked.2)
+lines_again Asks again options words see (Ok None) law written = tt
+lines_again Asks again options words see (Err fail) law written = tt
