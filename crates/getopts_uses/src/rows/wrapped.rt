@@ -1,20 +1,14 @@
 //! Rows of callers that are given options: those of a wrapper.
 
-ghost use Rattle.std.specs.Prelude.{IfOk, codes};
-ghost use Rattle.getopts.specs.Options.{Declares};
-
 use super::push;
-use crate::cache::key_of;
-use crate::lists::{any_given, count_of, level_of, place_named};
+use crate::lists::{any_given, count_of, place_named};
 use crate::output::writes_out;
 use crate::plugin::add_flag;
 use getopts::{Matches, Options, ParsingStyle};
 use std::alloc::{AllocError, Global};
 
 /// The options of a wrapper.
-fn wrapped(alloc: Global) -> Result<Options, AllocError>
-    ensures { IfOk result (λ options. Declares options (codes "verbose")) }
-{
+fn wrapped(alloc: Global) -> Result<Options, AllocError> {
     let mut options = Options::new(alloc);
     options.optflagmulti("v", "verbose", "say more")?;
     options.optopt("o", "output", "set output file name", "NAME")?;
@@ -30,8 +24,6 @@ pub fn push_wrapped(
 ) -> Result<(), AllocError> {
     let mut options = wrapped(alloc)?;
     match (caller, words) {
-        ("key", words) => push(text, &key_of(alloc, &options, words)),
-        ("level", words) => push(text, &level_of(alloc, &options, words)),
         ("plugin", [name]) => push_plugin(text, &mut options, name),
         ("chained", words) => push_chained(alloc, text, &mut options, words),
         _ => push_asked(alloc, text, &mut options, caller, words),
