@@ -3,9 +3,9 @@
 
 usage: docs/check.py [--fix]
 
-- Code: the block of Rattle in README.md stands in one file of crates/, which the gate proves, and has the imports that
-  it needs from there, and no others.
-- Contracts: docs/CONTRACTS.md names each public function of the library, and clauses that are there; each function in a
+- Code: the block of Rattle in README.md and that in CALLING.md stand each in one file of crates/, which the gate proves,
+  and have the imports that they need from there, and no others.
+- Contracts: crates/getopts/CONTRACTS.md names each public function of the library, and clauses that are there; each function in a
   table of docs/PROOFS.md has the clauses that stand beside it.
 - Names: docs/GRAMMAR.md has each public definition (of getopts_shell each fact) and docs/PROOFS.md each edit; what a
   page names in backquotes exists, as a word of the sources or a file; so does what a page links to.
@@ -127,7 +127,7 @@ FIGURES = [
      lambda: [share("small", "bindings/rust"), share("long", "bindings/rust")]),
     ("docs/DECISIONS.md", r"9,305 instructions in place of ([\d,]+)",
      lambda: [f"{int(cell(INSTRUCTIONS, 'small', 'this library')):,}"]),
-    ("CALLING.md", r"the library once, in ([^|]*?) of processor time", lambda: minutes("rt lib")[:1]),
+    ("crates/getopts/CALLING.md", r"first proof takes ([^|]*?) of processor time: by the clock\s+([^|]*?) on four", lambda: minutes("rt lib")),
     ("tests/differential/README.md", r"first ([\d,]+) of seed 1",
      lambda: [f"{int(re.search(r'choose 1 (.*?) ', read('tests/differential/record.sh'))[1]):,}"]),
     ("bindings/rust/README.md", r"Rust ([\d.]+) or later",
@@ -231,30 +231,31 @@ def imports_of(text):
 
 
 sources = {name: read(name) for name in tracked if re.match(r"crates/\w*/src/.*\.rt$", name)}
-block = re.search(r"^```rust\n(.*?)^```", pages["README.md"], re.M | re.S)[1]
-code = USE.sub("", block).strip()
-found = [name for name, text in sources.items() if f"\n{code}\n" in text]
-expect(found, "README.md: no file of crates/ has its code")
-if found:
-    here, there = imports_of(block), imports_of(sources[found[0]])
-    for name in here | there:
-        used = re.search(rf"\b{name}\b", code) is not None
-        expect(used == (name in here), f"README.md: {name} is {'not ' * (not used)}used and {'not ' * used}imported")
-        expect(name not in here or here[name] == there.get(name), f"README.md: {found[0]} doesn't import {name} from there")
+for page in ["README.md", "crates/getopts/CALLING.md"]:
+    block = re.search(r"^```rust\n(.*?)^```", pages[page], re.M | re.S)[1]
+    code = USE.sub("", block).strip()
+    found = [name for name, text in sources.items() if f"\n{code}\n" in text]
+    expect(found, f"{page}: no file of crates/ has its code")
+    if found:
+        here, there = imports_of(block), imports_of(sources[found[0]])
+        for name in here | there:
+            used = re.search(rf"(?<!\w){re.escape(name.strip('◌'))}(?!\w)", code) is not None
+            expect(used == (name in here), f"{page}: {name} is {'not ' * (not used)}used and {'not ' * used}imported")
+            expect(name not in here or here[name] == there.get(name), f"{page}: {found[0]} doesn't import {name} from there")
 
 
 # ---- contracts ----
 
 library = "\n".join(text for name, text in sources.items() if name.startswith("crates/getopts/"))
-contracts = pages["docs/CONTRACTS.md"]
+contracts = pages["crates/getopts/CONTRACTS.md"]
 public = set(re.findall(r"^\s*pub fn (\w+)", library, re.M))
 for name in sorted(public):
-    expect(re.search(rf"\b{name}\b", contracts), f"docs/CONTRACTS.md: the contract of {name} isn't there")
+    expect(re.search(rf"\b{name}\b", contracts), f"crates/getopts/CONTRACTS.md: the contract of {name} isn't there")
 for name in re.findall(r"(?:fn |, )(?:\w+::)?(\w+)(?:<[^>]*>)?\(", contracts):
-    expect(name in public, f"docs/CONTRACTS.md: there is no public function {name}")
+    expect(name in public, f"crates/getopts/CONTRACTS.md: there is no public function {name}")
 for names in re.findall(r"ensures (\w+(?:, \w+)*):", contracts):
     for name in names.split(", "):
-        expect(f"ensures {name} {{" in library, f"docs/CONTRACTS.md: there is no clause {name}")
+        expect(f"ensures {name} {{" in library, f"crates/getopts/CONTRACTS.md: there is no clause {name}")
 
 
 # ---- promises ----
@@ -282,10 +283,13 @@ for crate in ["getopts", "getopts_show", "getopts_bytes", "getopts_c", "getopts_
     # Modules that stand under private clauses alone have their rules in comments.
     order = read(f"crates/{crate}/specs/Lib.antt") if here else ""
     private = re.findall(r"mod (\w+)", order.partition("Cited by private clauses alone")[2]) + ["Held"]
+    # What computes the results is a tool, but for what the clauses cite.
+    tools = set(re.findall(r"[a-z]\w*", read(f"crates/{crate}/specs/Results.antt"))) if crate == "getopts" else set()
     for name in here:
         if not re.match(rf"crates/{crate}/specs/(?:{'|'.join(private)})\b", name):
             for it in re.findall(r"^(?:abbrev |unfoldable )?pub (?:record |data )?([A-Za-z_][\w-]*)", read(name), re.M):
                 passed_over = it in ("mod", "use") or crate == "getopts_shell" and it[0].islower()
+                passed_over |= name.endswith("/Results.antt") and it in tools and not it.endswith("_result")
                 expect(passed_over or it in named, f"docs/GRAMMAR.md doesn't name {it} of {name}")
 
 for edit in sorted(edits):

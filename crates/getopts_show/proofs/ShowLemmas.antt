@@ -10,7 +10,8 @@ use Rattle.getopts.specs.Names.{Text, main_name, texts}
 use Rattle.getopts.specs.Options.{Group, grammar_of}
 use Rattle.getopts.specs.Reading.{Reading, occurrences_of}
 use Rattle.getopts.proofs.MainTheorem.Results.{made_of-ok}
-use Rattle.getopts_show.specs.Program.{AreAccepted, HasProgramGroups, IsProgramText, IsReadingText, IsResultText, asks_help}
+use Rattle.getopts_show.specs.Program.{AreAccepted, HasProgramGroups, IsProgramText, IsReadingText}
+use Rattle.getopts_show.specs.Program.{IsResultText, asks_help}
 use Rattle.getopts_show.specs.Program.{group_lines, named_lines, program_groups}
 use Rattle.getopts_show.specs.Program.{program_options}
 

@@ -5,17 +5,14 @@ use Rattle.getopts.specs.Matches.{Matched}
 use Rattle.getopts.specs.Names.{Text}
 use Rattle.getopts.specs.Options.{Declared, group_of}
 use Rattle.getopts.specs.Parse.{IsAccepted}
-use Rattle.getopts.specs.declared.groups.HasArg.TheVariants.{No, Yes}
+use Rattle.getopts.specs.declared.groups.HasArg.TheVariants.{No}
 use Rattle.getopts.specs.declared.groups.Occur.TheVariants.{Optional}
 use Rattle.getopts.specs.declared.groups.ParsingStyle.TheVariants.{FloatingFrees}
 
 -- the wrapper's own options
 abbrev pub wrapper_options : Declared
 wrapper_options = record {
-  groups =
-      group_of (codes "n") (codes "times") (codes "run it so often") (codes "COUNT") Yes Optional
-      ∷ group_of (codes "v") (codes "verbose") (codes "say what is run") [] No Optional
-      ∷ [];
+  groups = group_of (codes "v") (codes "verbose") (codes "say what is run") [] No Optional ∷ [];
   style = FloatingFrees;
   long_only = false;
 }

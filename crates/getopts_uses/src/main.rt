@@ -7,6 +7,7 @@
 #![tactic(auto)]
 
 mod compile;
+mod flag;
 mod lists;
 mod log;
 mod logged;

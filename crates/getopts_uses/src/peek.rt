@@ -35,11 +35,8 @@ pub struct Peek {
 /// Why a line asks for nothing.
 #[derive(Debug, Drop)]
 pub enum Refusal {
-    /// The line was refused.
     Line(Fail),
-    /// The number can't be read.
     Number(ParseIntError),
-    /// Memory was refused.
     OutOfMemory,
 }
 

@@ -18,9 +18,7 @@ fn options(alloc: Global) -> Result<Options, AllocError>
     ensures { IfOk result (λ options. options ≡ wrapper_options) }
 {
     let mut options = Options::new(alloc);
-    options
-        .optopt("n", "times", "run it so often", "COUNT")?
-        .optflag("v", "verbose", "say what is run")?;
+    options.optflag("v", "verbose", "say what is run")?;
     Ok(options)
 }
 
