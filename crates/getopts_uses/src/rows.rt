@@ -7,7 +7,6 @@ mod values;
 mod wrapped;
 
 use crate::compile::read_job;
-use crate::flag::says_more;
 use crate::log::read_log;
 use crate::logged::log_line;
 use crate::output::output_of;
@@ -57,7 +56,6 @@ fn push_caller(
         "output" => push(text, &output_of(alloc, words)),
         "input" => push(text, &input_of(alloc, words)),
         "input_count" => push(text, &input_count(alloc, words)),
-        "flag" => push(text, &says_more(alloc, words)),
         "fault" => faults::push_faults(alloc, text, words),
         "unreadable" => values::push_unreadable(alloc, text, words),
         "closures" => closures::push_texts(alloc, text),

@@ -1,6 +1,10 @@
 //! Rows of callers that are given options: those of a wrapper.
 
+ghost use Rattle.std.specs.Prelude.{IfOk, codes};
+ghost use Rattle.getopts.specs.Options.{Declares};
+
 use super::push;
+use crate::flag::says_more;
 use crate::lists::{any_given, count_of, place_named};
 use crate::output::writes_out;
 use crate::plugin::add_flag;
@@ -8,7 +12,9 @@ use getopts::{Matches, Options, ParsingStyle};
 use std::alloc::{AllocError, Global};
 
 /// The options of a wrapper.
-fn wrapped(alloc: Global) -> Result<Options, AllocError> {
+fn wrapped(alloc: Global) -> Result<Options, AllocError>
+    ensures { IfOk result (λ options. Declares options (codes "verbose")) }
+{
     let mut options = Options::new(alloc);
     options.optflagmulti("v", "verbose", "say more")?;
     options.optopt("o", "output", "set output file name", "NAME")?;
@@ -24,6 +30,7 @@ pub fn push_wrapped(
 ) -> Result<(), AllocError> {
     let mut options = wrapped(alloc)?;
     match (caller, words) {
+        ("flag", words) => push(text, &says_more(alloc, &options, words)),
         ("plugin", [name]) => push_plugin(text, &mut options, name),
         ("chained", words) => push_chained(alloc, text, &mut options, words),
         _ => push_asked(alloc, text, &mut options, caller, words),
