@@ -5,11 +5,11 @@ use Rattle.std.specs.Prelude.{◌++◌, length}
 use Rattle.std.specs.Prelude.{Option, Some, None, Result, Ok, Err, MatchResult}
 use Rattle.std.specs.List.{list_all}
 use Rattle.getopts.specs.Only.{IsTheOnly}
-use Rattle.getopts.specs.Names.{Text, AreTexts, main_name}
-use Rattle.getopts.specs.Options.{Group, Grammar, Declared, MayBeDeclared, grammar_of}
+use Rattle.getopts.specs.Names.{Text, main_name}
+use Rattle.getopts.specs.Options.{Group, Grammar, Declared, grammar_of}
 use Rattle.getopts.specs.Fail.{Fault, Tells}
 use Rattle.getopts.specs.Reading.{dash, none, separate, one, two, Item, free, line_end}
-use Rattle.getopts.specs.Reading.{stop, rest, Reading, Mention, holds_equals}
+use Rattle.getopts.specs.Reading.{stop, rest, Reading, holds_equals}
 use Rattle.getopts.specs.Matches.{MatchedGroup, Matched, matches_of, count_fault}
 use Rattle.getopts.specs.Canon.{Content, content_of, main_at, canonical_line}
 use Rattle.getopts.specs.Parse.{HasReading, HasNoReading}

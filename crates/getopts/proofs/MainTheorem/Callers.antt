@@ -21,9 +21,9 @@ use Rattle.getopts.specs.Accessors.{IsReadAs, place_of, found_in, found_of, each
 use Rattle.getopts.specs.Accessors.{first_value_or, is_present, values_of}
 use Rattle.getopts.specs.Parse.{Reads, HasReading, IsAccepted}
 use Rattle.getopts.specs.Theorem.{AcceptedExactlyWhen, HoldSame, OneContentHoldsSame}
-use Rattle.getopts.specs.Theorem.{ReadAgain, LinesReadAgain}
+use Rattle.getopts.specs.Theorem.{LinesReadAgain}
 use Rattle.getopts.proofs.Canonical.Lines.{KeepsCounts-mentions}
-use Rattle.getopts.proofs.Canonical.Answered.{only_matches, reads_of}
+use Rattle.getopts.proofs.Canonical.Answered.{reads_of}
 use Rattle.getopts.proofs.Held.Matches.{signatures-matched}
 use Rattle.getopts.proofs.MainTheorem.Plain.{are_plain, lawful_groups}
 use Rattle.getopts.proofs.Parsing.Holds.{place_of-groups}

@@ -7,11 +7,10 @@ use Rattle.getopts.specs.Names.{Text, AreTexts}
 use Rattle.getopts.specs.Options.{Declared, MayBeDeclared, grammar_of}
 use Rattle.getopts.specs.Fail.{Fault, Tells}
 use Rattle.getopts.specs.declared.fail.Fail.{Fail}
-use Rattle.getopts.specs.Only.{IsTheOnly}
 use Rattle.getopts.specs.Reading.{Reading, IsReading, holds_equals}
 use Rattle.getopts.specs.Matches.{Matched, matches_of}
 use Rattle.getopts.specs.Parse.{HasReading, HasNoReading, BreaksCounts, IsAccepted, IsRefused}
-use Rattle.getopts.specs.Canon.{Content, content_of, main_at, canonical_line, IsCountKeeping}
+use Rattle.getopts.specs.Canon.{Content, content_of, main_at, canonical_line}
 use Rattle.getopts.specs.Canon.{IsAcceptedWith}
 use Rattle.getopts.specs.CanonAnswers.{IsParseAnswer, IsCanonicalAnswer, IsWritten, IsUnwritable}
 use Rattle.getopts.specs.Results.{read, first_count_fault, unless_fault, with_counts_kept}
@@ -24,7 +23,7 @@ use Rattle.getopts.proofs.Canonical.Answered.{only_parse_answer, only_canonical_
 use Rattle.getopts.proofs.Canonical.Answered.{only_matches, reads_of}
 use Rattle.getopts.proofs.MainTheorem.FirstFault.{HaveFault, first_count_fault-is}
 use Rattle.getopts.proofs.Parsing.Faults.{Tells-weaker}
-use Rattle.getopts.proofs.Parsing.Only.{IsTheOnly-from, meets}
+use Rattle.getopts.proofs.Parsing.Only.{IsTheOnly-from}
 use Rattle.getopts.proofs.Parsing.Parsed.{only_reads, named_here, HasNoReading-fault}
 use Rattle.getopts.proofs.Reading.Readings.{IsSoundOutcome, read_sound}
 
@@ -66,7 +65,7 @@ module _ (options : Declared) (declared : MayBeDeclared options.groups) (words :
       → IsParseAnswer options words (made_of (matches_of options) (unless_fault reading fault))
       × IsCanonicalAnswer options words
       (made_of (λ r. written_line options.groups (content_of options r))
-          (unless_fault reading fault))
+      (unless_fault reading fault))
   counted reading reads None kept = (
     record { read = has_reading reading reads; counts = kept },
     written_answer reading (content_of options reading)
@@ -89,10 +88,10 @@ module _ (options : Declared) (declared : MayBeDeclared options.groups) (words :
   line_answers : AreTexts words → (outcome : Result Reading Fault)
       → IsSoundOutcome (grammar_of options) words outcome
       → IsParseAnswer options words (made_of (matches_of options)
-          (with_counts_kept options outcome))
+      (with_counts_kept options outcome))
       × IsCanonicalAnswer options words
       (made_of (λ r. written_line options.groups (content_of options r))
-          (with_counts_kept options outcome))
+      (with_counts_kept options outcome))
   line_answers texts (Ok reading) reads = counted reading reads
       (first_count_fault (matches_of options reading).groups)
       (first_count_fault-is (matches_of options reading).groups)
@@ -120,12 +119,12 @@ module _ (options : Declared) (declared : MayBeDeclared options.groups) (words :
   unfolding reading_result line_result
   HasResults-declared texts =
       let sound = read_sound (grammar_of options)
-          (named_here options declared) words texts _ refl in
+      (named_here options declared) words texts _ refl in
       let line = line_answers texts (read (grammar_of options) words) sound in
       record {
         parse = IsTheOnly-from (IsParseAnswer options words) (parse_result options words) line.0
             (λ other is. only_parse_answer options words other
-                (parse_result options words) is line.0);
+            (parse_result options words) is line.0);
         read = IsTheOnly-from (IsReadAnswer options words) (read_result options words)
             (read_answer texts (read (grammar_of options) words) sound)
             (λ other is. only_read_answer other (read_result options words) is
@@ -133,7 +132,7 @@ module _ (options : Declared) (declared : MayBeDeclared options.groups) (words :
         canonical = IsTheOnly-from (IsCanonicalAnswer options words)
             (canonical_result options words) line.1
             (λ other is. only_canonical_answer options words other
-                (canonical_result options words) is line.1);
+            (canonical_result options words) is line.1);
       }
 
 -- A call that answers what is accepted, or the fault that words are refused with, answers the result.
@@ -176,7 +175,7 @@ GivesResult-canonical options words has see (Err fail) is none_is refused =
 -- what is made of a reading is made of one
 pub made_of-ok : {X : Type 0} (make : Reading → X) (outcome : Result Reading Fault) (x : X)
     → made_of make outcome ≡ Ok x
-        → (reading : Reading) × (outcome ≡ Ok reading) × (make reading ≡ x)
+    → (reading : Reading) × (outcome ≡ Ok reading) × (make reading ≡ x)
 made_of-ok make (Ok reading) x same = (reading, refl, cc)
 made_of-ok make (Err fault) x same = cc
 

@@ -313,7 +313,7 @@ EndsInTrailing-read options words matches has = here matches.trailing_start refl
   here None is = tt
   here (Some start) is =
       let reads : IsReading (grammar_of options) has.reading words =
-          (has.only has.reading).1 refl in
+      (has.only has.reading).1 refl in
       let free : free_words has.reading ≡ matches.free =
       ap (λ (m : Matched). m.free) (sym has.matches_are) in
       let law = TrailingStartIsAfterStop_lem (grammar_of options) in

@@ -15,7 +15,7 @@ returns c =
     let options = c.args.options.now in
     let declared = c.groups-groups.ensures.declared in
     let holds_same = OneContentHoldsSame_lem options
-        (AcceptedExactlyWhen-options options declared) in
+    (AcceptedExactlyWhen-options options declared) in
     let line_laws = KeepsLineLaws-lawful options declared in
     record {
       one_reading = OneReading-options options declared;
