@@ -35,6 +35,7 @@ CALLS = {
     "reserve": "try_grow",
     "reserve_exact": "try_grow_exact",
     "sort_by": "try_sort_by",
+    "extend_from_slice": "try_extend_from_slice",
     "with_capacity": "of_capacity",
     "String::new": "String::empty",
     "String::from_str": "String::copy_of",
@@ -51,14 +52,17 @@ DISPLAY = {
 # Where the library's names are in Rust.
 LIBRARY = {
     "crate::": "super::",
+    "std::": "core::",
     "std::alloc": "crate::alloc",
     "std::convert": "crate::convert",
+    "std::error": "crate::error",
+    "std::vec": "crate::heap::vec",
+    "str::from_utf8": "core::str::from_utf8",
     "unicode_width": "crate::width",
 }
 # The calls and names of the program for shell scripts, by those of its `host.rs`.
 HOST = {
     "resize": "try_resize",
-    "extend_from_slice": "try_extend_from_slice",
     "format!": "text!",
     "write!": "add!",
     "writeln!": "add_line!",
@@ -66,7 +70,7 @@ HOST = {
     "std::env": "crate::host::env",
     "std::io": "crate::host::io",
     "getopts::": "crate::getopts::",
-    "getopts_bytes::": "crate::getopts_bytes::",
+    "getopts_bytes::": "::getopts::bytes::",
     "crate::": "super::",
     "str::from_utf8": "std::str::from_utf8",
     "fn main": "pub fn main",
@@ -74,7 +78,7 @@ HOST = {
 # Each crate: where its Rust goes, the module that has the calls above, and the names besides them.
 CRATES = {
     "getopts": ("bindings/rust/src/proved", "fallible", LIBRARY),
-    "getopts_bytes": ("bindings/shell/src/getopts_bytes", "host", HOST),
+    "getopts_bytes": ("bindings/rust/src/bytes", "fallible", LIBRARY),
     "getopts_shell": ("bindings/shell/src/program", "host", HOST),
 }
 LEFT_OUT = ["laws", "tests"]

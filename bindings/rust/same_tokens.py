@@ -16,19 +16,20 @@ from pathlib import Path
 WHOLE = [(r"(requires|ensures)( \w+)? {", "}"), (r"ghost", ";,"), (r"impl (< .*? > )?(Model|Drop) for .*? {", "}")]
 WHOLE += [(r"# (! )?\[ (tactic|derive \( Drop \) \])", "]"), (r"use std :: marker :: Model", ";")]
 WHOLE += [(r"(# \[ cfg \( test \) \] mod tests|mod laws|pub use laws)", ";"), (r"[+:,] Drop(?= [>,)])", ""), (r"Drop ,", ""), (r",(?= \))", ",")]
-CALLS = "push push_str sort_by clone".split()
+CALLS = "push push_str sort_by clone extend_from_slice".split()
 RENAMED = {word: "try_" + word for word in CALLS}
 RENAMED |= {"reserve": "try_grow", "reserve_exact": "try_grow_exact", "with_capacity": "of_capacity"}
 RENAMED |= {"String :: new": "String :: empty", "Vec :: new": "Vec :: empty", "String :: from_str": "String :: copy_of"}
 RENAMED |= {"vec ! [ in alloc ; 0 ; room ]": "Vec :: filled ( alloc , 0 , room )", "impl Clone for": "impl TryClone for"}
 RENAMED |= {"fmt < W : fmt :: Write >": "fmt", "fmt :: Formatter < W >": "fmt :: Formatter < '_ >"}
 PATHS = {"crate ::": "super ::", "std :: alloc": "crate :: alloc", "unicode_width": "crate :: width"}
-PATHS |= {"std :: convert": "crate :: convert"}
+PATHS |= {"std :: convert": "crate :: convert", "std :: error": "crate :: error", "std :: vec": "crate :: heap :: vec"}
+PATHS |= {"std ::": "core ::", "str :: from_utf8": "core :: str :: from_utf8"}
 # Of the crates but the library.
-HOST = {"resize": "try_resize", "extend_from_slice": "try_extend_from_slice", "str :: from_utf8": "std :: str :: from_utf8"}
+HOST = {"resize": "try_resize", "str :: from_utf8": "std :: str :: from_utf8"}
 HOST |= {"format !": "text !", "write !": "add !", "writeln !": "add_line !", "fn main": "pub fn main"}
 HOST |= {f"std :: {name}": f"crate :: host :: {name}" for name in ("alloc", "env", "io")} | {"crate ::": "super ::"}
-HOST |= {f"{name} ::": f"crate :: {name} ::" for name in ("getopts", "getopts_bytes")}
+HOST |= {"getopts ::": "crate :: getopts ::", "getopts_bytes ::": ":: getopts :: bytes ::"}
 TOKEN = r"""//.*|r#"[\s\S]*?"#|b?"(?:\\[\s\S]|[^"\\])*"|b?'(?:\\.[^']*|[^\\'])'|'\w+|\w+|::|\S"""
 
 
@@ -71,7 +72,7 @@ def differs(source, rust, names, imports):
 
 
 def main(source, folder):
-    library = Path(source).resolve().parent.name == "getopts"
+    library = Path(source).resolve().parent.name in ("getopts", "getopts_bytes")
     names = {**RENAMED, **(PATHS if library else HOST)}
     imports = f"use crate :: {'fallible' if library else 'host'} :: * ;".split()
     paths = sorted(Path(folder).glob("*.rs"))

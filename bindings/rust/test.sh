@@ -47,7 +47,7 @@ if ! has python3; then
     skip "whether the erased source is that of today: there is no python3"
 else
     check "the tokens of the library are those of its source" same_tokens getopts "$here/src/proved"
-    check "those of getopts_bytes" same_tokens getopts_bytes "$top/bindings/shell/src/getopts_bytes"
+    check "those of getopts_bytes" same_tokens getopts_bytes "$here/src/bytes"
     check "those of getopts_shell" same_tokens getopts_shell "$top/bindings/shell/src/program"
     check "a planted file with < for <=" planted parse.rs 's/count <= 1/count < 1/'
     check "a planted file without a token" planted scan.rs 's/line\.try_grow(words, stops)?;/line.try_grow(words, stops);/'

@@ -42,4 +42,4 @@ pub use scan::are_texts;
 pub use usage::UsageRows;
 
 /// What `parse` returns: the matches of an accepted line, or why the line was refused.
-pub type Result = std::result::Result<Matches, Fail>;
+pub type Result = core::result::Result<Matches, Fail>;
