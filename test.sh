@@ -161,7 +161,7 @@ room=$(mktemp -d)
 trap 'kill $(jobs -p) 2>/dev/null || true; rm -rf "$room"' EXIT
 
 if [ -n "$quick" ]; then
-    begin "the Rust crate" bash bindings/rust/test.sh --quick "$@"
+    begin "the Rust crate" pytest tests/test_rust.py --quick ${1:+--getopts "$1"}
     begin "the program by cargo" bash bindings/shell/cargo.sh 300
     begin "C" pytest tests/test_c.py --quick
     begin "the program for shell scripts" bash tests/shell/run.sh
@@ -172,7 +172,7 @@ else
     # Each of these begins beside the proofs, and waits for what it stands on.
     begin "edits of the library" edits
     begin "edits over the proved libraries" once getopts getopts_bytes -- over_proved
-    begin "the Rust crate" bash bindings/rust/test.sh "$@"
+    begin "the Rust crate" pytest tests/test_rust.py ${1:+--getopts "$1"}
     begin "the program by cargo" bash bindings/shell/cargo.sh
     begin "C" once getopts_show -- pytest tests/test_c.py
     begin "refused memory" once getopts_vectors getopts_show getopts_shell -- bash tests/memory/run.sh

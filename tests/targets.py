@@ -10,6 +10,8 @@ from pathlib import Path
 import pytest
 from conftest import ROOT, need, run
 
+# What cargo builds lies in the folders of the tests.
+os.environ.pop("CARGO_TARGET_DIR", None)
 REGISTRY = Path("/usr/share/cargo/registry")
 LOADER = "/usr/i686-linux-gnu/lib/ld-linux.so.2"
 # What a rustc of 1.63 is asked for that newer ones have.

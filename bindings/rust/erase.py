@@ -60,6 +60,7 @@ DISPLAY = {
 }
 # Where the library's names are in Rust.
 LIBRARY = {
+    "mod matches;": "pub(crate) mod matches;",
     "crate::": "super::",
     "std::": "core::",
     "std::alloc": "crate::alloc",

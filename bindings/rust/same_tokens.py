@@ -23,7 +23,7 @@ RENAMED |= {"reserve": "try_grow", "reserve_exact": "try_grow_exact", "with_capa
 RENAMED |= {"String :: new": "String :: empty", "Vec :: new": "Vec :: empty", "String :: from_str": "String :: copy_of"}
 RENAMED |= {"vec ! [ in alloc ; 0 ; room ]": "Vec :: filled ( alloc , 0 , room )", "impl Clone for": "impl TryClone for"}
 RENAMED |= {"fmt < W : fmt :: Write >": "fmt", "fmt :: Formatter < W >": "fmt :: Formatter < '_ >"}
-PATHS = {"crate ::": "super ::", "std :: alloc": "crate :: alloc", "unicode_width": "crate :: width"}
+PATHS = {"mod matches": "pub ( crate ) mod matches", "crate ::": "super ::", "std :: alloc": "crate :: alloc", "unicode_width": "crate :: width"}
 PATHS |= {"std :: convert": "crate :: convert", "std :: error": "crate :: error", "std :: vec": "crate :: heap :: vec"}
 PATHS |= {"std ::": "core ::", "str :: from_utf8": "core :: str :: from_utf8"}
 # Of the crates but the library.

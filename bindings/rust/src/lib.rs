@@ -18,6 +18,9 @@
 //! assert!(options.usage("Usage: copy FILE").contains("-o, --output NAME"));
 //! ```
 //!
+//! A program's own words are `std::env::args_os().skip(1)`: the first is the program's name. `std::env::args()` panics where
+//! a word isn't UTF-8; `parse` refuses such a word, and `parse_os` reads it.
+//!
 //! `README.md` says what differs from the crate, what is proved and what it costs. The feature `proved` makes the proved
 //! source itself public, for who wants calls that report refused memory.
 #![cfg_attr(feature = "bare", no_std)]
@@ -36,6 +39,8 @@ mod fail;
 mod matches;
 #[cfg(not(feature = "bare"))]
 mod options;
+#[cfg(not(feature = "bare"))]
+mod os;
 mod width;
 
 /// Declares the modules that the feature `proved` makes public.
@@ -62,6 +67,8 @@ pub use fail::{Fail, Result};
 pub use matches::Matches;
 #[cfg(not(feature = "bare"))]
 pub use options::Options;
+#[cfg(not(feature = "bare"))]
+pub use os::OsMatches;
 pub use proved::{HasArg, Occur, ParsingStyle};
 
 /// The examples of the README are tested.

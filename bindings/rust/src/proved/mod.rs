@@ -18,7 +18,7 @@ mod scan;
 // Where each group's occurrences stand.
 mod index;
 // What an accepted line gave: copies and comparisons.
-mod matches;
+pub(crate) mod matches;
 // What matches return for a name.
 mod accessors;
 // Reading a line: its words are scanned, and then its counts are checked.
