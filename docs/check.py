@@ -146,6 +146,7 @@ NO_FIGURES = re.compile(r"""
     | 1,000\ words | 100,000\ words | 200\ options | 400\ words
     | (32|64)\ bits | 54\ columns | 24\ (spaces|columns) | stop\ at\ 255 | 24\ bytes | C\+\+11 | Debian\ 12 | 80\ words | 200,000\ cases
     # experiments that were done once
+    | 2,500\ random\ lines
     | 564\ lines | 9,305\ instructions | 393\ small\ changes | detected\ 375 | 585\ small\ changes | detected\ 492 | 54\ of\ the\ other\ 93 | 39\ are
 """, re.X)
 

@@ -108,6 +108,7 @@ static void null_is_bad(void) {
     expect(getopts_position(options, NULL, 0) == -1 && getopts_value(options, NULL, 0) == NULL, "what it was given");
     expect(getopts_usage(options, NULL) == NULL && getopts_short_usage(options, NULL) == NULL, "a brief that is NULL");
     expect(getopts_read(options, 1, NULL) == GETOPTS_BAD, "words that are NULL");
+    expect(getopts_read(options, 1, words + 1) == GETOPTS_BAD, "a first word that is NULL");
     expect(getopts_read(options, 0, NULL) == GETOPTS_OK && getopts_read(options, -1, NULL) == GETOPTS_OK, "no words");
     expect(strcmp(getopts_message(options), "") == 0 && getopts_count(options, "v") == 0, "nothing after no words");
     free(usage);
