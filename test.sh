@@ -2,8 +2,8 @@
 # Tests this repository.
 # usage: test.sh [--quick] [CRATE]
 #
-# It proves every crate and its tests and runs them. Beside that it tries each edit, makes the archives again over the
-# libraries as they were proved, tests the C layer and the Rust crate, and runs each program, as soon as it is there, with
+# It proves every crate and its tests and runs them. Beside that it tries each edit, tests C and the Rust crate, and runs
+# each program, as soon as it is there, with
 # memory refused, as the system may, and against the rules. CRATE is a folder with the Rust crate getopts 0.2.24, to
 # compare with. With --quick nothing is proved: tests and programs run unproved, what needs built programs runs where
 # they are, and there are fewer random cases.
@@ -136,7 +136,7 @@ once() {
 # copy TO: copies what isn't built to a folder.
 copy() { mkdir "$1" && tar --exclude=./.git --exclude=out --exclude=target -c . | tar -C "$1" -x; }
 
-# over_proved: in a copy, makes the archives again over the libraries as they were proved, and tries the edits over them.
+# over_proved: in a copy, tries the edits over the libraries as they were proved.
 over_proved() {
     local library rlib
     copy "$room/over" || return 1
@@ -144,9 +144,8 @@ over_proved() {
         rlib=crates/$library/out/rlib
         mkdir -p "$room/over/$rlib" && cp -a "$rlib/$library.rlib" "$room/over/$rlib/" || return 1
     done
-    bash "$room/over/bindings/archive.sh" check &&
-        bash "$room/over/tests/must-fail/try.sh" --over "$room/over/crates/getopts/out/rlib/getopts.rlib" \
-            getopts_c getopts_shell getopts_show
+    bash "$room/over/tests/must-fail/try.sh" --over "$room/over/crates/getopts/out/rlib/getopts.rlib" \
+        getopts_shell getopts_show
 }
 
 # edits: in a copy, tries the edits of the libraries.
@@ -162,9 +161,9 @@ room=$(mktemp -d)
 trap 'kill $(jobs -p) 2>/dev/null || true; rm -rf "$room"' EXIT
 
 if [ -n "$quick" ]; then
-    begin "the Rust crate" bash bindings/rust/test.sh --quick "$@"
+    begin "the Rust crate" pytest tests/test_rust.py --quick ${1:+--getopts "$1"}
     begin "the program by cargo" bash bindings/shell/cargo.sh 300
-    begin "C" bash bindings/c/test.sh --quick
+    begin "C" pytest tests/test_c.py --quick
     begin "the program for shell scripts" bash tests/shell/run.sh
     begin "refused memory" bash tests/memory/run.sh
     begin "the programs and the system" python3 tests/system/run.py
@@ -172,10 +171,10 @@ if [ -n "$quick" ]; then
 else
     # Each of these begins beside the proofs, and waits for what it stands on.
     begin "edits of the library" edits
-    begin "the archives over the proved libraries, and edits over them" once getopts getopts_bytes -- over_proved
-    begin "the Rust crate" bash bindings/rust/test.sh "$@"
+    begin "edits over the proved libraries" once getopts getopts_bytes -- over_proved
+    begin "the Rust crate" pytest tests/test_rust.py ${1:+--getopts "$1"}
     begin "the program by cargo" bash bindings/shell/cargo.sh
-    begin "C" once getopts_show -- bash bindings/c/test.sh
+    begin "C" once getopts_show -- pytest tests/test_c.py
     begin "refused memory" once getopts_vectors getopts_show getopts_shell -- bash tests/memory/run.sh
     begin "the programs and the system" once getopts_show getopts_shell -- python3 tests/system/run.py
     begin "the program for shell scripts" once getopts_shell -- bash tests/shell/run.sh

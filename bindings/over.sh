@@ -4,11 +4,11 @@
 #     bindings/over.sh RLIB FUNCTION..   checks these functions of one crate, with those that they call
 #
 # RLIB is the folder getopts.rlib that a proof of the library left (`rt ci` leaves one in crates/getopts/out/rlib). To
-# prove the library once more would give the same bytes. archive.sh and program.sh source this script, and build by it.
+# prove the library once more would give the same bytes. program.sh sources this script, and builds by it.
 set -euo pipefail
 cd "$(dirname "${BASH_SOURCE[0]}")/.."
 
-# The processors that there are archives and programs for.
+# The processors that there are programs for.
 # shellcheck disable=SC2034
 processors=(x86_64 aarch64)
 
@@ -26,9 +26,8 @@ kit() {
 # over RLIB COMMAND CRATE WORD..: checks or builds a crate over its libraries as they were proved. Those of this
 # repository lie as RLIB does.
 over() {
-    local rlib=$1 command=$2 crate=$3 kit root=(src/main.rt) library at words=()
+    local rlib=$1 command=$2 crate=$3 kit library at words=()
     kit=$(kit)
-    [ -f "crates/$crate/src/main.rt" ] || root=(src/lib.rt --crate-type staticlib)
     for library in std $(sed -n "s/^$crate\b[^:]*://p" crates.txt); do
         at=$kit/rlibs/$library.rlib
         [ ! -d "crates/$library" ] || at=$(realpath -m "$rlib/../../../../$library/out/rlib/$library.rlib")
@@ -36,13 +35,12 @@ over() {
         words+=(--extern "$library=$at" -L "dependency=$(dirname "$at")")
     done
     mkdir -p "crates/$crate/out"
-    (cd "crates/$crate" && "$kit/bin/rattle" "$command" --crate-name "$crate" "${root[@]}" --links "$crate=" \
+    (cd "crates/$crate" && "$kit/bin/rattle" "$command" --crate-name "$crate" src/main.rt --links "$crate=" \
         --jobs "${JOBS:-1}" "${words[@]}" --antt-project "$kit/rattle/logic/antt-project.json" \
         --logic-built "$kit/logic_built" --incremental out/incremental "${@:4}")
 }
 
-# build CRATE PROCESSOR FILE [CPU]: builds a static library, or a program's object, for each processor of that kind, or
-# from CPU on.
+# build CRATE PROCESSOR FILE [CPU]: builds a program's object, for each processor of that kind, or from CPU on.
 build() {
     local words=(--target "$2-unknown-linux-gnu" --toolchain "$(kit)/toolchain" --backend llvm -o "$3")
     [ "$2" != x86_64 ] || words+=(--cpu "${4:-x86-64}")

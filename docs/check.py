@@ -132,6 +132,8 @@ FIGURES = [
      lambda: [f"{int(re.search(r'choose 1 (.*?) ', read('tests/differential/record.sh'))[1]):,}"]),
     ("bindings/rust/README.md", r"Rust ([\d.]+) or later",
      lambda: re.findall(r'rust-version = "(.*)"', read("bindings/rust/Cargo.toml"))),
+    ("bindings/c/README.md", r"Rust ([\d.]+) or later",
+     lambda: re.findall(r'rust-version = "(.*)"', read("bindings/c/Cargo.toml"))),
     ("bindings/shell/README.md", r"Rust ([\d.]+) or later",
      lambda: re.findall(r'rust-version = "(.*)"', read("bindings/shell/Cargo.toml"))),
     ("bench/README.md", r"holds is ([\d.]+) MB here, ([\d.]+) MB in the Rust\s+crate and ([\d.]+) MB",
@@ -144,6 +146,7 @@ NO_FIGURES = re.compile(r"""
     | 1,000\ words | 100,000\ words | 200\ options | 400\ words
     | (32|64)\ bits | 54\ columns | 24\ (spaces|columns) | stop\ at\ 255 | 24\ bytes | C\+\+11 | Debian\ 12 | 80\ words | 200,000\ cases
     # experiments that were done once
+    | 2,500\ random\ lines
     | 564\ lines | 9,305\ instructions | 393\ small\ changes | detected\ 375 | 585\ small\ changes | detected\ 492 | 54\ of\ the\ other\ 93 | 39\ are
 """, re.X)
 
@@ -266,7 +269,6 @@ for text in sources.values():
         here = clauses.setdefault(re.match(r"\w+", function)[0], set())
         here |= set(re.findall(r"ensures (\w+) \{", function))
 clauses["there"] = clauses["one_reading_one_canonical_line"]
-clauses["each export"] = set(re.findall(r"pub (\w+) :", read("crates/getopts_c/specs/Reply.antt")))
 for row in re.findall(r"^\|.*\|$", pages["docs/PROOFS.md"], re.M):
     for part in re.split(r"[;|]", re.sub(r"\([^)]*\)", "", row)):
         if it := re.match(r"\s*((?:`\w+`(?: and its kin)?(?:, )?)+|there|each export): ((?:`\w+`(?:, )?)+)", part):
@@ -278,7 +280,7 @@ for row in re.findall(r"^\|.*\|$", pages["docs/PROOFS.md"], re.M):
 # ---- names ----
 
 named = set(re.findall(r"`([A-Za-z_][\w-]*)`", pages["docs/GRAMMAR.md"]))
-for crate in ["getopts", "getopts_show", "getopts_bytes", "getopts_c", "getopts_shell"]:
+for crate in ["getopts", "getopts_show", "getopts_bytes", "getopts_shell"]:
     here = [name for name in tracked if name.startswith(f"crates/{crate}/specs/")]
     # Modules that stand under private clauses alone have their rules in comments.
     order = read(f"crates/{crate}/specs/Lib.antt") if here else ""
@@ -296,7 +298,7 @@ for edit in sorted(edits):
     expect(f"`{edit}`" in pages["docs/PROOFS.md"], f"docs/PROOFS.md doesn't name the edit {edit}")
 
 # Names of the toolchain, of Rust and of Debian's packages.
-OTHERS = """Lends LendsIfOk RestsIfErr Send Sync unicode-width x86-64-v2 POSIXLY_CORRECT optind
+OTHERS = """Lends LendsIfOk RestsIfErr Send Sync unicode-width x86-64-v2 POSIXLY_CORRECT optind IFS
     librust-clap-dev librust-lexopt-dev librust-pico-args-dev librust-unicode-width-dev"""
 words = set(OTHERS.split()) | {logic()} | {part for name in tracked for part in re.split(r"[/.]", name)}
 for name in tracked:

@@ -134,7 +134,7 @@ tar -C "$top" --exclude=./.git --exclude=out --exclude=target -c . | tar -C "$co
 for out in "$top"/crates/*/out; do
     [ ! -d "$out" ] || cp -a "$out" "$copy/crates/$(basename "$(dirname "$out")")/"
 done
-[ $# -gt 0 ] || set -- getopts getopts_bytes getopts_c getopts_shell
+[ $# -gt 0 ] || set -- getopts getopts_bytes getopts_shell
 for crate in "$@"; do edits_of "$crate"; done >"$room/tasks"
 while read -r -a edits; do
     try_edits "${edits[@]}" </dev/null

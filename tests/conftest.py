@@ -1,0 +1,186 @@
+"""What the tests share: tools that may be lacking, programs that run, and the programs that the proofs leave."""
+
+import functools
+import os
+import platform
+import shutil
+import subprocess
+import sys
+from pathlib import Path
+
+import pytest
+
+sys.dont_write_bytecode = True
+ROOT = Path(__file__).resolve().parents[1]
+MACHINE = platform.machine()
+VECTORS = ROOT / "crates/getopts_vectors"
+# Rows with their answers beside them.
+ROWS = [VECTORS / f"data/{name}.rows" for name in ("rules", "recorded")]
+# Lines that each door's example has to answer as getopts_show does.
+LINES = ["--output=x.txt --verbose in.txt", "-vvLd -La -Lb -c auto -o x.txt f -- g -v", "-v --help", "--nope", "-o",
+         "-o a -o b", "--verbose=x", "", "-c", "--output= é --color=日本"]
+# The package of Debian 12 that has a tool, where its name is another.
+PACKAGES = {"cc": "gcc", "clang++": "clang", "nm": "binutils", "ar": "binutils", "readelf": "binutils", "as": "binutils",
+            "ld": "binutils", "objcopy": "binutils", "musl-gcc": "musl-tools", "qemu-aarch64": "qemu-user",
+            "aarch64-linux-gnu-gcc": "gcc-aarch64-linux-gnu libc6-dev-arm64-cross", "node": "nodejs",
+            "x86_64-w64-mingw32-gcc": "gcc-mingw-w64-x86-64", "i686-linux-gnu-gcc": "gcc-i686-linux-gnu libc6-dev-i386-cross",
+            "wine": "wine64", "man": "man-db", "groff": "groff-base", "ksh93": "ksh93u+m", "busybox": "busybox-static"}
+
+
+def pytest_addoption(parser):
+    parser.addoption("--quick", action="store_true", help="fewer random cases, no other targets, nothing is proved")
+    parser.addoption("--many", action="store_true", help="ten times as many random cases")
+    parser.addoption("--fix", action="store_true", help="writes anew what a script makes: figures, contracts")
+    parser.addoption("--getopts", help="a folder with the Rust crate getopts 0.2.24")
+
+
+def pytest_configure(config):
+    os.environ["LC_ALL"] = "C.UTF-8"
+    os.environ.pop("POSIXLY_CORRECT", None)
+
+
+@pytest.fixture(scope="session")
+def quick(request):
+    return request.config.getoption("--quick")
+
+
+@pytest.fixture(scope="session")
+def fix(request):
+    return request.config.getoption("--fix")
+
+
+@pytest.fixture(scope="session")
+def cases(request):
+    """cases(N): how many random cases there are where the gate has N."""
+    option = request.config.getoption
+    return lambda count: count * 10 if option("--many") else max(1, count // 10) if option("--quick") else count
+
+
+@pytest.fixture(scope="session")
+def crate(request):
+    """The folder with the Rust crate getopts 0.2.24."""
+    folder = request.config.getoption("--getopts")
+    if not folder:
+        pytest.skip("no folder with the Rust crate getopts 0.2.24 was given: --getopts FOLDER")
+    return Path(folder).resolve()
+
+
+def need(*tools):
+    """Skips a test where one of its tools isn't there, and says which package has it."""
+    for tool in tools:
+        if not shutil.which(str(tool)):
+            pytest.skip(f"there is no {tool}: apt-get install {PACKAGES.get(str(tool), tool)}")
+
+
+def run(*words, status=0, env=None, **how):
+    """Runs a command, which has to end with this status, and returns what it wrote to its two streams."""
+    how = {"capture_output": True, "text": True, "errors": "surrogateescape", **how}
+    done = subprocess.run([str(word) for word in words], env={**os.environ, **(env or {})}, **how)
+    assert done.returncode == status, f"{words[0]}: status {done.returncode}\n{done.stdout[-3000:]}{done.stderr[-3000:]}"
+    return done.stdout, done.stderr
+
+
+def answer(*words, env=None, **how):
+    """What a program wrote, whatever its status, and the status."""
+    done = subprocess.run([str(word) for word in words], capture_output=True, env={**os.environ, **(env or {})}, **how)
+    return done.stdout + done.stderr, done.returncode
+
+
+def program(crate):
+    """The program of a crate, as `rt ci` or `rt run` leaves it."""
+    built = ROOT / f"crates/{crate}/out/{crate}"
+    if not built.exists():
+        pytest.skip(f"{crate} isn't built: 'rt ci', or 'rt run' in crates/{crate}, builds it")
+    return built
+
+
+@pytest.fixture(scope="session")
+def show():
+    return program("getopts_show")
+
+
+@pytest.fixture(scope="session")
+def shell():
+    return program("getopts_shell")
+
+
+@pytest.fixture(scope="session")
+def vectors():
+    return program("getopts_vectors")
+
+
+@functools.cache
+def kit():
+    """The folder of the toolchain."""
+    need("rt")
+    return Path(shutil.which("rt")).resolve().parents[1]
+
+
+def tracked():
+    """Each file of the repository, but for what is built."""
+    names = run("git", "ls-files", "-co", "--exclude-standard", cwd=ROOT)[0].splitlines()
+    return [name for name in names if (ROOT / name).is_file()]
+
+
+def copy_tree(to, *crates):
+    """Copies what isn't built to a folder, and of these crates what their proofs left."""
+    for name in tracked():
+        (to / name).parent.mkdir(parents=True, exist_ok=True)
+        shutil.copy2(ROOT / name, to / name)
+    for crate in crates:
+        out = ROOT / f"crates/{crate}/out"
+        if out.exists():
+            shutil.copytree(out, to / f"crates/{crate}/out", symlinks=True)
+    return to
+
+
+@pytest.fixture
+def copy(tmp_path):
+    """A copy of the repository, without what is built."""
+    return copy_tree(tmp_path / "copy")
+
+
+def manual(page):
+    """A page of the manual is well formed."""
+    need("man", "groff")
+    assert run("man", "--warnings", "-E", "UTF-8", "-l", page)[1] == ""
+
+
+@pytest.fixture(scope="session")
+def refuse(tmp_path_factory):
+    """What refuses memory, as a library to preload, built by the toolchain's compiler or this machine's."""
+    tools, room = kit() / "toolchain/bin", tmp_path_factory.mktemp("refuse")
+    flags = "-O2 -Wall -Wextra -Werror -ffreestanding -nostdinc -fPIC -c".split()
+    run(tools / "clang", *flags, ROOT / "tests/memory/refuse.c", "-o", room / "refuse.o")
+    run(tools / "ld.lld", "-shared", "-o", room / "refuse.so", room / "refuse.o")
+    return room / "refuse.so"
+
+
+def refused_in_turn(preload, words, refusal=(b"", 3), like=None, marks=0, report=None, by=(), ever=None):
+    """Refuses each request for memory in turn, alone and with all after it, and returns how many were. A run with a
+    refusal writes `refusal`, its output and status; with none refused it answers as `like`, or as ever."""
+    words = [str(word) for word in words]
+    if ever is None:
+        done = subprocess.run([str(word) for word in like or words], stdout=subprocess.PIPE, stderr=subprocess.DEVNULL)
+        ever = (done.stdout, done.returncode)
+    count = 0
+    for on in ("0", "1"):
+        for at in range(1, 10_001):
+            env = {"REFUSE_AT": str(at), "REFUSE_ON": on, "REFUSE_MARKS": str(marks)}
+            env.update({"LD_PRELOAD": str(preload)} if preload else {})
+            done = subprocess.run([*by, *words], capture_output=True, env={**os.environ, **env})
+            # A program that ends by a signal says nothing of its refusals.
+            if refusal[1] < 0 and (done.stdout, done.returncode) == refusal:
+                count += 1
+                continue
+            said = done.stderr.splitlines()[-1].split() if done.stderr else []
+            assert len(said) == 4 and said[0] == b"refused", f"request {at}: no report: {done.stderr[-300:]}"
+            assert int(said[3]) == 2 * marks, f"request {at}: {int(said[3])} marks"
+            if int(said[1]) == 0:
+                assert (done.stdout, done.returncode) == ever
+                break
+            assert (done.stdout, done.returncode) == refusal, f"request {at}, all after it: {on}"
+            count += 1
+        else:
+            pytest.fail("more than 10,000 requests")
+    return count
