@@ -179,7 +179,7 @@ else
     begin "refused memory" once getopts_vectors getopts_show getopts_shell -- bash tests/memory/run.sh
     begin "the programs and the system" once getopts_show getopts_shell -- python3 tests/system/run.py
     begin "the program for shell scripts" once getopts_shell -- bash tests/shell/run.sh
-    begin "recorded cases by the rules" once getopts_vectors -- python3 tests/differential/rules.py
+    begin "recorded cases by the rules" once getopts_vectors -- pytest-3 -q tests/test_rows.py
     part "proofs, tests and programs of all crates" proofs
 fi
 part "pages and modules" python3 docs/check.py
