@@ -1,5 +1,6 @@
 """The library's answers to rows of text: by the rows themselves, by a second reader of the rules, and by the Rust crate."""
 
+import functools
 import subprocess
 
 import pytest
@@ -27,8 +28,8 @@ def written(rows):
     return b"".join(each + b"\n" for one, answers in rows for each in [one, *(b"> " + answer for answer in answers)])
 
 
-@pytest.fixture(scope="module")
-def beyond():
+@functools.cache
+def all_rows():
     """All rows, with what the rules answer beyond them: each line's canonical line, and each name's positions."""
     rows = [row for file in ROWS for row in rows_of(file.read_bytes())]
     asked, given, _, differ = held(rows)
@@ -37,12 +38,12 @@ def beyond():
     return asked
 
 
-def test_rules_give_the_rows(beyond):
-    assert beyond
+def test_rules_give_the_rows():
+    assert all_rows()
 
 
-def test_rows_and_what_the_rules_ask_beyond(beyond, compare):
-    assert compare(written(beyond))[0].endswith(" 0 differ\n")
+def test_rows_and_what_the_rules_ask_beyond(compare):
+    assert compare(written(all_rows()))[0].endswith(" 0 differ\n")
 
 
 def test_stored_rows(vectors):

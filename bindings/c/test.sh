@@ -4,7 +4,7 @@
 #
 #     bindings/c/test.sh [--quick]
 #
-# It proves nothing: whether the archives are what the proved source gives is asked by `bindings/archive.sh check`. With
+# It proves nothing: whether the archives are of the proved source is asked by `bindings/build.py --check c`. With
 # --quick there are fewer random requests. What this machine doesn't have is skipped with a line that says so. The last
 # line is 'N passed, M failed, K skipped'.
 set -uo pipefail
