@@ -1,9 +1,9 @@
 //! Runs jobs on `getopts` a number of turns, and prints the sums of what the turns took, so that
 //! the work of a turn can be counted and the sums compared with those of other libraries.
 //!
-//! Its arguments are JOB ROWS TIMES, as in `whole small.rows 3`, and may be several such triples: each
-//! has its sum on a line. ROWS is a file with an option or a word on each line, their fields parted
-//! by tabs:
+//! Its arguments are JOB ROWS TIMES, as in `whole small.rows 3`, and may be several such triples:
+//! each has its sum on a line. ROWS is a file with an option or a word on each line, their fields
+//! parted by tabs:
 //!
 //! - `optflagmulti SHORT LONG DESC`, `optmulti SHORT LONG DESC HINT`, and so `optflagopt`
 //! - `words COUNT`, before the words: how many there are
@@ -16,8 +16,8 @@
 //!   texts.
 //! - `copied` does the same by the calls that the Rust crate has: `parse` of an iterator, and
 //!   `opt_strs`, which copies, of each name that is defined.
-//! - `read` is a part of that turn, with the options declared once, before the turns. A turn adds the
-//!   number of free words.
+//! - `read` is a part of that turn, with the options declared once, before the turns. A turn adds
+//!   the number of free words.
 //! - `canonical` writes the canonical line. A turn adds the lengths of its words.
 //! - `equal` compares the matches of the first half of the words with those of the second. A turn
 //!   adds 1 where they are equal.

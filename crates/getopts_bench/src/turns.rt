@@ -1,5 +1,5 @@
-//! The turns of a job, and what they add up to. The turns of each job stay a function of their own, so that
-//! no job is built otherwise for the sake of another.
+//! The turns of a job, and what they add up to. The turns of each job stay a function of their own,
+//! so that no job is built otherwise for the sake of another.
 
 ghost use Rattle.getopts.specs.Accessors.{IsDefined};
 
@@ -56,7 +56,8 @@ fn whole(alloc: Global, named: &[Named<'_>], words: &[&str], times: usize) -> Re
     Ok(sum)
 }
 
-/// Turns that do so by the calls that the Rust crate has: an iterator is read, and values are copied.
+/// Turns that do so by the calls that the Rust crate has: an iterator is read, and values are
+/// copied.
 #[inline(never)]
 fn copied(alloc: Global, named: &[Named<'_>], words: &[&str], times: usize) -> Result<usize, Fail> {
     let mut sum = 0usize;
@@ -93,8 +94,8 @@ fn canonical(
     Ok(sum)
 }
 
-/// Turns that compare the matches of the first half of the words with those of the second. Each adds 1
-/// where they are equal.
+/// Turns that compare the matches of the first half of the words with those of the second. Each
+/// adds 1 where they are equal.
 fn equal(alloc: Global, options: &Options, words: &[&str], times: usize) -> Result<usize, Fail> {
     let half = words.len() / 2;
     let matches = options.parse_words(alloc, &words[..half])?;
@@ -144,7 +145,8 @@ fn asked(matches: &Matches, named: &[Named<'_>], times: usize) -> usize {
     sum
 }
 
-/// Turns that read the words, and keep the matches until the end. Each adds how many words are free.
+/// Turns that read the words, and keep the matches until the end. Each adds how many words are
+/// free.
 #[inline(never)]
 fn held(alloc: Global, options: &Options, words: &[&str], times: usize) -> Result<usize, Fail> {
     let mut kept = Vec::with_capacity(alloc, times)?;

@@ -69,7 +69,8 @@ fn formatted_rows(alloc: Global, options: &Options, answer: &mut Answer) {
     given.put(answer);
 }
 
-/// Answers how often a closure that takes no memory was called. Where the rows can't be had, it isn't.
+/// Answers how often a closure that takes no memory was called. Where the rows can't be had, it
+/// isn't.
 fn called(alloc: Global, options: &Options, answer: &mut Answer) {
     let mut calls = 0usize;
     let made = options.usage_with_format(alloc, |_rows| {

@@ -73,8 +73,8 @@ impl Comparison {
         }
     }
 
-    /// Compares the rows of a text, and tells where other answers are given, and at the end how many
-    /// there were.
+    /// Compares the rows of a text, and tells where other answers are given, and at the end how
+    /// many there were.
     pub fn compare_rows(&mut self, alloc: Global, text: &str) {
         match text.split_once(SHORT_CASE) {
             Some((rows, cases)) => {

@@ -2,11 +2,11 @@
 //! name, and writes on the standard output where the library answers differently, and how many
 //! answers there were.
 //!
-//! The expected answers are known from outside. Those of `data/rules.rows` and `data/large.rows` are
-//! written by hand, from the rules of the Rust crate and from its tests. Those of
-//! `data/recorded.rows` were written by the Rust crate itself (`tests/differential/record.sh`). Those
-//! of `data/refused.rows` are for runs with memory refused. What no row can say is said by the rows of
-//! `getopts_uses`.
+//! The expected answers are known from outside. Those of `data/rules.rows` and `data/large.rows`
+//! are written by hand, from the rules of the Rust crate and from its tests. Those of
+//! `data/recorded.rows` were written by the Rust crate itself (`tests/differential/record.sh`).
+//! Those of `data/refused.rows` are for runs with memory refused. What no row can say is said by
+//! the rows of `getopts_uses`.
 //!
 //! # Rows
 //!
@@ -51,7 +51,8 @@
 //! - `rows`: by what the closure of `usage_with_format` answered, which counts its rows, then by
 //!   the rows
 //! - `usage_rows`: by the rows
-//! - `called`: by the text and the number of calls of a closure of `usage_with_format` that gives nothing
+//! - `called`: by the text and the number of calls of a closure of `usage_with_format` that gives
+//!   nothing
 //! - `wrap LIMIT DESC`: by the rows of `each_split_within`
 //! - `canonical WORD..`: by `canonical line WORD..`, `canonical none`, or `canonical refused FAULT
 //!   NAME TEXT`; and so `canonical_words` and `canonical_filtered`
@@ -75,8 +76,8 @@
 //! a line that asks of them is its word and `nothing`.
 //!
 //! Right below a line stand the lines that have to answer it, each after `> `. The answer of `case`
-//! isn't written. A line `| TEXT` goes on with the last field above it, by TEXT and a line end. So a
-//! line whose answer isn't there, and an answer that no line has, are differences too.
+//! isn't written. A line `| TEXT` goes on with the last field above it, by TEXT and a line end. So
+//! a line whose answer isn't there, and an answer that no line has, are differences too.
 //!
 //! # Cases written short
 //!
@@ -84,21 +85,22 @@
 //!
 //! - Such a case begins with a line `* NAME` in the place of `case NAME`.
 //! - `{COUNT|TEXT}` stands for so many turns of TEXT, which may have several lines. In a turn stand
-//!   `#` for its number, from 0 on, `%` for that number in five digits, and `&` for twice the number.
-//! - A case with `$` is asked at each length about a power of two, `2^n - 1`, `2^n` and `2^n + 1` for
-//!   each n from 1 to 20. The `$` is that length.
+//!   `#` for its number, from 0 on, `%` for that number in five digits, and `&` for twice the
+//!   number.
+//! - A case with `$` is asked at each length about a power of two, `2^n - 1`, `2^n` and `2^n + 1`
+//!   for each n from 1 to 20. The `$` is that length.
 //!
 //! # Refused memory
 //!
 //! A line that begins with `! ` is answered between two marks, for runs in which its requests for
-//! memory are refused. Where one is, the line is answered again after the marks, and the status is 3.
-//! So what a call borrowed has to be as it was.
+//! memory are refused. Where one is, the line is answered again after the marks, and the status is
+//! 3. So what a call borrowed has to be as it was.
 //!
 //! # Statuses
 //!
-//! 0 where no answer differs, 1 where one does, 2 for a line or a file that can't be read, which the
-//! standard error names, 3 where memory was refused, and 4 where a write failed. The last case of
-//! `data/large.rows` differs on purpose, so that a run shows that a difference is found.
+//! 0 where no answer differs, 1 where one does, 2 for a line or a file that can't be read, which
+//! the standard error names, 3 where memory was refused, and 4 where a write failed. The last case
+//! of `data/large.rows` differs on purpose, so that a run shows that a difference is found.
 #![tactic(auto)]
 
 mod accessors;
