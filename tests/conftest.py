@@ -147,15 +147,15 @@ def tracked():
     return [name for name in names if (ROOT / name).is_file()]
 
 
-def copy_tree(to, *crates):
-    """Copies what isn't built to a folder, and of these crates what their proofs left."""
+def copy_tree(to, *libraries):
+    """Copies what isn't built to a folder, and these libraries as they were proved."""
     for name in tracked():
         (to / name).parent.mkdir(parents=True, exist_ok=True)
         shutil.copy2(ROOT / name, to / name)
-    for crate in crates:
-        out = ROOT / f"crates/{crate}/out"
-        if out.exists():
-            shutil.copytree(out, to / f"crates/{crate}/out", symlinks=True)
+    for library in libraries:
+        proved = f"crates/{library}/out/rlib"
+        if (ROOT / proved).exists():
+            shutil.copytree(ROOT / proved, to / proved, symlinks=True)
     return to
 
 

@@ -162,6 +162,7 @@ def verdicts(request, tmp_path_factory):
 
     def of(crate):
         if crate not in found:
+            found[crate] = {}
             asked = [item.callspec.params["edit"] for item in request.session.items if item.name.startswith("test_edit[")]
             found[crate] = tried([edit for edit in asked if edit.crate == crate and passed_over(edit, request.config) is None],
                                  tmp_path_factory.mktemp(crate))
@@ -173,7 +174,7 @@ def verdicts(request, tmp_path_factory):
 def tried(edits, room):
     if edits[0].crate not in LIBRARIES:
         wait_for(*LIBRARIES)
-    folder = copy_tree(room / "copy", *LIBRARIES, edits[0].crate) / "crates" / edits[0].crate
+    folder = copy_tree(room / "copy", *LIBRARIES) / "crates" / edits[0].crate
     copies, functions, said = Copies(folder), {}, {}
     for edit in edits:
         functions[edit.name] = copies.add(edit)
@@ -213,7 +214,7 @@ def marks(edit):
 def test_edit(edit, verdicts, request):
     if why := passed_over(edit, request.config):
         pytest.skip(why)
-    assert verdicts(edit.crate)[edit.name] == ("proved" if edit.variant == "right" else "refused")
+    assert verdicts(edit.crate).get(edit.name, "the check failed before") == ("proved" if edit.variant == "right" else "refused")
 
 
 @pytest.mark.parametrize("edit", [pytest.param(edit, id=f"{edit.crate}-{edit.name}") for edit in ALL if edit.variant == "new"])
