@@ -42,9 +42,10 @@ JOBS = {"small": ("whole", "small", 100, 300), "read-small": ("read", "small", 1
         "none": ("whole", "none", 100, 300), "equal": ("equal", "equal", 0, 1), "usage": ("usage", "usage", 100, 300),
         "defined-4000": ("defined", "defined", 0, 1)}
 # Of these the most bytes held at once are counted.
-MEMORY = {"memory": ("The most bytes held at once for reading 100,000 words, above the words and the options", "read", "memory", 0, 1),
-          "held": ("Bytes that matches of 20 options hold, whose descriptions have 1,000 bytes each", "held", "held", 10, 110)}
-PEERS = ["Rust crate", "bindings/rust", "lexopt", "pico-args", "clap"]
+MEMORY = {"memory": ("The most bytes held at once for reading 100,000 words, above the words and the options",
+                     "read", "memory", 0, 1),
+          "held": ("Bytes that matches of 20 options hold, whose descriptions have 1,000 bytes each",
+                   "held", "held", 10, 110)}
 
 FIVE = [("optmulti", "o", "output", "d", "H"), ("optflagmulti", "h", "help", "d"), ("optflagmulti", "v", "verbose", "d"),
         ("optmulti", "L", "", "d", "H"), ("optmulti", "c", "color", "d", "H")]
@@ -84,8 +85,10 @@ LINES = {
     "front": lambda: (flags(("", f"option-name-{at}") for at in range(20)),
                       [f"--option-name-{at}" for at in (3, 17, 0, 3)] + ["file"]),
     "none": lambda: ([], ["file"]),
-    "equal": lambda: (flags([*(("", f"n{at:04}") for at in range(998)), ("a", ""), ("b", "")]), ["-ab"] * 1000 + ["-ba"] * 1000),
-    "usage": lambda: ([("optmulti", "o", "output", "set output file name", "NAME"), ("optflagmulti", "h", "help", "print this help menu"),
+    "equal": lambda: (flags([*(("", f"n{at:04}") for at in range(998)), ("a", ""), ("b", "")]),
+                      ["-ab"] * 1000 + ["-ba"] * 1000),
+    "usage": lambda: ([("optmulti", "o", "output", "set output file name", "NAME"),
+                       ("optflagmulti", "h", "help", "print this help menu"),
                        ("optflagmulti", "v", "verbose", "say more"), ("optmulti", "L", "", "add a folder", "DIR"),
                        ("optflagopt", "c", "color", "colour the output", "WHEN")], []),
     "defined": lambda: (flags(("", f"n{at:04}") for at in range(4000)), []),
@@ -96,7 +99,8 @@ LINES = {
 def rows(line):
     """The rows of a line, as getopts_bench and the peers read them."""
     options, words = LINES[line]()
-    return "".join("\t".join(row) + "\n" for row in [*options, ("words", str(len(words))), *(("word", word) for word in words)])
+    said = [*options, ("words", str(len(words))), *(("word", word) for word in words)]
+    return "".join("\t".join(row) + "\n" for row in said)
 
 
 def stop(why):
@@ -133,7 +137,8 @@ def built(out, getopts):
     crate = HERE.parent / "crates/getopts_bench"
     if "OURS" not in os.environ:
         print("bench.py: proves and builds getopts_bench, some minutes where nothing is kept ..", file=sys.stderr)
-        subprocess.run(["rt", "run", "--", "whole", crate / "data/small.rows", "1"], cwd=crate, check=True, stdout=subprocess.DEVNULL)
+        subprocess.run(["rt", "run", "--", "whole", crate / "data/small.rows", "1"], cwd=crate, check=True,
+                       stdout=subprocess.DEVNULL)
     peers, ours = (out / f"{name}/target/release/peers" for name in ("peers", "over_ours"))
     return {"this library": [os.environ.get("OURS", crate / "out/getopts_bench")], "Rust crate": [peers, "getopts"],
             "bindings/rust": [ours, "getopts"], "lexopt": [peers, "lexopt"], "pico-args": [peers, "pico-args"],
@@ -159,7 +164,8 @@ def tables(out, getopts, asked):
     programs = built(out, getopts)
     lock = (out / "peers/Cargo.lock").read_text()
     versions = re.findall(r'^name = "(getopts|lexopt|pico-args|clap|unicode-width)"\nversion = "(.*)"', lock, re.M)
-    said = [subprocess.run([tool, "--version"], capture_output=True, text=True).stdout.strip() for tool in ("valgrind", "rustc")]
+    said = [subprocess.run([tool, "--version"], capture_output=True, text=True).stdout.strip()
+            for tool in ("valgrind", "rustc")]
     print("# " + ", ".join([*(" ".join(it) for it in versions), *said]))
     head = f"{'job':<16} " + " ".join(f"{column:>14}" for column in programs)
     for what, title in (("instructions", "Instructions of one turn"), ("requests", "Requests for memory of one turn")):
@@ -176,8 +182,9 @@ def tables(out, getopts, asked):
 
 def shell(program=HERE.parent / f"bindings/shell/{platform.machine()}/getopts_shell"):
     """The instructions from start to end of three programs, which may not depend on the environment."""
-    table = ("-i|--input FILE       read this file\n[-o|--output FILE]    write to FILE\n[-v|--verbose]..      say more\n"
-             "[-c|--color [WHEN]]   colour the output\n[-L DIR]..            add a folder\n[-h|--help]           print this help")
+    table = ("-i|--input FILE       read this file\n[-o|--output FILE]    write to FILE\n"
+             "[-v|--verbose]..      say more\n[-c|--color [WHEN]]   colour the output\n"
+             "[-L DIR]..            add a folder\n[-h|--help]           print this help")
     words = ["-vi", "a", "--output=b", "x", "--color"]
     env = {"PATH": os.environ["PATH"], "LC_ALL": "C.UTF-8"}
     getopt = "getopt -n backup -o i:o:vc::L:h --long input:,output:,verbose,color::,help --".split()

@@ -35,11 +35,15 @@ def kit():
     return Path(shutil.which("rt") or stop("there is no rt on the path")).resolve().parents[1]
 
 
-def libraries(crate):
-    """The libraries that a crate uses, of this repository and of the toolchain."""
+def named(crate):
+    """The libraries that crates.txt names beside a crate."""
     line = re.search(rf"^{crate}\b[^:\n]*:(.*)$", (ROOT / "crates.txt").read_text(), re.M)
-    direct = line[1].split() if line else []
-    return list(dict.fromkeys(it for one in direct for it in (one, *libraries(one))))
+    return line[1].split() if line else []
+
+
+def libraries(crate):
+    """The libraries that a crate uses, and those that they use."""
+    return list(dict.fromkeys(it for one in named(crate) for it in (one, *libraries(one))))
 
 
 def over(command, crate, *words):
@@ -47,7 +51,7 @@ def over(command, crate, *words):
     folder = ROOT / "crates" / crate
     root = ["src/main.rt"] if (folder / "src/main.rt").exists() else ["src/lib.rt", "--crate-type", "staticlib"]
     externs = []
-    for library in ["std", *re.search(rf"^{crate}\b[^:\n]*:(.*)$", (ROOT / "crates.txt").read_text(), re.M)[1].split()]:
+    for library in ["std", *named(crate)]:
         own = ROOT / f"crates/{library}/out/rlib/{library}.rlib"
         at = own if (ROOT / "crates" / library).is_dir() else kit() / f"rlibs/{library}.rlib"
         at.is_dir() or stop(f"{at} isn't there: run 'rt ci', or 'rt lib' in crates/{library}")
@@ -73,10 +77,10 @@ def link(processor, to, *words):
     (musl / "libc.a").exists() or stop(f"there is no {musl}/libc.a: apt-get install musl-dev, or musl-dev:arm64")
     flags = "-std=c11 -O2 -Wall -Wextra -Wpedantic -Wshadow -Wconversion -Werror -fno-pic -nostdinc".split()
     start = Path(f"{to}.start.o")
-    subprocess.run([tools / "clang", f"--target={processor}-linux-musl", *flags, "-isystem", f"/usr/include/{processor}-linux-musl",
-                    "-c", ROOT / "bindings/shell/start.c", "-o", start], check=True)
-    subprocess.run([tools / "ld.lld", "-static", "-s", "--gc-sections", "--wrap=main", musl / "crt1.o", musl / "crti.o", start,
-                    *words, musl / "libc.a", musl / "crtn.o", "-o", to], check=True)
+    subprocess.run([tools / "clang", f"--target={processor}-linux-musl", *flags, "-isystem",
+                    f"/usr/include/{processor}-linux-musl", "-c", ROOT / "bindings/shell/start.c", "-o", start], check=True)
+    subprocess.run([tools / "ld.lld", "-static", "-s", "--gc-sections", "--wrap=main", musl / "crt1.o", musl / "crti.o",
+                    start, *words, musl / "libc.a", musl / "crtn.o", "-o", to], check=True)
     start.unlink()
 
 
@@ -87,9 +91,9 @@ def sums(what):
     sources = [str(path.relative_to(ROOT)) for one in (crate, *libraries(crate))
                for path in sorted((ROOT / f"crates/{one}/src").rglob("*.rt"))]
     version = subprocess.run([kit() / "bin/rt", "version"], capture_output=True, text=True, check=True).stdout.strip()
-    named = [(hashlib.sha256((ROOT / it).read_bytes()).hexdigest() if (ROOT / it).exists() else "-", it)
-             for it in [*made, *more, *sources]]
-    return [f"# {version}", *(f"{digest}  {name}" for digest, name in named)]
+    digests = [hashlib.sha256((ROOT / it).read_bytes()).hexdigest() if (ROOT / it).exists() else "-"
+               for it in [*made, *more, *sources]]
+    return [f"# {version}", *map("  ".join, zip(digests, [*made, *more, *sources]))]
 
 
 def differing(what):
