@@ -23,7 +23,7 @@ ROOT = Path(__file__).resolve().parents[1]
 PROCESSORS = ["x86_64", "aarch64"]
 # What is made: the crate, the folder with proved.sha256, the file for each processor below it, and what else it is of.
 MADE = {"shell": ("getopts_shell", "bindings/shell", "{}/getopts_shell", ["bindings/shell/start.c"]),
-        "c": ("getopts_c", "bindings/c/native", "{}/libgetopts_c.a", [])}
+        "c": ("getopts_c", "bindings/c", "native/{}/libgetopts_c.a", [])}
 
 
 def stop(why):
