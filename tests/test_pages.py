@@ -86,6 +86,7 @@ PEAK = "The most bytes held at once for reading 100,000 words, above the words a
 COLUMNS = {"this library": "this library", "Rust crate": "Rust crate", "drop-in": "bindings/rust", "lexopt": "lexopt",
            "pico-args": "pico-args", "clap": "clap"}
 
+CALLING = next(name for name in pages if name.endswith("CALLING.md"))
 # The figures that stand in no table of jobs: a page, a pattern whose groups are figures, and what each has to be.
 edits = {os.path.basename(name)[:-5] for name in tracked if name.endswith(".edit") and "/private/" not in name}
 FIGURES = [
@@ -100,7 +101,7 @@ FIGURES = [
      lambda: [share("small", "bindings/rust"), share("long", "bindings/rust")]),
     ("docs/DECISIONS.md", r"9,305 instructions in place of ([\d,]+)",
      lambda: [f"{int(cell(INSTRUCTIONS, 'small', 'this library')):,}"]),
-    ("CALLING.md", r"the library once, in ([^|]*?) of processor time", lambda: minutes("rt lib")[:1]),
+    (CALLING, r"the library once, in ([^|]*?) of processor time", lambda: minutes("rt lib")[:1]),
     ("tests/differential/README.md", r"first ([\d,]+) of seed 1",
      lambda: [f"{int(re.search(r'choose 1 (.*?) ', read('tests/differential/record.sh'))[1]):,}"]),
     ("bindings/rust/README.md", r"Rust ([\d.]+) or later",
@@ -114,7 +115,7 @@ FIGURES = [
 # What is no figure: versions, rules of the language, the jobs of the bench and the sizes of tests.
 NO_FIGURES = re.compile(r"""
     \bU\+\w+ | \b0\.2\.24\b | Apache-2\.0 | x86-64(-v2)?
-    | 1,000\ words | 100,000\ words | 200\ options | 400\ words
+    | 1,000\ words | 100,000\ words | 20\ options | 10\ words
     | (32|64)\ bits | 54\ columns | 24\ (spaces|columns) | stop\ at\ 255 | 24\ bytes | C\+\+11 | Debian\ 12 | 80\ words | 200,000\ cases
     # experiments that were done once
     | 564\ lines | 9,305\ instructions | 393\ small\ changes | detected\ 375 | 585\ small\ changes | detected\ 492 | 54\ of\ the\ other\ 93 | 39\ are
