@@ -13,7 +13,9 @@ pub fn turn(input: &Input) -> usize {
         if option.is_flag() {
             sum += usize::from(matches.get_count(option.id));
         } else {
-            sum += lengths(&matches, option.id).map(|length| 1 + length).sum::<usize>();
+            sum += lengths(&matches, option.id)
+                .map(|length| 1 + length)
+                .sum::<usize>();
         }
     }
     sum

@@ -14,7 +14,9 @@ pub fn run(job: &str, input: &Input, times: usize) -> Option<usize> {
     }
     let options = declared(&input.options);
     match job {
-        "read" => Some(turns(times, || matches_of(&options, &input.words).free.len())),
+        "read" => Some(turns(times, || {
+            matches_of(&options, &input.words).free.len()
+        })),
         "equal" => Some(equal(&options, &input.words, times)),
         "usage" => Some(turns(times, || options.usage(BRIEF).len())),
         "defined" => Some(counted(&options, input, times, Matches::opt_defined)),
@@ -31,14 +33,21 @@ fn whole(input: &Input, times: usize) -> usize {
     })
 }
 
-fn equal(options: &Options, words: &[&str], times: usize) -> usize {
+fn equal(options: &Options, words: &[String], times: usize) -> usize {
     let (first, second) = words.split_at(words.len() / 2);
     let (matches, others) = (matches_of(options, first), matches_of(options, second));
-    turns(times, || usize::from(black_box(&matches) == black_box(&others)))
+    turns(times, || {
+        usize::from(black_box(&matches) == black_box(&others))
+    })
 }
 
 /// How many names the call answers with yes.
-fn counted(options: &Options, input: &Input, times: usize, call: fn(&Matches, &str) -> bool) -> usize {
+fn counted(
+    options: &Options,
+    input: &Input,
+    times: usize,
+    call: fn(&Matches, &str) -> bool,
+) -> usize {
     let matches = matches_of(options, &input.words);
     turns(times, || {
         input
@@ -49,7 +58,7 @@ fn counted(options: &Options, input: &Input, times: usize, call: fn(&Matches, &s
     })
 }
 
-fn held(options: &Options, words: &[&str], times: usize) -> usize {
+fn held(options: &Options, words: &[String], times: usize) -> usize {
     let mut kept = Vec::with_capacity(times);
     turns(times, || {
         let matches = matches_of(options, words);
@@ -72,7 +81,7 @@ fn declared(named: &[Named]) -> Options {
     options
 }
 
-fn matches_of(options: &Options, words: &[&str]) -> Matches {
+fn matches_of(options: &Options, words: &[String]) -> Matches {
     options.parse(words).expect("the line is accepted")
 }
 

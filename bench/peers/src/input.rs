@@ -60,7 +60,7 @@ fn kept(text: String) -> &'static str {
 #[derive(Default)]
 pub struct Input {
     pub options: Vec<Named>,
-    pub words: Vec<&'static str>,
+    pub words: Vec<String>,
 }
 
 impl Input {
@@ -71,7 +71,7 @@ impl Input {
             let (call, rest) = row.split_once('\t')?;
             match call {
                 "words" => input.words.reserve_exact(rest.parse().ok()?),
-                "word" => input.words.push(rest),
+                "word" => input.words.push(rest.to_string()),
                 "optflagmulti" => input.options.push(Named::new(rest, Kind::Flag)),
                 "optmulti" => input.options.push(Named::new(rest, Kind::Argument)),
                 "optflagopt" => input.options.push(Named::new(rest, Kind::Maybe)),
