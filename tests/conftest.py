@@ -3,9 +3,11 @@
 import functools
 import os
 import platform
+import re
 import shutil
 import subprocess
 import sys
+import time
 from pathlib import Path
 
 import pytest
@@ -35,8 +37,15 @@ def pytest_addoption(parser):
 
 
 def pytest_configure(config):
+    config.addinivalue_line("markers", "built: takes programs or libraries that the proofs leave")
     os.environ["LC_ALL"] = "C.UTF-8"
     os.environ.pop("POSIXLY_CORRECT", None)
+
+
+def pytest_collection_modifyitems(items):
+    for item in items:
+        if {"show", "shell", "vectors", "bench", "built"} & set(item.fixturenames):
+            item.add_marker(pytest.mark.built)
 
 
 @pytest.fixture(scope="session")
@@ -86,8 +95,19 @@ def answer(*words, env=None, **how):
     return done.stdout + done.stderr, done.returncode
 
 
+def wait_for(*crates):
+    """Where test.sh runs `rt ci` beside the tests: waits until it has proved these crates, or took them over."""
+    log = Path(os.environ.get("CI_LOG", "/nowhere"))
+    for crate in crates:
+        while log.exists() and not re.search(rf"^rt: {crate} (proved$|is kept: )", log.read_text(errors="replace"), re.M):
+            if Path(f"{log}.ended").exists():
+                pytest.fail(f"{crate} isn't proved")
+            time.sleep(1)
+
+
 def program(crate):
     """The program of a crate, as `rt ci` or `rt run` leaves it."""
+    wait_for(crate)
     built = ROOT / f"crates/{crate}/out/{crate}"
     if not built.exists():
         pytest.skip(f"{crate} isn't built: 'rt ci', or 'rt run' in crates/{crate}, builds it")
@@ -109,6 +129,11 @@ def vectors():
     return program("getopts_vectors")
 
 
+@pytest.fixture(scope="session")
+def bench():
+    return program("getopts_bench")
+
+
 @functools.cache
 def kit():
     """The folder of the toolchain."""
@@ -122,15 +147,15 @@ def tracked():
     return [name for name in names if (ROOT / name).is_file()]
 
 
-def copy_tree(to, *crates):
-    """Copies what isn't built to a folder, and of these crates what their proofs left."""
+def copy_tree(to, *libraries):
+    """Copies what isn't built to a folder, and these libraries as they were proved."""
     for name in tracked():
         (to / name).parent.mkdir(parents=True, exist_ok=True)
         shutil.copy2(ROOT / name, to / name)
-    for crate in crates:
-        out = ROOT / f"crates/{crate}/out"
-        if out.exists():
-            shutil.copytree(out, to / f"crates/{crate}/out", symlinks=True)
+    for library in libraries:
+        proved = f"crates/{library}/out/rlib"
+        if (ROOT / proved).exists():
+            shutil.copytree(ROOT / proved, to / proved, symlinks=True)
     return to
 
 
@@ -156,30 +181,33 @@ def refuse(tmp_path_factory):
     return room / "refuse.so"
 
 
-def refused_in_turn(preload, words, refusal=(b"", 3), like=None, marks=0, report=None, by=(), ever=None):
+def refused_in_turn(preload, words, refusal=(b"", 3), like=None, marks=False, by=()):
     """Refuses each request for memory in turn, alone and with all after it, and returns how many were. A run with a
-    refusal writes `refusal`, its output and status; with none refused it answers as `like`, or as ever."""
-    words = [str(word) for word in words]
-    if ever is None:
-        done = subprocess.run([str(word) for word in like or words], stdout=subprocess.PIPE, stderr=subprocess.DEVNULL)
-        ever = (done.stdout, done.returncode)
+    refusal writes `refusal`, its output and status; with none refused it answers as the words `like`, or as ever. With
+    marks the requests between the program's marks count."""
+    def outcome(at, on):
+        env = {"REFUSE_AT": str(at), "REFUSE_ON": str(on), "REFUSE_MARKS": str(int(marks))}
+        env.update({"LD_PRELOAD": str(preload)} if preload else {})
+        done = subprocess.run([str(word) for word in (*by, *words)], capture_output=True, env={**os.environ, **env})
+        said = done.stderr.splitlines()[-1].split() if done.stderr else []
+        # A program that ends by a signal says nothing of its refusals.
+        refused, met = (int(said[1]), int(said[3])) if said[:1] == [b"refused"] else (1, None)
+        return (done.stdout, done.returncode), refused, met
+
+    ever, _, marked = outcome(0, 0)
+    assert (marked > 0) == marks and marked % 2 == 0
+    if like:
+        done = subprocess.run([str(word) for word in like], stdout=subprocess.PIPE, stderr=subprocess.DEVNULL)
+        assert ever == (done.stdout, done.returncode)
     count = 0
-    for on in ("0", "1"):
+    for on in (0, 1):
         for at in range(1, 10_001):
-            env = {"REFUSE_AT": str(at), "REFUSE_ON": on, "REFUSE_MARKS": str(marks)}
-            env.update({"LD_PRELOAD": str(preload)} if preload else {})
-            done = subprocess.run([*by, *words], capture_output=True, env={**os.environ, **env})
-            # A program that ends by a signal says nothing of its refusals.
-            if refusal[1] < 0 and (done.stdout, done.returncode) == refusal:
-                count += 1
-                continue
-            said = done.stderr.splitlines()[-1].split() if done.stderr else []
-            assert len(said) == 4 and said[0] == b"refused", f"request {at}: no report: {done.stderr[-300:]}"
-            assert int(said[3]) == 2 * marks, f"request {at}: {int(said[3])} marks"
-            if int(said[1]) == 0:
-                assert (done.stdout, done.returncode) == ever
+            ended, refused, met = outcome(at, on)
+            assert met == marked or (met is None and ended[1] < 0), f"request {at}: {met} marks of {marked}: {ended}"
+            if refused == 0:
+                assert ended == ever
                 break
-            assert (done.stdout, done.returncode) == refusal, f"request {at}, all after it: {on}"
+            assert ended == refusal, f"request {at}, all after it: {on}"
             count += 1
         else:
             pytest.fail("more than 10,000 requests")

@@ -1,42 +1,30 @@
-#!/usr/bin/env python3
-"""Checks the pages of this repository, and that no module uses one that uses it.
+"""The pages: what they name, quote and state is what the sources, the proofs and the records have. And no module uses one
+that uses it.
 
-usage: docs/check.py [--fix]
-
-- Code: the block of Rattle in README.md and that in CALLING.md stand each in one file of crates/, which the gate proves,
-  and have the imports that they need from there, and no others.
-- Contracts: crates/getopts/CONTRACTS.md names each public function of the library, and clauses that are there; each function in a
-  table of docs/PROOFS.md has the clauses that stand beside it.
-- Names: docs/GRAMMAR.md has each public definition (of getopts_shell each fact) and docs/PROOFS.md each edit; what a
-  page names in backquotes exists, as a word of the sources or a file; so does what a page links to.
-- Figures: each figure of ten or more on a page is counted, measured or recorded (FIGURES). One that differs fails, and
-  so does one that is not listed there. With --fix those that differ are replaced.
-
-Where valgrind and the built getopts_bench are there, some jobs of bench/last_run.txt are counted again. The last line is
-'N passed, M failed'.
+Each figure of ten or more on a page is counted, measured or recorded (FIGURES). With --fix those that differ are replaced,
+and CONTRACTS.md is written anew from the sources.
 """
+
 import functools
 import os
 import re
 import shutil
 import subprocess
-import sys
 
-os.chdir(os.path.dirname(os.path.abspath(__file__)) + "/..")
-if sys.argv[1:] not in ([], ["--fix"]):
-    sys.exit("usage: docs/check.py [--fix]")
+import pytest
+from conftest import ROOT, need, run
+from conftest import tracked as all_tracked
 
 
 def read(name):
-    with open(name, encoding="utf-8") as file:
-        return file.read()
+    return (ROOT / name).read_text(encoding="utf-8")
 
 
 def output_of(*command):
-    return subprocess.run(command, capture_output=True, text=True, check=True).stdout
+    return subprocess.run(command, capture_output=True, text=True, check=True, cwd=ROOT).stdout
 
 
-tracked = [it for it in output_of("git", "ls-files", "-co", "--exclude-standard").split("\n") if os.path.isfile(it)]
+tracked = all_tracked()
 pages = {name: read(name) for name in tracked if name.endswith(".md")}
 
 
@@ -98,21 +86,7 @@ PEAK = "The most bytes held at once for reading 100,000 words, above the words a
 COLUMNS = {"this library": "this library", "Rust crate": "Rust crate", "drop-in": "bindings/rust", "lexopt": "lexopt",
            "pico-args": "pico-args", "clap": "clap"}
 
-# How far a job may be from its record: C libraries differ.
-WITHIN = 0.02
-
-
-def counted_again():
-    """Of some jobs the instructions in bench/last_run.txt, and those that the program takes as it is built now."""
-    program = "crates/getopts_bench/out/getopts_bench"
-    if not shutil.which("valgrind") or not os.access(program, os.X_OK):
-        print("skipped: counting instructions again: there is no valgrind, or getopts_bench isn't built")
-        return
-    for job, few, more in [("small", 100, 300), ("long", 5, 15), ("many", 5, 15), ("usage", 100, 300)]:
-        counted = output_of("bench/count.sh", "instructions", str(few), str(more), program, job)
-        yield job, int(cell(INSTRUCTIONS, job, "this library")), int(counted)
-
-
+CALLING = next(name for name in pages if name.endswith("CALLING.md"))
 # The figures that stand in no table of jobs: a page, a pattern whose groups are figures, and what each has to be.
 edits = {os.path.basename(name)[:-5] for name in tracked if name.endswith(".edit") and "/private/" not in name}
 FIGURES = [
@@ -127,7 +101,7 @@ FIGURES = [
      lambda: [share("small", "bindings/rust"), share("long", "bindings/rust")]),
     ("docs/DECISIONS.md", r"9,305 instructions in place of ([\d,]+)",
      lambda: [f"{int(cell(INSTRUCTIONS, 'small', 'this library')):,}"]),
-    ("crates/getopts/CALLING.md", r"first proof takes ([^|]*?) of processor time: by the clock\s+([^|]*?) on four", lambda: minutes("rt lib")),
+    (CALLING, r"the library once, in ([^|]*?) of processor time", lambda: minutes("rt lib")[:1]),
     ("tests/differential/README.md", r"first ([\d,]+) of seed 1",
      lambda: [f"{int(re.search(r'choose 1 (.*?) ', read('tests/differential/record.sh'))[1]):,}"]),
     ("bindings/rust/README.md", r"Rust ([\d.]+) or later",
@@ -143,11 +117,10 @@ FIGURES = [
 # What is no figure: versions, rules of the language, the jobs of the bench and the sizes of tests.
 NO_FIGURES = re.compile(r"""
     \bU\+\w+ | \b0\.2\.24\b | Apache-2\.0 | x86-64(-v2)?
-    | 1,000\ words | 100,000\ words | 200\ options | 400\ words
+    | 1,000\ words | 100,000\ words | 20\ options | 10\ words
     | (32|64)\ bits | 54\ columns | 24\ (spaces|columns) | stop\ at\ 255 | 24\ bytes | C\+\+11 | Debian\ 12 | 80\ words | 200,000\ cases
     # experiments that were done once
-    | 2,500\ random\ lines
-    | 564\ lines | 9,305\ instructions | 393\ small\ changes | detected\ 375 | 585\ small\ changes | detected\ 492 | 54\ of\ the\ other\ 93 | 39\ are
+    | 2,500\ random\ lines | 564\ lines | 9,305\ instructions | 393\ small\ changes | detected\ 375 | 585\ small\ changes | detected\ 492 | 54\ of\ the\ other\ 93 | 39\ are
 """, re.X)
 
 
@@ -190,32 +163,23 @@ def unknown_in(page):
             yield it.start(), it[0]
 
 
-def fix():
-    """Puts what each figure has to be in the place of what it is."""
-    for page in pages:
-        text = pages[page]
-        for at, is_now, wanted in sorted(figures_of(page), reverse=True):
-            if at:
-                text = text[:at] + wanted + text[at + len(is_now):]
-        if text != pages[page]:
-            with open(page, "w", encoding="utf-8") as file:
-                file.write(text)
-            pages[page] = text
+def put_in(page):
+    """Puts what each figure of a page has to be in the place of what it is."""
+    text = pages[page]
+    for at, is_now, wanted in sorted(figures_of(page), reverse=True):
+        if at:
+            text = text[:at] + wanted + text[at + len(is_now):]
+    if text != pages[page]:
+        (ROOT / page).write_text(text, encoding="utf-8")
+        pages[page] = text
 
 
 # ---- what is checked ----
 
-passed = 0
-failures = []
 
-
-def expect(holds, failure):
-    """Counts a check, and keeps what failed."""
-    global passed
-    if holds:
-        passed += 1
-    elif failure not in failures:
-        failures.append(failure)
+def none(failures):
+    failures = list(dict.fromkeys(failures))
+    assert not failures, "\n".join(failures)
 
 
 # ---- code ----
@@ -234,95 +198,154 @@ def imports_of(text):
 
 
 sources = {name: read(name) for name in tracked if re.match(r"crates/\w*/src/.*\.rt$", name)}
-for page in ["README.md", "crates/getopts/CALLING.md"]:
-    block = re.search(r"^```rust\n(.*?)^```", pages[page], re.M | re.S)[1]
+
+
+def test_code_of_the_readme():
+    """The block of Rattle stands in one file of crates/, which the gate proves, and has the imports that it needs."""
+    block = re.search(r"^```rust\n(.*?)^```", pages["README.md"], re.M | re.S)[1]
     code = USE.sub("", block).strip()
     found = [name for name, text in sources.items() if f"\n{code}\n" in text]
-    expect(found, f"{page}: no file of crates/ has its code")
-    if found:
-        here, there = imports_of(block), imports_of(sources[found[0]])
-        for name in here | there:
-            used = re.search(rf"(?<!\w){re.escape(name.strip('◌'))}(?!\w)", code) is not None
-            expect(used == (name in here), f"{page}: {name} is {'not ' * (not used)}used and {'not ' * used}imported")
-            expect(name not in here or here[name] == there.get(name), f"{page}: {found[0]} doesn't import {name} from there")
+    assert found, "no file of crates/ has its code"
+    here, there = imports_of(block), imports_of(sources[found[0]])
+    for name in here | there:
+        assert (re.search(rf"\b{name}\b", code) is not None) == (name in here), name
+        assert name not in here or here[name] == there.get(name), f"{found[0]} doesn't import {name} from there"
 
 
 # ---- contracts ----
 
-library = "\n".join(text for name, text in sources.items() if name.startswith("crates/getopts/"))
-contracts = pages["crates/getopts/CONTRACTS.md"]
-public = set(re.findall(r"^\s*pub fn (\w+)", library, re.M))
-for name in sorted(public):
-    expect(re.search(rf"\b{name}\b", contracts), f"crates/getopts/CONTRACTS.md: the contract of {name} isn't there")
-for name in re.findall(r"(?:fn |, )(?:\w+::)?(\w+)(?:<[^>]*>)?\(", contracts):
-    expect(name in public, f"crates/getopts/CONTRACTS.md: there is no public function {name}")
-for names in re.findall(r"ensures (\w+(?:, \w+)*):", contracts):
-    for name in names.split(", "):
-        expect(f"ensures {name} {{" in library, f"crates/getopts/CONTRACTS.md: there is no clause {name}")
+CONTRACTS = next(name for name in pages if name.endswith("CONTRACTS.md"))
+
+
+def contracts_in(text):
+    """Each public function of a module's text, with the type that it is of, its name and its contract."""
+    owner, taken, name = "", None, ""
+    for line in text.split("\n"):
+        if it := re.match(r"impl(?:<[^>]*>)? (?:[\w<>: ]+ for )?(\w+)", line):
+            owner = it[1]
+        if line == "}":
+            owner = ""
+        if it := re.match(r"( *)pub fn (\w+)", line):
+            taken, indent, name = [], it[1], it[2]
+        if taken is None:
+            continue
+        alone = line.strip() in ("{", "{}")
+        ends = alone or line.endswith((" {", "}")) and not re.search(r"^ *(requires|ensures) ", "\n".join([*taken, line]), re.M)
+        taken += [] if alone else [re.sub(r" \{(.*\})?$", "", line).removeprefix(indent) if ends else line.removeprefix(indent)]
+        if ends:
+            yield owner, name, "\n".join(taken)
+            taken = None
+
+
+def contracts():
+    """The public functions of the library with their contracts, in the order of its modules."""
+    root = read("crates/getopts/src/lib.rt")
+    public = set(re.findall(r"\w+", " ".join(re.findall(r"^pub use (.*?);", root, re.M | re.S))))
+    parts = []
+    for visible, module in re.findall(r"^(pub )?mod (\w+);", root, re.M):
+        for owner, name, text in contracts_in(read(f"crates/getopts/src/{module}.rt")):
+            if (owner or name) in public or visible:
+                parts.append(text.replace("pub fn ", f"fn {owner}::" if owner else f"fn {module}::" if visible else "fn ", 1))
+    return "\n\n".join(parts) + "\n"
+
+
+def test_contracts(fix):
+    """CONTRACTS.md has the contract of each public function, as the sources have it."""
+    wanted = re.sub(r"^```\w+\n.*?^```", lambda _: f"```text\n{contracts()}```", pages[CONTRACTS], flags=re.M | re.S)
+    if fix and wanted != pages[CONTRACTS]:
+        (ROOT / CONTRACTS).write_text(wanted, encoding="utf-8")
+        pages[CONTRACTS] = wanted
+    assert pages[CONTRACTS] == wanted, "pytest tests/test_pages.py --fix writes it anew"
 
 
 # ---- promises ----
 
-clauses = {}
-for text in sources.values():
-    for function in re.split(r"\bfn (?=\w)", text)[1:]:
-        here = clauses.setdefault(re.match(r"\w+", function)[0], set())
-        here |= set(re.findall(r"ensures (\w+) \{", function))
-clauses["there"] = clauses["one_reading_one_canonical_line"]
-for row in re.findall(r"^\|.*\|$", pages["docs/PROOFS.md"], re.M):
-    for part in re.split(r"[;|]", re.sub(r"\([^)]*\)", "", row)):
-        if it := re.match(r"\s*((?:`\w+`(?: and its kin)?(?:, )?)+|there|each export): ((?:`\w+`(?:, )?)+)", part):
-            for function in re.findall(r"\w+", it[1].replace(" and its kin", "")) if "`" in it[1] else [it[1]]:
-                for clause in re.findall(r"\w+", it[2]):
-                    expect(clause in clauses.get(function, ()), f"docs/PROOFS.md: {function} has no clause {clause}")
+def clauses_of():
+    """The named clauses of each function."""
+    clauses = {}
+    for text in sources.values():
+        for function in re.split(r"\bfn (?=\w)", text)[1:]:
+            here = clauses.setdefault(re.match(r"\w+", function)[0], set())
+            here |= set(re.findall(r"ensures (\w+) \{", function))
+    clauses["there"] = clauses["one_reading_one_canonical_line"]
+    return clauses
+
+
+def test_promises_have_clauses():
+    """Each function in a table of PROOFS has the clauses that stand beside it."""
+    clauses, lacking = clauses_of(), []
+    for row in re.findall(r"^\|.*\|$", pages["docs/PROOFS.md"], re.M):
+        for part in re.split(r"[;|]", re.sub(r"\([^)]*\)", "", row)):
+            if it := re.match(r"\s*((?:`\w+`(?:, )?)+|there): ((?:`\w+`(?:, )?)+)", part):
+                for function in re.findall(r"\w+", it[1]) if "`" in it[1] else [it[1]]:
+                    lacking += [f"{function} has no clause {clause}" for clause in re.findall(r"\w+", it[2])
+                                if clause not in clauses.get(function, ())]
+    none(lacking)
 
 
 # ---- names ----
 
-named = set(re.findall(r"`([A-Za-z_][\w-]*)`", pages["docs/GRAMMAR.md"]))
-for crate in ["getopts", "getopts_show", "getopts_bytes", "getopts_shell"]:
+@pytest.mark.parametrize("crate", ["getopts", "getopts_show", "getopts_bytes", "getopts_shell"])
+def test_definitions_are_in_the_grammar(crate):
+    """GRAMMAR has each public definition, of getopts_shell each fact."""
+    named = set(re.findall(r"`([A-Za-z_][\w-]*)`", pages["docs/GRAMMAR.md"]))
     here = [name for name in tracked if name.startswith(f"crates/{crate}/specs/")]
     # Modules that stand under private clauses alone have their rules in comments.
     order = read(f"crates/{crate}/specs/Lib.antt") if here else ""
     private = re.findall(r"mod (\w+)", order.partition("Cited by private clauses alone")[2]) + ["Held"]
-    # What computes the results is a tool, but for what the clauses cite.
-    tools = set(re.findall(r"[a-z]\w*", read(f"crates/{crate}/specs/Results.antt"))) if crate == "getopts" else set()
+    lacking = []
     for name in here:
         if not re.match(rf"crates/{crate}/specs/(?:{'|'.join(private)})\b", name):
             for it in re.findall(r"^(?:abbrev |unfoldable )?pub (?:record |data )?([A-Za-z_][\w-]*)", read(name), re.M):
                 passed_over = it in ("mod", "use") or crate == "getopts_shell" and it[0].islower()
-                passed_over |= name.endswith("/Results.antt") and it in tools and not it.endswith("_result")
-                expect(passed_over or it in named, f"docs/GRAMMAR.md doesn't name {it} of {name}")
+                lacking += [] if passed_over or it in named else [f"{it} of {name}"]
+    none(lacking)
 
-for edit in sorted(edits):
-    expect(f"`{edit}`" in pages["docs/PROOFS.md"], f"docs/PROOFS.md doesn't name the edit {edit}")
+
+def test_edits_are_in_the_proofs():
+    none(edit for edit in sorted(edits) if f"`{edit}`" not in pages["docs/PROOFS.md"])
+
 
 # Names of the toolchain, of Rust and of Debian's packages.
-OTHERS = """Lends LendsIfOk RestsIfErr Send Sync unicode-width x86-64-v2 POSIXLY_CORRECT optind IFS
+OTHERS = """Lends LendsIfOk RestsIfErr Send Sync unicode-width x86-64-v2 POSIXLY_CORRECT optind IFS copied-
     librust-clap-dev librust-lexopt-dev librust-pico-args-dev librust-unicode-width-dev"""
-words = set(OTHERS.split()) | {logic()} | {part for name in tracked for part in re.split(r"[/.]", name)}
-for name in tracked:
-    if re.search(r"\.(rt|antt|rs|c|h|cpp|sh|py|edit|toml|txt)$|/stdin$|^crates.txt$|^HANDLES$", name):
-        text = read(name)
-        words |= set(re.findall(r"[\w+-]+", text)) | set(re.findall(r"\w+", text))
-for page, text in pages.items():
-    prose = re.sub(r"^```.*?^```", "", text, flags=re.M | re.S)
+
+
+@functools.cache
+def words():
+    """The words of the sources, and the names of files."""
+    found = set(OTHERS.split()) | {logic()} | {part for name in tracked for part in re.split(r"[/.]", name)}
+    for name in tracked:
+        if re.search(r"\.(rt|antt|rs|c|h|cpp|sh|py|edit|toml|txt|ini|rows)$|/stdin$|^crates.txt$|^HANDLES$", name):
+            text = read(name)
+            found |= set(re.findall(r"[\w+-]+", text)) | set(re.findall(r"\w+", text))
+    return found
+
+
+@pytest.mark.parametrize("page", pages)
+def test_names_and_links(page):
+    """What a page names in backquotes exists, as a word of the sources or a file; so does what it links to."""
+    failures = []
+    prose = re.sub(r"^```.*?^```", "", pages[page], flags=re.M | re.S)
     for span in sorted(set(re.findall(r"`([A-Za-z_][\w-]*)`", prose))):
-        expect(span in words, f"{page}: nothing is called {span}")
+        failures += [] if span in words() else [f"nothing is called {span}"]
     for path in sorted(set(re.findall(r"`([\w./-]+\.(?:md|rt|antt|rs|c|h|sh|py|edit|txt))`", prose))):
         there = [path, os.path.normpath(os.path.join(os.path.dirname(page), path))]
-        expect(any(f"/{it}".endswith(f"/{end}") for it in tracked for end in there), f"{page}: there is no file {path}")
+        if not any(f"/{it}".endswith(f"/{end}") for it in tracked for end in there):
+            failures.append(f"there is no file {path}")
     for target, heading in re.findall(r"\]\(([^)#]*)#?([^)]*)\)", prose):
         there = os.path.normpath(os.path.join(os.path.dirname(page), target)) if target else page
-        expect("://" in target or os.path.exists(there), f"{page}: there is no {target}")
+        failures += [] if "://" in target or (ROOT / there).exists() else [f"there is no {target}"]
         headings = re.findall(r"^#+ (.*)", pages.get(there, ""), re.M)
         anchors = [re.sub(r"[^\w -]", "", it).lower().replace(" ", "-") for it in headings]
-        expect(not heading or heading in anchors, f"{page}: {target} has no heading {heading}")
+        failures += [] if not heading or heading in anchors else [f"{target} has no heading {heading}"]
+    none(failures)
 
 
 # ---- modules ----
 
-for crate in sorted({name.split("/")[1] for name in sources}):
+@pytest.mark.parametrize("crate", sorted({name.split("/")[1] for name in sources}))
+def test_no_module_uses_one_that_uses_it(crate):
     left = {}
     for name, text in sources.items():
         if (it := re.match(rf"crates/{crate}/src/(\w+)\.rt$", name)) and it[1] not in ("lib", "main"):
@@ -330,23 +353,20 @@ for crate in sorted({name.split("/")[1] for name in sources}):
     while ready := [module for module in left if not left[module] & set(left)]:
         for module in ready:
             del left[module]
-    expect(not left, f"crates/{crate}: modules use each other in a circle: {', '.join(left)}")
+    assert not left, f"in a circle: {', '.join(left)}"
 
 
-# ---- figures ----
+# ---- figures and scripts ----
 
-for job, recorded, counted in counted_again():
-    near = abs(counted - recorded) <= WITHIN * recorded
-    expect(near, f"bench/last_run.txt: {job} took {recorded:,} instructions, and takes {counted:,}: run bench/run.sh again")
-if sys.argv[1:] == ["--fix"]:
-    fix()
-for page in pages:
-    for at, is_now, wanted in figures_of(page):
-        expect(is_now == wanted, f"{place(page, at)}: {is_now} has to be {wanted}")
-    for at, it in unknown_in(page):
-        expect(False, f"{place(page, at)}: no check knows the figure {it}")
 
-for failure in failures:
-    print(f"FAILED: {failure}")
-print(f"{passed} passed, {len(failures)} failed")
-sys.exit(len(failures) > 0)
+@pytest.mark.parametrize("page", pages)
+def test_figures(page, fix):
+    if fix:
+        put_in(page)
+    failures = [f"{place(page, at)}: {is_now} has to be {wanted}" for at, is_now, wanted in figures_of(page) if is_now != wanted]
+    none(failures + [f"{place(page, at)}: no check knows the figure {it}" for at, it in unknown_in(page)])
+
+
+def test_shell_scripts():
+    need("shellcheck")
+    run("shellcheck", *(name for name in tracked if name.endswith(".sh")), cwd=ROOT)

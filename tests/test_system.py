@@ -1,30 +1,24 @@
-#!/usr/bin/env python3
-"""Runs the built programs on rows of words, and as a system may: words that are no text, none at all, and long ones;
+"""The built programs on rows of words, and as a system may run them: words that are no text, none at all, and long ones;
 outputs that take nothing, little, or fail in the middle; little memory and little stack.
 
-Each run has to end with the status that the README gives, never by a signal that the system didn't send, and has
-to write what the README says. It takes the programs that `rt ci` leaves in the folders out of crates/getopts_show and
-crates/getopts_shell, or `rt run` there, and the program for shell scripts that bindings/shell has for this machine,
-which is one static file. The last line is 'N passed, M failed'.
+Each run ends with the status that the README gives, never by a signal that the system didn't send, and writes what the
+README says. The program for shell scripts is the one that bindings/shell has for this machine, a static file.
 """
 
-import concurrent.futures
 import errno
 import os
-import pathlib
-import platform
 import resource
 import shlex
-import shutil
 import signal
 import subprocess
-import sys
-import tempfile
 
-HERE = pathlib.Path(__file__).resolve().parent
-SHOW = HERE.parent.parent / "crates/getopts_show/out/getopts_show"
-BUILT = HERE.parent.parent / "crates/getopts_shell/out/getopts_shell"
-SHELL = HERE.parent.parent / "bindings/shell" / platform.machine() / "getopts_shell"
+import pytest
+from conftest import MACHINE, ROOT, kit, program
+from conftest import run as run_whole
+
+SHOW = ROOT / "crates/getopts_show/out/getopts_show"
+BUILT = ROOT / "crates/getopts_shell/out/getopts_shell"
+SHELL = ROOT / f"bindings/shell/{MACHINE}/getopts_shell"
 
 # The statuses: shown, refused, want of memory or words that are no text, and output that failed.
 SHOWN, REFUSED, NOTHING, NOT_WRITTEN = 0, 2, 3, 4
@@ -38,25 +32,25 @@ LONGEST = 131_071
 LONG_WORDS = ["x" * 100_000] * 15
 FAULT = b"getopts_show: Unrecognized option: 'nope'\n"
 
-passed = failed = runs = 0
+
+@pytest.fixture(autouse=True)
+def built():
+    program("getopts_show"), program("getopts_shell")
 
 
-def expect(what, why):
-    """Counts a check, which failed where `why` says something."""
-    global passed, failed
-    if why:
-        failed += 1
-        print(f"FAILED: {what}: {why}", flush=True)
-    else:
-        passed += 1
+@pytest.fixture(scope="module")
+def preload(tmp_path_factory):
+    """What stands between the program and the C library, by the toolchain's compiler and linker."""
+    tools, room = kit() / "toolchain/bin", tmp_path_factory.mktemp("between")
+    flags = "-O2 -Wall -Wextra -Werror -ffreestanding -nostdinc -fPIC -c".split()
+    run_whole(tools / "clang", *flags, ROOT / "tests/system/between.c", "-o", room / "between.o")
+    run_whole(tools / "ld.lld", "-shared", "-o", room / "between.so", room / "between.o")
+    return {"LD_PRELOAD": str(room / "between.so")}
 
 
 def run(words=(), program=SHOW, limits=None, closed=(), name=None, stdout=subprocess.PIPE, stderr=subprocess.PIPE,
         environment=None, **how):
     """Runs a program with some files closed and limits: its status (less than 0 for a signal), and what it wrote."""
-    global runs
-    runs += 1
-
     def before():
         for which, most in (limits or {}).items():
             resource.setrlimit(which, (most, most))
@@ -75,18 +69,8 @@ def described(text):
 def ends(what, ended, status, text):
     """The run ended with this status, and had written this text."""
     ended_with, wrote = ended
-    why = [] if ended_with == status else [f"status {ended_with}, and not {status}"]
-    why += [] if wrote == text else [f"wrote {described(wrote)}, and not {described(text)}"]
-    expect(what, "; ".join(why))
-
-
-def between(room):
-    """Builds what stands between the program and the C library, with the toolchain's compiler and linker."""
-    tools = pathlib.Path(subprocess.check_output(["rt", "doc"], text=True).strip()).parent / "toolchain/bin"
-    flags = "-O2 -Wall -Wextra -Werror -ffreestanding -nostdinc -fPIC -c".split()
-    subprocess.run([tools / "clang", *flags, HERE / "between.c", "-o", room / "between.o"], check=True)
-    subprocess.run([tools / "ld.lld", "-shared", "-o", room / "between.so", room / "between.o"], check=True)
-    return {"LD_PRELOAD": str(room / "between.so")}
+    assert ended_with == status, f"{what}: {described(wrote)}"
+    assert wrote == text, f"{what}: wrote {described(wrote)}, and not {described(text)}"
 
 
 def shown(given=(), free=()):
@@ -138,7 +122,7 @@ FAULTS = [
 ]
 
 
-def rows():
+def test_rows():
     for words, given, free in ROWS:
         ends(f"words {words[:9]}", run(words), SHOWN, shown(given, free))
     for words in (["-h"], ["-h", "x"], ["-vo", "x", "--help", "--", "y"]):
@@ -147,7 +131,7 @@ def rows():
         ends(f"words {words}", run(words), REFUSED, f"getopts_show: {fault}\n".encode())
 
 
-def words_that_are_no_text():
+def test_words_that_are_no_text():
     for word in (b"\xff", b"-o\xc3", b"--\xed\xa0\x80", b"--output=\xc0\x80", b"\xf4\x90\x80\x80"):
         for words in ([word], [b"-v", word, b"x"], [b"-v", b"x", word], [b"--", b"x", word], [b"-o", word],
                       [b"--nope", word], [word, b"--help"]):
@@ -156,7 +140,7 @@ def words_that_are_no_text():
     ends("a name that is no text, and a word", run(["-v", "x"], name=b"\xc3"), SHOWN, V_X)
 
 
-def no_words(preload):
+def test_no_words(preload):
     ends("no words", run(), SHOWN, shown())
     ends("an empty name", run(name=b""), SHOWN, shown())
     ends("no words and no name", run(["-v"], environment={**preload, "NO_WORDS": "1"}), SHOWN, shown())
@@ -167,7 +151,7 @@ GIVEN = ["-w", "try", "[-v]..  say more\n[-o FILE]  write to FILE", "-vo", "it's
 CODE = rb"'--v' '--o=it'\''s' '--' 'x'" + b"\n"
 
 
-def outputs_that_take_nothing():
+def test_outputs_that_take_nothing():
     for program, words in ((SHOW, ["-v", "x"]), (SHOW, ["--help"]), (SHOW, ["--nope"]), (SHELL, [*GIVEN, "x"])):
         what = f"{program.name} {words[-1]}:"
         ends(f"{what} a closed output", run(words, program, closed=[1], stdout=None), NOT_WRITTEN, b"")
@@ -187,7 +171,7 @@ def outputs_that_take_nothing():
             ends(f"static, {what} to a full error stream", run(words, SHELL, stderr=full), NOT_WRITTEN, b"")
 
 
-def texts_are_written_at_once():
+def test_texts_are_written_at_once():
     """Each write to such a pipe is a packet, which one read takes."""
     for program, words in ((SHOW, ["-v", "x"]), (SHOW, ["-h"]), (SHELL, [*GIVEN, "x"]), (SHELL, ["-h"])):
         text = run(words, program)[1]
@@ -196,24 +180,24 @@ def texts_are_written_at_once():
         os.close(writer)
         with os.fdopen(reader, "rb", buffering=0) as packets:
             wrote = packets.read(MIB)
-            expect(f"{program.name}: written at once", "" if wrote == text and not packets.read(MIB) else described(wrote))
+            assert wrote == text and not packets.read(MIB), f"{program.name}: {described(wrote)}"
 
 
-def a_file_of_so_many_bytes(room):
+def test_a_file_of_so_many_bytes(tmp_path):
     """A limit on the length of files. The system sends a signal where it isn't ignored, as Python ignores it."""
     for program, words in ((SHOW, ["x" * 200]), (SHELL, [*GIVEN, "x" * 200])):
         text = run(words, program)[1]
         for most in (0, 1, 100, len(text) - 1, len(text)):
             for ignored in (True, False):
-                with open(room / "file", "wb") as file:
+                with open(tmp_path / "file", "wb") as file:
                     status, said = run(words, program, {resource.RLIMIT_FSIZE: most}, stdout=file, restore_signals=not ignored)
                 wanted = SHOWN if most == len(text) else NOT_WRITTEN if ignored else -signal.SIGXFSZ
                 # With the signal not ignored, what fits is written first, and the next write brings it.
                 ends(f"{program.name}: a file of at most {most} bytes, its signal {'' if ignored else 'not '}ignored",
-                     (status, said + (room / "file").read_bytes()), wanted, text[:most])
+                     (status, said + (tmp_path / "file").read_bytes()), wanted, text[:most])
 
 
-def a_full_pipe():
+def test_a_full_pipe():
     reader, writer = os.pipe()
     os.set_blocking(writer, False)
     status, _ = run([*GIVEN, *LONG_WORDS], SHELL, stdout=writer)
@@ -222,7 +206,7 @@ def a_full_pipe():
         ends("static, a pipe that is full", (status, some.read()[:6]), NOT_WRITTEN, CODE[:6])
 
 
-def writes_that_take_little_or_fail(preload):
+def test_writes_that_take_little_or_fail(preload):
     for program, words, status, text in ((SHOW, ["-v", "x"], SHOWN, V_X), (SHOW, ["--nope"], REFUSED, FAULT),
                                          (BUILT, ["x", "[-a]", "-a"], SHOWN, b"\\set -- '--a' '--'\n"),
                                          (BUILT, ["x", "[-a]", "-b"], REFUSED,
@@ -232,16 +216,14 @@ def writes_that_take_little_or_fail(preload):
                  run(words, program, environment={**preload, "WRITE_MOST": str(most)}), status, text)
         for error in (0, errno.EIO, errno.ENOSPC, errno.EAGAIN, errno.EBADF, errno.EPIPE, errno.EINTR):
             fails = {**preload, "WRITE_MOST": "1", "WRITE_ERROR": str(error)}
-            why = ""
             for at in range(1, len(text) + 1):
                 ended = run(words, program, environment={**fails, "WRITE_AT": str(at)})
                 # A write that was interrupted may be tried again.
-                if ended != (NOT_WRITTEN, text[:at - 1]) and not (error == errno.EINTR and ended == (status, text)):
-                    why = why or f"write {at}: {ended}"
-            expect(f"{words}: each write in turn fails with error {error}", why)
+                again = error == errno.EINTR and ended == (status, text)
+                assert again or ended == (NOT_WRITTEN, text[:at - 1]), f"{words}: write {at} fails with error {error}"
 
 
-def large_words(preload):
+def test_large_words(preload):
     word = "x" * LONGEST
     ends("the longest word that the system hands on", run([word]), SHOWN, shown(free=[word]))
     ends("many long words", run(LONG_WORDS), SHOWN, shown(free=LONG_WORDS))
@@ -249,12 +231,10 @@ def large_words(preload):
                        ("many words", ["f"] * 20_000), ("no words", [])):
         status, wrote = run([*GIVEN, *free], SHELL)
         read = shlex.split(wrote.decode())
-        expect(f"static, {what}", "" if (status, read) == (SHOWN, ["--v", "--o=it's", "--", *free]) else f"{status}: {read[:9]}")
-    try:
+        assert (status, read) == (SHOWN, ["--v", "--o=it's", "--", *free]), f"static, {what}: {status}: {read[:9]}"
+    with pytest.raises(OSError) as longer:
         run(["x" * (LONGEST + 1)])
-        expect("a longer word", "the system handed it on")
-    except OSError as error:
-        expect("a longer word", "" if error.errno == errno.E2BIG else str(error))
+    assert longer.value.errno == errno.E2BIG
     letters = "x" * LARGE
     for head, text in (("", lambda: shown(free=[letters])), ("--output=", lambda: shown([("output", 0, letters)])),
                        ("-o", lambda: shown([("output", 0, letters)])),
@@ -276,13 +256,12 @@ def with_little(what, limits, status, text, **how):
             ended = (-error.errno, b"")
         begun += ended in ((NOTHING, b""), (status, text))
         enough += ended == (status, text)
-        why = "" if ended in ((NOTHING, b""), (status, text)) or (not begun and not ended[1]) else (
-            f"status {ended[0]}, wrote {described(ended[1])}")
-        expect(f"{what} in {most} bytes", why)
-    expect(what, "" if 0 < enough < begun else f"enough {enough} times of {begun} that it began")
+        right = ended in ((NOTHING, b""), (status, text)) or (not begun and not ended[1])
+        assert right, f"{what} in {most} bytes: status {ended[0]}, wrote {described(ended[1])}"
+    assert 0 < enough < begun, f"{what}: enough {enough} times of {begun} that it began"
 
 
-def little_memory(preload):
+def test_little_memory(preload):
     with_little("long words", range(MIB // 4, 20 * MIB, MIB // 4), SHOWN, shown(free=LONG_WORDS), words=LONG_WORDS)
     with_little("a fault", range(MIB // 8, 4 * MIB, MIB // 32), REFUSED, FAULT, words=["--nope"])
     with_little("a word of 100 MB", range(200 * MIB, 900 * MIB, 50 * MIB), SHOWN, shown([("output", 0, "x" * LARGE)]),
@@ -292,7 +271,7 @@ def little_memory(preload):
                 words=[*GIVEN, *LONG_WORDS], program=SHELL)
 
 
-def little_stack():
+def test_little_stack():
     """Limits on the stack. What the words themselves take of it the system asks for before the program begins."""
     many = ["f"] * 20_000
     for program, words, text, sizes in ((SHOW, ["-v", "x"], V_X, (16, 24, 32, 48, 64, 96, 128, 256, 1024)),
@@ -301,31 +280,3 @@ def little_stack():
         for kib in sizes:
             ends(f"{program.name}, {len(words)} words: a stack of {kib} KiB",
                  run(words, program, {resource.RLIMIT_STACK: kib * 1024}), SHOWN, text)
-
-
-def counted(part, *given):
-    """The runs of a part, and the checks of it that passed and that failed."""
-    before = runs, passed, failed
-    part(*given)
-    return [now - then for now, then in zip((runs, passed, failed), before)]
-
-
-def main():
-    if not all(os.access(program, os.X_OK) for program in (SHOW, BUILT)) or not shutil.which("rt"):
-        print(f"skipped: the programs and the system: there is no rt, or 'rt ci' has not built {SHOW} and {BUILT}")
-        return
-    with tempfile.TemporaryDirectory() as folder:
-        room = pathlib.Path(folder)
-        preload = between(room)
-        parts = [(rows,), (large_words, preload), (little_memory, preload), (writes_that_take_little_or_fail, preload),
-                 (words_that_are_no_text,), (no_words, preload), (outputs_that_take_nothing,), (texts_are_written_at_once,),
-                 (a_file_of_so_many_bytes, room), (a_full_pipe,), (little_stack,)]
-        with concurrent.futures.ProcessPoolExecutor(4) as apart:
-            each = [done.result() for done in [apart.submit(counted, *part) for part in parts]]
-    ran, well, badly = (sum(part[at] for part in each) for at in range(3))
-    print(f"{ran} runs\n{well} passed, {badly} failed")
-    sys.exit(badly > 0)
-
-
-if __name__ == "__main__":
-    main()

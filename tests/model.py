@@ -1,23 +1,6 @@
-#!/usr/bin/env python3
-"""Reads lines by the rules of docs/GRAMMAR.md alone: a search for readings and for faults, as they are defined.
+"""A second reader of the rules, by docs/GRAMMAR.md alone: a search for readings and for faults, as they are defined, and
+what rows of text ask of them."""
 
-It takes rows with the answers that are expected beside them: those of `getopts_vectors` that are written by hand and
-those that the Rust crate answered. What the rules say to a row has to be what stands there. Then each line of words in
-these rows is asked for its canonical line, and each name of accepted words for its positions and values, which the
-Rust crate has no answer to, and `getopts_vectors` has to give the answers of the rules.
-
-usage: rules.py [--try] [ROWS..]
-    --try     runs `rt try` in place of the program that was built last
-    ROWS      other files of rows than those of `getopts_vectors`
-"""
-
-import pathlib
-import subprocess
-import sys
-import tempfile
-
-VECTORS = pathlib.Path(__file__).resolve().parent.parent.parent / "crates/getopts_vectors"
-ROWS = [VECTORS / "data/rules.rows", VECTORS / "data/recorded.rows"]
 KINDS = {  # of argument and of occurrence, by the call that declares the group
     "optflag": ("no", "optional"), "optflagmulti": ("no", "multi"), "optflagopt": ("maybe", "optional"),
     "optmulti": ("yes", "multi"), "optopt": ("yes", "optional"), "reqopt": ("yes", "req"),
@@ -234,11 +217,11 @@ class Session:
             return [line("case", *fields)]
         if self.declare(word, fields):
             return []
-        if word in ("words", "ignoring_counts"):
-            self.read = self.options.parse(fields, word == "words")
+        if word in ("words", "parse_words", "parse_filtered", "ignoring_counts"):
+            self.read = self.options.parse(fields, word != "ignoring_counts")
             return [self.result("accepted", self.read)]
-        if word == "canonical":
-            return [self.canonical(fields)]
+        if word in ("canonical", "canonical_words", "canonical_filtered"):
+            return [self.canonical(word, fields)]
         if word == "lawful":
             short, long = fields
             return [line("lawful", "true" if len(short) < 2 and len(long) != 1 and short + long else "false")]
@@ -257,12 +240,12 @@ class Session:
             return line("refused", read[0], read[1], TEXTS[read[0]] % read[1])
         return line(word, "-" if read[2] is None else read[2], *read[1])
 
-    def canonical(self, words):
+    def canonical(self, word, words):
         read = self.options.parse(words)
         if len(read) == 2:
-            return b"canonical\t" + self.result("", read)
+            return line(word) + b"\t" + self.result("", read)
         written = self.options.canonical(read)
-        return line("canonical", "none") if written is None else line("canonical", "line", *written)
+        return line(word, "none") if written is None else line(word, "line", *written)
 
     def any(self, names):
         places = [self.options.resolve(name) for name in names]
@@ -324,32 +307,3 @@ def held(rows):
                 asked += [line("positions", name) for name in names]
             beyond += [(more, session.answer(*parts(more))) for more in asked]
     return beyond, given, lines, differ
-
-
-def main():
-    arguments = sys.argv[1:]
-    tries = "--try" in arguments
-    files = [pathlib.Path(one).resolve() for one in arguments if one != "--try"] or ROWS
-    rows = [row for file in files for row in rows_of(file.read_bytes())]
-    beyond, given, lines, differ = held(rows)
-    print(f"{given} of {lines} lines of answers are given by the rules; {len(differ)} rows differ")
-    for one in differ[:20]:
-        print(b"\n  ".join(one).decode())
-    program = VECTORS / "out/getopts_vectors"
-    if not tries and not program.exists():
-        sys.exit("rules.py: getopts_vectors isn't built: 'rt run' in its crate builds it")
-    with tempfile.NamedTemporaryFile(suffix=".rows") as file:
-        for one, answers in beyond:
-            file.write(b"".join(each + b"\n" for each in [one, *(b"> " + answer for answer in answers)]))
-        file.flush()
-        print(f"{len(beyond) - len(rows)} lines are asked beyond the {len(rows)} rows")
-        command = ["rt", "try", "--", file.name] if tries else [program, file.name]
-        ran = subprocess.run(command, cwd=VECTORS, capture_output=True, text=True, errors="replace")
-    said = ran.stdout.replace(file.name, "getopts_vectors")
-    print(said[-4000:], ran.stderr[-1000:] if ran.returncode else "", sep="", end="")
-    print("all agree" if not differ and ran.returncode == 0 else "not all agree")
-    sys.exit(bool(differ) or ran.returncode != 0)
-
-
-if __name__ == "__main__":
-    main()
