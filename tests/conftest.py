@@ -24,9 +24,9 @@ LINES = ["--output=x.txt --verbose in.txt", "-vvLd -La -Lb -c auto -o x.txt f --
 # The package of Debian 12 that has a tool, where its name is another.
 PACKAGES = {"cc": "gcc", "clang++": "clang", "nm": "binutils", "ar": "binutils", "readelf": "binutils", "as": "binutils",
             "ld": "binutils", "objcopy": "binutils", "musl-gcc": "musl-tools", "qemu-aarch64": "qemu-user",
-            "aarch64-linux-gnu-gcc": "gcc-aarch64-linux-gnu libc6-dev-arm64-cross", "node": "nodejs",
-            "x86_64-w64-mingw32-gcc": "gcc-mingw-w64-x86-64", "i686-linux-gnu-gcc": "gcc-i686-linux-gnu libc6-dev-i386-cross",
-            "wine": "wine64", "man": "man-db", "groff": "groff-base", "ksh93": "ksh93u+m", "busybox": "busybox-static"}
+            "aarch64-linux-gnu-gcc": "gcc-aarch64-linux-gnu libc6-dev-arm64-cross", "node": "nodejs", "wine": "wine64",
+            "i686-linux-gnu-gcc": "gcc-i686-linux-gnu libc6-dev-i386-cross", "man": "man-db", "groff": "groff-base",
+            "x86_64-w64-mingw32-gcc": "gcc-mingw-w64-x86-64", "ksh93": "ksh93u+m", "busybox": "busybox-static"}
 
 
 def pytest_addoption(parser):

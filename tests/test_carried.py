@@ -1,4 +1,4 @@
-"""What the repository carries built is of today's source: by the sums of what was made, of its sources and the toolchain."""
+"""What the repository carries built is of today's source: by the sums of what was made, its sources and the toolchain."""
 
 import pytest
 from conftest import ROOT, need, run
@@ -12,7 +12,8 @@ def test_of_the_source(what):
     run(ROOT / BUILD, "--check", what)
 
 
-@pytest.mark.parametrize("file", ["crates/getopts/src/scan.rt", "bindings/shell/start.c", "bindings/shell/x86_64/getopts_shell"])
+@pytest.mark.parametrize("file", ["crates/getopts/src/scan.rt", "bindings/shell/start.c",
+                                  "bindings/shell/x86_64/getopts_shell"])
 def test_a_change_is_found(file, copy):
     need("rt")
     with open(copy / file, "ab") as changed:

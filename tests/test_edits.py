@@ -116,8 +116,8 @@ class Copies:
         if source.is_dir():
             shutil.copytree(source, to)
             for file in (file for file in to.rglob("*") if file.is_file()):
-                text = file.read_text(encoding="utf-8")
-                file.write_text(text.replace(f"proofs.{'.'.join(path)}.", f"proofs.{'.'.join([*path[:-1], new])}."), encoding="utf-8")
+                text, module = file.read_text(encoding="utf-8"), ".".join(["proofs", *path[:-1]])
+                file.write_text(text.replace(f"{module}.{path[-1]}.", f"{module}.{new}."), encoding="utf-8")
 
     def write(self):
         for file, text in self.files.items():
@@ -163,9 +163,10 @@ def verdicts(request, tmp_path_factory):
     def of(crate):
         if crate not in found:
             found[crate] = {}
-            asked = [item.callspec.params["edit"] for item in request.session.items if item.name.startswith("test_edit[")]
-            found[crate] = tried([edit for edit in asked if edit.crate == crate and passed_over(edit, request.config) is None],
-                                 tmp_path_factory.mktemp(crate))
+            items = [item for item in request.session.items if item.name.startswith("test_edit[")]
+            asked = [edit for edit in (item.callspec.params["edit"] for item in items)
+                     if edit.crate == crate and not passed_over(edit, request.config)]
+            found[crate] = tried(asked, tmp_path_factory.mktemp(crate))
         return found[crate]
 
     return of
@@ -217,7 +218,8 @@ def test_edit(edit, verdicts, request):
     assert verdicts(edit.crate).get(edit.name, "the check failed before") == ("proved" if edit.variant == "right" else "refused")
 
 
-@pytest.mark.parametrize("edit", [pytest.param(edit, id=f"{edit.crate}-{edit.name}") for edit in ALL if edit.variant == "new"])
+@pytest.mark.parametrize("edit", [pytest.param(edit, id=f"{edit.crate}-{edit.name}")
+                                  for edit in ALL if edit.variant == "new"])
 def test_form(edit):
     """Each text stands where the edit says, and what it adds has an ensures and a right text beside it."""
     edit.applied(ROOT / "crates" / edit.crate)

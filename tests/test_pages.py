@@ -238,8 +238,9 @@ def contracts_in(text):
         if taken is None:
             continue
         alone = line.strip() in ("{", "{}")
-        ends = alone or line.endswith((" {", "}")) and not re.search(r"^ *(requires|ensures) ", "\n".join([*taken, line]), re.M)
-        taken += [] if alone else [re.sub(r" \{(.*\})?$", "", line).removeprefix(indent) if ends else line.removeprefix(indent)]
+        clauses = re.search(r"^ *(requires|ensures) ", "\n".join([*taken, line]), re.M)
+        ends = alone or line.endswith((" {", "}")) and not clauses
+        taken += [] if alone else [(re.sub(r" \{(.*\})?$", "", line) if ends else line).removeprefix(indent)]
         if ends:
             yield owner, name, "\n".join(taken)
             taken = None
@@ -253,7 +254,8 @@ def contracts():
     for visible, module in re.findall(r"^(pub )?mod (\w+);", root, re.M):
         for owner, name, text in contracts_in(read(f"crates/getopts/src/{module}.rt")):
             if (owner or name) in public or visible:
-                parts.append(text.replace("pub fn ", f"fn {owner}::" if owner else f"fn {module}::" if visible else "fn ", 1))
+                front = f"{owner}::" if owner else f"{module}::" if visible else ""
+                parts.append(text.replace("pub fn ", f"fn {front}", 1))
     return "\n\n".join(parts) + "\n"
 
 
@@ -374,7 +376,8 @@ def test_no_module_uses_one_that_uses_it(crate):
 def test_figures(page, fix):
     if fix:
         put_in(page)
-    failures = [f"{place(page, at)}: {is_now} has to be {wanted}" for at, is_now, wanted in figures_of(page) if is_now != wanted]
+    failures = [f"{place(page, at)}: {is_now} has to be {wanted}"
+                for at, is_now, wanted in figures_of(page) if is_now != wanted]
     none(failures + [f"{place(page, at)}: no check knows the figure {it}" for at, it in unknown_in(page)])
 
 
