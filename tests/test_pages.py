@@ -102,7 +102,7 @@ FIGURES = [
      lambda: [share("small", "bindings/rust"), share("long", "bindings/rust")]),
     ("docs/DECISIONS.md", r"9,305 instructions in place of ([\d,]+)",
      lambda: [f"{int(cell(INSTRUCTIONS, 'small', 'this library')):,}"]),
-    (CALLING, r"first proof takes ([^|]*?) of processor time: by the clock\s+([^|]*?) on four", lambda: minutes("rt lib")),
+    (CALLING, r"the library once, in ([^|]*?) of processor time, by the clock in ([^|]*?)\s+on four", lambda: minutes("rt lib")),
     ("tests/differential/README.md", r"first ([\d,]+) of seed 1",
      lambda: [f"{int(re.search(r'choose 1 (.*?) ', read('tests/differential/record.sh'))[1]):,}"]),
     ("bindings/rust/README.md", r"Rust ([\d.]+) or later",
