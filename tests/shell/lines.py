@@ -174,7 +174,7 @@ def random_lines(program, found, room, count, way):
         for place, option in enumerate(options if way != "words" else []):
             name = prefix + (option[1] or option[0]).replace("-", "_")
             env[name] = "other"
-            script.insert(0, f"unset {name}; {name}='other'" if way == "arrays" else f"{name}='other'")
+            script.insert(0, f"unset {name}; {name}=(other array)" if way == "arrays" else f"{name}='other'")
             if option[2] != "no" and option[3] == "many":
                 script.append(f"set -- ${{{name}+\"${{{name}[@]}}\"}}" if way == "arrays" else f"eval \"set -- ${name}\"")
                 script.append("printf '%s\\0' \"$#\" \"$@\"")

@@ -28,7 +28,6 @@ Options:
     -b, --brief TEXT    begin the help with TEXT
     -s, --stop          leave all words from the first free one on free
     -l, --long-only     let long names follow one dash too
-    -w, --words         write the words alone, without 'set --'
     -V, --variables PREFIX
                         set a variable for each option, named PREFIX and its
                         name
@@ -37,8 +36,7 @@ Options:
     -c, --complete SHELL
                         write a completion script for bash, zsh or fish
         --complete-words SHELL
-                        write what may come at word N, where the WORDs are N
-                        and words
+                        write what may come at the last WORD
     -h, --help          print this help
         --version       print the version
 """
@@ -89,13 +87,18 @@ Options:
     -h, --help          print this help
 '; \\exit
 """
-ALONE_VARIABLES = """\
-\\unset -v o_input
-o_verbose=0
-o_version=1
-o_licence=0
-o_help=0
-""" + "\\set -- \n"
+
+
+def code(*lines, words=""):
+    """Code for variables: of each NAME, that it is taken away, and of NAME=VALUE, that it is then set."""
+    shown = []
+    for line in lines:
+        shown.append(f"\\unset -v {line.split('=')[0]}\n")
+        shown += [line + "\n"] if "=" in line else []
+    return "".join(shown) + f"\\set -- {words}\n"
+
+
+ALONE_VARIABLES = code("o_input", "o_verbose='0'", "o_version='1'", "o_licence='0'", "o_help='0'")
 
 # Why an item is refused.
 DASHES = "a short name comes after '-', a long one after '--'"
@@ -128,12 +131,12 @@ WORDS = [
     (["-u", "backup", TABLE], HELP, 0),
     (["--usage", "--brief=Back files up.", "backup", TABLE, "--nope"], "Back files up.\n" + OPTIONS_HELP, 0),
     (["-c", "tcsh", "-u", "backup", TABLE], "getopts_shell: no completion for 'tcsh'\n", 5),
-    (["--complete-words", "tcsh", "backup", TABLE, "0"], "getopts_shell: no completion for 'tcsh'\n", 5),
-    (["--complete-words", "zsh", "backup", TABLE, "2", "x"], "getopts_shell: no word has the number '2'\n", 5),
-    (["--complete-words", "zsh", "backup", TABLE], "getopts_shell: no word has the number ''\n", 5),
-    (["--complete-words", "fish", "backup", TABLE, "1", "-h", "--"],
+    (["--complete-words", "tcsh", "backup", TABLE], "getopts_shell: no completion for 'tcsh'\n", 5),
+    (["--complete-words", "zsh", "backup", TABLE, "x"], "files\n", 0),
+    (["--complete-words", "zsh", "backup", TABLE], "files\n", 0),
+    (["--complete-words", "fish", "backup", TABLE, "-h", "--"],
      "--input\tread this file\n--output\twrite to FILE\n--verbose\tsay more\n--color\tcolour the output\n", 0),
-    (["--complete-words", "bash", "backup", TABLE, "1", "--", "-"], "files\n", 0),
+    (["--complete-words", "bash", "backup", TABLE, "--", "-"], "files\n", 0),
     (["backup", TABLE, "-h"], HELP_CODE, 0),
     (["backup", TABLE, "-o", "a", "-o", "b", "--help", "-h"], HELP_CODE, 0),
     (["backup", TABLE, "-h", "--nope"], UNKNOWN, 2),
@@ -146,12 +149,11 @@ WORDS = [
     (["backup", TABLE, "x", "-iy", "-c", "z", "-L", "l"], "\\set -- '--input=y' '--color=z' '--L=l' '--' 'x'\n", 0),
     (["-s", "backup", TABLE, "-iy", "x", "-v"], "\\set -- '--input=y' '--' 'x' '-v'\n", 0),
     (["-l", "backup", TABLE, "-input", "y", "-v"], "\\set -- '--input=y' '--verbose' '--'\n", 0),
-    (["-w", "backup", TABLE, "-iy", "x"], "'--input=y' '--' 'x'\n", 0),
     (["-A", "x", "-v"], "getopts_shell: --arrays needs --variables\n", 5),
-    (["-AwV", "opt_", "x", "-v"], "getopts_shell: --words and --variables don't go together\n", 5),
     (["-Au", "x", "[-v]"], "getopts_shell: --arrays needs --variables\n", 5),
     (["-A", "x", "-v\n-"], f"getopts_shell: line 2 of the options: -: {DASHES}\n", 5),
-    (["-w", "x", ""], "'--'\n", 0),
+    (["-w", "x", ""], "getopts_shell: Unrecognized option: 'w'\n", 5),
+    (["x", ""], "\\set -- '--'\n", 0),
     (["x", "", "\n", "\\", "$HOME", "é"], "\\set -- '--' '\n' '\\' '$HOME' 'é'\n", 0),
     (["x", "[--help FILE]", "--help", "a"], "\\set -- '--help=a' '--'\n", 0),
     (["x", "[-h]", "-h"], "\\set -- '--h' '--'\n", 0),
@@ -160,18 +162,19 @@ WORDS = [
 ]
 
 # Variables: the program's own words, the script's words, and the code, by TABLE.
-NONE = "\\unset -v opt_output\nopt_verbose=0\n\\unset -v opt_color\nopt_L=''\nopt_help=0\n"
+NONE = ("opt_output", "opt_verbose='0'", "opt_color", "opt_L=''", "opt_help='0'")
 VARIABLES = [
-    (["-V", "opt_"], ["-i", "a b"], f"opt_input='a b'\n{NONE}\\set -- \n"),
+    (["-V", "opt_"], ["-i", "a b"], code("opt_input='a b'", *NONE)),
     (["--variables=opt_"], ["x", "-vvi", "", "--output=it's", "--color", "--", "-v", ""],
-     "opt_input=''\nopt_output='it'\\''s'\nopt_verbose=2\nopt_color=''\nopt_L=''\nopt_help=0\n\\set -- 'x' '-v' ''\n"),
+     code("opt_input=''", "opt_output='it'\\''s'", "opt_verbose='2'", "opt_color=''", "opt_L=''", "opt_help='0'",
+          words="'x' '-v' ''")),
     (["-V", ""], ["-ix", "--color=auto", "-L", "a", "-Lb c"],
-     "input='x'\n\\unset -v output\nverbose=0\ncolor='auto'\nL=''\\''a'\\'' '\\''b c'\\'''\nhelp=0\n\\set -- \n"),
+     code("input='x'", "output", "verbose='0'", "color='auto'", "L=''\\''a'\\'' '\\''b c'\\'''", "help='0'")),
     (["-AV", "_"], ["-ix", "-La", "-L", "b'\nc", "d"],
-     "_input='x'\n\\unset -v _output\n_verbose=0\n\\unset -v _color\n_L=(${_L+} 'a' 'b'\\''\nc')\n_help=0\n\\set -- 'd'\n"),
+     code("_input='x'", "_output", "_verbose='0'", "_color", "_L=(${_L+} 'a' 'b'\\''\nc')", "_help='0'", words="'d'")),
     (["-A", "-V", "o"], ["-ix"],
-     "oinput='x'\n\\unset -v ooutput\noverbose=0\n\\unset -v ocolor\noL=(${oL+} )\nohelp=0\n\\set -- \n"),
-    (["-sV", "opt_"], ["-ia", "x", "-v"], f"opt_input='a'\n{NONE}\\set -- 'x' '-v'\n"),
+     code("oinput='x'", "ooutput", "overbose='0'", "ocolor", "oL=(${oL+} )", "ohelp='0'")),
+    (["-sV", "opt_"], ["-ia", "x", "-v"], code("opt_input='a'", *NONE, words="'x' '-v'")),
 ]
 # The program's own words, a table that has no such variables, and the fault.
 NO_VARIABLES = [
@@ -182,7 +185,6 @@ NO_VARIABLES = [
     (["-V", "opt_"], "--a.b", "line 1 of the options: 'a.b' makes no variable"),
     (["-V", ""], "-v\n-1", "line 2 of the options: '1' makes no variable"),
     (["-V", "opt_"], "--a-b\n\n[--a_b]", "line 3 of the options: 'a_b' makes the variable of another option"),
-    (["-wV", "opt_"], "-v", "--words and --variables don't go together"),
 ]
 
 # Words with an option that stands alone, and words without one.
@@ -191,7 +193,6 @@ BY_ONE = [
     (["backup", ALONE, "-ia", "x", "-vV"], "\\set -- '--version' '--'\n", 0),
     (["backup", ALONE, "--licence", "-V", "-ia", "-ib", "-V"], "\\set -- '--version' '--'\n", 0),
     (["backup", ALONE, "--licence", "-v"], "\\set -- '--licence' '--'\n", 0),
-    (["-w", "backup", ALONE, "-V"], "'--version' '--'\n", 0),
     (["-l", "backup", ALONE, "-version"], "\\set -- '--version' '--'\n", 0),
     (["-s", "backup", ALONE, "-V", "x"], "\\set -- '--version' '--'\n", 0),
     (["-s", "backup", ALONE, "x", "-V"], ALONE_MISSING, 2),
@@ -207,8 +208,9 @@ BY_ONE = [
     (["-b", "Do it.", "backup", ALONE, "-Vh"], ALONE_HELP, 0),
     (["-V", "o_", "backup", ALONE, "-vV", "x"], ALONE_VARIABLES, 0),
     (["-sV", "o_", "backup", ALONE, "-VV", "x"], ALONE_VARIABLES, 0),
-    (["-AV", "o_", "x", "[-L D]..\n-i\n[-q]!", "-qLa"], "o_L=(${o_L+} )\no_i=0\no_q=1\n\\set -- \n", 0),
-    (["--complete-words", "fish", "backup", ALONE, "0", "--v"], "--verbose\tsay more\n--version\tprint the version\n", 0),
+    (["-AV", "o_", "x", "[-L D]..\n-i\n[-q]!", "-qLa"],
+     code("o_L=(${o_L+} )", "o_i='0'", "o_q='1'"), 0),
+    (["--complete-words", "fish", "backup", ALONE, "--v"], "--verbose\tsay more\n--version\tprint the version\n", 0),
     (["x", "-a\n[-h|--help]!\n[-q]!", "-q"], "\\set -- '--q' '--'\n", 0),
     (["-bU", "x", "-a\n[--help]!\n[-q]!", "-q", "--help"],
      "\\printf %s 'U\n\nOptions:\n    -a                  \n        --help          \n    -q                  \n'; \\exit\n", 0),

@@ -140,8 +140,8 @@ def beside_getopt(program):
             words.insert(0, rng.choice(["-x", "--nope", "--nope=b"] + flags))
         if rng.random() < 0.1 and "--" not in words:
             words += [f"-{short}" if short else f"--{long}" for short, long, kind, _ in options if kind == "yes"][:1]
-        done = run([program, "-w", "try", written(options)] + words)
-        ours = shlex.split(os.fsdecode(done.stdout)) if done.returncode == 0 else None
+        done = run([program, "try", written(options)] + words)
+        ours = shlex.split(os.fsdecode(done.stdout))[2:] if done.returncode == 0 else None
         theirs = by_getopt(options, words)
         asked, refused = asked + 1, refused + (ours is None)
         if ours != theirs:

@@ -22,7 +22,6 @@ use Rattle.getopts.proofs.Lists.{AllByRecursion-right, slice_get-append}
 use Rattle.getopts.proofs.Lookup.Names.{resolution-main}
 use Rattle.getopts_shell.specs.Held.{HaveReading, group_of_row, groups_of}
 use Rattle.getopts_shell.specs.Program.{AskAlone, AskHelp, is_alone, is_no, main_word, stands_alone}
-use Rattle.getopts_shell.specs.Quote.{holds_nul}
 use Rattle.getopts_shell.specs.Table.{DeclaresOptions, HaveNewNames, MayBeNames, any_has_name, name_again}
 use Rattle.getopts_shell.specs.declared.row.Row.{Row}
 use Rattle.getopts_shell.proofs.Help.{one_reading}
@@ -218,14 +217,6 @@ found_named table options matches group declares is =
     (AllByRecursion-right may found.0 (group ∷ found.1)
     (subst (AllByRecursion may) found.2 (options_named (lines_of table) options.groups declares))).0
 
--- the word of an option that is found holds no NUL byte
-pub alone_clear : (table : Text) (options : Declared) (matches : Matched) (group : Group)
-    → DeclaresOptions table options.groups → find (is_alone matches) options.groups ≡ Some group
-    → holds_nul (main_word group) ≡ false
-alone_clear table options matches group declares is =
-    let named = found_named table options matches group declares is in
-    (plain_main group.signature.names named.short_name named.long_name).1
-
 -- the word of an option that is found has a reading
 pub alone_reads : (table : Text) (options : Declared) (matches : Matched) (group : Group)
     → DeclaresOptions table options.groups → find (is_alone matches) options.groups ≡ Some group
@@ -244,7 +235,7 @@ alone_reads table options matches group declares is =
         items = (
           record {
             before = tt;
-            cut_once = (plain_main group.signature.names named.short_name named.long_name).0;
+            cut_once = plain_main group.signature.names named.short_name named.long_name;
             resolves = (
               No,
               ap (λ (groups : List Group). kind_of groups name) found.2

@@ -1,6 +1,5 @@
 mod Quoting
 mod QuotedBytes
-mod Nul
 mod Items
 mod Lines
 mod Only
@@ -9,8 +8,8 @@ mod Plain
 mod Help
 mod Line
 mod Status
--- words in quotes, as each shell reads them
-mod Stubs
+-- texts cut at a byte, with another in its place
+mod Parts
 -- one thing is offered at a word
 mod Offers
 mod Fronts

@@ -1,23 +1,23 @@
 -- Lines of a table.
-use Rattle.std.proofs.Common.{◌≡◌, ℕ, ◌<◌, ◌+◌, Bool, true, false, cond, List, [], ◌∷◌, ◌++◌, length, take, drop}
+use Rattle.std.proofs.Common.{◌≡◌, ℕ, ◌<◌, ◌+◌, Bool, true, false, List, [], ◌∷◌, ◌++◌, length, take, drop}
 use Rattle.std.proofs.Common.{get_or}
-use Rattle.std.proofs.Common.{map, refl, sym, ap, ◌∙◌, arith, suc, zero}
+use Rattle.std.proofs.Common.{map, refl, sym, ap, ◌∙◌, arith}
 use Rattle.std.specs.Prelude.{◌||◌, ◌==◌, Option, Some, None, slice_index, min, ◌-◌, ◌^◌}
-use Rattle.std.specs.List.{AllZip, filter_map, list_all, list_any}
+use Rattle.std.specs.List.{AllZip, filter_map, list_any}
 use Rattle.std.specs.Option.{option_to_list}
 use Rattle.std.proofs.Common.{append_assoc, append-nil, subst, length-append}
-use Rattle.std.proofs.lemmas.Bool.Decides.{nat_tests}
 use Rattle.std.proofs.lemmas.List.{take-append-drop}
 use Rattle.std.proofs.lemmas.List.Elements.{filter_map-append}
 use Rattle.std.proofs.lemmas.List.{at_drop_more}
-use Rattle.std.proofs.lemmas.List.Folds.{list_all_at}
 use Rattle.getopts.specs.Names.{Text, is_empty}
 use Rattle.getopts.specs.Options.{Group, Signature}
 use Rattle.getopts.specs.Wrap.{lines_of}
 use Rattle.getopts_shell.specs.Held.{TellsFault}
 use Rattle.getopts_shell.specs.declared.table.TableError.{TableError}
 use Rattle.getopts_shell.specs.declared.table.TableError.TheVariants as error
-use Rattle.getopts_shell.specs.Table.{is_blank, before_blanks, after_blanks, trimmed, before_gap, from_gap}
+use Rattle.std.specs.Str.{IsTrimAscii}
+use Rattle.std.proofs.lemmas.Str.Ascii.{trim_ascii_is}
+use Rattle.getopts_shell.specs.Table.{after_blanks, trimmed, before_gap, from_gap}
 use Rattle.getopts_shell.specs.Table.{is_passed, IsOption, DeclaresGroup, Declares}
 use Rattle.getopts_shell.specs.Table.{HaveNewNames, DeclareOptions, TableFault}
 use Rattle.getopts_shell.specs.Table.{IsLineFault, IsTableFault, no_option, none}
@@ -28,33 +28,9 @@ pub list_any-map : {X Y : Type 0} (p : Y → Bool) (f : X → Y) (xs : List X)
 list_any-map p f [] = refl
 list_any-map p f (x ∷ xs) = ap (λ (b : Bool). p (f x) || b) (list_any-map p f xs)
 
--- a blank is of one byte
-pub blank_is_ascii : (byte : ℕ) → is_blank byte ≡ true → byte < 128
-blank_is_ascii byte blank = grind (arith, nat_tests)
-
--- one more blank at the front
-pub after_one_blank : (text : Text) (n : ℕ) → n < length text → is_blank (get_or text n 0) ≡ true
-    → after_blanks (drop n text) ≡ after_blanks (drop (n + 1) text)
-after_one_blank text n below blank = at_drop_more after_blanks text n 0 below
-    ∙ ap (λ (b : Bool). cond b (after_blanks (drop (n + 1) text)) (get_or text n 0 ∷ drop (n + 1) text)) blank
-
--- of blanks alone nothing is left
-blanks_go : (text : Text) → list_all is_blank text ≡ true → before_blanks text ≡ []
-blanks_go [] blanks = refl
-blanks_go (byte ∷ text) blanks = ap (λ (b : Bool). cond b [] (byte ∷ before_blanks text)) blanks
-
--- a text ends where what follows is blanks alone
-pub ends_before_blanks : (text : Text) (n : ℕ) → n < length text → is_blank (get_or text n 0) ≡ false
-    → list_all is_blank (drop (suc n) text) ≡ true → before_blanks text ≡ take (suc n) text
-ends_before_blanks [] n below plain blanks = absurd (omega arith)
-ends_before_blanks (byte ∷ text) zero below plain blanks =
-    ap (λ (b : Bool). cond b [] (byte ∷ before_blanks text))
-    (list_all_at is_blank (byte ∷ text) zero 0 below plain)
-    ∙ ap (λ (t : Text). byte ∷ t) (blanks_go text blanks)
-ends_before_blanks (byte ∷ text) (suc n) below plain blanks =
-    ap (λ (b : Bool). cond b [] (byte ∷ before_blanks text))
-    (list_all_at is_blank (byte ∷ text) (suc n) 0 below plain)
-    ∙ ap (λ (t : Text). byte ∷ t) (ends_before_blanks text n (omega arith) plain blanks)
+-- what the trimming of std gives
+pub trimmed_is : (text other : Text) → IsTrimAscii text other → other ≡ trimmed text
+trimmed_is text other is = trim_ascii_is text other (after_blanks text) refl is
 
 -- ---- what a line declares
 

@@ -1,6 +1,6 @@
 -- Words have one answer.
-use Rattle.std.proofs.Common.{◌≡◌, ℕ, false, true, Ok, Err, List, [], ◌∷◌, Some, None, refl, sym, ap, subst, ◌∙◌}
-use Rattle.std.specs.Prelude.{codes, take}
+use Rattle.std.proofs.Common.{◌≡◌, false, true, Ok, Err, List, [], ◌∷◌, Some, None, refl, sym, ap, subst, ◌∙◌}
+use Rattle.std.specs.Prelude.{◌-◌, codes, length, take}
 use Rattle.std.proofs.lemmas.Bool.{false≢true}
 use Rattle.getopts.specs.CanonAnswers.{IsCanonicalAnswer, IsParseAnswer}
 use Rattle.getopts.specs.Fail.{Fault}
@@ -9,19 +9,18 @@ use Rattle.getopts.specs.Names.{Text}
 use Rattle.getopts.specs.Only.{AtMostOne, IsTheOnly}
 use Rattle.getopts.specs.Options.{Declared, Group}
 use Rattle.getopts.specs.Parse.{IsAccepted, IsRefused}
-use Rattle.getopts_shell.specs.Completion.{IsOffer, word_at}
 use Rattle.getopts_shell.specs.Program.{Answer, Asked, asked_by, done, misused, own_options, is_given, help_code}
-use Rattle.getopts_shell.specs.Program.{fault_line, refused_text, table_fault_line, script_options, line_code}
-use Rattle.getopts_shell.specs.Program.{AnswersPlace, offered, no_place, AnswersNumbered, AnswersOffer, at_place, no_shell, completion_answer}
+use Rattle.getopts_shell.specs.Program.{fault_line, refused_text, table_fault_line, script_options}
+use Rattle.getopts_shell.specs.Program.{AnswersOffer, offered, no_shell, completion_answer, last_word}
 use Rattle.getopts_shell.specs.Program.{AnswersScript, usage, offers, help, alone, accepted, variables, refused, ReadsWords}
 use Rattle.getopts_shell.specs.Program.{AnswersAlone, as_line, as_variables}
 use Rattle.getopts_shell.specs.Program.{faulty, completion, no_variables, declared, AnswersFree, asked_fault, variable_fault_line}
 use Rattle.getopts_shell.specs.Program.{refused_own, own_help, own_version, accepted_own, OneAnswer}
 use Rattle.getopts_shell.specs.Table.{TableFault}
-use Rattle.getopts_shell.specs.Variables.{VariableFault, variables_code}
+use Rattle.getopts_shell.specs.Variables.{VariableFault, given_from, line_code, variables_code}
 use Rattle.getopts_shell.proofs.Alone.{same_alone}
 use Rattle.getopts_shell.proofs.Help.{one_reading}
-use Rattle.getopts_shell.proofs.Offers.{one_offer, one_number}
+use Rattle.getopts_shell.proofs.Offers.{one_offer}
 use Rattle.getopts_shell.proofs.Only.{one_table, one_fault, no_fault}
 
 -- two values that are the only one are one
@@ -29,29 +28,12 @@ one_only : {X : Type 0} (Fact : X → Type 0) (value other : X) → IsTheOnly Fa
     → other ≡ value
 one_only Fact value other is also = (is other).0 ((also other).1 refl)
 
-one_place : (options : Declared) (number : Text) (words : List Text) {answer other : Answer}
-    → AnswersPlace options number words answer → AnswersPlace options number words other → other ≡ answer
-one_place options number words (offered place text writes within is) (offered another others also_writes below also) =
-    ap done (one_offer options (take place words) (word_at words place) is
-    (subst (λ (at : ℕ). IsOffer options (take at words) (word_at words at) others)
-    (one_number number writes also_writes) also))
-one_place options number words (offered place text writes within is) (no_place none) =
-    absurd (none place writes within)
-one_place options number words (no_place none) (offered place text writes within is) =
-    absurd (none place writes within)
-one_place options number words (no_place none) (no_place never) = refl
-
-one_numbered : (options : Declared) (words : List Text) {answer other : Answer}
-    → AnswersNumbered options words answer → AnswersNumbered options words other → other ≡ answer
-one_numbered options [] is also = one_place options [] [] is also
-one_numbered options (number ∷ words) is also = one_place options number words is also
-
 one_word : (shell : Text) (options : Declared) (words : List Text) {answer other : Answer}
     → AnswersOffer shell options words answer → AnswersOffer shell options words other → other ≡ answer
-one_word shell options words (at_place answer has is) (at_place other again also) =
-    one_numbered options words is also
-one_word shell options words (at_place answer has is) (no_shell none) = absurd (false≢true (sym none ∙ has))
-one_word shell options words (no_shell none) (at_place answer has is) = absurd (false≢true (sym none ∙ has))
+one_word shell options words (offered text has is) (offered another again also) =
+    ap done (one_offer options (take (length words - 1) words) (last_word words) is also)
+one_word shell options words (offered text has is) (no_shell none) = absurd (false≢true (sym none ∙ has))
+one_word shell options words (no_shell none) (offered text has is) = absurd (false≢true (sym none ∙ has))
 one_word shell options words (no_shell none) (no_shell never) = refl
 
 -- what is asked for is one thing
@@ -68,6 +50,10 @@ no_code asked shell given none = let both : Some shell ≡ None = sym given ∙ 
 no_prefix : {X : Type 0} (asked : Asked) (prefix : Text) → asked.variables ≡ Some prefix → asked.variables ≡ None → X
 no_prefix asked prefix given none = let both : Some prefix ≡ None = sym given ∙ none in absurd cc
 
+abbrev code_for : Text → Asked → Declared → Matched → Text
+code_for prefix asked options matches =
+    variables_code prefix asked.arrays (given_from 0 options.groups matches.groups) matches.free
+
 -- one option alone has one answer
 one_alone : (asked : Asked) (options : Declared) (group : Group) {answer other : Answer}
     → AnswersAlone asked options group answer → AnswersAlone asked options group other → other ≡ answer
@@ -80,8 +66,8 @@ one_alone asked options group (as_variables prefix matches by read sets)
     (as_variables other others also_by also_read also_sets) =
     let both : Some other ≡ Some prefix = sym also_by ∙ by in
     let same_prefix : other ≡ prefix = cc in
-    ap (λ (p : Text). done (variables_code p asked.arrays others)) same_prefix
-    ∙ ap (λ (m : Matched). done (variables_code prefix asked.arrays m))
+    ap (λ (p : Text). done (code_for p asked options others)) same_prefix
+    ∙ ap (λ (m : Matched). done (code_for prefix asked options m))
     (one_reading options _ matches others read also_read)
 
 module _ (parse : (options : Declared) (words : List Text) → AtMostOne (IsParseAnswer options words))
@@ -129,7 +115,7 @@ module _ (parse : (options : Declared) (words : List Text) → AtMostOne (IsPars
       let same : Ok (Some another) ≡ Ok (Some line) =
       canonical options words (Ok (Some another)) (Ok (Some line)) also.written is.written in
       let same_line : another ≡ line = cc in
-      ap (λ (l : List Text). done (line_code asked l)) same_line
+      ap (λ (l : List Text). done (line_code l)) same_line
   one_script asked name options words (accepted line reads none plain is) (refused fault again never also) =
       let same : Ok (Some line) ≡ Err fault = canonical options words (Ok (Some line)) (Err fault) is.written also in
       absurd cc
@@ -173,8 +159,8 @@ module _ (parse : (options : Declared) (words : List Text) → AtMostOne (IsPars
       let same_prefix : other ≡ prefix = cc in
       let same : Ok others ≡ Ok matches = parse options words (Ok others) (Ok matches) also is in
       let same_matches : others ≡ matches = cc in
-      ap (λ (p : Text). done (variables_code p asked.arrays others)) same_prefix
-      ∙ ap (λ (m : Matched). done (variables_code prefix asked.arrays m)) same_matches
+      ap (λ (p : Text). done (code_for p asked options others)) same_prefix
+      ∙ ap (λ (m : Matched). done (code_for prefix asked options m)) same_matches
   one_script asked name options words (usage text given is) (alone group other reads asks also) =
       no_usage asked given reads.0
   one_script asked name options words (offers shell answer none shell_is is) (alone group other reads asks also) =

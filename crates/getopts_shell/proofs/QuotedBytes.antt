@@ -13,7 +13,7 @@ use Rattle.getopts.specs.Names.{AreTexts, Text}
 use Rattle.getopts_bytes.specs.Marks.{AreBytes, bytes_of, is_mark, text_of, written}
 use Rattle.getopts_bytes.proofs.Chars.{ascii_no_marks, plain_bytes}
 use Rattle.getopts_bytes.proofs.Texts.{bytes_append, comes_back}
-use Rattle.getopts_shell.specs.Quote.{HoldNoNul, quoted_byte, quoted, spaced, quoted_words, shell_words}
+use Rattle.getopts_shell.specs.Quote.{quoted_byte, quoted, spaced, quoted_words, shell_words}
 use Rattle.getopts_shell.proofs.Quoting.{words_same}
 
 -- a text has these bytes
@@ -133,9 +133,9 @@ words_give [] are = ascii_gives [] tt
 words_give (word ∷ words) are = append_gives (quoted_gives word are.0) (spaced_gives words are.1)
 
 -- a shell makes of the bytes of quoted words the bytes of the words
-pub bytes_same : (words : List Text) → AreTexts words → HoldNoNul (map bytes_of words)
+pub bytes_same : (words : List Text) → AreTexts words
     → shell_words (bytes_of (quoted_words words)) ≡ Some (map bytes_of words)
-bytes_same words are none = ap shell_words (words_give words are).bytes_are ∙ words_same (map bytes_of words) none
+bytes_same words are = ap shell_words (words_give words are).bytes_are ∙ words_same (map bytes_of words)
 
 -- the texts of words have the words as their bytes
 texts_back : (words : List (List ℕ)) → AllByRecursion AreBytes words
@@ -150,8 +150,7 @@ texts_back (word ∷ words) are =
     )
 
 -- a shell makes of words in quotes, read as texts and written as bytes, the same words
-pub words_given : (words : List (List ℕ)) → AllByRecursion AreBytes words → HoldNoNul words
+pub words_given : (words : List (List ℕ)) → AllByRecursion AreBytes words
     → shell_words (bytes_of (quoted_words (map text_of words))) ≡ Some words
-words_given words are none =
-    let back = texts_back words are in
-    bytes_same (map text_of words) back.0 (subst HoldNoNul (sym back.1) none) ∙ ap Some back.1
+words_given words are =
+    let back = texts_back words are in bytes_same (map text_of words) back.0 ∙ ap Some back.1

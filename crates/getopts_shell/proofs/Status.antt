@@ -4,7 +4,7 @@ use Rattle.std.specs.Option.{option_map_or}
 use Rattle.getopts.specs.Names.{Text}
 use Rattle.getopts.specs.Options.{Declared, Group}
 use Rattle.getopts_shell.specs.Completion.{stub}
-use Rattle.getopts_shell.specs.Program.{Answer, Asked, done, misused, no_completion, AnswersPlace, AnswersNumbered, AnswersOffer, at_place, no_shell, offered, no_place}
+use Rattle.getopts_shell.specs.Program.{Answer, Asked, done, misused, no_completion, AnswersOffer, offered, no_shell}
 use Rattle.getopts_shell.specs.Program.{AnswersScript, usage, offers, help, alone, accepted, variables, refused}
 use Rattle.getopts_shell.specs.Program.{AnswersAlone, as_line, as_variables}
 use Rattle.getopts_shell.specs.Program.{faulty, completion, no_variables, declared, AnswersFree, IsStatus}
@@ -31,19 +31,9 @@ of_completion : (fault : Text) (code : Option Text) → AnswersBy (option_map_or
 of_completion fault (Some text) = is_done
 of_completion fault None = is_misused
 
-of_place : {options : Declared} {number : Text} {words : List Text} {answer : Answer}
-    → AnswersPlace options number words answer → AnswersBy answer.status
-of_place (offered place text writes within is) = is_done
-of_place (no_place none) = is_misused
-
-of_numbered : (options : Declared) (words : List Text) (answer : Answer)
-    → AnswersNumbered options words answer → AnswersBy answer.status
-of_numbered options [] answer is = of_place is
-of_numbered options (number ∷ words) answer is = of_place is
-
 of_offer : {shell : Text} {options : Declared} {words : List Text} {answer : Answer}
     → AnswersOffer shell options words answer → AnswersBy answer.status
-of_offer {options = options} {words = words} (at_place answer has is) = of_numbered options words answer is
+of_offer (offered text has is) = is_done
 of_offer (no_shell none) = is_misused
 
 of_alone : {asked : Asked} {options : Declared} {group : Group} {answer : Answer}

@@ -1,8 +1,8 @@
 -- The program: what it answers to words, and with which status.
-use Rattle.std.specs.Prelude.{◌≡◌, ◌≢◌, ◌≤◌, ◌&&◌, ◌||◌, ℕ, Bool, true, false, List, [], ◌∷◌, ◌++◌, Option}
+use Rattle.std.specs.Prelude.{◌≡◌, ◌≢◌, ◌≤◌, ◌&&◌, ◌||◌, ◌-◌, ℕ, Bool, true, false, List, [], ◌∷◌, ◌++◌, Option}
 use Rattle.std.specs.Prelude.{Some, None, codes, decimal, if◌then◌else◌, length, take}
 use Rattle.std.specs.Io.KnownBytes.{Appends}
-use Rattle.std.specs.List.{AllByRecursion, find, list_any}
+use Rattle.std.specs.List.{AllByRecursion, find, last_or, list_any}
 use Rattle.std.specs.Option.{option_map_or, unwrap_or}
 use Rattle.std.specs.Str.{bytes_eq}
 use Rattle.getopts.specs.Accessors.{first_value, found_of, is_present}
@@ -20,13 +20,13 @@ use Rattle.getopts.specs.declared.groups.HasArg.{HasArg}
 use Rattle.getopts.specs.declared.groups.HasArg.TheVariants.{Yes, No}
 use Rattle.getopts.specs.declared.groups.Occur.TheVariants.{Optional}
 use Rattle.getopts.specs.declared.groups.ParsingStyle.TheVariants.{FloatingFrees, StopAtFirstFree}
-use Rattle.getopts_shell.specs.Completion.{IsOffer, WritesNumber, stub, word_at}
+use Rattle.getopts_shell.specs.Completion.{IsOffer, stub}
 use Rattle.getopts_bytes.specs.Marks.{bytes_of}
-use Rattle.getopts_shell.specs.Quote.{AreCommands, HoldNoNul, holds_nul, quoted, quoted_words, shell_words}
+use Rattle.getopts_shell.specs.Quote.{quoted, shell_words}
 use Rattle.getopts_shell.specs.Table.{DeclaresOptions, IsTableFault, TableFault, alone_mark, no_option, name_twice}
 use Rattle.getopts_shell.specs.Table.{reason_of}
-use Rattle.getopts_shell.specs.Variables.{SetsVariables, VariableFault, no_prefix, no_variable, prefix_fault}
-use Rattle.getopts_shell.specs.Variables.{arrays_only, variable_twice, variables_code, with_words}
+use Rattle.getopts_shell.specs.Variables.{SetsVariables, SetsWords, VariableFault, arrays_only, given_from, line_code}
+use Rattle.getopts_shell.specs.Variables.{no_prefix, no_variable, prefix_fault, variable_twice, variables_code}
 
 -- ---- the program's own options
 
@@ -35,14 +35,13 @@ own_groups =
     group_of (codes "b") (codes "brief") (codes "begin the help with TEXT") (codes "TEXT") Yes Optional
     ∷ group_of (codes "s") (codes "stop") (codes "leave all words from the first free one on free") [] No Optional
     ∷ group_of (codes "l") (codes "long-only") (codes "let long names follow one dash too") [] No Optional
-    ∷ group_of (codes "w") (codes "words") (codes "write the words alone, without 'set --'") [] No Optional
     ∷ group_of (codes "V") (codes "variables") (codes "set a variable for each option, named PREFIX and its name")
     (codes "PREFIX") Yes Optional
     ∷ group_of (codes "A") (codes "arrays") (codes "with --variables, make an array of values") [] No Optional
     ∷ group_of (codes "u") (codes "usage") (codes "write the help of TABLE") [] No Optional
     ∷ group_of (codes "c") (codes "complete") (codes "write a completion script for bash, zsh or fish")
     (codes "SHELL") Yes Optional
-    ∷ group_of [] (codes "complete-words") (codes "write what may come at word N, where the WORDs are N and words")
+    ∷ group_of [] (codes "complete-words") (codes "write what may come at the last WORD")
     (codes "SHELL") Yes Optional
     ∷ group_of (codes "h") (codes "help") (codes "print this help") [] No Optional
     ∷ group_of [] (codes "version") (codes "print the version") [] No Optional
@@ -65,7 +64,6 @@ pub record Asked : Type 0 where
   pub brief : Option Text
   pub stop : Bool
   pub long_only : Bool
-  pub words : Bool
   pub usage : Bool
   pub complete : Option Text
   pub complete_words : Option Text
@@ -78,7 +76,6 @@ asked_by own = record {
   brief = value_given own (codes "brief");
   stop = is_given own (codes "stop");
   long_only = is_given own (codes "long-only");
-  words = is_given own (codes "words");
   usage = is_given own (codes "usage");
   complete = value_given own (codes "complete");
   complete_words = value_given own (codes "complete-words");
@@ -186,7 +183,6 @@ alone_line group = main_word group ∷ stop_word ∷ []
 
 -- the line of a fault of variables
 abbrev pub variable_fault_line : VariableFault → Text
-variable_fault_line with_words = codes "getopts_shell: --words and --variables don't go together\n"
 variable_fault_line arrays_only = codes "getopts_shell: --arrays needs --variables\n"
 variable_fault_line (no_prefix prefix) = codes "getopts_shell: '" ++ (prefix ++ codes "' makes no variable\n")
 variable_fault_line (no_variable number name) = codes "getopts_shell: line "
@@ -197,23 +193,13 @@ variable_fault_line (variable_twice number name) = codes "getopts_shell: line "
 -- the fault of the variables or the arrays that are asked for, with a table of these options
 abbrev pub asked_fault : Asked → Text → List Group → Option VariableFault
 asked_fault asked table groups = option_map_or
-    (λ prefix. if asked.words then Some with_words else prefix_fault prefix table (names_of groups)) asked.variables
+    (λ prefix. prefix_fault prefix table (names_of groups)) asked.variables
     (if asked.arrays then Some arrays_only else None)
 
--- the code that sets a script's words to those of a line, or the words alone
-abbrev pub line_code : Asked → List Text → Text
-line_code asked line =
-    (if asked.words then [] else codes "\\set -- ") ++ (quoted_words line ++ codes "\n")
-
--- what a shell has to make of it: `set`, `--` and the words of the line, or these alone
-abbrev pub code_words : Asked → List Text → List Text
-code_words asked line = if asked.words then line else codes "set" ∷ codes "--" ∷ line
-
--- What a canonical line tells: where the words hold no NUL byte, a shell makes of its code, line end and all, the
--- words that it has to; it is accepted in both styles and both modes with the content of the words, and says nothing
--- else; and of its words the first that is `--` is the stop.
-pub record TellsWords (asked : Asked) (options : Declared) (words line : List Text) : Type 0 where
-  pub shell : HoldNoNul words → shell_words (line_code asked line) ≡ Some (code_words asked line)
+-- What a canonical line tells: a shell that runs its code holds its words; it is accepted in both styles and both
+-- modes with the content of the words, and says nothing else; and of its words the first that is `--` is the stop.
+pub record TellsWords (options : Declared) (words line : List Text) : Type 0 where
+  pub shell : SetsWords line
   pub written : IsWritten options words line
   pub reads_back : HasCanonicalLine options written.content
   pub stop_is_first : AllByRecursion (λ m. canonical_word options.groups m ≢ stop_word) written.content.mentions
@@ -232,38 +218,27 @@ abbrev pub completion_answer : Asked → Text → Text → Text → Answer
 completion_answer asked shell name table =
     option_map_or done (stub shell asked.stop asked.long_only name table) (misused (no_completion shell))
 
--- what is said of a number that no word has
-abbrev pub no_word : Text → Text
-no_word number = codes "getopts_shell: no word has the number '" ++ (number ++ codes "'\n")
+-- the last of words, and those before it; of no words an empty one
+abbrev pub last_word : List Text → Text
+last_word words = unwrap_or (last_or None words) []
 
--- What may come at the word with this number, of which 0 is the first and the highest stands after the last.
-pub data AnswersPlace (options : Declared) (number : Text) (words : List Text) : Answer → Type 0 where
-  offered : (place : ℕ) (text : Text) → WritesNumber number place → place ≤ length words
-      → IsOffer options (take place words) (word_at words place) text
-      → AnswersPlace options number words (done text)
-  no_place : ((place : ℕ) → WritesNumber number place → ¬ (place ≤ length words))
-      → AnswersPlace options number words (misused (no_word number))
-
--- the same, where the number stands before the words; a number that isn't there is no number
-abbrev pub AnswersNumbered : Declared → List Text → Answer → Type 0
-AnswersNumbered options (number ∷ words) answer = AnswersPlace options number words answer
-AnswersNumbered options [] answer = AnswersPlace options [] [] answer
-
--- the answer to a shell that asks what may come at a word, if there is completion in it
+-- the answer to a shell that asks what may come at the last word, if there is completion in it
 pub data AnswersOffer (shell : Text) (options : Declared) (words : List Text) : Answer → Type 0 where
-  at_place : (answer : Answer) → has_completion shell ≡ true → AnswersNumbered options words answer
-      → AnswersOffer shell options words answer
+  offered : (text : Text) → has_completion shell ≡ true
+      → IsOffer options (take (length words - 1) words) (last_word words) text
+      → AnswersOffer shell options words (done text)
   no_shell : has_completion shell ≡ false → AnswersOffer shell options words (misused (no_completion shell))
 
--- The answer to words that ask for one option alone: the code of its line, which a shell has to make of it, or
--- the code that sets variables to what its one word gives, whatever its counts.
+-- The answer to words that ask for one option alone: the code of its line, or the code that sets variables to what
+-- its one word gives, whatever its counts.
 pub data AnswersAlone (asked : Asked) (options : Declared) (group : Group) : Answer → Type 0 where
-  as_line : asked.variables ≡ None
-      → shell_words (line_code asked (alone_line group)) ≡ Some (code_words asked (alone_line group))
-      → AnswersAlone asked options group (done (line_code asked (alone_line group)))
+  as_line : asked.variables ≡ None → SetsWords (alone_line group)
+      → AnswersAlone asked options group (done (line_code (alone_line group)))
   as_variables : (prefix : Text) (matches : Matched) → asked.variables ≡ Some prefix
-      → HasReading options (main_word group ∷ []) matches → SetsVariables prefix asked.arrays matches
-      → AnswersAlone asked options group (done (variables_code prefix asked.arrays matches))
+      → HasReading options (main_word group ∷ []) matches
+      → SetsVariables prefix asked.arrays (given_from 0 options.groups matches.groups) matches.free
+      → AnswersAlone asked options group
+      (done (variables_code prefix asked.arrays (given_from 0 options.groups matches.groups) matches.free))
 
 -- The answer for a script with these options: its help, what may come at a word, or what its words are. That
 -- is the code that prints its help where they ask for it, and else the code of the one option that they ask
@@ -275,18 +250,18 @@ pub data AnswersScript (asked : Asked) (name : Text) (options : Declared) (words
   offers : (shell : Text) (answer : Answer) → asked.usage ≡ false → asked.complete_words ≡ Some shell
       → AnswersOffer shell options words answer → AnswersScript asked name options words answer
   help : (help : Text) → ReadsWords asked → AskHelp options words → IsHelp asked name options help
-      → (holds_nul help ≡ false
-      → AreCommands (help_code help) (codes "printf" ∷ codes "%s" ∷ help ∷ []) (codes "exit" ∷ []))
+      → shell_words (quoted help) ≡ Some (help ∷ [])
       → AnswersScript asked name options words (done (help_code help))
   alone : (group : Group) (answer : Answer) → ReadsWords asked → AskAlone options words group
       → AnswersAlone asked options group answer → AnswersScript asked name options words answer
   accepted : (line : List Text) → ReadsWords asked → AreCounted options words
-      → asked.variables ≡ None → TellsWords asked options words line
-      → AnswersScript asked name options words (done (line_code asked line))
+      → asked.variables ≡ None → TellsWords options words line
+      → AnswersScript asked name options words (done (line_code line))
   variables : (prefix : Text) (matches : Matched) → ReadsWords asked → AreCounted options words
       → asked.variables ≡ Some prefix → IsAccepted options words matches
-      → (HoldNoNul words → SetsVariables prefix asked.arrays matches)
-      → AnswersScript asked name options words (done (variables_code prefix asked.arrays matches))
+      → SetsVariables prefix asked.arrays (given_from 0 options.groups matches.groups) matches.free
+      → AnswersScript asked name options words
+      (done (variables_code prefix asked.arrays (given_from 0 options.groups matches.groups) matches.free))
   refused : (fault : Fault) → ReadsWords asked → AreCounted options words
       → IsRefused options words fault → AnswersScript asked name options words
       (record { text = refused_text options name fault; status = 2 })

@@ -1,9 +1,9 @@
 -- The table of options: what each line of it declares, and which options it declares.
 use Rattle.std.specs.Prelude.{◌≡◌, ◌≢◌, ◌==◌, ◌||◌, ◌&&◌, ◌⊎◌, not, ℕ, ◌+◌, nat_lt, min, ◌-◌, ◌^◌, Bool, true, false}
 use Rattle.std.specs.Prelude.{List, [], ◌∷◌, ◌++◌, Option, Some, None, codes, if◌then◌else◌, slice_index, length}
-use Rattle.std.specs.Prelude.{⊤, drop}
-use Rattle.std.specs.Char.{is_ascii_alphanumeric}
-use Rattle.std.specs.List.{AllByRecursion, AllZip, ends_with, filter_map, list_all, list_any}
+use Rattle.std.specs.Prelude.{⊤, drop, take}
+use Rattle.std.specs.Char.{is_ascii_alphanumeric, is_ascii_whitespace}
+use Rattle.std.specs.List.{AllByRecursion, AllZip, ends_with, filter_map, list_all, list_any, prefix_len, suffix_len}
 use Rattle.std.specs.Option.{option_map_or}
 use Rattle.std.specs.Str.{bytes_eq}
 use Rattle.getopts.specs.Names.{Text, Names, AreLawful, is_empty}
@@ -112,22 +112,15 @@ pub data IsOption (text : Text) (known : Signature) (hint : Text) : Type 0 where
 
 -- ---- lines
 
--- whether a byte is a space, a tab or a carriage return
-abbrev pub is_blank : ℕ → Bool
-is_blank byte = byte == 32 || byte == 9 || byte == 13
-
--- a text without the blanks that it begins with
+-- a text without the ASCII white space that it begins with
 abbrev pub after_blanks : Text → Text
-after_blanks [] = []
-after_blanks (byte ∷ more) = if is_blank byte then after_blanks more else byte ∷ more
+after_blanks text = drop (prefix_len is_ascii_whitespace text) text
 
--- a text without the blanks that it ends in
+-- a text without the ASCII white space that it ends in
 abbrev pub before_blanks : Text → Text
-before_blanks [] = []
-before_blanks (byte ∷ more) =
-    if list_all is_blank (byte ∷ more) then [] else byte ∷ before_blanks more
+before_blanks text = take (length text - suffix_len is_ascii_whitespace text) text
 
--- a text without the blanks at both ends
+-- a text without the ASCII white space at both ends
 abbrev pub trimmed : Text → Text
 trimmed text = before_blanks (after_blanks text)
 

@@ -1,6 +1,6 @@
 //! What the program answers to words.
 
-ghost use Rattle.std.specs.Prelude.{◌≡◌, ◌≢◌, ◌≤◌, ◌⊎◌, ℕ, ◌++◌, ◌↔◌, ◌&&◌, codes, map, true, false, IsTrue, List};
+ghost use Rattle.std.specs.Prelude.{◌≡◌, ◌≢◌, ◌⊎◌, ◌++◌, ◌-◌, ◌↔◌, ◌&&◌, codes, map, length, take, true, false, IsTrue, List};
 ghost use Rattle.std.specs.Prelude.{Option, IfOk, MatchOption, OnOk, Some, None, ◌∷◌, []};
 ghost use Rattle.std.specs.Option.{option_map};
 ghost use Rattle.std.specs.Io.KnownBytes.{Appends};
@@ -17,20 +17,21 @@ ghost use Rattle.getopts_shell.specs.Held.{group_of_row, groups_of, fault_told, 
 ghost use Rattle.getopts_shell.specs.Held.{ArePlainlyNamed, HaveReading, asked_of, variable_fault_told};
 ghost use Rattle.getopts_shell.specs.Program.{own_groups, own_options, script_options, done, misused};
 ghost use Rattle.getopts_shell.specs.Program.{table_fault_line, fault_line, refused_text};
-ghost use Rattle.getopts_shell.specs.Program.{IsHelp, help_code, AskHelp, is_no, offers_help, line_code};
+ghost use Rattle.getopts_shell.specs.Program.{IsHelp, help_code, AskHelp, is_no, offers_help, last_word};
+ghost use Rattle.getopts_shell.specs.Variables.{line_code};
 ghost use Rattle.getopts_shell.specs.Program.{Asked, asked_by, ReadsWords, AnswersScript, AppendsFront, ShowsFront};
 ghost use Rattle.getopts_shell.specs.Program.{AnswersTable, AnswersFree, IsAnswer, IsOutput, IsStatus, ShowsAnswer};
-ghost use Rattle.getopts_shell.specs.Program.{AnswersOffer, AnswersNumbered, AnswersPlace};
+ghost use Rattle.getopts_shell.specs.Program.{AnswersOffer};
 ghost use Rattle.getopts_shell.specs.Program.{completion_answer, has_completion, no_completion};
 ghost use Rattle.getopts_shell.specs.Program.{asked_fault, variable_fault_line};
 ghost use Rattle.getopts_shell.specs.Program.{AreCounted, AnswersAlone, AskAlone, is_alone, main_word, stands_alone};
-ghost use Rattle.getopts_shell.specs.Quote.{holds_nul};
+ghost use Rattle.getopts_shell.specs.Completion.{IsOffer};
 ghost use Rattle.getopts_shell.specs.Table.{DeclaresOptions, TableFault, no_option, name_twice};
 ghost use Rattle.getopts_shell.specs.Held.{with_groups};
 
-use crate::complete::{is_given, offers_at, place_of, read_words, stub};
+use crate::complete::{is_given, offers, read_words, stub};
 use crate::item::{ALONE, reason_of};
-use crate::quote::{push_quoted, push_quoted_words};
+use crate::quote::{push_line, push_quoted};
 use crate::row::Row;
 use crate::table::{TableError, rows_of};
 use crate::variables::{VariableError, Variables, main_name, variable_error, variables_code};
@@ -81,7 +82,6 @@ struct Asked {
     brief: Option<String>,
     stop: bool,
     long_only: bool,
-    words: bool,
     usage: bool,
     complete: Option<String>,
     complete_words: Option<String>,
@@ -107,13 +107,12 @@ struct Script<'s> {
 ///
 /// - 0: code that sets the script's words to those of the canonical line, or, with `--variables`, that sets
 ///   variables, or that prints the script's help; with `--usage` the help itself, with `--complete` the code
-///   that completes words in a shell, with `--complete-words` what may come at a word, with `--help` the
+///   that completes words in a shell, with `--complete-words` what may come at the last word, with `--help` the
 ///   program's help
 /// - 2: why the script's words are refused, and its short usage
 /// - 3: out of memory, with nothing written
 /// - 4: a write or a flush failed, and what was written is a front of the text
-/// - 5: what is wrong with the call: its own words, an unknown shell, a number that no word has, a missing table,
-///   or a line of it
+/// - 5: what is wrong with the call: its own words, an unknown shell, a missing table, or a line of it
 pub fn answer<W: Write, E: Write>(alloc: Global, words: &[&str], out: &mut W, err: &mut E) -> u8
     ensures status { IsStatus result }
     ensures shown { result ≡ 0
@@ -230,7 +229,6 @@ fn add_own_options(options: &mut Options) -> Result<(), AllocError>
             "leave all words from the first free one on free",
         )?
         .optflag("l", "long-only", "let long names follow one dash too")?
-        .optflag("w", "words", "write the words alone, without 'set --'")?
         .optopt(
             "V",
             "variables",
@@ -248,7 +246,7 @@ fn add_own_options(options: &mut Options) -> Result<(), AllocError>
         .optopt(
             "",
             "complete-words",
-            "write what may come at word N, where the WORDs are N and words",
+            "write what may come at the last WORD",
             "SHELL",
         )?
         .optflag("h", "help", "print this help")?
@@ -300,7 +298,6 @@ fn asked_by(alloc: Global, own: &Matches) -> Result<Asked, AllocError>
         brief: own.opt_str(alloc, "brief")?,
         stop: own.opt_present("stop"),
         long_only: own.opt_present("long-only"),
-        words: own.opt_present("words"),
         usage: own.opt_present("usage"),
         complete: own.opt_str(alloc, "complete")?,
         complete_words: own.opt_str(alloc, "complete-words")?,
@@ -408,7 +405,6 @@ fn asked_error<'t>(asked: &'t Asked, table: &'t str, rows: &[Row<'t>]) -> Option
         ≡ asked_fault (asked_of asked.now) table.now (groups_of rows.now) }
 {
     match &asked.variables {
-        Some(_) if asked.words => Some(VariableError::WithWords),
         Some(prefix) => variable_error(prefix.as_str(), table, rows),
         None if asked.arrays => Some(VariableError::ArraysOnly),
         None => None,
@@ -421,9 +417,6 @@ fn variable_refusal(alloc: Global, error: VariableError<'_>) -> Result<String, A
         string_bytes text ≡ variable_fault_line (variable_fault_told error.entry)) }
 {
     match error {
-        VariableError::WithWords => format!(in alloc;
-            "getopts_shell: --words and --variables don't go together\n"
-        ),
         VariableError::ArraysOnly => {
             format!(in alloc; "getopts_shell: --arrays needs --variables\n")
         }
@@ -563,7 +556,7 @@ fn has_completion(shell: &str) -> bool
     shell == "bash" || shell == "zsh" || shell == "fish"
 }
 
-/// The answer to a shell that asks what may come at a word: its number stands before the words.
+/// The answer to a shell that asks what may come at the last word.
 fn offer_answer(
     alloc: Global,
     shell: &str,
@@ -578,51 +571,28 @@ fn offer_answer(
     if !has_completion(shell) {
         return no_completion(alloc, shell);
     }
-    numbered_answer(alloc, script, words)
+    Ok(Outcome {
+        text: last_offers(alloc, script, words)?,
+        status: DONE,
+    })
 }
 
-/// What may come at a word whose number stands before the words.
-fn numbered_answer(alloc: Global, script: Script<'_>, words: &[&str]) -> Result<Outcome, AllocError>
+/// What may come at the last word.
+fn last_offers(alloc: Global, script: Script<'_>, words: &[&str]) -> Result<String, AllocError>
     requires rows { script.options.now.groups ≡ groups_of script.rows.now }
     requires mode { script.options.now.long_only ≡ script.asked.now.long_only }
-    ensures { IfOk result (λ outcome. AnswersNumbered script.entry.options.now
-        (texts words.now) (answer_of outcome)) }
+    ensures { IfOk result (λ text. IsOffer script.entry.options.now
+        (take (length (texts words.now) - 1) (texts words.now)) (last_word (texts words.now)) (string_bytes text)) }
 {
-    match words {
-        [number, words @ ..] => place_answer(alloc, script, number, words),
-        [] => place_answer(alloc, script, "", &[]),
+    let options = script.options;
+    let long_only = script.asked.long_only;
+    let count = words.len();
+    if count == 0 {
+        return offers(alloc, options, long_only, script.rows, words, "");
     }
-}
-
-/// What may come at the word with this number.
-fn place_answer(
-    alloc: Global,
-    script: Script<'_>,
-    number: &str,
-    words: &[&str],
-) -> Result<Outcome, AllocError>
-    requires rows { script.options.now.groups ≡ groups_of script.rows.now }
-    requires mode { script.options.now.long_only ≡ script.asked.now.long_only }
-    ensures { IfOk result (λ outcome. AnswersPlace script.entry.options.now number.now
-        (texts words.now) (answer_of outcome)) }
-{
-    match place_of(number, words.len()) {
-        Some(place) => Ok(Outcome {
-            text: offers_at(
-                alloc,
-                script.options,
-                script.asked.long_only,
-                script.rows,
-                words,
-                place,
-            )?,
-            status: DONE,
-        }),
-        None => Ok(Outcome {
-            text: format!(in alloc; "getopts_shell: no word has the number '{number}'\n")?,
-            status: MISUSED,
-        }),
-    }
+    let before = &words[..count - 1];
+    let word = words[count - 1];
+    offers(alloc, options, long_only, script.rows, before, word)
 }
 
 /// The answer to the words of a script: the code that prints its help where they ask for it, the code of the one
@@ -737,7 +707,6 @@ fn alone_answer(alloc: Global, script: Script<'_>, row: Row<'_>) -> Result<Outco
     requires rows { script.options.now.groups ≡ groups_of script.rows.now }
     requires variables { asked_fault (asked_of script.asked.now) script.table.now (groups_of script.rows.now) ≡ None }
     requires readable { HaveReading script.options.now (main_word (group_of_row row) ∷ []) }
-    requires clear { holds_nul (main_word (group_of_row row)) ≡ false }
     ensures { IfOk result (λ outcome. AnswersAlone (asked_of script.entry.asked.now)
         script.entry.options.now (group_of_row row.entry) (answer_of outcome)) }
 {
@@ -750,14 +719,13 @@ fn alone_answer(alloc: Global, script: Script<'_>, row: Row<'_>) -> Result<Outco
 /// The code of the line of one option alone.
 fn alone_line(alloc: Global, script: Script<'_>, row: Row<'_>) -> Result<Outcome, AllocError>
     requires no_variables { (asked_of script.asked.now).variables ≡ None }
-    requires clear { holds_nul (main_word (group_of_row row)) ≡ false }
     ensures { IfOk result (λ outcome. AnswersAlone (asked_of script.entry.asked.now)
         script.entry.options.now (group_of_row row.entry) (answer_of outcome)) }
 {
     let word = main_word(alloc, row)?;
     let stop = String::from_str(alloc, "--")?;
     Ok(Outcome {
-        text: line_code(alloc, script.asked, &[word, stop])?,
+        text: line_code(alloc, &[word, stop])?,
         status: DONE,
     })
 }
@@ -773,7 +741,6 @@ fn alone_variables(
     requires rows { script.options.now.groups ≡ groups_of script.rows.now }
     requires variables { asked_fault (asked_of script.asked.now) script.table.now (groups_of script.rows.now) ≡ None }
     requires readable { HaveReading script.options.now (main_word (group_of_row row) ∷ []) }
-    requires clear { holds_nul (main_word (group_of_row row)) ≡ false }
     ensures { IfOk result (λ outcome. AnswersAlone (asked_of script.entry.asked.now)
         script.entry.options.now (group_of_row row.entry) (answer_of outcome)) }
 {
@@ -842,7 +809,7 @@ fn line_answer(alloc: Global, script: Script<'_>, words: &[&str]) -> Result<Outc
     names_resolve(script.options);
     match script.options.canonical_words(alloc, words) {
         Ok(Some(line)) => Ok(Outcome {
-            text: line_code(alloc, script.asked, &line)?,
+            text: line_code(alloc, &line)?,
             status: DONE,
         }),
         Ok(None) => unreachable!(),
@@ -884,17 +851,12 @@ fn variables_answer(
     }
 }
 
-/// The code that sets a script's words to those of a line, or the words alone.
-fn line_code(alloc: Global, asked: &Asked, line: &[String]) -> Result<String, AllocError>
-    ensures { IfOk result (λ text. string_bytes text
-        ≡ line_code (asked_of asked.now) (map string_bytes line.now)) }
+/// The code that sets a script's words to those of a line.
+fn line_code(alloc: Global, line: &[String]) -> Result<String, AllocError>
+    ensures { IfOk result (λ text. string_bytes text ≡ line_code (map string_bytes line.now)) }
 {
     let mut text = String::new(alloc);
-    if !asked.words {
-        text.push_str("\\set -- ")?;
-    }
-    push_quoted_words(&mut text, line)?;
-    text.push('\n')?;
+    push_line(&mut text, line)?;
     Ok(text)
 }
 

@@ -8,7 +8,7 @@ ghost use Rattle.std.specs.Str.{bytes_eq};
 ghost use Rattle.getopts.specs.Names.{Text, is_empty};
 ghost use Rattle.getopts.specs.Options.{Group};
 ghost use Rattle.getopts_shell.specs.Held.{group_of_row, groups_of, TellsFault};
-ghost use Rattle.getopts_shell.specs.Table.{is_blank, after_blanks, before_blanks, trimmed, begins_gap};
+ghost use Rattle.getopts_shell.specs.Table.{trimmed, begins_gap};
 ghost use Rattle.getopts_shell.specs.Table.{before_gap, from_gap, any_has_name, name_again, HaveNewNames};
 ghost use Rattle.getopts_shell.specs.Table.{OneTableOneList, Declares, DeclaresOptions, IsLineFault, IsTableFault};
 
@@ -109,44 +109,11 @@ fn any_is_called(rows: &[Row<'_>], text: &str) -> bool
     rows.iter().any(|row| row.short == text || row.long == text)
 }
 
-/// A text without the spaces, tabs and carriage returns at both ends.
+/// A text without the ASCII white space at both ends.
 pub(crate) fn trimmed(text: &str) -> &str
     ensures { result.now ≡ trimmed text.now }
 {
-    before_blanks(after_blanks(text))
-}
-
-/// Whether a byte is a space, a tab or a carriage return.
-fn is_blank(byte: u8) -> bool
-    ensures { result ≡ is_blank byte }
-{
-    matches!(byte, b' ' | b'\t' | b'\r')
-}
-
-/// A text without the blanks that it begins with.
-fn after_blanks(text: &str) -> &str
-    ensures { result.now ≡ after_blanks text.now }
-{
-    let bytes = text.as_bytes();
-    for at in 0..bytes.len() {
-        if !is_blank(bytes[at]) {
-            return &text[at..];
-        }
-    }
-    ""
-}
-
-/// A text without the blanks that it ends in.
-fn before_blanks(text: &str) -> &str
-    ensures { result.now ≡ before_blanks text.now }
-{
-    let bytes = text.as_bytes();
-    for at in (0..bytes.len()).rev() {
-        if !is_blank(bytes[at]) {
-            return &text[..at + 1];
-        }
-    }
-    ""
+    text.trim_ascii()
 }
 
 /// A text in two: what stands before its first tab or two spaces, and what begins with these.

@@ -1,19 +1,19 @@
-use Rattle.std.proofs.Common.{List, subst, sym, ◌∙◌}
+use Rattle.std.proofs.Common.{List, None, refl, subst, sym, ◌∙◌}
 use Rattle.std.proofs.lemmas.Bool.{false≢true}
 use Rattle.std.proofs.lemmas.Result.{IfOk-weaker}
 use Rattle.getopts.specs.Options.{Group}
 use Rattle.getopts_shell.specs.Held.{group_of_row}
 use Rattle.getopts_shell.specs.Program.{alone, help}
 use Rattle.getopts_shell.specs.Table.{DeclaresOptions}
-use Rattle.getopts_shell.proofs.Alone.{alone_clear, alone_reads}
-use Rattle.getopts_shell.proofs.Quoting.{help_same}
+use Rattle.getopts_shell.proofs.Alone.{alone_reads}
+use Rattle.getopts_shell.proofs.Quoting.{word_same}
 use Rattle.getopts_shell.proofs.answer.words_answer.Goals as goal
 
 pub returns-then-asked : goal.returns-then-asked
 returns-then-asked c =
     let asked = c.in_ok-asked.ensures in
     let code = c.in_ok-help_code.ensures in
-    rw code.2 (help code.0 c.requires.asked (asked.0 c.if-asked.true) code.1 (help_same code.0))
+    rw code.2 (help code.0 c.requires.asked (asked.0 c.if-asked.true) code.1 (word_same None code.0 refl))
 
 pub asked_alone-requires-clause-no_help : goal.asked_alone-requires-clause-no_help
 asked_alone-requires-clause-no_help c =
@@ -23,14 +23,6 @@ pub alone_answer-requires-clause-readable : goal.alone_answer-requires-clause-re
 alone_answer-requires-clause-readable c =
     let asks = rw c.in-Some.is at c.in_ok-alone.ensures in
     alone_reads c.args.script.table.now c.args.script.options.now asks.matches (group_of_row c.in-Some.row)
-    (subst (λ (groups : List Group). DeclaresOptions c.args.script.table.now groups) (sym c.requires.rows)
-    c.requires.declared)
-    asks.first
-
-pub alone_answer-requires-clause-clear : goal.alone_answer-requires-clause-clear
-alone_answer-requires-clause-clear c =
-    let asks = rw c.in-Some.is at c.in_ok-alone.ensures in
-    alone_clear c.args.script.table.now c.args.script.options.now asks.matches (group_of_row c.in-Some.row)
     (subst (λ (groups : List Group). DeclaresOptions c.args.script.table.now groups) (sym c.requires.rows)
     c.requires.declared)
     asks.first
