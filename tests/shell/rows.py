@@ -214,12 +214,34 @@ BY_ONE = [
     (["x", "-a\n[-h|--help]!\n[-q]!", "-q"], "\\set -- '--q' '--'\n", 0),
     (["-bU", "x", "-a\n[--help]!\n[-q]!", "-q", "--help"],
      "\\printf %s 'U\n\nOptions:\n    -a                  \n        --help          \n    -q                  \n'; \\exit\n", 0),
-    (["x", "-a\n[-!]!", "-!"], "\\set -- '--!' '--'\n", 0),
-    (["x", "-a\n[-!]", "-!"], "x: Required option 'a' missing\nUsage: x -a [-!]\n", 2),
+    (["x", "-a\n[-?]!", "-?"], "\\set -- '--?' '--'\n", 0),
+    (["x", "-a\n[-?]", "-?"], "x: Required option 'a' missing\nUsage: x -a [-?]\n", 2),
     (["x", "-a\n[-s !]", "-s!"], "x: Required option 'a' missing\nUsage: x -a [-s !]\n", 2),
     (["x", "-s !", "-s!"], "\\set -- '--s=!' '--'\n", 0),
     (["x", "-V\n[-V]!"], "getopts_shell: line 2 of the options: the name 'V' stands there already\n", 5),
     (["-V", "o_", "x", "[--a.b]!", "--a.b"], "getopts_shell: line 1 of the options: 'a.b' makes no variable\n", 5),
+]
+
+# Options that may come again, and of which the last value counts.
+LAST = "[-c|--count N]*  try N times\n[-d|--delay [N]]*  wait\n[-v]*  say more\n[-q]..  say less"
+LAST_HELP = """\
+Usage: x [-c N] [-d [N]] [-v] [-q]..
+
+Options:
+    -c, --count N       try N times
+    -d, --delay [N]     wait
+    -v                  say more
+    -q                  say less
+"""
+LASTS = [
+    (["-u", "x", LAST], LAST_HELP, 0),
+    (["x", LAST, "-c1", "--count", "2", "-v"], "\\set -- '--count=1' '--count=2' '--v' '--'\n", 0),
+    (["-V", "o_", "x", LAST, "-c1", "--count=2", "-d3", "-d", "-vv"],
+     code("o_count='2'", "o_delay=''", "o_v='2'", "o_q='0'"), 0),
+    (["-AV", "o_", "x", LAST, "-d", "-d3"], code("o_count", "o_delay='3'", "o_v='0'", "o_q='0'"), 0),
+    (["x", LAST, "-z"], "x: Unrecognized option: 'z'\nUsage: x [-c N] [-d [N]] [-v] [-q]..\n", 2),
+    (["-b", "Usage: x [options] FILE..", "x", LAST, "-z"], "x: Unrecognized option: 'z'\nUsage: x [options] FILE..\n", 2),
+    (["--complete-words", "bash", "x", LAST, "-c1", "--c"], "--count\ttry N times\n", 0),
 ]
 
 # Tables: what their lines are.
@@ -270,7 +292,7 @@ REFUSED.append(("-" + OFTEN, 1, "-" + OFTEN, SHORT))
 
 def all_rows():
     """Every row, as words, text and status."""
-    yield from OWN + WORDS + BY_ONE + TABLES + LARGE
+    yield from OWN + WORDS + BY_ONE + LASTS + TABLES + LARGE
     for own, words, text in VARIABLES:
         yield own + ["try", TABLE] + words, text, 0
     for own, table, why in NO_VARIABLES:

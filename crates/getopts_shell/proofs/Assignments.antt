@@ -18,12 +18,11 @@ use Rattle.getopts.specs.Matches.{Found, MatchedGroup}
 use Rattle.getopts.specs.Names.{Text, Names, main_name}
 use Rattle.getopts.specs.Options.{Group, names_of}
 use Rattle.getopts.specs.Wrap.{lines_of, parting}
-use Rattle.getopts_shell.specs.Held.{group_of_row, groups_of}
-use Rattle.getopts_shell.specs.Completion.{is_multi}
+use Rattle.getopts_shell.specs.Held.{entries_of, group_of_row, groups_of}
 use Rattle.getopts_shell.specs.Quote.{quoted, quoted_words, replaced, spaced}
 use Rattle.getopts_shell.specs.Table.{is_passed, line_number}
-use Rattle.getopts_shell.specs.Variables.{any_has_variable, first_fault, Given, given_from, HaveOwnVariables, is_variable}
-use Rattle.getopts_shell.specs.Variables.{is_variable_byte, name_fault, option_lines}
+use Rattle.getopts_shell.specs.Variables.{any_has_variable, first_fault, Given, given_from, HaveOwnVariables, holds_all}
+use Rattle.getopts_shell.specs.Variables.{is_variable, is_variable_byte, name_fault, option_lines}
 use Rattle.getopts_shell.specs.Variables.{texts_found, variable, variable_byte, VariableFault, variable_of}
 use Rattle.getopts_shell.specs.declared.row.Row.{Row}
 
@@ -105,21 +104,21 @@ abbrev pub given_row : Row → List Found → Given
 given_row row found = record {
   names = (group_of_row row).signature.names;
   kind = row.kind;
-  all = is_multi row.occurrence;
+  all = holds_all row.mark row.occurrence;
   found = found;
 }
 
 -- one more option
 pub given_more : (from place : ℕ) (rows : List Row) (held : List MatchedGroup) (row : Row) → place < length rows
     → row ≡ get_or rows place row
-    → given_from from (groups_of (take (place + 1) rows)) held
-    ≡ given_from from (groups_of (take place rows)) held ++ given_row row (found_in held (from + place)) ∷ []
+    → given_from from (entries_of (take (place + 1) rows)) held
+    ≡ given_from from (entries_of (take place rows)) held ++ given_row row (found_in held (from + place)) ∷ []
 given_more from place rows held row below is =
-    ap (λ (n : ℕ). given_from from (groups_of (take n rows)) held) (add-one place) ∙ by_place from place rows below is
+    ap (λ (n : ℕ). given_from from (entries_of (take n rows)) held) (add-one place) ∙ by_place from place rows below is
   where
     by_place : (from place : ℕ) (rows : List Row) → place < length rows → row ≡ get_or rows place row
-        → given_from from (groups_of (take (suc place) rows)) held
-        ≡ given_from from (groups_of (take place rows)) held ++ given_row row (found_in held (from + place)) ∷ []
+        → given_from from (entries_of (take (suc place) rows)) held
+        ≡ given_from from (entries_of (take place rows)) held ++ given_row row (found_in held (from + place)) ∷ []
     by_place from place [] below is = absurd (omega arith)
     by_place from zero (other ∷ rows) below is =
         let same : row ≡ other = is in
@@ -130,7 +129,7 @@ given_more from place rows held row below is =
         ap (λ (options : List Given). given_row other (found_in held from) ∷ options)
         (by_place (from + 1) place rows (omega arith) is)
         ∙ ap (λ (n : ℕ). given_row other (found_in held from)
-        ∷ given_from (from + 1) (groups_of (take place rows)) held ++ given_row row (found_in held n) ∷ []) next
+        ∷ given_from (from + 1) (entries_of (take place rows)) held ++ given_row row (found_in held n) ∷ []) next
 
 -- ---- lines
 

@@ -1,5 +1,5 @@
 -- What the code holds, as the definitions see it.
-use Rattle.std.specs.Prelude.{◌≡◌, ⊤, List, [], ◌∷◌, Option, Some, None, map, MatchOption, false}
+use Rattle.std.specs.Prelude.{Bool, if◌then◌else◌, ◌≡◌, ⊤, List, [], ◌∷◌, Option, Some, None, map, MatchOption, false}
 use Rattle.std.specs.List.{AllByRecursion}
 use Rattle.std.specs.Option.{option_map}
 use Rattle.std.specs.String.{string_bytes}
@@ -10,7 +10,7 @@ use Rattle.getopts.specs.Parse.{Reads}
 use Rattle.getopts.specs.Reading.{Occurrence, Reading, holds_equals}
 use Rattle.getopts_shell.specs.Program.{Answer, Asked, own_groups}
 use Rattle.getopts_shell.specs.Variables.{VariableFault, arrays_only, no_prefix, no_variable, variable_twice}
-use Rattle.getopts_shell.specs.Table.{TableFault, no_option, name_twice}
+use Rattle.getopts_shell.specs.Table.{Entry, shown_group, TableFault, no_option, name_twice}
 use Rattle.getopts_shell.specs.declared.answer.Asked.{Asked as AskedHeld}
 use Rattle.getopts_shell.specs.declared.answer.Outcome.{Outcome}
 use Rattle.getopts_shell.specs.declared.row.Row.{Row}
@@ -19,7 +19,20 @@ use Rattle.getopts_shell.specs.declared.table.TableError.TheVariants as error
 use Rattle.getopts_shell.specs.declared.variables.VariableError.{VariableError}
 use Rattle.getopts_shell.specs.declared.variables.VariableError.TheVariants as variable
 
--- the group of a row
+-- the entry of a row
+abbrev pub entry_of_row : Row → Entry
+entry_of_row row = record {
+  signature = (group_of row.short.now row.long.now row.description.now row.hint.now
+      row.kind row.occurrence).signature;
+  hint = row.hint.now;
+  description = row.description.now;
+  mark = row.mark;
+}
+
+abbrev pub entries_of : List Row → List Entry
+entries_of rows = map entry_of_row rows
+
+-- the group that a row is read by
 abbrev pub group_of_row : Row → Group
 group_of_row row = group_of row.short.now row.long.now row.description.now row.hint.now
     row.kind row.occurrence
@@ -27,6 +40,11 @@ group_of_row row = group_of row.short.now row.long.now row.description.now row.h
 -- the groups of rows
 abbrev pub groups_of : List Row → List Group
 groups_of rows = map group_of_row rows
+
+-- the groups of rows, as they are shown or as they are read
+abbrev pub groups_as : Bool → List Row → List Group
+groups_as shown rows =
+    map (λ row. if shown then shown_group (entry_of_row row) else group_of_row row) rows
 
 -- the fault that an error of a table tells, unless it tells that memory was refused
 abbrev pub fault_told : TableError → Option TableFault

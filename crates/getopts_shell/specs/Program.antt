@@ -1,6 +1,6 @@
 -- The program: what it answers to words, and with which status.
 use Rattle.std.specs.Prelude.{◌≡◌, ◌≢◌, ◌≤◌, ◌&&◌, ◌||◌, ◌-◌, ℕ, Bool, true, false, List, [], ◌∷◌, ◌++◌, Option}
-use Rattle.std.specs.Prelude.{Some, None, codes, decimal, if◌then◌else◌, length, take}
+use Rattle.std.specs.Prelude.{Some, None, codes, decimal, if◌then◌else◌, length, map, take}
 use Rattle.std.specs.Io.KnownBytes.{Appends}
 use Rattle.std.specs.List.{AllByRecursion, find, last_or, list_any}
 use Rattle.std.specs.Option.{option_map_or, unwrap_or}
@@ -23,7 +23,10 @@ use Rattle.getopts.specs.declared.groups.ParsingStyle.TheVariants.{FloatingFrees
 use Rattle.getopts_shell.specs.Completion.{IsOffer, stub}
 use Rattle.getopts_bytes.specs.Marks.{bytes_of}
 use Rattle.getopts_shell.specs.Quote.{quoted, shell_words}
-use Rattle.getopts_shell.specs.Table.{DeclaresOptions, IsTableFault, TableFault, alone_mark, no_option, name_twice}
+use Rattle.getopts_shell.specs.declared.row.Mark.{Mark}
+use Rattle.getopts_shell.specs.declared.row.Mark.TheVariants.{Alone}
+use Rattle.getopts_shell.specs.Table.{Entry, group_of_entry, shown_group, DeclaresOptions, IsTableFault, TableFault}
+use Rattle.getopts_shell.specs.Table.{no_option, name_twice}
 use Rattle.getopts_shell.specs.Table.{reason_of}
 use Rattle.getopts_shell.specs.Variables.{SetsVariables, SetsWords, VariableFault, arrays_only, given_from, line_code}
 use Rattle.getopts_shell.specs.Variables.{no_prefix, no_variable, prefix_fault, variable_twice, variables_code}
@@ -107,11 +110,6 @@ misused text = record { text = text; status = 5 }
 abbrev pub fault_line : Text → Fault → Text
 fault_line name fault = name ++ (codes ": " ++ (fault_text fault ++ codes "\n"))
 
--- a fault of the script's words, with its short usage
-abbrev pub refused_text : Declared → Text → Fault → Text
-refused_text options name fault =
-    fault_line name fault ++ (short_usage_text options name ++ codes "\n")
-
 -- the line of a fault of a table
 abbrev pub table_fault_line : TableFault → Text
 table_fault_line (no_option number item) = codes "getopts_shell: line "
@@ -129,10 +127,24 @@ script_options asked groups = record {
   long_only = asked.long_only;
 }
 
--- the help of a script: it begins with the text that was given, or else with the short usage
+-- the options of a table as the script's words are read by them, and as its help shows them
+abbrev pub read_groups : List Entry → List Group
+read_groups entries = map group_of_entry entries
+
+abbrev pub shown_options : Asked → List Entry → Declared
+shown_options asked entries = script_options asked (map shown_group entries)
+
+-- the text that a script's help begins with: the one that was given, or else the short usage
+abbrev pub brief_text : Asked → Text → Declared → Text
+brief_text asked name shown = unwrap_or asked.brief (short_usage_text shown name)
+
+-- the help of a script
 abbrev pub IsHelp : Asked → Text → Declared → Text → Type 0
-IsHelp asked name options help =
-    IsTheOnly (IsUsageText options (unwrap_or asked.brief (short_usage_text options name))) help
+IsHelp asked name shown help = IsTheOnly (IsUsageText shown (brief_text asked name shown)) help
+
+-- a fault of the script's words, and the text that its help begins with
+abbrev pub refused_text : Asked → Declared → Text → Fault → Text
+refused_text asked shown name fault = fault_line name fault ++ (brief_text asked name shown ++ codes "\n")
 
 -- the code that prints a help, and ends the script; no alias stands for a word that begins with `\`
 abbrev pub help_code : Text → Text
@@ -153,33 +165,37 @@ abbrev pub AskHelp : Declared → List Text → Type 0
 AskHelp options words = (matches : Matched) × HasReading options words matches
     × (offers_help options.groups ≡ true) × (is_present matches.groups (codes "help") ≡ true)
 
--- whether an option stands alone: it takes no argument, and has the hint that tells so
-abbrev pub stands_alone : Group → Bool
-stands_alone group = is_no group.signature.kind && bytes_eq group.hint alone_mark
+-- whether an option stands alone
+abbrev pub stands_alone : Mark → Bool
+stands_alone Alone = true
+stands_alone mark = false
 
--- whether it does, and matches have it
-abbrev pub is_alone : Matched → Group → Bool
-is_alone matches group = stands_alone group && is_present matches.groups (main_name group.signature.names)
+-- whether the option of an entry does, and matches have it
+abbrev pub is_alone : Matched → Entry → Bool
+is_alone matches entry =
+    stands_alone entry.mark && is_present matches.groups (main_name entry.signature.names)
 
--- The words ask for this option alone: they don't ask for help, and have a reading, whatever its counts, with
--- options that stand alone, of which it is the first in the table.
-pub record AskAlone (options : Declared) (words : List Text) (group : Group) : Type 0 where
+-- The words ask for the option of this entry alone: they don't ask for help, and have a reading, whatever its counts,
+-- with options that stand alone, of which it is the first in the table.
+pub record AskAlone (options : Declared) (entries : List Entry) (words : List Text) (entry : Entry)
+    : Type 0 where
   pub no_help : ¬ (AskHelp options words)
   pub matches : Matched
   pub read : HasReading options words matches
-  pub first : find (is_alone matches) options.groups ≡ Some group
+  pub first : find (is_alone matches) entries ≡ Some entry
 
 -- the counts of the words are checked: they ask neither for help nor for one option alone
-abbrev pub AreCounted : Declared → List Text → Type 0
-AreCounted options words = ¬ (AskHelp options words) × ((group : Group) → ¬ (AskAlone options words group))
+abbrev pub AreCounted : Declared → List Entry → List Text → Type 0
+AreCounted options entries words =
+    ¬ (AskHelp options words) × ((entry : Entry) → ¬ (AskAlone options entries words entry))
 
 -- the word of an option by its main name
-abbrev pub main_word : Group → Text
-main_word group = codes "--" ++ main_name group.signature.names
+abbrev pub main_word : Entry → Text
+main_word entry = codes "--" ++ main_name entry.signature.names
 
 -- the line of an option alone: that word, and the stop
-abbrev pub alone_line : Group → List Text
-alone_line group = main_word group ∷ stop_word ∷ []
+abbrev pub alone_line : Entry → List Text
+alone_line entry = main_word entry ∷ stop_word ∷ []
 
 -- the line of a fault of variables
 abbrev pub variable_fault_line : VariableFault → Text
@@ -229,57 +245,65 @@ pub data AnswersOffer (shell : Text) (options : Declared) (words : List Text) : 
       → AnswersOffer shell options words (done text)
   no_shell : has_completion shell ≡ false → AnswersOffer shell options words (misused (no_completion shell))
 
+-- the code that sets variables to what matches hold
+abbrev pub code_for : Text → Asked → List Entry → Matched → Text
+code_for prefix asked entries matches =
+    variables_code prefix asked.arrays (given_from 0 entries matches.groups) matches.free
+
+-- a shell that runs it holds that
+abbrev pub SetsMatched : Text → Asked → List Entry → Matched → Type 0
+SetsMatched prefix asked entries matches =
+    SetsVariables prefix asked.arrays (given_from 0 entries matches.groups) matches.free
+
 -- The answer to words that ask for one option alone: the code of its line, or the code that sets variables to what
 -- its one word gives, whatever its counts.
-pub data AnswersAlone (asked : Asked) (options : Declared) (group : Group) : Answer → Type 0 where
-  as_line : asked.variables ≡ None → SetsWords (alone_line group)
-      → AnswersAlone asked options group (done (line_code (alone_line group)))
-  as_variables : (prefix : Text) (matches : Matched) → asked.variables ≡ Some prefix
-      → HasReading options (main_word group ∷ []) matches
-      → SetsVariables prefix asked.arrays (given_from 0 options.groups matches.groups) matches.free
-      → AnswersAlone asked options group
-      (done (variables_code prefix asked.arrays (given_from 0 options.groups matches.groups) matches.free))
-
--- The answer for a script with these options: its help, what may come at a word, or what its words are. That
--- is the code that prints its help where they ask for it, and else the code of the one option that they ask
--- for alone, their canonical line, the code that sets variables, or the first fault.
-pub data AnswersScript (asked : Asked) (name : Text) (options : Declared) (words : List Text)
+pub data AnswersAlone (asked : Asked) (options : Declared) (entries : List Entry) (entry : Entry)
     : Answer → Type 0 where
-  usage : (help : Text) → asked.usage ≡ true → IsHelp asked name options help
-      → AnswersScript asked name options words (done help)
+  as_line : asked.variables ≡ None → SetsWords (alone_line entry)
+      → AnswersAlone asked options entries entry (done (line_code (alone_line entry)))
+  as_variables : (prefix : Text) (matches : Matched) → asked.variables ≡ Some prefix
+      → HasReading options (main_word entry ∷ []) matches → SetsMatched prefix asked entries matches
+      → AnswersAlone asked options entries entry (done (code_for prefix asked entries matches))
+
+-- The answer for a script with these entries, read by these options: its help, what may come at a word, or what its
+-- words are. That is the code that prints its help where they ask for it, and else the code of the one option that
+-- they ask for alone, their canonical line, the code that sets variables, or the first fault.
+pub data AnswersScript (asked : Asked) (name : Text) (options : Declared) (entries : List Entry)
+    (words : List Text) : Answer → Type 0 where
+  usage : (help : Text) → asked.usage ≡ true → IsHelp asked name (shown_options asked entries) help
+      → AnswersScript asked name options entries words (done help)
   offers : (shell : Text) (answer : Answer) → asked.usage ≡ false → asked.complete_words ≡ Some shell
-      → AnswersOffer shell options words answer → AnswersScript asked name options words answer
-  help : (help : Text) → ReadsWords asked → AskHelp options words → IsHelp asked name options help
-      → shell_words (quoted help) ≡ Some (help ∷ [])
-      → AnswersScript asked name options words (done (help_code help))
-  alone : (group : Group) (answer : Answer) → ReadsWords asked → AskAlone options words group
-      → AnswersAlone asked options group answer → AnswersScript asked name options words answer
-  accepted : (line : List Text) → ReadsWords asked → AreCounted options words
+      → AnswersOffer shell options words answer → AnswersScript asked name options entries words answer
+  help : (help : Text) → ReadsWords asked → AskHelp options words
+      → IsHelp asked name (shown_options asked entries) help → shell_words (quoted help) ≡ Some (help ∷ [])
+      → AnswersScript asked name options entries words (done (help_code help))
+  alone : (entry : Entry) (answer : Answer) → ReadsWords asked → AskAlone options entries words entry
+      → AnswersAlone asked options entries entry answer → AnswersScript asked name options entries words answer
+  accepted : (line : List Text) → ReadsWords asked → AreCounted options entries words
       → asked.variables ≡ None → TellsWords options words line
-      → AnswersScript asked name options words (done (line_code line))
-  variables : (prefix : Text) (matches : Matched) → ReadsWords asked → AreCounted options words
+      → AnswersScript asked name options entries words (done (line_code line))
+  variables : (prefix : Text) (matches : Matched) → ReadsWords asked → AreCounted options entries words
       → asked.variables ≡ Some prefix → IsAccepted options words matches
-      → SetsVariables prefix asked.arrays (given_from 0 options.groups matches.groups) matches.free
-      → AnswersScript asked name options words
-      (done (variables_code prefix asked.arrays (given_from 0 options.groups matches.groups) matches.free))
-  refused : (fault : Fault) → ReadsWords asked → AreCounted options words
-      → IsRefused options words fault → AnswersScript asked name options words
-      (record { text = refused_text options name fault; status = 2 })
+      → SetsMatched prefix asked entries matches
+      → AnswersScript asked name options entries words (done (code_for prefix asked entries matches))
+  refused : (fault : Fault) → ReadsWords asked → AreCounted options entries words
+      → IsRefused options words fault → AnswersScript asked name options entries words
+      (record { text = refused_text asked (shown_options asked entries) name fault; status = 2 })
 
 -- The answer to a script's name, its table and its words: the fault of the table, the code that completes the
 -- words, the fault of the table's variables, or the answer for the table's options.
 pub data AnswersTable (asked : Asked) (name table : Text) (words : List Text) : Answer → Type 0 where
   faulty : (fault : TableFault) → IsTableFault table fault
       → AnswersTable asked name table words (misused (table_fault_line fault))
-  completion : (groups : List Group) (shell : Text) → DeclaresOptions table groups
+  completion : (entries : List Entry) (shell : Text) → DeclaresOptions table entries
       → asked.complete ≡ Some shell
       → AnswersTable asked name table words (completion_answer asked shell name table)
-  no_variables : (groups : List Group) (fault : VariableFault) → DeclaresOptions table groups
-      → asked.complete ≡ None → asked_fault asked table groups ≡ Some fault
+  no_variables : (entries : List Entry) (fault : VariableFault) → DeclaresOptions table entries
+      → asked.complete ≡ None → asked_fault asked table (read_groups entries) ≡ Some fault
       → AnswersTable asked name table words (misused (variable_fault_line fault))
-  declared : (groups : List Group) (answer : Answer) → DeclaresOptions table groups → asked.complete ≡ None
-      → asked_fault asked table groups ≡ None
-      → AnswersScript asked name (script_options asked groups) words answer
+  declared : (entries : List Entry) (answer : Answer) → DeclaresOptions table entries → asked.complete ≡ None
+      → asked_fault asked table (read_groups entries) ≡ None
+      → AnswersScript asked name (script_options asked (read_groups entries)) entries words answer
       → AnswersTable asked name table words answer
 
 -- the answer to the free words of the program's own

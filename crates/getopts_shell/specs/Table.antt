@@ -1,5 +1,5 @@
 -- The table of options: what each line of it declares, and which options it declares.
-use Rattle.std.specs.Prelude.{◌≡◌, ◌≢◌, ◌==◌, ◌||◌, ◌&&◌, ◌⊎◌, not, ℕ, ◌+◌, nat_lt, min, ◌-◌, ◌^◌, Bool, true, false}
+use Rattle.std.specs.Prelude.{◌≡◌, ◌≢◌, ◌==◌, ◌||◌, ◌&&◌, not, ℕ, ◌+◌, nat_lt, min, ◌-◌, ◌^◌, Bool, true, false}
 use Rattle.std.specs.Prelude.{List, [], ◌∷◌, ◌++◌, Option, Some, None, codes, if◌then◌else◌, slice_index, length}
 use Rattle.std.specs.Prelude.{⊤, drop, take}
 use Rattle.std.specs.Char.{is_ascii_alphanumeric, is_ascii_whitespace}
@@ -14,13 +14,15 @@ use Rattle.getopts.specs.declared.groups.HasArg.{HasArg}
 use Rattle.getopts.specs.declared.groups.HasArg.TheVariants.{Yes, No, Maybe}
 use Rattle.getopts.specs.declared.groups.Occur.{Occur}
 use Rattle.getopts.specs.declared.groups.Occur.TheVariants.{Req, Optional, Multi}
+use Rattle.getopts_shell.specs.declared.row.Mark.{Mark}
+use Rattle.getopts_shell.specs.declared.row.Mark.TheVariants.{Plain, Alone, Last}
 
 -- ---- names, hints and items
 
--- a byte that a short name may be: no space, no control character, and none of `|`, `[`, `]` and `=`
+-- a byte that a short name may be: a letter, a digit, or one of `?@#%+_^,./:`
 abbrev pub is_name_byte : ℕ → Bool
-is_name_byte byte = nat_lt 32 byte && not (byte == 127) && not (byte == 124) && not (byte == 91)
-    && not (byte == 93) && not (byte == 61)
+is_name_byte byte = is_ascii_alphanumeric byte || byte == 63 || byte == 64 || byte == 35 || byte == 37
+    || byte == 43 || byte == 95 || byte == 94 || byte == 44 || byte == 46 || byte == 47 || byte == 58
 
 -- whether a text may be a short name: it doesn't begin with `-`, and its bytes may stand there
 abbrev pub is_name : Text → Bool
@@ -74,41 +76,65 @@ abbrev pub HasParts : Text → Text → Option Text → Type 0
 HasParts text names argument = AllByRecursion (λ byte. byte ≢ 32) names
     × (text ≡ names ++ option_map_or (λ argument. codes " " ++ argument) argument [])
 
--- a text in the brackets of an occurrence: none for Req, `[` and `]` for Optional, and for Multi `[`
--- and `]..` or `]...`
-abbrev pub IsBracketed : Occur → Text → Text → Type 0
-IsBracketed Req inside text = (text ≡ inside) × (slice_index text 0 ≢ 91)
-IsBracketed Optional inside text = text ≡ codes "[" ++ (inside ++ codes "]")
-IsBracketed Multi inside text = (text ≡ codes "[" ++ (inside ++ codes "].."))
-    ⊎ (text ≡ codes "[" ++ (inside ++ codes "]..."))
+-- what stands behind `]`: nothing, the option may come once; `!`, it stands alone; two or three dots, it may come any
+-- number of times; `*`, it may so, and its last value counts
+abbrev pub end_means : Text → Option (Occur × Mark)
+end_means end =
+    if is_empty end then Some (Optional, Plain)
+    else (if bytes_eq end (codes "!") then Some (Optional, Alone)
+    else (if bytes_eq end (codes "..") || bytes_eq end (codes "...") then Some (Multi, Plain)
+    else (if bytes_eq end (codes "*") then Some (Multi, Last) else None)))
 
--- An item: names, and perhaps an argument, in the brackets of an occurrence.
-pub record IsItem (text : Text) (known : Signature) (hint : Text) : Type 0 where
+-- A text with another inside, in no brackets where it is required, and else in `[` and `]`, and what follows these.
+pub data IsBracketed (text inside : Text) : Occur → Mark → Type 0 where
+  bare : text ≡ inside → slice_index text 0 ≢ 91 → IsBracketed text inside Req Plain
+  bracketed : (end : Text) (occurrence : Occur) (mark : Mark)
+      → text ≡ codes "[" ++ (inside ++ (codes "]" ++ end)) → end_means end ≡ Some (occurrence, mark)
+      → IsBracketed text inside occurrence mark
+
+-- whether an option with a mark may be of a kind: one that stands alone takes no argument
+abbrev pub fits : Mark → HasArg → Bool
+fits Alone Yes = false
+fits Alone Maybe = false
+fits mark kind = true
+
+-- An item: names, and perhaps an argument, in the brackets of an occurrence. An option that stands alone takes no
+-- argument.
+pub record IsItem (text : Text) (known : Signature) (hint : Text) (mark : Mark) : Type 0 where
   pub inside : Text
-  pub brackets : IsBracketed known.occurrence inside text
+  pub brackets : IsBracketed text inside known.occurrence mark
   pub names : Text
   pub argument : Option Text
   pub parts : HasParts inside names argument
   pub names_are : AreNames known.names names
   pub argument_is : IsArgument known.kind hint argument
+  pub fits_kind : fits mark known.kind ≡ true
 
--- the hint of an option that stands alone, which no text shows
-abbrev pub alone_mark : Text
-alone_mark = codes "!"
+-- An entry of a table: what is asked of its option, the hint, the description, and the mark.
+pub record Entry : Type 0 where
+  pub signature : Signature
+  pub hint : Text
+  pub description : Text
+  pub mark : Mark
 
--- A marked item: names in `[` and `]!`. Its option takes no argument and stands alone, as its hint tells.
-pub record IsMarked (text : Text) (known : Signature) (hint : Text) : Type 0 where
-  pub names : Text
-  pub written : text ≡ codes "[" ++ (names ++ codes "]!")
-  pub names_are : AreNames known.names names
-  pub kind_is : known.kind ≡ No
-  pub occurrence_is : known.occurrence ≡ Optional
-  pub hint_is : hint ≡ alone_mark
+-- the group that an entry is read by
+abbrev pub group_of_entry : Entry → Group
+group_of_entry entry =
+    record { signature = entry.signature; hint = entry.hint; description = entry.description }
 
--- an option as it is written: an item, or one that is marked and so ends in `]!`
-pub data IsOption (text : Text) (known : Signature) (hint : Text) : Type 0 where
-  unmarked : ((front : Text) → text ≢ front ++ codes "]!") → IsItem text known hint → IsOption text known hint
-  marked : IsMarked text known hint → IsOption text known hint
+-- the group that a help shows: an option of which the last value counts is shown as one that may come once
+abbrev pub shown_occurrence : Mark → Occur → Occur
+shown_occurrence Last occurrence = Optional
+shown_occurrence mark occurrence = occurrence
+
+abbrev pub shown_group : Entry → Group
+shown_group entry = record {
+  signature = record entry.signature {
+    occurrence = shown_occurrence entry.mark entry.signature.occurrence;
+  };
+  hint = entry.hint;
+  description = entry.description;
+}
 
 -- ---- lines
 
@@ -148,55 +174,55 @@ item_of line = before_gap (trimmed line)
 abbrev pub is_passed : Text → Bool
 is_passed line = is_empty (trimmed line) || slice_index (trimmed line) 0 == 35
 
--- A line declares a group: its option, and after a tab or two spaces its description.
-pub record DeclaresGroup (line : Text) (group : Group) : Type 0 where
+-- A line declares an entry: its option, and after a tab or two spaces its description.
+pub record DeclaresEntry (line : Text) (entry : Entry) : Type 0 where
   pub there : is_passed line ≡ false
-  pub item : IsOption (item_of line) group.signature group.hint
-  pub description : group.description ≡ trimmed (from_gap (trimmed line))
+  pub item : IsItem (item_of line) entry.signature entry.hint entry.mark
+  pub description : entry.description ≡ trimmed (from_gap (trimmed line))
 
--- what a line declares: nothing, or a group
-abbrev pub Declares : Text → Option Group → Type 0
+-- what a line declares: nothing, or an entry
+abbrev pub Declares : Text → Option Entry → Type 0
 Declares line None = is_passed line ≡ true
-Declares line (Some group) = DeclaresGroup line group
+Declares line (Some entry) = DeclaresEntry line entry
 
 -- ---- tables
 
--- the groups that lines declare, in order
-abbrev pub DeclareGroups : List Text → List Group → Type 0
-DeclareGroups lines groups = (each : List (Option Group)) × AllZip Declares lines each
-    × (groups ≡ filter_map (λ declared. declared) each)
+-- the entries that lines declare, in order
+abbrev pub DeclareEntries : List Text → List Entry → Type 0
+DeclareEntries lines entries = (each : List (Option Entry)) × AllZip Declares lines each
+    × (entries ≡ filter_map (λ declared. declared) each)
 
--- whether one of these groups has this name
-abbrev pub any_has_name : List Group → Text → Bool
-any_has_name groups name = not (is_empty name)
-    && list_any (λ group. bytes_eq group.signature.names.short name || bytes_eq group.signature.names.long name)
-    groups
+-- whether one of these entries has this name
+abbrev pub any_has_name : List Entry → Text → Bool
+any_has_name entries name = not (is_empty name)
+    && list_any (λ entry. bytes_eq entry.signature.names.short name || bytes_eq entry.signature.names.long name)
+    entries
 
--- the first of a group's names that one of these groups has already
-abbrev pub name_again : List Group → Group → Option Text
-name_again groups group =
-    if any_has_name groups group.signature.names.short then Some group.signature.names.short
-    else (if any_has_name groups group.signature.names.long then Some group.signature.names.long else None)
+-- the first of an entry's names that one of these entries has already
+abbrev pub name_again : List Entry → Entry → Option Text
+name_again entries entry =
+    if any_has_name entries entry.signature.names.short then Some entry.signature.names.short
+    else (if any_has_name entries entry.signature.names.long then Some entry.signature.names.long else None)
 
--- no name stands twice: no group has a name of one before it, where these stand before the first
-abbrev pub HaveNewNames : List Group → List Group → Type 0
+-- no name stands twice: no entry has a name of one before it, where these stand before the first
+abbrev pub HaveNewNames : List Entry → List Entry → Type 0
 HaveNewNames before [] = ⊤
-HaveNewNames before (group ∷ groups) =
-    (name_again before group ≡ None) × HaveNewNames (before ++ group ∷ []) groups
+HaveNewNames before (entry ∷ entries) =
+    (name_again before entry ≡ None) × HaveNewNames (before ++ entry ∷ []) entries
 
 -- Lines declare these options.
-pub record DeclareOptions (lines : List Text) (groups : List Group) : Type 0 where
-  pub declared : DeclareGroups lines groups
-  pub once : HaveNewNames [] groups
+pub record DeclareOptions (lines : List Text) (entries : List Entry) : Type 0 where
+  pub declared : DeclareEntries lines entries
+  pub once : HaveNewNames [] entries
 
 -- the table declares these options
-abbrev pub DeclaresOptions : Text → List Group → Type 0
-DeclaresOptions table groups = DeclareOptions (lines_of table) groups
+abbrev pub DeclaresOptions : Text → List Entry → Type 0
+DeclaresOptions table entries = DeclareOptions (lines_of table) entries
 
 -- a table declares one list of options at most
 abbrev pub OneTableOneList : Type 0
-OneTableOneList = (table : Text) (groups others : List Group) → DeclaresOptions table groups
-    → DeclaresOptions table others → others ≡ groups
+OneTableOneList = (table : Text) (entries others : List Entry) → DeclaresOptions table entries
+    → DeclaresOptions table others → others ≡ entries
 
 -- ---- faults
 
@@ -267,14 +293,14 @@ pub data TableFault : Type 0 where
   no_option : ℕ → Text → TableFault
   name_twice : ℕ → Text → TableFault
 
--- the fault of the line with this number, where the lines before it declare these groups: it declares
--- neither nothing nor a group, or a group with a name that stands there already
-pub data IsLineFault (number : ℕ) (groups : List Group) (line : Text) : TableFault → Type 0 where
-  none : ((declared : Option Group) → ¬ (Declares line declared))
-      → IsLineFault number groups line (no_option number (item_of line))
-  twice : (group : Group) (name : Text) → DeclaresGroup line group
-      → name_again groups group ≡ Some name
-      → IsLineFault number groups line (name_twice number name)
+-- the fault of the line with this number, where the lines before it declare these entries: it declares
+-- neither nothing nor an entry, or an entry with a name that stands there already
+pub data IsLineFault (number : ℕ) (entries : List Entry) (line : Text) : TableFault → Type 0 where
+  none : ((declared : Option Entry) → ¬ (Declares line declared))
+      → IsLineFault number entries line (no_option number (item_of line))
+  twice : (entry : Entry) (name : Text) → DeclaresEntry line entry
+      → name_again entries entry ≡ Some name
+      → IsLineFault number entries line (name_twice number name)
 
 -- the number of the line after so many; numbers end at the highest of 64 bits
 abbrev pub line_number : ℕ → ℕ
@@ -286,6 +312,6 @@ pub record IsTableFault (table : Text) (fault : TableFault) : Type 0 where
   pub line : Text
   pub after : List Text
   pub lines_are : lines_of table ≡ before ++ line ∷ after
-  pub groups : List Group
-  pub declared : DeclareOptions before groups
-  pub fault_at : IsLineFault (line_number (length before)) groups line fault
+  pub entries : List Entry
+  pub declared : DeclareOptions before entries
+  pub fault_at : IsLineFault (line_number (length before)) entries line fault

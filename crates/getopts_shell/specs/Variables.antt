@@ -9,14 +9,16 @@ use Rattle.std.specs.Str.{bytes_eq}
 use Rattle.getopts.specs.Accessors.{each_value, found_in}
 use Rattle.getopts.specs.Matches.{Found, MatchedGroup}
 use Rattle.getopts.specs.Names.{Text, Names, is_empty, main_name}
-use Rattle.getopts.specs.Options.{Group}
 use Rattle.getopts.specs.Turn.{cut_at_equals}
 use Rattle.getopts.specs.declared.groups.HasArg.{HasArg}
 use Rattle.getopts.specs.declared.groups.HasArg.TheVariants.{No}
 use Rattle.getopts.specs.Wrap.{lines_of}
 use Rattle.getopts_shell.specs.Completion.{is_multi}
 use Rattle.getopts_shell.specs.Quote.{quoted, quoted_words, shell_words, words_after}
-use Rattle.getopts_shell.specs.Table.{is_passed, line_number}
+use Rattle.getopts.specs.declared.groups.Occur.{Occur}
+use Rattle.getopts_shell.specs.declared.row.Mark.{Mark}
+use Rattle.getopts_shell.specs.declared.row.Mark.TheVariants.{Last}
+use Rattle.getopts_shell.specs.Table.{Entry, is_passed, line_number}
 
 -- ---- the commands of a text
 
@@ -167,15 +169,21 @@ pub record Given : Type 0 where
   pub all : Bool
   pub found : List Found
 
+-- whether the variable of an entry's option holds all values: it may come any number of times, and not only its last
+-- value counts
+abbrev pub holds_all : Mark → Occur → Bool
+holds_all Last occurrence = false
+holds_all mark occurrence = is_multi occurrence
+
 -- the options of a table as matches give them, where the first has this place
-abbrev pub given_from : ℕ → List Group → List MatchedGroup → List Given
+abbrev pub given_from : ℕ → List Entry → List MatchedGroup → List Given
 given_from place [] held = []
-given_from place (group ∷ groups) held = record {
-  names = group.signature.names;
-  kind = group.signature.kind;
-  all = is_multi group.signature.occurrence;
+given_from place (entry ∷ entries) held = record {
+  names = entry.signature.names;
+  kind = entry.signature.kind;
+  all = holds_all entry.mark entry.signature.occurrence;
   found = found_in held place;
-} ∷ given_from (place + 1) groups held
+} ∷ given_from (place + 1) entries held
 
 -- the values of occurrences, with the empty text for one that has none
 abbrev pub texts_found : List Found → List Text

@@ -13,9 +13,10 @@ ghost use Rattle.getopts.specs.Matches.{Matched};
 ghost use Rattle.getopts.specs.Names.{Text, texts};
 ghost use Rattle.getopts.specs.Options.{Group, with_group};
 ghost use Rattle.getopts.specs.Parse.{IsAccepted, IsRefused};
-ghost use Rattle.getopts_shell.specs.Held.{group_of_row, groups_of, fault_told, answer_of, HasOwnGroups};
+ghost use Rattle.getopts_shell.specs.Held.{entry_of_row, entries_of, group_of_row, groups_as, groups_of};
+ghost use Rattle.getopts_shell.specs.Held.{fault_told, answer_of, HasOwnGroups};
 ghost use Rattle.getopts_shell.specs.Held.{ArePlainlyNamed, HaveReading, asked_of, variable_fault_told};
-ghost use Rattle.getopts_shell.specs.Program.{own_groups, own_options, script_options, done, misused};
+ghost use Rattle.getopts_shell.specs.Program.{own_groups, own_options, script_options, done, misused, brief_text, shown_options};
 ghost use Rattle.getopts_shell.specs.Program.{table_fault_line, fault_line, refused_text};
 ghost use Rattle.getopts_shell.specs.Program.{IsHelp, help_code, AskHelp, is_no, offers_help, last_word};
 ghost use Rattle.getopts_shell.specs.Variables.{line_code};
@@ -26,17 +27,17 @@ ghost use Rattle.getopts_shell.specs.Program.{completion_answer, has_completion,
 ghost use Rattle.getopts_shell.specs.Program.{asked_fault, variable_fault_line};
 ghost use Rattle.getopts_shell.specs.Program.{AreCounted, AnswersAlone, AskAlone, is_alone, main_word, stands_alone};
 ghost use Rattle.getopts_shell.specs.Completion.{IsOffer};
-ghost use Rattle.getopts_shell.specs.Table.{DeclaresOptions, TableFault, no_option, name_twice};
+ghost use Rattle.getopts_shell.specs.Table.{DeclaresOptions, Entry, TableFault, no_option, name_twice, shown_occurrence};
 ghost use Rattle.getopts_shell.specs.Held.{with_groups};
 
 use crate::complete::{is_given, offers, read_words, stub};
-use crate::item::{ALONE, reason_of};
+use crate::item::reason_of;
 use crate::quote::{push_line, push_quoted};
-use crate::row::Row;
+use crate::row::{Mark, Row};
 use crate::table::{TableError, rows_of};
 use crate::variables::{VariableError, Variables, main_name, variable_error, variables_code};
 use crate::words::texts_of;
-use getopts::{Fail, HasArg, Matches, Options, ParsingStyle, names_resolve};
+use getopts::{Fail, HasArg, Matches, Occur, Options, ParsingStyle, names_resolve};
 use getopts_bytes::push_bytes;
 use std::alloc::{AllocError, Global};
 use std::io;
@@ -349,7 +350,7 @@ fn completed_answer(
     rows: &[Row<'_>],
     words: &[&str],
 ) -> Result<Outcome, AllocError>
-    requires declared { DeclaresOptions table.now (groups_of rows.now) }
+    requires declared { DeclaresOptions table.now (entries_of rows.now) }
     ensures { IfOk result (λ outcome.
         AnswersTable (asked_of asked.now) name.now table.now (texts words.now) (answer_of outcome)) }
 {
@@ -385,7 +386,7 @@ fn declared_answer(
     rows: &[Row<'_>],
     words: &[&str],
 ) -> Result<Outcome, AllocError>
-    requires declared { DeclaresOptions table.now (groups_of rows.now) }
+    requires declared { DeclaresOptions table.now (entries_of rows.now) }
     requires no_code { (asked_of asked.now).complete ≡ None }
     ensures { IfOk result (λ outcome.
         AnswersTable (asked_of asked.now) name.now table.now (texts words.now) (answer_of outcome)) }
@@ -441,12 +442,13 @@ fn rows_answer(
     rows: &[Row<'_>],
     words: &[&str],
 ) -> Result<Outcome, AllocError>
-    requires declared { DeclaresOptions table.now (groups_of rows.now) }
+    requires declared { DeclaresOptions table.now (entries_of rows.now) }
     requires variables { asked_fault (asked_of asked.now) table.now (groups_of rows.now) ≡ None }
     ensures { IfOk result (λ outcome. AnswersScript (asked_of asked.now) name.now
-        (script_options (asked_of asked.now) (groups_of rows.now)) (texts words.now) (answer_of outcome)) }
+        (script_options (asked_of asked.now) (groups_of rows.now)) (entries_of rows.now) (texts words.now)
+        (answer_of outcome)) }
 {
-    let options = options_of(alloc, asked, rows)?;
+    let options = options_of(alloc, asked, rows, false)?;
     let script = Script {
         asked,
         name,
@@ -457,44 +459,65 @@ fn rows_answer(
     script_answer(alloc, script, words)
 }
 
-/// The options of a table, in the style and the mode that are asked for.
-fn options_of(alloc: Global, asked: &Asked, rows: &[Row<'_>]) -> Result<Options, AllocError>
-    ensures { IfOk result (λ options. options ≡ script_options (asked_of asked.now) (groups_of rows.now)) }
+/// The options of a table, in the style and the mode that are asked for: as a help shows them, or as words are read.
+fn options_of(
+    alloc: Global,
+    asked: &Asked,
+    rows: &[Row<'_>],
+    shown: bool,
+) -> Result<Options, AllocError>
+    ensures { IfOk result (λ options. options ≡ script_options (asked_of asked.now) (groups_as shown rows.now)) }
 {
     let mut options = Options::new(alloc);
     if asked.stop {
         options.parsing_style(ParsingStyle::StopAtFirstFree);
     }
     options.long_only(asked.long_only);
-    add_rows(&mut options, rows)?;
+    add_rows(&mut options, rows, shown)?;
     Ok(options)
 }
 
 /// Adds the options of a table.
-fn add_rows(options: &mut Options, rows: &[Row<'_>]) -> Result<(), AllocError>
-    ensures { OnOk result (options.new ≡ record options.old { groups = options.old.groups ++ groups_of rows.now }) }
+fn add_rows(options: &mut Options, rows: &[Row<'_>], shown: bool) -> Result<(), AllocError>
+    ensures { OnOk result (options.new
+        ≡ record options.old { groups = options.old.groups ++ groups_as shown rows.now }) }
 {
     for row in rows {
+        let occurrence = if shown {
+            shown_occurrence(row.mark, row.occurrence)
+        } else {
+            row.occurrence
+        };
         options.add_group(
             row.short,
             row.long,
             row.description,
             row.hint,
             row.kind,
-            row.occurrence,
+            occurrence,
         )?;
     }
     Ok(())
+}
+
+/// How often an option may come, as a help shows it.
+fn shown_occurrence(mark: Mark, occurrence: Occur) -> Occur
+    ensures { result ≡ shown_occurrence mark occurrence }
+{
+    match mark {
+        Mark::Last => Occur::Optional,
+        _ => occurrence,
+    }
 }
 
 /// The answer for a script and its words.
 fn script_answer(alloc: Global, script: Script<'_>, words: &[&str]) -> Result<Outcome, AllocError>
     requires rows { script.options.now.groups ≡ groups_of script.rows.now }
     requires mode { script.options.now.long_only ≡ script.asked.now.long_only }
-    requires declared { DeclaresOptions script.table.now (groups_of script.rows.now) }
+    requires declared { DeclaresOptions script.table.now (entries_of script.rows.now) }
     requires variables { asked_fault (asked_of script.asked.now) script.table.now (groups_of script.rows.now) ≡ None }
     ensures { IfOk result (λ outcome. AnswersScript (asked_of script.entry.asked.now) script.entry.name.now
-        script.entry.options.now (texts words.now) (answer_of outcome)) }
+        script.entry.options.now (entries_of script.entry.rows.now) (texts words.now) (answer_of outcome)) }
 {
     if script.asked.usage {
         return Ok(Outcome {
@@ -508,18 +531,33 @@ fn script_answer(alloc: Global, script: Script<'_>, words: &[&str]) -> Result<Ou
     }
 }
 
+/// The options of a script as its help shows them.
+fn shown_options(alloc: Global, script: Script<'_>) -> Result<Options, AllocError>
+    ensures { IfOk result (λ options. options
+        ≡ shown_options (asked_of script.entry.asked.now) (entries_of script.entry.rows.now)) }
+{
+    options_of(alloc, script.asked, script.rows, true)
+}
+
+/// The text that the help of a script begins with.
+fn brief_text(alloc: Global, script: Script<'_>, shown: &Options) -> Result<String, AllocError>
+    ensures { IfOk result (λ text. string_bytes text
+        ≡ brief_text (asked_of script.entry.asked.now) script.entry.name.now shown.now) }
+{
+    match &script.asked.brief {
+        Some(brief) => String::from_str(alloc, brief.as_str()),
+        None => shown.short_usage(alloc, script.name),
+    }
+}
+
 /// The help of a script.
 fn help_of(alloc: Global, script: Script<'_>) -> Result<String, AllocError>
     ensures { IfOk result (λ text. IsHelp (asked_of script.entry.asked.now) script.entry.name.now
-        script.entry.options.now (string_bytes text)) }
+        (shown_options (asked_of script.entry.asked.now) (entries_of script.entry.rows.now)) (string_bytes text)) }
 {
-    match &script.asked.brief {
-        Some(brief) => script.options.usage(alloc, brief.as_str()),
-        None => {
-            let brief = script.options.short_usage(alloc, script.name)?;
-            script.options.usage(alloc, brief.as_str())
-        }
-    }
+    let shown = shown_options(alloc, script)?;
+    let brief = brief_text(alloc, script, &shown)?;
+    shown.usage(alloc, brief.as_str())
 }
 
 /// The code that completes a script's words in a shell, or that there is none for it.
@@ -600,10 +638,10 @@ fn last_offers(alloc: Global, script: Script<'_>, words: &[&str]) -> Result<Stri
 fn words_answer(alloc: Global, script: Script<'_>, words: &[&str]) -> Result<Outcome, AllocError>
     requires asked { ReadsWords (asked_of script.asked.now) }
     requires rows { script.options.now.groups ≡ groups_of script.rows.now }
-    requires declared { DeclaresOptions script.table.now (groups_of script.rows.now) }
+    requires declared { DeclaresOptions script.table.now (entries_of script.rows.now) }
     requires variables { asked_fault (asked_of script.asked.now) script.table.now (groups_of script.rows.now) ≡ None }
     ensures { IfOk result (λ outcome. AnswersScript (asked_of script.entry.asked.now) script.entry.name.now
-        script.entry.options.now (texts words.now) (answer_of outcome)) }
+        script.entry.options.now (entries_of script.entry.rows.now) (texts words.now) (answer_of outcome)) }
 {
     let asked = asks_help(alloc, script, words)?;
     if asked {
@@ -654,8 +692,8 @@ fn asked_alone<'s>(
     requires rows { script.options.now.groups ≡ groups_of script.rows.now }
     requires no_help { ¬ (AskHelp script.options.now (texts words.now)) }
     ensures { IfOk result (λ found. MatchOption found
-        ((group : Group) → ¬ (AskAlone script.entry.options.now (texts words.now) group))
-        (λ row. AskAlone script.entry.options.now (texts words.now) (group_of_row row))) }
+        ((entry : Entry) → ¬ (AskAlone script.entry.options.now (entries_of script.entry.rows.now) (texts words.now) entry))
+        (λ row. AskAlone script.entry.options.now (entries_of script.entry.rows.now) (texts words.now) (entry_of_row row))) }
 {
     let marked = any_stands_alone(script.rows);
     if !marked {
@@ -670,21 +708,21 @@ fn asked_alone<'s>(
 
 /// Whether one of the rows stands alone.
 fn any_stands_alone(rows: &[Row<'_>]) -> bool
-    ensures { result ≡ list_any (λ row. stands_alone (group_of_row row)) rows.now }
+    ensures { result ≡ list_any (λ row. stands_alone row.mark) rows.now }
 {
-    rows.iter().any(|row| stands_alone(*row))
+    rows.iter().any(|row| stands_alone(row.mark))
 }
 
-/// Whether a row stands alone.
-fn stands_alone(row: Row<'_>) -> bool
-    ensures { result ≡ stands_alone (group_of_row row.entry) }
+/// Whether an option with this mark stands alone.
+fn stands_alone(mark: Mark) -> bool
+    ensures { result ≡ stands_alone mark }
 {
-    matches!(row.kind, HasArg::No) && row.hint == ALONE
+    matches!(mark, Mark::Alone)
 }
 
 /// The first row that stands alone and is given by matches.
 fn first_alone<'t>(rows: &[Row<'t>], matches: &Matches) -> Option<Row<'t>>
-    ensures { option_map group_of_row result ≡ find (is_alone matches.now) (groups_of rows.now) }
+    ensures { option_map entry_of_row result ≡ find (is_alone matches.now) (entries_of rows.now) }
 {
     for at in 0..rows.len() {
         let row = rows[at];
@@ -697,18 +735,18 @@ fn first_alone<'t>(rows: &[Row<'t>], matches: &Matches) -> Option<Row<'t>>
 
 /// Whether a row stands alone and is given by matches.
 fn is_alone(row: Row<'_>, matches: &Matches) -> bool
-    ensures { result ≡ is_alone matches.now (group_of_row row.entry) }
+    ensures { result ≡ is_alone matches.now (entry_of_row row.entry) }
 {
-    stands_alone(row) && is_given(matches, main_name(row))
+    stands_alone(row.mark) && is_given(matches, main_name(row))
 }
 
 /// The answer to words that ask for one option alone: its line, or the code that sets variables to what it gives.
 fn alone_answer(alloc: Global, script: Script<'_>, row: Row<'_>) -> Result<Outcome, AllocError>
     requires rows { script.options.now.groups ≡ groups_of script.rows.now }
     requires variables { asked_fault (asked_of script.asked.now) script.table.now (groups_of script.rows.now) ≡ None }
-    requires readable { HaveReading script.options.now (main_word (group_of_row row) ∷ []) }
+    requires readable { HaveReading script.options.now (main_word (entry_of_row row) ∷ []) }
     ensures { IfOk result (λ outcome. AnswersAlone (asked_of script.entry.asked.now)
-        script.entry.options.now (group_of_row row.entry) (answer_of outcome)) }
+        script.entry.options.now (entries_of script.entry.rows.now) (entry_of_row row.entry) (answer_of outcome)) }
 {
     match &script.asked.variables {
         Some(prefix) => alone_variables(alloc, script, prefix.as_str(), row),
@@ -720,7 +758,7 @@ fn alone_answer(alloc: Global, script: Script<'_>, row: Row<'_>) -> Result<Outco
 fn alone_line(alloc: Global, script: Script<'_>, row: Row<'_>) -> Result<Outcome, AllocError>
     requires no_variables { (asked_of script.asked.now).variables ≡ None }
     ensures { IfOk result (λ outcome. AnswersAlone (asked_of script.entry.asked.now)
-        script.entry.options.now (group_of_row row.entry) (answer_of outcome)) }
+        script.entry.options.now (entries_of script.entry.rows.now) (entry_of_row row.entry) (answer_of outcome)) }
 {
     let word = main_word(alloc, row)?;
     let stop = String::from_str(alloc, "--")?;
@@ -740,9 +778,9 @@ fn alone_variables(
     requires prefix { (asked_of script.asked.now).variables ≡ Some prefix.now }
     requires rows { script.options.now.groups ≡ groups_of script.rows.now }
     requires variables { asked_fault (asked_of script.asked.now) script.table.now (groups_of script.rows.now) ≡ None }
-    requires readable { HaveReading script.options.now (main_word (group_of_row row) ∷ []) }
+    requires readable { HaveReading script.options.now (main_word (entry_of_row row) ∷ []) }
     ensures { IfOk result (λ outcome. AnswersAlone (asked_of script.entry.asked.now)
-        script.entry.options.now (group_of_row row.entry) (answer_of outcome)) }
+        script.entry.options.now (entries_of script.entry.rows.now) (entry_of_row row.entry) (answer_of outcome)) }
 {
     let variables = Variables {
         prefix,
@@ -761,7 +799,7 @@ fn alone_variables(
 
 /// The word of an option by its main name.
 fn main_word(alloc: Global, row: Row<'_>) -> Result<String, AllocError>
-    ensures { IfOk result (λ word. string_bytes word ≡ main_word (group_of_row row.entry)) }
+    ensures { IfOk result (λ word. string_bytes word ≡ main_word (entry_of_row row.entry)) }
 {
     let mut word = String::from_str(alloc, "--")?;
     word.push_str(main_name(row))?;
@@ -771,7 +809,8 @@ fn main_word(alloc: Global, row: Row<'_>) -> Result<String, AllocError>
 /// The code that prints the help of a script, and ends it.
 fn help_code(alloc: Global, script: Script<'_>) -> Result<String, AllocError>
     ensures { IfOk result (λ text. (help : Text)
-        × IsHelp (asked_of script.entry.asked.now) script.entry.name.now script.entry.options.now help
+        × IsHelp (asked_of script.entry.asked.now) script.entry.name.now
+        (shown_options (asked_of script.entry.asked.now) (entries_of script.entry.rows.now)) help
         × (string_bytes text ≡ help_code help)) }
 {
     let help = help_of(alloc, script)?;
@@ -784,12 +823,12 @@ fn help_code(alloc: Global, script: Script<'_>) -> Result<String, AllocError>
 /// The answer to words whose counts are checked: variables or the canonical line, or the first fault.
 fn counted_answer(alloc: Global, script: Script<'_>, words: &[&str]) -> Result<Outcome, AllocError>
     requires asked { ReadsWords (asked_of script.asked.now) }
-    requires counted { AreCounted script.options.now (texts words.now) }
+    requires counted { AreCounted script.options.now (entries_of script.rows.now) (texts words.now) }
     requires rows { script.options.now.groups ≡ groups_of script.rows.now }
-    requires declared { DeclaresOptions script.table.now (groups_of script.rows.now) }
+    requires declared { DeclaresOptions script.table.now (entries_of script.rows.now) }
     requires variables { asked_fault (asked_of script.asked.now) script.table.now (groups_of script.rows.now) ≡ None }
     ensures { IfOk result (λ outcome. AnswersScript (asked_of script.entry.asked.now) script.entry.name.now
-        script.entry.options.now (texts words.now) (answer_of outcome)) }
+        script.entry.options.now (entries_of script.entry.rows.now) (texts words.now) (answer_of outcome)) }
 {
     match &script.asked.variables {
         Some(prefix) => variables_answer(alloc, script, prefix.as_str(), words),
@@ -801,10 +840,10 @@ fn counted_answer(alloc: Global, script: Script<'_>, words: &[&str]) -> Result<O
 fn line_answer(alloc: Global, script: Script<'_>, words: &[&str]) -> Result<Outcome, AllocError>
     requires asked { ReadsWords (asked_of script.asked.now) }
     requires no_variables { (asked_of script.asked.now).variables ≡ None }
-    requires counted { AreCounted script.options.now (texts words.now) }
+    requires counted { AreCounted script.options.now (entries_of script.rows.now) (texts words.now) }
     requires plain { ArePlainlyNamed script.options.now.groups }
     ensures { IfOk result (λ outcome. AnswersScript (asked_of script.entry.asked.now) script.entry.name.now
-        script.entry.options.now (texts words.now) (answer_of outcome)) }
+        script.entry.options.now (entries_of script.entry.rows.now) (texts words.now) (answer_of outcome)) }
 {
     names_resolve(script.options);
     match script.options.canonical_words(alloc, words) {
@@ -829,11 +868,11 @@ fn variables_answer(
 ) -> Result<Outcome, AllocError>
     requires asked { ReadsWords (asked_of script.asked.now) }
     requires prefix { (asked_of script.asked.now).variables ≡ Some prefix.now }
-    requires counted { AreCounted script.options.now (texts words.now) }
+    requires counted { AreCounted script.options.now (entries_of script.rows.now) (texts words.now) }
     requires rows { script.options.now.groups ≡ groups_of script.rows.now }
     requires variables { asked_fault (asked_of script.asked.now) script.table.now (groups_of script.rows.now) ≡ None }
     ensures { IfOk result (λ outcome. AnswersScript (asked_of script.entry.asked.now) script.entry.name.now
-        script.entry.options.now (texts words.now) (answer_of outcome)) }
+        script.entry.options.now (entries_of script.entry.rows.now) (texts words.now) (answer_of outcome)) }
 {
     let variables = Variables {
         prefix,
@@ -860,14 +899,17 @@ fn line_code(alloc: Global, line: &[String]) -> Result<String, AllocError>
     Ok(text)
 }
 
-/// Why a script's words are refused, and its short usage.
+/// Why a script's words are refused, and the text that its help begins with.
 fn refusal(alloc: Global, script: Script<'_>, fail: &Fail) -> Result<String, AllocError>
     ensures { IfOk result (λ text. (fault : Fault) × (fault_of fail.now ≡ Some fault)
-        × (string_bytes text ≡ refused_text script.entry.options.now script.entry.name.now fault)) }
+        × (string_bytes text ≡ refused_text (asked_of script.entry.asked.now)
+        (shown_options (asked_of script.entry.asked.now) (entries_of script.entry.rows.now))
+        script.entry.name.now fault)) }
 {
     let mut text = fault_line(alloc, script.name, fail)?;
-    let usage = script.options.short_usage(alloc, script.name)?;
-    text.push_str(usage.as_str())?;
+    let shown = shown_options(alloc, script)?;
+    let brief = brief_text(alloc, script, &shown)?;
+    text.push_str(brief.as_str())?;
     text.push('\n')?;
     Ok(text)
 }

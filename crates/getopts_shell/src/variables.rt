@@ -9,14 +9,14 @@ ghost use Rattle.std.specs.Str.{bytes_eq};
 ghost use Rattle.getopts.specs.Names.{Text, main_name};
 ghost use Rattle.getopts.specs.Options.{names_of};
 ghost use Rattle.getopts.specs.Wrap.{lines_of, parting};
-ghost use Rattle.getopts_shell.specs.Held.{group_of_row, groups_of, variable_fault_told};
+ghost use Rattle.getopts_shell.specs.Held.{entries_of, group_of_row, groups_of, variable_fault_told};
 ghost use Rattle.getopts_shell.specs.Completion.{is_multi};
 ghost use Rattle.getopts_shell.specs.Quote.{quoted, quoted_words};
 ghost use Rattle.getopts_shell.specs.Variables as Spec;
 ghost use Rattle.getopts_shell.specs.Variables.{many, one};
 
 use crate::quote::{push_line, push_parting, push_quoted, push_replaced};
-use crate::row::Row;
+use crate::row::{Mark, Row};
 use crate::table::{declares_nothing, trimmed};
 use getopts::{HasArg, Matches, Occur, Occurrences};
 use std::alloc::{AllocError, Global};
@@ -55,7 +55,7 @@ pub(crate) fn variables_code(
 ) -> Result<String, AllocError>
     ensures { IfOk result (λ text. string_bytes text
         ≡ Spec.variables_code variables.entry.prefix.now variables.entry.arrays
-        (Spec.given_from 0 (groups_of rows.now) matches.now.groups) matches.now.free) }
+        (Spec.given_from 0 (entries_of rows.now) matches.now.groups) matches.now.free) }
 {
     let mut text = String::new(alloc);
     for (place, row) in rows.iter().enumerate() {
@@ -83,7 +83,7 @@ fn push_option(
         ++ Spec.option_code variables.entry.prefix.now variables.entry.arrays record {
           names = (group_of_row row.entry).signature.names;
           kind = row.entry.kind;
-          all = is_multi row.entry.occurrence;
+          all = Spec.holds_all row.entry.mark row.entry.occurrence;
           found = given.now;
         }) }
 {
@@ -105,13 +105,14 @@ fn push_setting(
     ensures { OnOk result (string_bytes text.new ≡ string_bytes text.old
         ++ Spec.value_line
         (Spec.variable_of variables.entry.prefix.now (group_of_row row.entry).signature.names)
-        (Spec.held_value variables.entry.arrays row.entry.kind (is_multi row.entry.occurrence)
-        given.now)) }
+        (Spec.held_value variables.entry.arrays row.entry.kind
+        (Spec.holds_all row.entry.mark row.entry.occurrence) given.now)) }
 {
     let name = main_name(row);
-    match (row.kind, row.occurrence) {
-        (HasArg::No, _) => push_count(alloc, text, variables.prefix, name, given.len()),
-        (_, Occur::Multi) => push_values(alloc, text, variables, name, given),
+    match (row.kind, row.mark, row.occurrence) {
+        (HasArg::No, _, _) => push_count(alloc, text, variables.prefix, name, given.len()),
+        (_, Mark::Last, _) => push_last(text, variables.prefix, name, given),
+        (_, _, Occur::Multi) => push_values(alloc, text, variables, name, given),
         _ => push_last(text, variables.prefix, name, given),
     }
 }

@@ -1,6 +1,6 @@
 use Rattle.std.proofs.Common.{map, string_bytes, ap, subst, sym, ◌∙◌}
 use Rattle.getopts.specs.Names.{Text, texts}
-use Rattle.getopts_shell.specs.Held.{asked_of}
+use Rattle.getopts_shell.specs.Held.{asked_of, entries_of}
 use Rattle.getopts_shell.specs.Program.{AnswersScript, accepted, refused}
 use Rattle.getopts_shell.specs.Variables.{line_code}
 use Rattle.getopts_shell.proofs.Line.{never_unwritable, tells_words}
@@ -18,7 +18,8 @@ returns-in_ok-line_code-in-Ok-Some c =
     c.names_resolve.ensures.empty c.in-Ok-Some.ensures.laws
     (rw c.in-Ok-Some.field-0-is at c.in-Ok-Some.ensures.written) in
     subst (λ (t : Text). AnswersScript (asked_of c.args.script.asked.now) c.args.script.name.now
-    c.args.script.options.now (texts c.args.words.now) (record { text = t; status = 0 }))
+    c.args.script.options.now (entries_of c.args.script.rows.now) (texts c.args.words.now)
+    (record { text = t; status = 0 }))
     (sym (c.in_ok-line_code-in-Ok-Some.ensures
     ∙ ap (λ items. line_code (map string_bytes items)) c.deref.ensures.value))
     (accepted line c.requires.asked c.requires.counted c.requires.no_variables tells)

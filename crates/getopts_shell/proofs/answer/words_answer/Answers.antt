@@ -1,11 +1,10 @@
-use Rattle.std.proofs.Common.{List, None, refl, subst, sym, ◌∙◌}
+use Rattle.std.proofs.Common.{None, refl, sym, ◌∙◌}
 use Rattle.std.proofs.lemmas.Bool.{false≢true}
 use Rattle.std.proofs.lemmas.Result.{IfOk-weaker}
-use Rattle.getopts.specs.Options.{Group}
-use Rattle.getopts_shell.specs.Held.{group_of_row}
+use Rattle.getopts_shell.specs.Held.{entries_of, entry_of_row}
 use Rattle.getopts_shell.specs.Program.{alone, help}
-use Rattle.getopts_shell.specs.Table.{DeclaresOptions}
 use Rattle.getopts_shell.proofs.Alone.{alone_reads}
+use Rattle.getopts_shell.proofs.Asked.{rows_read}
 use Rattle.getopts_shell.proofs.Quoting.{word_same}
 use Rattle.getopts_shell.proofs.answer.words_answer.Goals as goal
 
@@ -22,10 +21,9 @@ asked_alone-requires-clause-no_help c =
 pub alone_answer-requires-clause-readable : goal.alone_answer-requires-clause-readable
 alone_answer-requires-clause-readable c =
     let asks = rw c.in-Some.is at c.in_ok-alone.ensures in
-    alone_reads c.args.script.table.now c.args.script.options.now asks.matches (group_of_row c.in-Some.row)
-    (subst (λ (groups : List Group). DeclaresOptions c.args.script.table.now groups) (sym c.requires.rows)
-    c.requires.declared)
-    asks.first
+    let rows = c.args.script.rows.now in
+    alone_reads c.args.script.table.now c.args.script.options.now (entries_of rows) asks.matches
+    (entry_of_row c.in-Some.row) c.requires.declared (c.requires.rows ∙ rows_read rows) asks.first
 
 pub counted_answer-requires-clause-counted : goal.counted_answer-requires-clause-counted
 counted_answer-requires-clause-counted c = (
@@ -36,5 +34,5 @@ counted_answer-requires-clause-counted c = (
 pub returns-in-Some : goal.returns-in-Some
 returns-in-Some c =
     IfOk-weaker c.alone_answer.result _ _
-    (λ outcome is. alone (group_of_row c.in-Some.row) _ c.requires.asked (rw c.in-Some.is at c.in_ok-alone.ensures) is)
+    (λ outcome is. alone (entry_of_row c.in-Some.row) _ c.requires.asked (rw c.in-Some.is at c.in_ok-alone.ensures) is)
     c.alone_answer.ensures

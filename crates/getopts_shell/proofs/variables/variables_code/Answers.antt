@@ -4,7 +4,7 @@ use Rattle.std.proofs.lemmas.List.Concat.{flat_map-append}
 use Rattle.getopts.specs.Accessors.{found_in}
 use Rattle.getopts.specs.Matches.{Found}
 use Rattle.getopts.specs.Names.{Text}
-use Rattle.getopts_shell.specs.Held.{groups_of}
+use Rattle.getopts_shell.specs.Held.{entries_of}
 use Rattle.getopts_shell.specs.Variables.{given_from, option_code}
 use Rattle.getopts_shell.proofs.Assignments.{given_more, given_row}
 use Rattle.getopts_shell.proofs.variables.variables_code.Goals as goal
@@ -16,7 +16,7 @@ loop-place-preserved c =
     let row = c.index-rows-place.result in
     let place = c.loop-place.place in
     let code = option_code c.args.variables.prefix.now c.args.variables.arrays in
-    let before = given_from 0 (groups_of (take place rows)) held in
+    let before = given_from 0 (entries_of (take place rows)) held in
     let at : 0 + place ≡ place = omega arith in
     let found : c.occurrences_at.result ≡ found_in held (0 + place) =
     c.occurrences_at.ensures ∙ ap (λ (n : ℕ). found_in held n) (sym at) in
