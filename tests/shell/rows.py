@@ -101,13 +101,19 @@ def code(*lines, words=""):
 ALONE_VARIABLES = code("o_input", "o_verbose='0'", "o_version='1'", "o_licence='0'", "o_help='0'")
 
 # Why an item is refused.
-DASHES = "a short name comes after '-', a long one after '--'"
 SHORT = "a short name has one byte"
 LONG = "a long name has at least two bytes"
-BYTES = "a name may hold letters, digits, '-', '_', '.', '+', ':' and bytes from 128 on"
 OPEN = "no ']'"
+BYTES = "a long name may hold letters, digits, '-', '_', '.', '+', ':' and bytes from 128 on"
+LETTER = "a short name is a letter, a digit or one of ?@#%+_^,./:"
+DASHES = "a short name comes after '-', a long one after '--'"
 BRACKETS = "brackets stand around the option or its argument, and dots only after ']'"
 MARK = "'!' comes only after ']' of an option without an argument"
+ORDER = "the short name comes first, then one long one"
+COLON = "a long name doesn't end in ':'"
+EQUALS = "an argument comes after a space, as in '--long ARG'"
+APART = "names are written as -s|--long, without a blank or a comma"
+ONE = "an argument holds no space"
 SPACES = "a tab or two spaces have to come before the description"
 
 # The program's own options, and how it is called.
@@ -253,6 +259,7 @@ TABLES = [
     (["x", "-a|--bc\n-d\n--bc"], "getopts_shell: line 3 of the options: the name 'bc' stands there already\n", 5),
     (["x", "\n-v\n-v|--verbose"], "getopts_shell: line 3 of the options: the name 'v' stands there already\n", 5),
     (["x", "-v\n-v\n-\n"], "getopts_shell: line 2 of the options: the name 'v' stands there already\n", 5),
+    (["-ub", "U", "x", "-a \tb"], "U\n\nOptions:\n    -a                  b\n", 0),
     (["x", "--é.b+c:d_e-1", "--é.b+c:d_e-1"], "\\set -- '--é.b+c:d_e-1' '--'\n", 0),
 ]
 
@@ -260,17 +267,22 @@ TABLES = [
 REFUSED = [
     ("a", 1, "a", DASHES), ("\n\n-a  ok\n-b|  no", 4, "-b|", DASHES), ("-ab  no", 1, "-ab", SHORT),
     ("--a", 1, "--a", LONG), ("--", 1, "--", LONG), ("-", 1, "-", DASHES), ("---ab", 1, "---ab", DASHES),
-    ("-a|-b", 1, "-a|-b", DASHES), ("-a|--bc|--de", 1, "-a|--bc|--de", BYTES), ("-a|--", 1, "-a|--", LONG),
-    ("-a|--b", 1, "-a|--b", LONG), ("--bc|-a", 1, "--bc|-a", BYTES), ("--b=c", 1, "--b=c", BYTES),
+    ("-a|-b", 1, "-a|-b", DASHES), ("-a|--bc|--de", 1, "-a|--bc|--de", ORDER), ("-a|--", 1, "-a|--", LONG),
+    ("-a|--b", 1, "-a|--b", LONG), ("--bc|-a", 1, "--bc|-a", ORDER), ("--b=c", 1, "--b=c", EQUALS),
+    ("--out=FILE", 1, "--out=FILE", EQUALS), ("[-o|--out=FILE]  to FILE", 1, "[-o|--out=FILE]", EQUALS),
+    ("--[no-]color", 1, "--[no-]color", BRACKETS), ("-a | --all  all", 1, "-a | --all", APART),
+    ("-a, --all  all", 1, "-a, --all", APART), ("-a |--all", 1, "-a |--all", APART), ("-a|--all: d", 1, "-a|--all: d", COLON),
+    ("[-a FOO BAR]  x", 1, "[-a FOO BAR]", ONE), ("-a [FOO BAR]  x", 1, "-a [FOO BAR]", ONE),
     ("-é", 1, "-é", SHORT), ("[-a", 1, "[-a", OPEN), ("-a]", 1, "-a]", BRACKETS), ("[-a].", 1, "[-a].", BRACKETS),
-    ("[-a]....", 1, "[-a]....", BRACKETS), ("-a..", 1, "-a..", SHORT), ("[[-a]]", 1, "[[-a]]", DASHES),
+    ("[-a]....", 1, "[-a]....", BRACKETS), ("-a..", 1, "-a..", SHORT), ("[[-a]]", 1, "[[-a]]", BRACKETS),
     ("-a []", 1, "-a []", BRACKETS), ("-a [b", 1, "-a [b", OPEN), ("-a b c", 1, "-a b c", SPACES),
-    ("-a \tb", 1, "-a ", BRACKETS), ("-v\n-\n-v\n", 2, "-", DASHES), ("-\x7f", 1, "-\x7f", BYTES),
+    ("-v\n-\n-v\n", 2, "-", DASHES), ("-\x7f", 1, "-\x7f", LETTER), ("-;", 1, "-;", LETTER), ("-!", 1, "-!", LETTER),
     ("[-x|--exclude PATTERN].. leave PATTERN out", 1, "[-x|--exclude PATTERN].. leave PATTERN out", SPACES),
-    ("[-v] verbose", 1, "[-v] verbose", SPACES), ("-s X..", 1, "-s X..", BRACKETS),
-    ("--semi;colon", 1, "--semi;colon", BYTES), ("-=", 1, "-=", BYTES),
+    ("[-v] verbose", 1, "[-v] verbose", SPACES), ("[-v] say more", 1, "[-v] say more", SPACES), ("-s X..", 1, "-s X..", BRACKETS),
+    ("--semi;colon", 1, "--semi;colon", BYTES), ("-=", 1, "-=", EQUALS),
     ("[-x ARG]!", 1, "[-x ARG]!", MARK), ("[-x [ARG]]!", 1, "[-x [ARG]]!", MARK), ("-x [ARG]!", 1, "-x [ARG]!", MARK),
     ("[-v]..!", 1, "[-v]..!", MARK), ("[-v]!!", 1, "[-v]!!", MARK), ("[-v]!..", 1, "[-v]!..", BRACKETS),
+    ("[-v]**", 1, "[-v]**", BRACKETS), ("[-v]*..", 1, "[-v]*..", BRACKETS), ("-v*", 1, "-v*", SHORT),
     ("-v!", 1, "-v!", SHORT), ("--version!", 1, "--version!", BYTES), ("[-v!]", 1, "[-v!]", SHORT),
     ("[-vw]!", 1, "[-vw]!", SHORT), ("[v]!", 1, "[v]!", DASHES), ("]!", 1, "]!", DASHES), ("[]!", 1, "[]!", DASHES),
     ("[-v]! say more!", 1, "[-v]! say more!", SPACES), ("[-v!", 1, "[-v!", OPEN),

@@ -153,15 +153,21 @@ GAP = "a tab or two spaces have to come before the description"
 SHORT = "a short name has one byte"
 LONG = "a long name has at least two bytes"
 OPEN = "no ']'"
-BYTES = "a name may hold letters, digits, '-', '_', '.', '+', ':' and bytes from 128 on"
+BYTES = "a long name may hold letters, digits, '-', '_', '.', '+', ':' and bytes from 128 on"
+LETTER = "a short name is a letter, a digit or one of ?@#%+_^,./:"
 DASHES = "a short name comes after '-', a long one after '--'"
 BRACKETS = "brackets stand around the option or its argument, and dots only after ']'"
 MARK = "'!' comes only after ']' of an option without an argument"
+ORDER = "the short name comes first, then one long one"
+COLON = "a long name doesn't end in ':'"
+EQUALS = "an argument comes after a space, as in '--long ARG'"
+APART = "names are written as -s|--long, without a blank or a comma"
+ONE = "an argument holds no space"
 LONG_NAME = re.compile(r"[A-Za-z0-9_.+:\x80-\U0010ffff-]*")
 
 
 def is_short(name):
-    return len(name.encode()) == 1 and not (name in " -|[]=" or name < " " or name == "\x7f")
+    return re.fullmatch(r"[A-Za-z0-9?@#%+_^,./:]", name) is not None
 
 
 def is_hint(hint):
@@ -178,7 +184,7 @@ def names_of(inside):
     if (space and not is_hint(hint)) or (bar and not (short and long)) or not (short or long):
         return None
     lawful = not short or (short[0] == "-" and is_short(short[1:]))
-    lawful = lawful and (not long or (len(long) > 3 and long.startswith("--") and long[2] != "-"
+    lawful = lawful and (not long or (len(long) > 3 and long.startswith("--") and long[2] != "-" and long[-1] != ":"
                                       and LONG_NAME.fullmatch(long[2:])))
     return [name for name in (short[1:], long[2:]) if name] if lawful else None
 
@@ -189,9 +195,15 @@ def reason_of(item):
     if "[" in item and "]" not in item:
         return OPEN
     names, _, rest = re.match(r"(?s)([^ \]]*)([ \]]?)(.*)", item).groups()
+    if rest and rest[0] in "-|":
+        return APART
     if " " in rest:
-        return GAP
+        return ONE if item.endswith("]") else GAP
     names = names.removeprefix("[")
+    if "=" in names:
+        return EQUALS
+    if "[" in names:
+        return right
     if len(names) < 2 or names[0] != "-":
         return DASHES
     if names[1] == "-":
@@ -201,7 +213,7 @@ def reason_of(item):
         if more and more[0] != "|":
             return SHORT
         if not is_short(short):
-            return BYTES
+            return LETTER
         if not more:
             return right
         if not more.startswith("|--"):
@@ -209,9 +221,11 @@ def reason_of(item):
         long = more[3:]
     if len(long.encode()) < 2:
         return LONG
+    if "|" in long:
+        return ORDER
     if not LONG_NAME.fullmatch(long):
         return BYTES
-    return DASHES if long[0] == "-" else right
+    return DASHES if long[0] == "-" else COLON if long.endswith(":") else right
 
 
 def table_fault(table):
@@ -221,9 +235,9 @@ def table_fault(table):
         line = line.strip(" \t\r")
         if not line or line.startswith("#"):
             continue
-        item = re.split("\t|  ", line)[0]
+        item = re.split("\t|  ", line)[0].strip(" \t\r")
         inside = item
-        for end in ("]...", "]..", "]!", "]"):
+        for end in ("]...", "]..", "]!", "]*", "]"):
             if item.startswith("[") and item.endswith(end):
                 inside = item[1:-len(end)]
                 break

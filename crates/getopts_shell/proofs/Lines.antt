@@ -38,24 +38,24 @@ trimmed_is text other is = trim_ascii_is text other (after_blanks text) refl is
 -- a line that isn't passed over and has an option declares it
 pub declares_entry : (line text item rest description : Text) (entry : Entry) → text ≡ trimmed line
     → (is_empty text || (slice_index text 0 == 35)) ≡ false
-    → item ≡ before_gap text → rest ≡ from_gap text → description ≡ trimmed rest
+    → item ≡ trimmed (before_gap text) → rest ≡ from_gap text → description ≡ trimmed rest
     → entry.description ≡ description → IsItem item entry.signature entry.hint entry.mark → DeclaresEntry line entry
 declares_entry line text item rest description entry text_is there item_is rest_is description_is is of_item =
     record {
       there = ap (λ (t : Text). is_empty t || (slice_index t 0 == 35)) (sym text_is) ∙ there;
       item = subst (λ (t : Text). IsItem t entry.signature entry.hint entry.mark)
-          (item_is ∙ ap before_gap text_is) of_item;
+          (item_is ∙ ap (λ (t : Text). trimmed (before_gap t)) text_is) of_item;
       description = is ∙ description_is ∙ ap trimmed (rest_is ∙ ap from_gap text_is);
     }
 
 -- a line that isn't passed over and has no option has a fault
 pub faulty_line : (line text item : Text) (number : ℕ) (entries : List Entry) → text ≡ trimmed line
-    → (is_empty text || (slice_index text 0 == 35)) ≡ false → item ≡ before_gap text
+    → (is_empty text || (slice_index text 0 == 35)) ≡ false → item ≡ trimmed (before_gap text)
     → ((known : Signature) (hint : Text) (mark : Mark) → ¬ (IsItem item known hint mark))
     → IsLineFault number entries line (no_option number item)
 faulty_line line text item number entries text_is there item_is none_of =
     subst (λ (t : Text). IsLineFault number entries line (no_option number t))
-    (sym (item_is ∙ ap before_gap text_is))
+    (sym (item_is ∙ ap (λ (t : Text). trimmed (before_gap t)) text_is))
     (none declares_not)
   where
     passed_not : is_passed line ≡ false
@@ -64,7 +64,7 @@ faulty_line line text item number entries text_is there item_is none_of =
     declares_not : (declared : Option Entry) → ¬ (Declares line declared)
     declares_not None is = let both : true ≡ false = sym is ∙ passed_not in cc
     declares_not (Some entry) is = none_of entry.signature entry.hint entry.mark
-        (subst (λ (t : Text). IsItem t entry.signature entry.hint entry.mark) (sym (item_is ∙ ap before_gap text_is)) is.item)
+        (subst (λ (t : Text). IsItem t entry.signature entry.hint entry.mark) (sym (item_is ∙ ap (λ (t : Text). trimmed (before_gap t)) text_is)) is.item)
 
 -- ---- lines, one after the other
 

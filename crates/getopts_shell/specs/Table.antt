@@ -33,9 +33,13 @@ abbrev pub is_long_byte : ℕ → Bool
 is_long_byte byte = is_ascii_alphanumeric byte || byte == 45 || byte == 95 || byte == 46 || byte == 43
     || byte == 58 || nat_lt 127 byte
 
--- whether a text may be a long name: it doesn't begin with `-`, and its bytes may stand there
+-- whether a text ends in a byte
+abbrev pub ends_in : ℕ → Text → Bool
+ends_in byte text = not (is_empty text) && slice_index text (length text - 1) == byte
+
+-- whether a text may be a long name: it doesn't begin with `-` nor end in `:`, and its bytes may stand there
 abbrev pub is_long_name : Text → Bool
-is_long_name text = not (begins_with_dash text) && list_all is_long_byte text
+is_long_name text = not (begins_with_dash text) && (list_all is_long_byte text && not (ends_in 58 text))
 
 -- a byte that a hint may hold: no space, no tab, no `[` and no `]`
 abbrev pub is_hint_byte : ℕ → Bool
@@ -168,7 +172,7 @@ from_gap (byte ∷ more) = if begins_gap (byte ∷ more) then byte ∷ more else
 
 -- the item of a line
 abbrev pub item_of : Text → Text
-item_of line = before_gap (trimmed line)
+item_of line = trimmed (before_gap (trimmed line))
 
 -- whether a line declares nothing: it is empty or begins with `#`
 abbrev pub is_passed : Text → Bool
@@ -227,8 +231,8 @@ OneTableOneList = (table : Text) (entries others : List Entry) → DeclaresOptio
 -- ---- faults
 
 -- Why a text is no option, in one of these texts. The first that fits counts: no bracket closes one that is
--- open; a space stands after the argument or the brackets; the names are wrong; or else the brackets are, or
--- the mark.
+-- open; names stand apart; a space stands within an argument, or after it or the brackets; the names are wrong; or
+-- else the brackets are, or the mark.
 
 -- what stands before the first space or `]`, and after it
 abbrev pub before_end : Text → Text
@@ -250,7 +254,7 @@ brackets_reason item =
     else codes "brackets stand around the option or its argument, and dots only after ']'"
 
 abbrev pub bytes_reason : Text
-bytes_reason = codes "a name may hold letters, digits, '-', '_', '.', '+', ':' and bytes from 128 on"
+bytes_reason = codes "a long name may hold letters, digits, '-', '_', '.', '+', ':' and bytes from 128 on"
 
 abbrev pub dashes_reason : Text
 dashes_reason = codes "a short name comes after '-', a long one after '--'"
@@ -259,14 +263,16 @@ dashes_reason = codes "a short name comes after '-', a long one after '--'"
 abbrev pub long_reason : Text → Text → Text
 long_reason right long =
     if nat_lt (length long) 2 then codes "a long name has at least two bytes"
+    else (if holds 124 long then codes "the short name comes first, then one long one"
     else (if not (list_all is_long_byte long) then bytes_reason
-    else (if slice_index long 0 == 45 then dashes_reason else right))
+    else (if slice_index long 0 == 45 then dashes_reason
+    else (if ends_in 58 long then codes "a long name doesn't end in ':'" else right))))
 
 -- of a short name, and what follows it
 abbrev pub short_reason : Text → ℕ → Text → Text
 short_reason right short more =
     if not (is_empty more) && not (slice_index more 0 == 124) then codes "a short name has one byte"
-    else (if not (is_name_byte short) then bytes_reason
+    else (if not (is_name_byte short) then codes "a short name is a letter, a digit or one of ?@#%+_^,./:"
     else (if is_empty more then right
     else (if slice_index more 1 == 45 && slice_index more 2 == 45 then long_reason right (drop 3 more)
     else dashes_reason)))
@@ -282,11 +288,25 @@ names_reason right names =
 abbrev pub after_bracket : Text → Text
 after_bracket text = if slice_index text 0 == 91 then drop 1 text else text
 
+-- where no name holds `=` or `[`
+abbrev pub plain_reason : Text → Text → Text
+plain_reason right names =
+    if holds 61 names then codes "an argument comes after a space, as in '--long ARG'"
+    else (if holds 91 names then right else names_reason right names)
+
+-- of what stands after the first space or `]`, where this is the reason if it holds no space
+abbrev pub rest_reason : Text → Text → Text → Text
+rest_reason right item rest =
+    if slice_index rest 0 == 45 || slice_index rest 0 == 124 then
+    codes "names are written as -s|--long, without a blank or a comma"
+    else (if not (holds 32 rest) then right
+    else (if ends_in 93 item then codes "an argument holds no space"
+    else codes "a tab or two spaces have to come before the description"))
+
 abbrev pub reason_of : Text → Text
 reason_of item =
     if holds 91 item && not (holds 93 item) then codes "no ']'"
-    else (if holds 32 (after_end item) then codes "a tab or two spaces have to come before the description"
-    else names_reason (brackets_reason item) (after_bracket (before_end item)))
+    else rest_reason (plain_reason (brackets_reason item) (after_bracket (before_end item))) item (after_end item)
 
 -- a fault of a table: the number of a line, and its item or a name
 pub data TableFault : Type 0 where

@@ -11,6 +11,7 @@ ghost use Rattle.getopts_shell.specs.Held.{entry_of_row};
 ghost use Rattle.getopts_shell.specs.Table.{is_name, is_name_byte, is_hint, is_hint_byte, AreNames};
 ghost use Rattle.getopts_shell.specs.Table.{is_long_name, is_long_byte, holds, before_end, after_end, after_bracket};
 ghost use Rattle.getopts_shell.specs.Table.{reason_of, brackets_reason, names_reason, short_reason, long_reason};
+ghost use Rattle.getopts_shell.specs.Table.{ends_in, plain_reason, rest_reason};
 ghost use Rattle.getopts_shell.specs.Table.{MayBeNames, IsArgument, HasParts, IsBracketed, IsItem, end_means, fits};
 ghost use Rattle.getopts_shell.specs.declared.row.Mark.{Mark as Behind};
 
@@ -169,7 +170,7 @@ fn is_long_name(bytes: &[u8]) -> bool
 {
     match bytes {
         [b'-', ..] => false,
-        _ => are_long_bytes(bytes),
+        _ => are_long_bytes(bytes) && !ends_in(bytes, b':'),
     }
 }
 
@@ -178,6 +179,13 @@ fn are_long_bytes(bytes: &[u8]) -> bool
     ensures { result ≡ list_all is_long_byte bytes.now }
 {
     bytes.iter().all(|byte| is_long_byte(*byte))
+}
+
+/// Whether bytes end in a byte.
+fn ends_in(bytes: &[u8], byte: u8) -> bool
+    ensures { result ≡ ends_in byte bytes.now }
+{
+    !bytes.is_empty() && bytes[bytes.len() - 1] == byte
 }
 
 /// Whether a byte may stand in a long name.
@@ -249,9 +257,9 @@ fn is_hint_byte(byte: u8) -> bool
 const MARK: &str = "'!' comes only after ']' of an option without an argument";
 /// Why names that are right stand in no item.
 const BRACKETS: &str = "brackets stand around the option or its argument, and dots only after ']'";
-/// Why a name is wrong that has a wrong byte.
+/// Why a long name is wrong that has a wrong byte.
 const BYTES: &str =
-    "a name may hold letters, digits, '-', '_', '.', '+', ':' and bytes from 128 on";
+    "a long name may hold letters, digits, '-', '_', '.', '+', ':' and bytes from 128 on";
 /// Why names are wrong that have wrong dashes.
 const DASHES: &str = "a short name comes after '-', a long one after '--'";
 
@@ -264,10 +272,23 @@ pub(crate) fn reason_of(item: &str) -> &'static str
         return "no ']'";
     }
     let (names, rest) = cut_at_end(bytes);
-    if holds(rest, b' ') {
-        return "a tab or two spaces have to come before the description";
+    let right = plain_reason(brackets_reason(item), after_bracket(names));
+    rest_reason(right, bytes, rest)
+}
+
+/// Why what stands after the first space or `]` is wrong, or what is wrong where it is right.
+fn rest_reason(right: &'static str, item: &[u8], rest: &[u8]) -> &'static str
+    ensures { result.now ≡ rest_reason right.now item.now rest.now }
+{
+    if !rest.is_empty() && (rest[0] == b'-' || rest[0] == b'|') {
+        "names are written as -s|--long, without a blank or a comma"
+    } else if !holds(rest, b' ') {
+        right
+    } else if ends_in(item, b']') {
+        "an argument holds no space"
+    } else {
+        "a tab or two spaces have to come before the description"
     }
-    names_reason(brackets_reason(item), after_bracket(names))
 }
 
 /// Why a text is no option, where its names are right.
@@ -314,6 +335,19 @@ fn after_bracket(bytes: &[u8]) -> &[u8]
     }
 }
 
+/// Why names that hold `=` or `[` are wrong, or what is wrong else.
+fn plain_reason(right: &'static str, names: &[u8]) -> &'static str
+    ensures { result.now ≡ plain_reason right.now names.now }
+{
+    if holds(names, b'=') {
+        "an argument comes after a space, as in '--long ARG'"
+    } else if holds(names, b'[') {
+        right
+    } else {
+        names_reason(right, names)
+    }
+}
+
 /// Why names are wrong, or what is wrong where they are right.
 fn names_reason(right: &'static str, names: &[u8]) -> &'static str
     ensures { result.now ≡ names_reason right.now names.now }
@@ -334,7 +368,7 @@ fn short_reason(right: &'static str, short: u8, more: &[u8]) -> &'static str
     if !more.is_empty() && more[0] != b'|' {
         "a short name has one byte"
     } else if !is_name_byte(short) {
-        BYTES
+        "a short name is a letter, a digit or one of ?@#%+_^,./:"
     } else if more.is_empty() {
         right
     } else if more.len() > 2 && more[1] == b'-' && more[2] == b'-' {
@@ -350,10 +384,14 @@ fn long_reason(right: &'static str, long: &[u8]) -> &'static str
 {
     if long.len() < 2 {
         "a long name has at least two bytes"
+    } else if holds(long, b'|') {
+        "the short name comes first, then one long one"
     } else if !are_long_bytes(long) {
         BYTES
     } else if long[0] == b'-' {
         DASHES
+    } else if ends_in(long, b':') {
+        "a long name doesn't end in ':'"
     } else {
         right
     }

@@ -62,6 +62,7 @@ fn push_line<'t>(
         return Ok(());
     }
     let (item, description) = cut_at_gap(line);
+    let item = trimmed(item);
     let Some(row) = row_of(item, trimmed(description)) else {
         return Err(TableError::NoOption(number, item));
     };
