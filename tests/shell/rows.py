@@ -271,7 +271,7 @@ REFUSED = [
     ("-a|--b", 1, "-a|--b", LONG), ("--bc|-a", 1, "--bc|-a", ORDER), ("--b=c", 1, "--b=c", EQUALS),
     ("--out=FILE", 1, "--out=FILE", EQUALS), ("[-o|--out=FILE]  to FILE", 1, "[-o|--out=FILE]", EQUALS),
     ("--[no-]color", 1, "--[no-]color", BRACKETS), ("-a | --all  all", 1, "-a | --all", APART),
-    ("-a, --all  all", 1, "-a, --all", APART), ("-a |--all", 1, "-a |--all", APART), ("-a|--all: d", 1, "-a|--all: d", COLON),
+    ("-a, --all  all", 1, "-a, --all", APART), ("-a|--all: d", 1, "-a|--all: d", COLON),
     ("[-a FOO BAR]  x", 1, "[-a FOO BAR]", ONE), ("-a [FOO BAR]  x", 1, "-a [FOO BAR]", ONE),
     ("-é", 1, "-é", SHORT), ("[-a", 1, "[-a", OPEN), ("-a]", 1, "-a]", BRACKETS), ("[-a].", 1, "[-a].", BRACKETS),
     ("[-a]....", 1, "[-a]....", BRACKETS), ("-a..", 1, "-a..", SHORT), ("[[-a]]", 1, "[[-a]]", BRACKETS),

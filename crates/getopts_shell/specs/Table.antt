@@ -268,14 +268,19 @@ long_reason right long =
     else (if slice_index long 0 == 45 then dashes_reason
     else (if ends_in 58 long then codes "a long name doesn't end in ':'" else right))))
 
+-- of what follows a short name, where it is `|` or nothing
+abbrev pub after_short : Text → Text → Text
+after_short right more =
+    if is_empty more then right
+    else (if slice_index more 1 == 45 && slice_index more 2 == 45 then long_reason right (drop 3 more)
+    else dashes_reason)
+
 -- of a short name, and what follows it
 abbrev pub short_reason : Text → ℕ → Text → Text
 short_reason right short more =
     if not (is_empty more) && not (slice_index more 0 == 124) then codes "a short name has one byte"
     else (if not (is_name_byte short) then codes "a short name is a letter, a digit or one of ?@#%+_^,./:"
-    else (if is_empty more then right
-    else (if slice_index more 1 == 45 && slice_index more 2 == 45 then long_reason right (drop 3 more)
-    else dashes_reason)))
+    else after_short right more)
 
 -- of names
 abbrev pub names_reason : Text → Text → Text

@@ -11,7 +11,7 @@ ghost use Rattle.getopts_shell.specs.Held.{entry_of_row};
 ghost use Rattle.getopts_shell.specs.Table.{is_name, is_name_byte, is_hint, is_hint_byte, AreNames};
 ghost use Rattle.getopts_shell.specs.Table.{is_long_name, is_long_byte, holds, before_end, after_end, after_bracket};
 ghost use Rattle.getopts_shell.specs.Table.{reason_of, brackets_reason, names_reason, short_reason, long_reason};
-ghost use Rattle.getopts_shell.specs.Table.{ends_in, plain_reason, rest_reason};
+ghost use Rattle.getopts_shell.specs.Table.{after_short, ends_in, plain_reason, rest_reason};
 ghost use Rattle.getopts_shell.specs.Table.{MayBeNames, IsArgument, HasParts, IsBracketed, IsItem, end_means, fits};
 ghost use Rattle.getopts_shell.specs.declared.row.Mark.{Mark as Behind};
 
@@ -369,7 +369,16 @@ fn short_reason(right: &'static str, short: u8, more: &[u8]) -> &'static str
         "a short name has one byte"
     } else if !is_name_byte(short) {
         "a short name is a letter, a digit or one of ?@#%+_^,./:"
-    } else if more.is_empty() {
+    } else {
+        after_short(right, more)
+    }
+}
+
+/// The same of what follows a short name, where it is `|` or nothing.
+fn after_short(right: &'static str, more: &[u8]) -> &'static str
+    ensures { result.now ≡ after_short right.now more.now }
+{
+    if more.is_empty() {
         right
     } else if more.len() > 2 && more[1] == b'-' && more[2] == b'-' {
         long_reason(right, &more[3..])
