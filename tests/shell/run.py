@@ -104,6 +104,44 @@ def examples(shell, path, room):
         fail(f"{' '.join(shell)}: the example notes, refused: {done}")
 
 
+ARRAYS = ("bash", "zsh", "ksh93", "mksh", "yash")
+CODE = 'code=$(getopts_shell --variables o_ n "%s" %s) || exit\n'
+# What the page says of shells: who it is tried in, a script, and what it prints.
+MINDS = [
+    ("an array keeps nothing", ARRAYS, "typeset o_L\no_L=(1 2 3)\n" + CODE % ("[-L DIR]  x", "-L 9")
+     + "eval \"$code\"; printf '%s|' \"${o_L[@]}\"", "9|"),
+    ("an array of an array keeps nothing", ARRAYS, "o_L=(1 2 3)\n" + (CODE % ("[-L DIR]..  x", "-L 9")).replace("--v", "-A --v")
+     + "eval \"$code\"; printf '%s|' \"${o_L[@]}\"", "9|"),
+    ("an attribute goes", ("bash", "zsh", "ksh93", "mksh"), "typeset -i o_j=1\n" + CODE % ("[-j N]", "-j 'a[$(echo ran)]'")
+     + "eval \"$code\"; printf '%s' \"$o_j\"", "a[$(echo ran)]"),
+    ("readonly stays", None, "readonly o_j=1\n" + CODE % ("[-j N]", "-j 2") + "(eval \"$code\") 2>/dev/null\necho \"$o_j\"", "1\n"),
+    ("a local variable shows the outer one", ("mksh", "yash"), "o_j=outer\n" + CODE % ("[-j N]", "")
+     + "f() { typeset o_j=inner; eval \"$code\"; echo \"$o_j\"; }; f", "outer\n"),
+    ("a local variable goes", ("bash", "zsh"), "o_j=outer\n" + CODE % ("[-j N]", "")
+     + "f() { typeset o_j=inner; eval \"$code\"; echo \"${o_j-none}\"; }; f; echo $o_j", "none\nouter\n"),
+    ("no alias", None, "[ -z \"${BASH_VERSION-}\" ] || shopt -s expand_aliases\nalias set='echo no' unset='echo no'\n"
+     + CODE % ("[-j N]", "-j 2 x") + "eval \"$code\"; echo \"$o_j $1\"", "2 x\n"),
+    ("a refusal ends the script", None, CODE % ("[-j N]", "-k 2>/dev/null") + "echo went on", ""),
+    ("-- before the words", None, CODE % ("[-j]", "-- -j") + "eval \"$code\"; echo \"$o_j $1\"", "0 -j\n"),
+    ("a number is checked", None, "for o_num in 0 12 '' -1 1a ' 1'; do case $o_num in '' | *[!0-9]*) printf no ;; *) printf yes ;; esac; done",
+     "yesyesnononono"),
+    ("the last value", None, CODE % ("[-c N]*\n[-v]*", "-c1 -v -c 2 -v") + "eval \"$code\"; echo \"$o_c $o_v\"", "2 2\n"),
+    ("the last line end goes", None, CODE % ("[-c N]", "-c 'a\n\n' 'b\n'") + "eval \"$code\"; printf '%s|' \"$o_c\" \"$1\"", "a\n\n|b\n|"),
+]
+
+
+def minds(program, found):
+    """What the page says of shells holds in each that is installed."""
+    env = {**os.environ, "PATH": f"{Path(program).parent}:{os.environ['PATH']}"}
+    for what, where, script, out in MINDS:
+        for shell in found:
+            if where is None or shell[0] in where:
+                done = run(shell + ["-c", script], env=env)
+                if done.stdout != out.encode():
+                    fail(f"{' '.join(shell)}: {what}: {done}")
+    print(f"{len(MINDS)} sentences about shells")
+
+
 def by_getopt(options, words):
     """What getopt(1) reads, in canonical form, or None where it refuses the words."""
     colons = {"no": "", "yes": ":", "maybe": "::"}
@@ -279,6 +317,7 @@ def test(program, room):
     for way in ("words", "variables", "arrays"):
         random_lines(program, found, room, LINES, way)
     page(program, found, room)
+    minds(program, found)
     beside_getopt(program)
     changed_tables(program)
 

@@ -13,7 +13,7 @@ use Rattle.getopts_shell.specs.declared.row.Row.{Row}
 use Rattle.getopts_shell.specs.Variables.{first_fault, Given, given_from, HaveOwnVariables, is_prefix, option_lines}
 use Rattle.getopts_shell.specs.Variables.{prefix_fault, VariableFault, arrays_only}
 use Rattle.getopts_shell.proofs.Assignments.{own_variables}
-use Rattle.getopts_shell.proofs.Shell.{code_sets}
+use Rattle.getopts_shell.proofs.Written.{code_sets}
 
 begun : (begins : Bool) (first : Option VariableFault) (fault : VariableFault) → cond begins first (Some fault) ≡ None
     → first ≡ None

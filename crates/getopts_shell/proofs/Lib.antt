@@ -14,6 +14,8 @@ mod Parts
 mod Offers
 mod Fronts
 mod Shell
+-- what a shell makes of the bytes that are written
+mod Written
 mod Assignments
 mod Asked
 mod GoesOn

@@ -5,12 +5,12 @@ use Rattle.std.specs.List.{AllByRecursion}
 use Rattle.std.specs.Option.{option_map_or}
 use Rattle.getopts.specs.Canon.{canonical_word, main_at}
 use Rattle.getopts.specs.CanonAnswers.{IsUnwritable, IsWritten, KeepsLineLaws}
-use Rattle.getopts.specs.Names.{Text, resolution, EmptyResolvesNot}
+use Rattle.getopts.specs.Names.{AreTexts, Text, resolution, EmptyResolvesNot}
 use Rattle.getopts.specs.Options.{Declared, Group, names_of}
 use Rattle.getopts.specs.Reading.{Mention, holds_equals, stop_word}
 use Rattle.getopts_shell.specs.Held.{ArePlainlyNamed}
 use Rattle.getopts_shell.specs.Program.{TellsWords}
-use Rattle.getopts_shell.proofs.Shell.{sets_words}
+use Rattle.getopts_shell.proofs.Written.{sets_words}
 
 -- no main name holds `=`
 plain_main : (groups : List Group) → ArePlainlyNamed groups → (place : ℕ)
@@ -50,10 +50,11 @@ no_stops groups empty (m ∷ mentioned) sound =
     (main_no_stop groups empty m sound.0, no_stops groups empty mentioned sound.1)
 
 -- a canonical line tells the words
-pub tells_words : (options : Declared) (words line : List Text) → EmptyResolvesNot (names_of options.groups)
+pub tells_words : (options : Declared) (words line : List Text) → AreTexts line
+    → EmptyResolvesNot (names_of options.groups)
     → KeepsLineLaws options → IsWritten options words line → TellsWords options words line
-tells_words options words line empty laws written = record {
-  shell = sets_words line;
+tells_words options words line are empty laws written = record {
+  shell = sets_words line are;
   written = written;
   reads_back = laws words line written;
   stop_is_first = no_stops options.groups empty written.content.mentions (laws words line written).sound;

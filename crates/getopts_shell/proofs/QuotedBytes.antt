@@ -17,11 +17,11 @@ use Rattle.getopts_shell.specs.Quote.{quoted_byte, quoted, spaced, quoted_words,
 use Rattle.getopts_shell.proofs.Quoting.{words_same}
 
 -- a text has these bytes
-record Gives (text bytes : List ℕ) : Type 0 where
-  utf8 : IsUtf8 text
-  bytes_are : bytes_of text ≡ bytes
+pub record Gives (text bytes : List ℕ) : Type 0 where
+  pub utf8 : IsUtf8 text
+  pub bytes_are : bytes_of text ≡ bytes
 
-append_gives : {text more bytes others : List ℕ} → Gives text bytes → Gives more others
+pub append_gives : {text more bytes others : List ℕ} → Gives text bytes → Gives more others
     → Gives (text ++ more) (bytes ++ others)
 append_gives {text} {more} {bytes} {others} is also = record {
   utf8 = IsUtf8-append text more is.utf8 also.utf8;
@@ -34,7 +34,7 @@ are_ascii [] are i = omega arith
 are_ascii (byte ∷ text) are zero = are.0
 are_ascii (byte ∷ text) are (suc i) = are_ascii text are.1 i
 
-ascii_gives : (text : List ℕ) → AllByRecursion (λ byte. byte < 128) text → Gives text text
+pub ascii_gives : (text : List ℕ) → AllByRecursion (λ byte. byte < 128) text → Gives text text
 ascii_gives text are =
     let ascii = are_ascii text are in
     let utf8 = IsUtf8-from_ascii text ascii in
@@ -116,7 +116,7 @@ quoted_chars (c ∷ cs) are = by (quoted_chars cs) (scalar c) refl
         (append_gives (quoted_char c is) (rest (sym (simp is refl) ∙ are)))
 
 -- a word in quotes has its bytes in quotes
-quoted_gives : (word : Text) → IsUtf8 word → Gives (quoted word) (quoted (bytes_of word))
+pub quoted_gives : (word : Text) → IsUtf8 word → Gives (quoted word) (quoted (bytes_of word))
 quoted_gives word utf8 =
     let quote : Gives (39 ∷ []) (39 ∷ []) = ascii_gives (39 ∷ []) (omega arith, tt) in
     let middle = subst (λ (w : Text). Gives (flat_map quoted_byte w) (flat_map quoted_byte (bytes_of word)))
@@ -128,7 +128,7 @@ spaced_gives : (words : List Text) → AreTexts words
 spaced_gives [] are = ascii_gives [] tt
 spaced_gives (word ∷ words) are = append_gives (append_gives (ascii_gives (32 ∷ []) (omega arith, tt)) (quoted_gives word are.0)) (spaced_gives words are.1)
 
-words_give : (words : List Text) → AreTexts words → Gives (quoted_words words) (quoted_words (map bytes_of words))
+pub words_give : (words : List Text) → AreTexts words → Gives (quoted_words words) (quoted_words (map bytes_of words))
 words_give [] are = ascii_gives [] tt
 words_give (word ∷ words) are = append_gives (quoted_gives word are.0) (spaced_gives words are.1)
 

@@ -19,7 +19,7 @@ use Rattle.getopts_shell.specs.Variables.{is_variable_byte, begins_variable, is_
 use Rattle.getopts_shell.specs.Variables.{array_code, value_of_code, after_assignment, after_builtin, after_command}
 use Rattle.getopts_shell.specs.Variables.{after_commands, shell_after, Runs, variable_of, Given, own_variable, own_value}
 use Rattle.getopts_shell.specs.Variables.{unset_line, value_line, option_code, line_code, HaveOwnVariables}
-use Rattle.getopts_shell.specs.Variables.{SetsWords, CodeSetsVariables, texts_found}
+use Rattle.getopts_shell.specs.Variables.{RunsTo, texts_found, variables_code}
 use Rattle.getopts_shell.proofs.Items.{is_empty-cons}
 use Rattle.getopts_shell.proofs.Quoting.{word_same, words_same}
 
@@ -353,7 +353,7 @@ options_held prefix arrays before shell (option ∷ options) own =
     )
 
 -- the values that a text of words gives
-once_more : (options : List Given)
+pub once_more : (options : List Given)
     → AllByRecursion (λ option. shell_words (quoted_words (texts_found option.found)) ≡ Some (texts_found option.found))
     options
 once_more [] = tt
@@ -385,23 +385,21 @@ runs_set before held front words so_far =
     }
 
 -- a shell that runs the command holds the words
-pub sets_words : (words : List Text) → SetsWords words
-sets_words words before = runs_set before before [] words (λ more. refl)
+pub line_runs : (words : List Text) (before : Shell) → Runs before (line_code words) (record before { words = words })
+line_runs words before = runs_set before before [] words (λ more. refl)
 
--- the shell holds what the options do
-pub code_sets : CodeSetsVariables
-code_sets prefix arrays options free own = record {
-  own = own;
-  shell = λ before.
-      let held = after_options prefix arrays before options in (
-        record held { words = free },
-        runs_set before held (flat_map (option_code prefix arrays) options) free
-            (λ more. after_codes prefix arrays [] before options more own),
-        record {
-          own = options_held prefix arrays [] before options own;
-          others = λ name others. others_kept prefix arrays before name options others;
-          words = refl;
-        },
-      );
-  once_more = once_more options;
-}
+-- a shell that runs the text holds what the options do
+pub code_runs : (prefix : Text) (arrays : Bool) (options : List Given) (free : List Text)
+    → HaveOwnVariables prefix [] (map (λ (option : Given). option.names) options)
+    → RunsTo prefix arrays (variables_code prefix arrays options free) options free
+code_runs prefix arrays options free own before =
+    let held = after_options prefix arrays before options in (
+      record held { words = free },
+      runs_set before held (flat_map (option_code prefix arrays) options) free
+          (λ more. after_codes prefix arrays [] before options more own),
+      record {
+        own = options_held prefix arrays [] before options own;
+        others = λ name others. others_kept prefix arrays before name options others;
+        words = refl;
+      },
+    )

@@ -146,6 +146,11 @@ IsHelp asked name shown help = IsTheOnly (IsUsageText shown (brief_text asked na
 abbrev pub refused_text : Asked → Declared → Text → Fault → Text
 refused_text asked shown name fault = fault_line name fault ++ (brief_text asked name shown ++ codes "\n")
 
+-- a shell makes of this text in quotes one word, itself; and of the bytes of that the bytes of the text
+pub record IsOneWord (text : Text) : Type 0 where
+  pub shell : shell_words (quoted text) ≡ Some (text ∷ [])
+  pub bytes : shell_words (bytes_of (quoted text)) ≡ Some (bytes_of text ∷ [])
+
 -- the code that prints a help, and ends the script; no alias stands for a word that begins with `\`
 abbrev pub help_code : Text → Text
 help_code help = codes "\\printf %s " ++ (quoted help ++ codes "; \\exit\n")
@@ -275,7 +280,7 @@ pub data AnswersScript (asked : Asked) (name : Text) (options : Declared) (entri
   offers : (shell : Text) (answer : Answer) → asked.usage ≡ false → asked.complete_words ≡ Some shell
       → AnswersOffer shell options words answer → AnswersScript asked name options entries words answer
   help : (help : Text) → ReadsWords asked → AskHelp options words
-      → IsHelp asked name (shown_options asked entries) help → shell_words (quoted help) ≡ Some (help ∷ [])
+      → IsHelp asked name (shown_options asked entries) help → IsOneWord help
       → AnswersScript asked name options entries words (done (help_code help))
   alone : (entry : Entry) (answer : Answer) → ReadsWords asked → AskAlone options entries words entry
       → AnswersAlone asked options entries entry answer → AnswersScript asked name options entries words answer

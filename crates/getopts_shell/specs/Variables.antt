@@ -8,11 +8,12 @@ use Rattle.std.specs.Option.{option_and_then, option_map, option_or, unwrap_or}
 use Rattle.std.specs.Str.{bytes_eq}
 use Rattle.getopts.specs.Accessors.{each_value, found_in}
 use Rattle.getopts.specs.Matches.{Found, MatchedGroup}
-use Rattle.getopts.specs.Names.{Text, Names, is_empty, main_name}
+use Rattle.getopts.specs.Names.{AreTexts, Text, Names, is_empty, main_name}
 use Rattle.getopts.specs.Turn.{cut_at_equals}
 use Rattle.getopts.specs.declared.groups.HasArg.{HasArg}
 use Rattle.getopts.specs.declared.groups.HasArg.TheVariants.{No}
 use Rattle.getopts.specs.Wrap.{lines_of}
+use Rattle.getopts_bytes.specs.Marks.{bytes_of}
 use Rattle.getopts_shell.specs.Completion.{is_multi}
 use Rattle.getopts_shell.specs.Quote.{quoted, quoted_words, shell_words, words_after}
 use Rattle.getopts.specs.declared.groups.Occur.{Occur}
@@ -241,17 +242,38 @@ line_code words = codes "\\set -- " ++ (quoted_words words ++ codes "\n")
 abbrev pub variables_code : Text → Bool → List Given → List Text → Text
 variables_code prefix arrays options free = flat_map (option_code prefix arrays) options ++ line_code free
 
--- a shell that runs the command holds these words
-abbrev pub SetsWords : List Text → Type 0
-SetsWords words = (before : Shell) → Runs before (line_code words) (record before { words = words })
+-- ---- what a shell makes of the text, and of its bytes
 
--- a shell that runs the text for options and free words holds these, each option in a variable of its own, and the
--- words of a text of values are these values
+-- an option with the bytes of its values
+abbrev pub found_in_bytes : Found → Found
+found_in_bytes found = record found { value = option_map bytes_of found.value }
+
+abbrev pub in_bytes : Given → Given
+in_bytes option = record option { found = map found_in_bytes option.found }
+
+-- the values of options are UTF-8
+abbrev pub HoldTexts : List Given → Type 0
+HoldTexts options = AllByRecursion (λ option. AreTexts (texts_found option.found)) options
+
+-- A shell that runs the command holds these words; and one that runs its bytes holds the bytes of the words.
+pub record SetsWords (words : List Text) : Type 0 where
+  pub shell : (before : Shell) → Runs before (line_code words) (record before { words = words })
+  pub bytes : (before : Shell) → Runs before (bytes_of (line_code words)) (record before { words = map bytes_of words })
+
+-- what a shell holds that ran this text: options and free words
+abbrev pub RunsTo : Text → Bool → Text → List Given → List Text → Type 0
+RunsTo prefix arrays text options free = (before : Shell) → (after : Shell) × Runs before text after
+    × HoldsOptions prefix arrays options free before after
+
+-- A shell that runs the text for options and free words holds these, each option in a variable of its own, and the
+-- words of a text of values are these values. Where the values are UTF-8, a shell that runs the bytes of the text holds
+-- the bytes of all.
 pub record SetsVariables (prefix : Text) (arrays : Bool) (options : List Given) (free : List Text) : Type 0 where
   pub own : HaveOwnVariables prefix [] (map (λ option. option.names) options)
-  pub shell : (before : Shell) → (after : Shell)
-      × Runs before (variables_code prefix arrays options free) after
-      × HoldsOptions prefix arrays options free before after
+  pub shell : RunsTo prefix arrays (variables_code prefix arrays options free) options free
+  pub bytes : HoldTexts options → AreTexts free
+      → RunsTo prefix arrays (bytes_of (variables_code prefix arrays options free)) (map in_bytes options)
+      (map bytes_of free)
   pub once_more : AllByRecursion (λ option. shell_words (quoted_words (texts_found option.found))
       ≡ Some (texts_found option.found)) options
 

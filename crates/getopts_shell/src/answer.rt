@@ -5,7 +5,7 @@ ghost use Rattle.std.specs.Prelude.{Option, IfOk, MatchOption, OnOk, Some, None,
 ghost use Rattle.std.specs.Option.{option_map};
 ghost use Rattle.std.specs.Io.KnownBytes.{Appends};
 ghost use Rattle.std.specs.List.{find, list_any};
-ghost use Rattle.std.specs.Str.{bytes_eq};
+ghost use Rattle.std.specs.Str.{IsUtf8, bytes_eq};
 ghost use Rattle.std.specs.String.{string_bytes};
 ghost use Rattle.getopts.specs.Accessors.{is_present};
 ghost use Rattle.getopts.specs.Fail.{Fault, Tells, fault_of, fault_text};
@@ -811,7 +811,7 @@ fn help_code(alloc: Global, script: Script<'_>) -> Result<String, AllocError>
     ensures { IfOk result (λ text. (help : Text)
         × IsHelp (asked_of script.entry.asked.now) script.entry.name.now
         (shown_options (asked_of script.entry.asked.now) (entries_of script.entry.rows.now)) help
-        × (string_bytes text ≡ help_code help)) }
+        × IsUtf8 help × (string_bytes text ≡ help_code help)) }
 {
     let help = help_of(alloc, script)?;
     let mut text = String::from_str(alloc, "\\printf %s ")?;

@@ -4,6 +4,7 @@ use Rattle.getopts_shell.specs.Held.{asked_of, entries_of}
 use Rattle.getopts_shell.specs.Program.{AnswersScript, accepted, refused}
 use Rattle.getopts_shell.specs.Variables.{line_code}
 use Rattle.getopts_shell.proofs.Line.{never_unwritable, tells_words}
+use Rattle.getopts_shell.proofs.Written.{strings_are_texts}
 use Rattle.getopts_shell.proofs.answer.line_answer.Goals as goal
 
 pub unreachable-requires : goal.unreachable-requires
@@ -15,7 +16,7 @@ pub returns-in_ok-line_code-in-Ok-Some : goal.returns-in_ok-line_code-in-Ok-Some
 returns-in_ok-line_code-in-Ok-Some c =
     let line = map string_bytes c.in-Ok-Some.line.items in
     let tells = tells_words c.args.script.options.now (texts c.args.words.now) line
-    c.names_resolve.ensures.empty c.in-Ok-Some.ensures.laws
+    (strings_are_texts c.in-Ok-Some.line.items) c.names_resolve.ensures.empty c.in-Ok-Some.ensures.laws
     (rw c.in-Ok-Some.field-0-is at c.in-Ok-Some.ensures.written) in
     subst (λ (t : Text). AnswersScript (asked_of c.args.script.asked.now) c.args.script.name.now
     c.args.script.options.now (entries_of c.args.script.rows.now) (texts c.args.words.now)

@@ -1,18 +1,18 @@
-use Rattle.std.proofs.Common.{None, refl, sym, ◌∙◌}
+use Rattle.std.proofs.Common.{sym, ◌∙◌}
 use Rattle.std.proofs.lemmas.Bool.{false≢true}
 use Rattle.std.proofs.lemmas.Result.{IfOk-weaker}
 use Rattle.getopts_shell.specs.Held.{entries_of, entry_of_row}
 use Rattle.getopts_shell.specs.Program.{alone, help}
 use Rattle.getopts_shell.proofs.Alone.{alone_reads}
 use Rattle.getopts_shell.proofs.Asked.{rows_read}
-use Rattle.getopts_shell.proofs.Quoting.{word_same}
+use Rattle.getopts_shell.proofs.Written.{one_word}
 use Rattle.getopts_shell.proofs.answer.words_answer.Goals as goal
 
 pub returns-then-asked : goal.returns-then-asked
 returns-then-asked c =
     let asked = c.in_ok-asked.ensures in
     let code = c.in_ok-help_code.ensures in
-    rw code.2 (help code.0 c.requires.asked (asked.0 c.if-asked.true) code.1 (word_same None code.0 refl))
+    rw code.3 (help code.0 c.requires.asked (asked.0 c.if-asked.true) code.1 (one_word code.0 code.2))
 
 pub asked_alone-requires-clause-no_help : goal.asked_alone-requires-clause-no_help
 asked_alone-requires-clause-no_help c =
