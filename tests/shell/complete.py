@@ -103,13 +103,10 @@ def answers(program):
                              (["-sl"], {"stop": True, "long_only": True})):
             for at in range(len(words) + 1):
                 wanted = offers(words[:at], words[at] if at < len(words) else "", **modes)
-                said = run([program] + flags + ["--complete-words", "zsh", "backup", table_of(OPTIONS), str(at)] + words)
+                upto = words[:at + 1] if at < len(words) else words + [""]
+                said = run([program] + flags + ["--complete-words", "zsh", "backup", table_of(OPTIONS)] + upto)
                 expect(f"{flags} {words} at {at}", said, 0, "".join(line + "\n" for line in wanted))
                 tried += 1
-    for at in ("2", "x", "", "-1", "99999999999999999999"):
-        said = run([program, "--complete-words", "bash", "backup", table_of(OPTIONS), at, "x"])
-        if said.returncode != 5 or said.stdout or not said.stderr.startswith(b"getopts_shell: "):
-            fail(f"the word {at!r} of one word: {said}")
     print(f"{tried} questions about words")
 
 
@@ -130,7 +127,7 @@ def quoted(program, room):
         before = "compdef() { :; }\n" if shell == "zsh" else ""
         done = run([shell, "-c", before + code + ask], env=env, cwd=room)
         said = (room / "words").read_text() if (room / "words").exists() else None
-        wanted = f"--complete-words\n{shell}\n{name}\n{table}\n0\n"
+        wanted = f"--complete-words\n{shell}\n{name}\n{table}\n"
         if said is None or not said.startswith(wanted) or (room / "ran").exists():
             fail(f"{shell}: a name and a table of any bytes: {said!r}, and not {wanted!r}; {done}")
         (room / "words").unlink(missing_ok=True)

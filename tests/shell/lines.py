@@ -55,7 +55,7 @@ def table_of(rng, alone):
     for _ in range(rng.randrange(1, 7)):
         short, long = rng.choice([(True, False), (False, True), (True, True)])
         names = (shorts.pop() if short else "", longs.pop() if long else "")
-        kind, count = rng.choice(["no", "yes", "yes", "maybe"]), rng.choice(["once", "may", "may", "many"])
+        kind, count = rng.choice(["no", "yes", "yes", "maybe"]), rng.choice(["once", "may", "may", "many", "last"])
         options.append((*names, *(("no", "alone") if rng.random() < alone else (kind, count))))
     return options
 
@@ -65,7 +65,7 @@ def written(options):
     for short, long, kind, count in options:
         names = "|".join(([f"-{short}"] if short else []) + ([f"--{long}"] if long else []))
         inside = names + {"no": "", "yes": " X", "maybe": " [X]"}[kind]
-        lines.append({"once": "%s", "may": "[%s]", "many": "[%s]..", "alone": "[%s]!"}[count] % inside)
+        lines.append({"once": "%s", "may": "[%s]", "many": "[%s]..", "last": "[%s]*", "alone": "[%s]!"}[count] % inside)
     return "\n".join(lines)
 
 
@@ -87,7 +87,7 @@ def case_of(rng, alone=0.1):
     options, parts = table_of(rng, alone), []
     for place, option in enumerate(options):
         many = rng.choice([0, 0, 1, 2, 3])
-        for _ in range({"once": 1, "may": rng.randrange(2), "many": many, "alone": many}[option[3]]):
+        for _ in range({"once": 1, "may": rng.randrange(2), "many": many, "last": many, "alone": many}[option[3]]):
             value = None if option[2] == "no" else text_of(rng)
             if option[2] == "maybe" and (not value and not option[1] or option[1] and rng.random() < 0.3):
                 value = None if option[1] else "v"
@@ -152,7 +152,7 @@ def shown_of(option, values):
         return ["set", str(len(values))]
     if option[3] == "many":
         return [str(len(values))] + values
-    return ["set", values[0]] if values else ["", ""]
+    return ["set", values[-1]] if values else ["", ""]
 
 
 def random_lines(program, found, room, count, way):
@@ -174,7 +174,7 @@ def random_lines(program, found, room, count, way):
         for place, option in enumerate(options if way != "words" else []):
             name = prefix + (option[1] or option[0]).replace("-", "_")
             env[name] = "other"
-            script.insert(0, f"unset {name}; {name}='other'" if way == "arrays" else f"{name}='other'")
+            script.insert(0, f"unset {name}; {name}=(other array)" if way == "arrays" else f"{name}='other'")
             if option[2] != "no" and option[3] == "many":
                 script.append(f"set -- ${{{name}+\"${{{name}[@]}}\"}}" if way == "arrays" else f"eval \"set -- ${name}\"")
                 script.append("printf '%s\\0' \"$#\" \"$@\"")

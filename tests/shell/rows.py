@@ -28,7 +28,6 @@ Options:
     -b, --brief TEXT    begin the help with TEXT
     -s, --stop          leave all words from the first free one on free
     -l, --long-only     let long names follow one dash too
-    -w, --words         write the words alone, without 'set --'
     -V, --variables PREFIX
                         set a variable for each option, named PREFIX and its
                         name
@@ -37,8 +36,7 @@ Options:
     -c, --complete SHELL
                         write a completion script for bash, zsh or fish
         --complete-words SHELL
-                        write what may come at word N, where the WORDs are N
-                        and words
+                        write what may come at the last WORD
     -h, --help          print this help
         --version       print the version
 """
@@ -89,22 +87,33 @@ Options:
     -h, --help          print this help
 '; \\exit
 """
-ALONE_VARIABLES = """\
-\\unset -v o_input
-o_verbose=0
-o_version=1
-o_licence=0
-o_help=0
-""" + "\\set -- \n"
+
+
+def code(*lines, words=""):
+    """Code for variables: of each NAME, that it is taken away, and of NAME=VALUE, that it is then set."""
+    shown = []
+    for line in lines:
+        shown.append(f"\\unset -v {line.split('=')[0]}\n")
+        shown += [line + "\n"] if "=" in line else []
+    return "".join(shown) + f"\\set -- {words}\n"
+
+
+ALONE_VARIABLES = code("o_input", "o_verbose='0'", "o_version='1'", "o_licence='0'", "o_help='0'")
 
 # Why an item is refused.
-DASHES = "a short name comes after '-', a long one after '--'"
 SHORT = "a short name has one byte"
 LONG = "a long name has at least two bytes"
-BYTES = "a name may hold letters, digits, '-', '_', '.', '+', ':' and bytes from 128 on"
 OPEN = "no ']'"
+BYTES = "a long name may hold letters, digits, '-', '_', '.', '+', ':' and bytes from 128 on"
+LETTER = "a short name is a letter, a digit or one of ?@#%+_^,./:"
+DASHES = "a short name comes after '-', a long one after '--'"
 BRACKETS = "brackets stand around the option or its argument, and dots only after ']'"
 MARK = "'!' comes only after ']' of an option without an argument"
+ORDER = "the short name comes first, then one long one"
+COLON = "a long name doesn't end in ':'"
+EQUALS = "an argument comes after a space, as in '--long ARG'"
+APART = "names are written as -s|--long, without a blank or a comma"
+ONE = "an argument holds no space"
 SPACES = "a tab or two spaces have to come before the description"
 
 # The program's own options, and how it is called.
@@ -128,12 +137,12 @@ WORDS = [
     (["-u", "backup", TABLE], HELP, 0),
     (["--usage", "--brief=Back files up.", "backup", TABLE, "--nope"], "Back files up.\n" + OPTIONS_HELP, 0),
     (["-c", "tcsh", "-u", "backup", TABLE], "getopts_shell: no completion for 'tcsh'\n", 5),
-    (["--complete-words", "tcsh", "backup", TABLE, "0"], "getopts_shell: no completion for 'tcsh'\n", 5),
-    (["--complete-words", "zsh", "backup", TABLE, "2", "x"], "getopts_shell: no word has the number '2'\n", 5),
-    (["--complete-words", "zsh", "backup", TABLE], "getopts_shell: no word has the number ''\n", 5),
-    (["--complete-words", "fish", "backup", TABLE, "1", "-h", "--"],
+    (["--complete-words", "tcsh", "backup", TABLE], "getopts_shell: no completion for 'tcsh'\n", 5),
+    (["--complete-words", "zsh", "backup", TABLE, "x"], "files\n", 0),
+    (["--complete-words", "zsh", "backup", TABLE], "files\n", 0),
+    (["--complete-words", "fish", "backup", TABLE, "-h", "--"],
      "--input\tread this file\n--output\twrite to FILE\n--verbose\tsay more\n--color\tcolour the output\n", 0),
-    (["--complete-words", "bash", "backup", TABLE, "1", "--", "-"], "files\n", 0),
+    (["--complete-words", "bash", "backup", TABLE, "--", "-"], "files\n", 0),
     (["backup", TABLE, "-h"], HELP_CODE, 0),
     (["backup", TABLE, "-o", "a", "-o", "b", "--help", "-h"], HELP_CODE, 0),
     (["backup", TABLE, "-h", "--nope"], UNKNOWN, 2),
@@ -146,12 +155,11 @@ WORDS = [
     (["backup", TABLE, "x", "-iy", "-c", "z", "-L", "l"], "\\set -- '--input=y' '--color=z' '--L=l' '--' 'x'\n", 0),
     (["-s", "backup", TABLE, "-iy", "x", "-v"], "\\set -- '--input=y' '--' 'x' '-v'\n", 0),
     (["-l", "backup", TABLE, "-input", "y", "-v"], "\\set -- '--input=y' '--verbose' '--'\n", 0),
-    (["-w", "backup", TABLE, "-iy", "x"], "'--input=y' '--' 'x'\n", 0),
     (["-A", "x", "-v"], "getopts_shell: --arrays needs --variables\n", 5),
-    (["-AwV", "opt_", "x", "-v"], "getopts_shell: --words and --variables don't go together\n", 5),
     (["-Au", "x", "[-v]"], "getopts_shell: --arrays needs --variables\n", 5),
     (["-A", "x", "-v\n-"], f"getopts_shell: line 2 of the options: -: {DASHES}\n", 5),
-    (["-w", "x", ""], "'--'\n", 0),
+    (["-w", "x", ""], "getopts_shell: Unrecognized option: 'w'\n", 5),
+    (["x", ""], "\\set -- '--'\n", 0),
     (["x", "", "\n", "\\", "$HOME", "é"], "\\set -- '--' '\n' '\\' '$HOME' 'é'\n", 0),
     (["x", "[--help FILE]", "--help", "a"], "\\set -- '--help=a' '--'\n", 0),
     (["x", "[-h]", "-h"], "\\set -- '--h' '--'\n", 0),
@@ -160,18 +168,19 @@ WORDS = [
 ]
 
 # Variables: the program's own words, the script's words, and the code, by TABLE.
-NONE = "\\unset -v opt_output\nopt_verbose=0\n\\unset -v opt_color\nopt_L=''\nopt_help=0\n"
+NONE = ("opt_output", "opt_verbose='0'", "opt_color", "opt_L=''", "opt_help='0'")
 VARIABLES = [
-    (["-V", "opt_"], ["-i", "a b"], f"opt_input='a b'\n{NONE}\\set -- \n"),
+    (["-V", "opt_"], ["-i", "a b"], code("opt_input='a b'", *NONE)),
     (["--variables=opt_"], ["x", "-vvi", "", "--output=it's", "--color", "--", "-v", ""],
-     "opt_input=''\nopt_output='it'\\''s'\nopt_verbose=2\nopt_color=''\nopt_L=''\nopt_help=0\n\\set -- 'x' '-v' ''\n"),
+     code("opt_input=''", "opt_output='it'\\''s'", "opt_verbose='2'", "opt_color=''", "opt_L=''", "opt_help='0'",
+          words="'x' '-v' ''")),
     (["-V", ""], ["-ix", "--color=auto", "-L", "a", "-Lb c"],
-     "input='x'\n\\unset -v output\nverbose=0\ncolor='auto'\nL=''\\''a'\\'' '\\''b c'\\'''\nhelp=0\n\\set -- \n"),
+     code("input='x'", "output", "verbose='0'", "color='auto'", "L=''\\''a'\\'' '\\''b c'\\'''", "help='0'")),
     (["-AV", "_"], ["-ix", "-La", "-L", "b'\nc", "d"],
-     "_input='x'\n\\unset -v _output\n_verbose=0\n\\unset -v _color\n_L=(${_L+} 'a' 'b'\\''\nc')\n_help=0\n\\set -- 'd'\n"),
+     code("_input='x'", "_output", "_verbose='0'", "_color", "_L=(${_L+} 'a' 'b'\\''\nc')", "_help='0'", words="'d'")),
     (["-A", "-V", "o"], ["-ix"],
-     "oinput='x'\n\\unset -v ooutput\noverbose=0\n\\unset -v ocolor\noL=(${oL+} )\nohelp=0\n\\set -- \n"),
-    (["-sV", "opt_"], ["-ia", "x", "-v"], f"opt_input='a'\n{NONE}\\set -- 'x' '-v'\n"),
+     code("oinput='x'", "ooutput", "overbose='0'", "ocolor", "oL=(${oL+} )", "ohelp='0'")),
+    (["-sV", "opt_"], ["-ia", "x", "-v"], code("opt_input='a'", *NONE, words="'x' '-v'")),
 ]
 # The program's own words, a table that has no such variables, and the fault.
 NO_VARIABLES = [
@@ -182,7 +191,6 @@ NO_VARIABLES = [
     (["-V", "opt_"], "--a.b", "line 1 of the options: 'a.b' makes no variable"),
     (["-V", ""], "-v\n-1", "line 2 of the options: '1' makes no variable"),
     (["-V", "opt_"], "--a-b\n\n[--a_b]", "line 3 of the options: 'a_b' makes the variable of another option"),
-    (["-wV", "opt_"], "-v", "--words and --variables don't go together"),
 ]
 
 # Words with an option that stands alone, and words without one.
@@ -191,7 +199,6 @@ BY_ONE = [
     (["backup", ALONE, "-ia", "x", "-vV"], "\\set -- '--version' '--'\n", 0),
     (["backup", ALONE, "--licence", "-V", "-ia", "-ib", "-V"], "\\set -- '--version' '--'\n", 0),
     (["backup", ALONE, "--licence", "-v"], "\\set -- '--licence' '--'\n", 0),
-    (["-w", "backup", ALONE, "-V"], "'--version' '--'\n", 0),
     (["-l", "backup", ALONE, "-version"], "\\set -- '--version' '--'\n", 0),
     (["-s", "backup", ALONE, "-V", "x"], "\\set -- '--version' '--'\n", 0),
     (["-s", "backup", ALONE, "x", "-V"], ALONE_MISSING, 2),
@@ -207,17 +214,40 @@ BY_ONE = [
     (["-b", "Do it.", "backup", ALONE, "-Vh"], ALONE_HELP, 0),
     (["-V", "o_", "backup", ALONE, "-vV", "x"], ALONE_VARIABLES, 0),
     (["-sV", "o_", "backup", ALONE, "-VV", "x"], ALONE_VARIABLES, 0),
-    (["-AV", "o_", "x", "[-L D]..\n-i\n[-q]!", "-qLa"], "o_L=(${o_L+} )\no_i=0\no_q=1\n\\set -- \n", 0),
-    (["--complete-words", "fish", "backup", ALONE, "0", "--v"], "--verbose\tsay more\n--version\tprint the version\n", 0),
+    (["-AV", "o_", "x", "[-L D]..\n-i\n[-q]!", "-qLa"],
+     code("o_L=(${o_L+} )", "o_i='0'", "o_q='1'"), 0),
+    (["--complete-words", "fish", "backup", ALONE, "--v"], "--verbose\tsay more\n--version\tprint the version\n", 0),
     (["x", "-a\n[-h|--help]!\n[-q]!", "-q"], "\\set -- '--q' '--'\n", 0),
     (["-bU", "x", "-a\n[--help]!\n[-q]!", "-q", "--help"],
      "\\printf %s 'U\n\nOptions:\n    -a                  \n        --help          \n    -q                  \n'; \\exit\n", 0),
-    (["x", "-a\n[-!]!", "-!"], "\\set -- '--!' '--'\n", 0),
-    (["x", "-a\n[-!]", "-!"], "x: Required option 'a' missing\nUsage: x -a [-!]\n", 2),
+    (["x", "-a\n[-?]!", "-?"], "\\set -- '--?' '--'\n", 0),
+    (["x", "-a\n[-?]", "-?"], "x: Required option 'a' missing\nUsage: x -a [-?]\n", 2),
     (["x", "-a\n[-s !]", "-s!"], "x: Required option 'a' missing\nUsage: x -a [-s !]\n", 2),
     (["x", "-s !", "-s!"], "\\set -- '--s=!' '--'\n", 0),
     (["x", "-V\n[-V]!"], "getopts_shell: line 2 of the options: the name 'V' stands there already\n", 5),
     (["-V", "o_", "x", "[--a.b]!", "--a.b"], "getopts_shell: line 1 of the options: 'a.b' makes no variable\n", 5),
+]
+
+# Options that may come again, and of which the last value counts.
+LAST = "[-c|--count N]*  try N times\n[-d|--delay [N]]*  wait\n[-v]*  say more\n[-q]..  say less"
+LAST_HELP = """\
+Usage: x [-c N] [-d [N]] [-v] [-q]..
+
+Options:
+    -c, --count N       try N times
+    -d, --delay [N]     wait
+    -v                  say more
+    -q                  say less
+"""
+LASTS = [
+    (["-u", "x", LAST], LAST_HELP, 0),
+    (["x", LAST, "-c1", "--count", "2", "-v"], "\\set -- '--count=1' '--count=2' '--v' '--'\n", 0),
+    (["-V", "o_", "x", LAST, "-c1", "--count=2", "-d3", "-d", "-vv"],
+     code("o_count='2'", "o_delay=''", "o_v='2'", "o_q='0'"), 0),
+    (["-AV", "o_", "x", LAST, "-d", "-d3"], code("o_count", "o_delay='3'", "o_v='0'", "o_q='0'"), 0),
+    (["x", LAST, "-z"], "x: Unrecognized option: 'z'\nUsage: x [-c N] [-d [N]] [-v] [-q]..\n", 2),
+    (["-b", "Usage: x [options] FILE..", "x", LAST, "-z"], "x: Unrecognized option: 'z'\nUsage: x [options] FILE..\n", 2),
+    (["--complete-words", "bash", "x", LAST, "-c1", "--c"], "--count\ttry N times\n", 0),
 ]
 
 # Tables: what their lines are.
@@ -229,6 +259,7 @@ TABLES = [
     (["x", "-a|--bc\n-d\n--bc"], "getopts_shell: line 3 of the options: the name 'bc' stands there already\n", 5),
     (["x", "\n-v\n-v|--verbose"], "getopts_shell: line 3 of the options: the name 'v' stands there already\n", 5),
     (["x", "-v\n-v\n-\n"], "getopts_shell: line 2 of the options: the name 'v' stands there already\n", 5),
+    (["-ub", "U", "x", "-a \tb"], "U\n\nOptions:\n    -a                  b\n", 0),
     (["x", "--é.b+c:d_e-1", "--é.b+c:d_e-1"], "\\set -- '--é.b+c:d_e-1' '--'\n", 0),
 ]
 
@@ -236,17 +267,22 @@ TABLES = [
 REFUSED = [
     ("a", 1, "a", DASHES), ("\n\n-a  ok\n-b|  no", 4, "-b|", DASHES), ("-ab  no", 1, "-ab", SHORT),
     ("--a", 1, "--a", LONG), ("--", 1, "--", LONG), ("-", 1, "-", DASHES), ("---ab", 1, "---ab", DASHES),
-    ("-a|-b", 1, "-a|-b", DASHES), ("-a|--bc|--de", 1, "-a|--bc|--de", BYTES), ("-a|--", 1, "-a|--", LONG),
-    ("-a|--b", 1, "-a|--b", LONG), ("--bc|-a", 1, "--bc|-a", BYTES), ("--b=c", 1, "--b=c", BYTES),
+    ("-a|-b", 1, "-a|-b", DASHES), ("-a|--bc|--de", 1, "-a|--bc|--de", ORDER), ("-a|--", 1, "-a|--", LONG),
+    ("-a|--b", 1, "-a|--b", LONG), ("--bc|-a", 1, "--bc|-a", ORDER), ("--b=c", 1, "--b=c", EQUALS),
+    ("--out=FILE", 1, "--out=FILE", EQUALS), ("[-o|--out=FILE]  to FILE", 1, "[-o|--out=FILE]", EQUALS),
+    ("--[no-]color", 1, "--[no-]color", BRACKETS), ("-a | --all  all", 1, "-a | --all", APART),
+    ("-a, --all  all", 1, "-a, --all", APART), ("-a|--all: d", 1, "-a|--all: d", COLON),
+    ("[-a FOO BAR]  x", 1, "[-a FOO BAR]", ONE), ("-a [FOO BAR]  x", 1, "-a [FOO BAR]", ONE),
     ("-é", 1, "-é", SHORT), ("[-a", 1, "[-a", OPEN), ("-a]", 1, "-a]", BRACKETS), ("[-a].", 1, "[-a].", BRACKETS),
-    ("[-a]....", 1, "[-a]....", BRACKETS), ("-a..", 1, "-a..", SHORT), ("[[-a]]", 1, "[[-a]]", DASHES),
+    ("[-a]....", 1, "[-a]....", BRACKETS), ("-a..", 1, "-a..", SHORT), ("[[-a]]", 1, "[[-a]]", BRACKETS),
     ("-a []", 1, "-a []", BRACKETS), ("-a [b", 1, "-a [b", OPEN), ("-a b c", 1, "-a b c", SPACES),
-    ("-a \tb", 1, "-a ", BRACKETS), ("-v\n-\n-v\n", 2, "-", DASHES), ("-\x7f", 1, "-\x7f", BYTES),
+    ("-v\n-\n-v\n", 2, "-", DASHES), ("-\x7f", 1, "-\x7f", LETTER), ("-;", 1, "-;", LETTER), ("-!", 1, "-!", LETTER),
     ("[-x|--exclude PATTERN].. leave PATTERN out", 1, "[-x|--exclude PATTERN].. leave PATTERN out", SPACES),
-    ("[-v] verbose", 1, "[-v] verbose", SPACES), ("-s X..", 1, "-s X..", BRACKETS),
-    ("--semi;colon", 1, "--semi;colon", BYTES), ("-=", 1, "-=", BYTES),
+    ("[-v] verbose", 1, "[-v] verbose", SPACES), ("[-v] say more", 1, "[-v] say more", SPACES), ("-s X..", 1, "-s X..", BRACKETS),
+    ("--semi;colon", 1, "--semi;colon", BYTES), ("-=", 1, "-=", EQUALS),
     ("[-x ARG]!", 1, "[-x ARG]!", MARK), ("[-x [ARG]]!", 1, "[-x [ARG]]!", MARK), ("-x [ARG]!", 1, "-x [ARG]!", MARK),
     ("[-v]..!", 1, "[-v]..!", MARK), ("[-v]!!", 1, "[-v]!!", MARK), ("[-v]!..", 1, "[-v]!..", BRACKETS),
+    ("[-v]**", 1, "[-v]**", BRACKETS), ("[-v]*..", 1, "[-v]*..", BRACKETS), ("-v*", 1, "-v*", SHORT),
     ("-v!", 1, "-v!", SHORT), ("--version!", 1, "--version!", BYTES), ("[-v!]", 1, "[-v!]", SHORT),
     ("[-vw]!", 1, "[-vw]!", SHORT), ("[v]!", 1, "[v]!", DASHES), ("]!", 1, "]!", DASHES), ("[]!", 1, "[]!", DASHES),
     ("[-v]! say more!", 1, "[-v]! say more!", SPACES), ("[-v!", 1, "[-v!", OPEN),
@@ -268,7 +304,7 @@ REFUSED.append(("-" + OFTEN, 1, "-" + OFTEN, SHORT))
 
 def all_rows():
     """Every row, as words, text and status."""
-    yield from OWN + WORDS + BY_ONE + TABLES + LARGE
+    yield from OWN + WORDS + BY_ONE + LASTS + TABLES + LARGE
     for own, words, text in VARIABLES:
         yield own + ["try", TABLE] + words, text, 0
     for own, table, why in NO_VARIABLES:

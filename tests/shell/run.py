@@ -104,6 +104,44 @@ def examples(shell, path, room):
         fail(f"{' '.join(shell)}: the example notes, refused: {done}")
 
 
+ARRAYS = ("bash", "zsh", "ksh93", "mksh", "yash")
+CODE = 'code=$(getopts_shell --variables o_ n "%s" %s) || exit\n'
+# What the page says of shells: who it is tried in, a script, and what it prints.
+MINDS = [
+    ("an array keeps nothing", ARRAYS, "typeset o_L\no_L=(1 2 3)\n" + CODE % ("[-L DIR]  x", "-L 9")
+     + "eval \"$code\"; printf '%s|' \"${o_L[@]}\"", "9|"),
+    ("an array of an array keeps nothing", ARRAYS, "o_L=(1 2 3)\n" + (CODE % ("[-L DIR]..  x", "-L 9")).replace("--v", "-A --v")
+     + "eval \"$code\"; printf '%s|' \"${o_L[@]}\"", "9|"),
+    ("an attribute goes", ("bash", "zsh", "ksh93", "mksh"), "typeset -i o_j=1\n" + CODE % ("[-j N]", "-j 'a[$(echo ran)]'")
+     + "eval \"$code\"; printf '%s' \"$o_j\"", "a[$(echo ran)]"),
+    ("readonly stays", None, "readonly o_j=1\n" + CODE % ("[-j N]", "-j 2") + "(eval \"$code\") 2>/dev/null\necho \"$o_j\"", "1\n"),
+    ("a local variable shows the outer one", ("mksh", "yash"), "o_j=outer\n" + CODE % ("[-j N]", "")
+     + "f() { typeset o_j=inner; eval \"$code\"; echo \"$o_j\"; }; f", "outer\n"),
+    ("a local variable goes", ("bash", "zsh"), "o_j=outer\n" + CODE % ("[-j N]", "")
+     + "f() { typeset o_j=inner; eval \"$code\"; echo \"${o_j-none}\"; }; f; echo $o_j", "none\nouter\n"),
+    ("no alias", None, "[ -z \"${BASH_VERSION-}\" ] || shopt -s expand_aliases\nalias set='echo no' unset='echo no'\n"
+     + CODE % ("[-j N]", "-j 2 x") + "eval \"$code\"; echo \"$o_j $1\"", "2 x\n"),
+    ("a refusal ends the script", None, CODE % ("[-j N]", "-k 2>/dev/null") + "echo went on", ""),
+    ("-- before the words", None, CODE % ("[-j]", "-- -j") + "eval \"$code\"; echo \"$o_j $1\"", "0 -j\n"),
+    ("a number is checked", None, "for o_num in 0 12 '' -1 1a ' 1'; do case $o_num in '' | *[!0-9]*) printf no ;; *) printf yes ;; esac; done",
+     "yesyesnononono"),
+    ("the last value", None, CODE % ("[-c N]*\n[-v]*", "-c1 -v -c 2 -v") + "eval \"$code\"; echo \"$o_c $o_v\"", "2 2\n"),
+    ("the last line end goes", None, CODE % ("[-c N]", "-c 'a\n\n' 'b\n'") + "eval \"$code\"; printf '%s|' \"$o_c\" \"$1\"", "a\n\n|b\n|"),
+]
+
+
+def minds(program, found):
+    """What the page says of shells holds in each that is installed."""
+    env = {**os.environ, "PATH": f"{Path(program).parent}:{os.environ['PATH']}"}
+    for what, where, script, out in MINDS:
+        for shell in found:
+            if where is None or shell[0] in where:
+                done = run(shell + ["-c", script], env=env)
+                if done.stdout != out.encode():
+                    fail(f"{' '.join(shell)}: {what}: {done}")
+    print(f"{len(MINDS)} sentences about shells")
+
+
 def by_getopt(options, words):
     """What getopt(1) reads, in canonical form, or None where it refuses the words."""
     colons = {"no": "", "yes": ":", "maybe": "::"}
@@ -140,8 +178,8 @@ def beside_getopt(program):
             words.insert(0, rng.choice(["-x", "--nope", "--nope=b"] + flags))
         if rng.random() < 0.1 and "--" not in words:
             words += [f"-{short}" if short else f"--{long}" for short, long, kind, _ in options if kind == "yes"][:1]
-        done = run([program, "-w", "try", written(options)] + words)
-        ours = shlex.split(os.fsdecode(done.stdout)) if done.returncode == 0 else None
+        done = run([program, "try", written(options)] + words)
+        ours = shlex.split(os.fsdecode(done.stdout))[2:] if done.returncode == 0 else None
         theirs = by_getopt(options, words)
         asked, refused = asked + 1, refused + (ours is None)
         if ours != theirs:
@@ -153,15 +191,21 @@ GAP = "a tab or two spaces have to come before the description"
 SHORT = "a short name has one byte"
 LONG = "a long name has at least two bytes"
 OPEN = "no ']'"
-BYTES = "a name may hold letters, digits, '-', '_', '.', '+', ':' and bytes from 128 on"
+BYTES = "a long name may hold letters, digits, '-', '_', '.', '+', ':' and bytes from 128 on"
+LETTER = "a short name is a letter, a digit or one of ?@#%+_^,./:"
 DASHES = "a short name comes after '-', a long one after '--'"
 BRACKETS = "brackets stand around the option or its argument, and dots only after ']'"
 MARK = "'!' comes only after ']' of an option without an argument"
+ORDER = "the short name comes first, then one long one"
+COLON = "a long name doesn't end in ':'"
+EQUALS = "an argument comes after a space, as in '--long ARG'"
+APART = "names are written as -s|--long, without a blank or a comma"
+ONE = "an argument holds no space"
 LONG_NAME = re.compile(r"[A-Za-z0-9_.+:\x80-\U0010ffff-]*")
 
 
 def is_short(name):
-    return len(name.encode()) == 1 and not (name in " -|[]=" or name < " " or name == "\x7f")
+    return re.fullmatch(r"[A-Za-z0-9?@#%+_^,./:]", name) is not None
 
 
 def is_hint(hint):
@@ -178,7 +222,7 @@ def names_of(inside):
     if (space and not is_hint(hint)) or (bar and not (short and long)) or not (short or long):
         return None
     lawful = not short or (short[0] == "-" and is_short(short[1:]))
-    lawful = lawful and (not long or (len(long) > 3 and long.startswith("--") and long[2] != "-"
+    lawful = lawful and (not long or (len(long) > 3 and long.startswith("--") and long[2] != "-" and long[-1] != ":"
                                       and LONG_NAME.fullmatch(long[2:])))
     return [name for name in (short[1:], long[2:]) if name] if lawful else None
 
@@ -189,9 +233,15 @@ def reason_of(item):
     if "[" in item and "]" not in item:
         return OPEN
     names, _, rest = re.match(r"(?s)([^ \]]*)([ \]]?)(.*)", item).groups()
+    if rest and rest[0] in "-|":
+        return APART
     if " " in rest:
-        return GAP
+        return ONE if item.endswith("]") else GAP
     names = names.removeprefix("[")
+    if "=" in names:
+        return EQUALS
+    if "[" in names:
+        return right
     if len(names) < 2 or names[0] != "-":
         return DASHES
     if names[1] == "-":
@@ -201,7 +251,7 @@ def reason_of(item):
         if more and more[0] != "|":
             return SHORT
         if not is_short(short):
-            return BYTES
+            return LETTER
         if not more:
             return right
         if not more.startswith("|--"):
@@ -209,9 +259,11 @@ def reason_of(item):
         long = more[3:]
     if len(long.encode()) < 2:
         return LONG
+    if "|" in long:
+        return ORDER
     if not LONG_NAME.fullmatch(long):
         return BYTES
-    return DASHES if long[0] == "-" else right
+    return DASHES if long[0] == "-" else COLON if long.endswith(":") else right
 
 
 def table_fault(table):
@@ -221,9 +273,9 @@ def table_fault(table):
         line = line.strip(" \t\r")
         if not line or line.startswith("#"):
             continue
-        item = re.split("\t|  ", line)[0]
+        item = re.split("\t|  ", line)[0].strip(" \t\r")
         inside = item
-        for end in ("]...", "]..", "]!", "]"):
+        for end in ("]...", "]..", "]!", "]*", "]"):
             if item.startswith("[") and item.endswith(end):
                 inside = item[1:-len(end)]
                 break
@@ -265,6 +317,7 @@ def test(program, room):
     for way in ("words", "variables", "arrays"):
         random_lines(program, found, room, LINES, way)
     page(program, found, room)
+    minds(program, found)
     beside_getopt(program)
     changed_tables(program)
 

@@ -18,30 +18,32 @@ use Rattle.getopts.specs.Reading as reading
 use Rattle.getopts.specs.Wrap.{lines_of}
 use Rattle.getopts.specs.declared.groups.HasArg.{HasArg}
 use Rattle.getopts.specs.declared.groups.HasArg.TheVariants.{Yes, No, Maybe}
-use Rattle.getopts.proofs.Lists.{AllByRecursion-right, slice_get-append}
+use Rattle.getopts.proofs.Lists.{AllByRecursion-right}
 use Rattle.getopts.proofs.Lookup.Names.{resolution-main}
-use Rattle.getopts_shell.specs.Held.{HaveReading, group_of_row, groups_of}
-use Rattle.getopts_shell.specs.Program.{AskAlone, AskHelp, is_alone, is_no, main_word, stands_alone}
-use Rattle.getopts_shell.specs.Quote.{holds_nul}
-use Rattle.getopts_shell.specs.Table.{DeclaresOptions, HaveNewNames, MayBeNames, any_has_name, name_again}
+use Rattle.getopts_shell.specs.Held.{HaveReading, entries_of, entry_of_row}
+use Rattle.getopts_shell.specs.Program.{AskAlone, AskHelp, is_alone, main_word, read_groups, stands_alone}
+use Rattle.getopts_shell.specs.Table.{DeclaresOptions, Entry, HaveNewNames, any_has_name, fits, group_of_entry}
+use Rattle.getopts_shell.specs.Table.{name_again}
+use Rattle.getopts_shell.specs.declared.row.Mark.{Mark}
+use Rattle.getopts_shell.specs.declared.row.Mark.TheVariants.{Plain, Alone, Last}
 use Rattle.getopts_shell.specs.declared.row.Row.{Row}
 use Rattle.getopts_shell.proofs.Help.{one_reading}
 use Rattle.getopts_shell.proofs.Items.{is_empty-cons}
 use Rattle.getopts_shell.proofs.Only.{new_at}
-use Rattle.getopts_shell.proofs.Plain.{options_named, plain_main}
+use Rattle.getopts_shell.proofs.Plain.{MayStand, entries_stand, plain_main}
 
 -- ---- the first row
 
 -- where no row stands alone, none is found
 none_marked : (rows : List Row) (matches : Matched)
-    → list_any (λ (row : Row). stands_alone (group_of_row row)) rows ≡ false
-    → find (is_alone matches) (groups_of rows) ≡ None
+    → list_any (λ (row : Row). stands_alone row.mark) rows ≡ false
+    → find (is_alone matches) (entries_of rows) ≡ None
 none_marked [] matches none = refl
 none_marked (row ∷ rows) matches none =
-    let group = group_of_row row in
-    let parts = or_parts (stands_alone group) (list_any (λ (row : Row). stands_alone (group_of_row row)) rows) none in
-    ap (λ (b : Bool). cond (b && is_present matches.groups (main_name group.signature.names)) (Some group)
-    (find (is_alone matches) (groups_of rows))) parts.0
+    let entry = entry_of_row row in
+    let parts = or_parts (stands_alone row.mark) (list_any (λ (row : Row). stands_alone row.mark) rows) none in
+    ap (λ (b : Bool). cond (b && is_present matches.groups (main_name entry.signature.names)) (Some entry)
+    (find (is_alone matches) (entries_of rows))) parts.0
     ∙ none_marked rows matches parts.1
 
 -- the rows from a place on
@@ -53,50 +55,48 @@ rows_from rows at row below row_is =
 
 -- what is found from a row on
 pub found_from : (rows : List Row) (matches : Matched) (at : ℕ) (row : Row) (test : Bool) → at < length rows
-    → row ≡ get_or rows at row → is_alone matches (group_of_row row) ≡ test
-    → find (is_alone matches) (groups_of (drop at rows))
-    ≡ cond test (Some (group_of_row row)) (find (is_alone matches) (groups_of (drop (at + 1) rows)))
+    → row ≡ get_or rows at row → is_alone matches (entry_of_row row) ≡ test
+    → find (is_alone matches) (entries_of (drop at rows))
+    ≡ cond test (Some (entry_of_row row)) (find (is_alone matches) (entries_of (drop (at + 1) rows)))
 found_from rows matches at row test below row_is is =
-    ap (λ (rows : List Row). find (is_alone matches) (groups_of rows)) (rows_from rows at row below row_is)
-    ∙ ap (λ (b : Bool). cond b (Some (group_of_row row))
-    (find (is_alone matches) (groups_of (drop (at + 1) rows)))) is
+    ap (λ (rows : List Row). find (is_alone matches) (entries_of rows)) (rows_from rows at row below row_is)
+    ∙ ap (λ (b : Bool). cond b (Some (entry_of_row row))
+    (find (is_alone matches) (entries_of (drop (at + 1) rows)))) is
 
 -- ---- whether words ask for one option alone
 
 -- no words ask for one where no row stands alone
-pub never_marked : (options : Declared) (words : List Text) (rows : List Row) → options.groups ≡ groups_of rows
-    → list_any (λ (row : Row). stands_alone (group_of_row row)) rows ≡ false
-    → (group : Group) → ¬ (AskAlone options words group)
-never_marked options words rows rows_are none group is =
-    let both : None ≡ Some group = sym (none_marked rows is.matches none)
-    ∙ ap (find (is_alone is.matches)) (sym rows_are) ∙ is.first in
-    cc
+pub never_marked : (options : Declared) (words : List Text) (rows : List Row)
+    → list_any (λ (row : Row). stands_alone row.mark) rows ≡ false
+    → (entry : Entry) → ¬ (AskAlone options (entries_of rows) words entry)
+never_marked options words rows none entry is =
+    let both : None ≡ Some entry = sym (none_marked rows is.matches none) ∙ is.first in cc
 
 -- words that have a reading ask for what is found in it
 pub asked_alone_is : (options : Declared) (words : List Text) (rows : List Row) (matches : Matched) (result : Option Row)
-    → options.groups ≡ groups_of rows → ¬ (AskHelp options words) → HasReading options words matches
-    → option_map group_of_row result ≡ find (is_alone matches) (groups_of rows)
-    → MatchOption result ((group : Group) → ¬ (AskAlone options words group))
-    (λ row. AskAlone options words (group_of_row row))
-asked_alone_is options words rows matches None rows_are no_help read is = λ group asks.
+    → ¬ (AskHelp options words) → HasReading options words matches
+    → option_map entry_of_row result ≡ find (is_alone matches) (entries_of rows)
+    → MatchOption result ((entry : Entry) → ¬ (AskAlone options (entries_of rows) words entry))
+    (λ row. AskAlone options (entries_of rows) words (entry_of_row row))
+asked_alone_is options words rows matches None no_help read is = λ entry asks.
     let same = one_reading options words matches asks.matches read asks.read in
-    let both : None ≡ Some group = is ∙ ap (find (is_alone matches)) (sym rows_are)
-    ∙ sym (ap (λ (m : Matched). find (is_alone m) options.groups) same) ∙ asks.first in
+    let both : None ≡ Some entry = is
+    ∙ sym (ap (λ (m : Matched). find (is_alone m) (entries_of rows)) same) ∙ asks.first in
     absurd cc
-asked_alone_is options words rows matches (Some row) rows_are no_help read is = record {
+asked_alone_is options words rows matches (Some row) no_help read is = record {
   no_help = no_help;
   matches = matches;
   read = read;
-  first = ap (find (is_alone matches)) rows_are ∙ sym is;
+  first = sym is;
 }
 
 -- words ask for one option alone
-pub same_alone : (options : Declared) (words : List Text) (group other : Group) → AskAlone options words group
-    → AskAlone options words other → other ≡ group
-same_alone options words group other is also =
+pub same_alone : (options : Declared) (entries : List Entry) (words : List Text) (entry other : Entry)
+    → AskAlone options entries words entry → AskAlone options entries words other → other ≡ entry
+same_alone options entries words entry other is also =
     let same = one_reading options words is.matches also.matches is.read also.read in
-    let both : Some other ≡ Some group = sym also.first
-    ∙ ap (λ (m : Matched). find (is_alone m) options.groups) same ∙ is.first in
+    let both : Some other ≡ Some entry = sym also.first
+    ∙ ap (λ (m : Matched). find (is_alone m) entries) same ∙ is.first in
     cc
 
 -- ---- its word has a reading
@@ -118,41 +118,42 @@ found_between {X} test (first ∷ xs) x is = by_test (found_between test xs x) (
         let rest = later (sym (ap (λ (b : Bool). cond b (Some first) (find test xs)) fails) ∙ is) in
         (first ∷ rest.0, rest.1, ap (λ (ys : List X). first ∷ ys) rest.2, rest.3)
 
--- whether a group has a text as a name
-abbrev is_called : Text → Group → Bool
-is_called name group = bytes_eq group.signature.names.short name || bytes_eq group.signature.names.long name
+-- whether an entry has a text as a name
+abbrev is_called : Text → Entry → Bool
+is_called name entry = bytes_eq entry.signature.names.short name || bytes_eq entry.signature.names.long name
 
--- a group without a name has no such main name
-not_main : (name : Text) (group : Group) → is_called name group ≡ false → is_main name group.signature.names ≡ false
-not_main name group none = by_test (is_empty group.signature.names.long)
+-- an entry without a name has no such main name
+not_main : (name : Text) (entry : Entry) → is_called name entry ≡ false → is_main name entry.signature.names ≡ false
+not_main name entry none = by_test (is_empty entry.signature.names.long)
   where
-    by_test : (test : Bool) → bytes_eq (cond test group.signature.names.short group.signature.names.long) name ≡ false
-    by_test true = (or_parts (bytes_eq group.signature.names.short name) _ none).0
-    by_test false = (or_parts (bytes_eq group.signature.names.short name) _ none).1
+    by_test : (test : Bool) → bytes_eq (cond test entry.signature.names.short entry.signature.names.long) name ≡ false
+    by_test true = (or_parts (bytes_eq entry.signature.names.short name) _ none).0
+    by_test false = (or_parts (bytes_eq entry.signature.names.short name) _ none).1
 
--- a group that no group before it is called as is the first of its main name
-own_place : (name : Text) (front back : List Group) (group : Group) (at : ℕ) → list_any (is_called name) front ≡ false
-    → main_name group.signature.names ≡ name
-    → position_from (is_main name) at (names_of (front ++ group ∷ back)) ≡ Some (at + length front)
-own_place name [] back group at none is =
-    ap (λ (b : Bool). cond b (Some at) (position_from (is_main name) (at + 1) (names_of back)))
-    ((bytes_eq-Decides (main_name group.signature.names) name).1 is)
+-- an entry that none before it is called as is the first of its main name
+own_place : (name : Text) (front back : List Entry) (entry : Entry) (at : ℕ) → list_any (is_called name) front ≡ false
+    → main_name entry.signature.names ≡ name
+    → position_from (is_main name) at (names_of (read_groups (front ++ entry ∷ back))) ≡ Some (at + length front)
+own_place name [] back entry at none is =
+    ap (λ (b : Bool). cond b (Some at) (position_from (is_main name) (at + 1) (names_of (read_groups back))))
+    ((bytes_eq-Decides (main_name entry.signature.names) name).1 is)
     ∙ ap Some (sym (add-zero at))
-own_place name (first ∷ front) back group at none is =
+own_place name (first ∷ front) back entry at none is =
     let parts = or_parts (is_called name first) (list_any (is_called name) front) none in
     let next : at + 1 + length front ≡ at + length (first ∷ front) = omega arith in
-    ap (λ (b : Bool). cond b (Some at) (position_from (is_main name) (at + 1) (names_of (front ++ group ∷ back))))
+    ap (λ (b : Bool). cond b (Some at)
+    (position_from (is_main name) (at + 1) (names_of (read_groups (front ++ entry ∷ back)))))
     (not_main name first parts.0)
-    ∙ own_place name front back group (at + 1) parts.1 is
+    ∙ own_place name front back entry (at + 1) parts.1 is
     ∙ ap Some next
 
--- a name with a byte that no group has, none is called
-uncalled : (front : List Group) (name : Text) → is_empty name ≡ false → any_has_name front name ≡ false
+-- a name with a byte that no entry has, none is called
+uncalled : (front : List Entry) (name : Text) → is_empty name ≡ false → any_has_name front name ≡ false
     → list_any (is_called name) front ≡ false
 uncalled front name filled none =
     sym (ap (λ (b : Bool). not b && list_any (is_called name) front) filled) ∙ none
 
--- neither name of a group that has none again stands there
+-- neither name of an entry that has none again stands there
 no_name_again : (short long : Bool) (name other : Text) → cond short (Some name) (cond long (Some other) None) ≡ None
     → (short ≡ false) × (long ≡ false)
 no_name_again true long name other is = absurd cc
@@ -168,87 +169,85 @@ filled_text : (text : Text) → 0 < length text → is_empty text ≡ false
 filled_text [] some = absurd (omega arith)
 filled_text (byte ∷ text) some = is_empty-cons byte text
 
--- a new group's main name is called by none before it
-main_uncalled : (front : List Group) (group : Group)
-    → AreLawful group.signature.names.short group.signature.names.long → name_again front group ≡ None
-    → list_any (is_called (main_name group.signature.names)) front ≡ false
-main_uncalled front group lawful new = by_test (is_empty group.signature.names.long) refl
+-- a new entry's main name is called by none before it
+main_uncalled : (front : List Entry) (entry : Entry)
+    → AreLawful entry.signature.names.short entry.signature.names.long → name_again front entry ≡ None
+    → list_any (is_called (main_name entry.signature.names)) front ≡ false
+main_uncalled front entry lawful new = by_test (is_empty entry.signature.names.long) refl
   where
-    parts : (any_has_name front group.signature.names.short ≡ false)
-        × (any_has_name front group.signature.names.long ≡ false)
-    parts = no_name_again (any_has_name front group.signature.names.short)
-        (any_has_name front group.signature.names.long) _ _ new
+    parts : (any_has_name front entry.signature.names.short ≡ false)
+        × (any_has_name front entry.signature.names.long ≡ false)
+    parts = no_name_again (any_has_name front entry.signature.names.short)
+        (any_has_name front entry.signature.names.long) _ _ new
 
-    by_test : (test : Bool) → is_empty group.signature.names.long ≡ test
-        → list_any (is_called (cond test group.signature.names.short group.signature.names.long)) front ≡ false
-    by_test true is = uncalled front group.signature.names.short
-        (filled_text group.signature.names.short
-        (omega (arith, lawful.named, empty_length group.signature.names.long is))) parts.0
-    by_test false is = uncalled front group.signature.names.long is parts.1
+    by_test : (test : Bool) → is_empty entry.signature.names.long ≡ test
+        → list_any (is_called (cond test entry.signature.names.short entry.signature.names.long)) front ≡ false
+    by_test true is = uncalled front entry.signature.names.short
+        (filled_text entry.signature.names.short
+        (omega (arith, lawful.named, empty_length entry.signature.names.long is))) parts.0
+    by_test false is = uncalled front entry.signature.names.long is parts.1
 
--- the kind that the main name of a new group has
-own_kind : (front back : List Group) (group : Group)
-    → AreLawful group.signature.names.short group.signature.names.long → name_again front group ≡ None
-    → kind_of (front ++ group ∷ back) (main_name group.signature.names) ≡ Some group.signature.kind
-own_kind front back group lawful new =
-    let name = main_name group.signature.names in
-    let groups = front ++ group ∷ back in
+-- the group of an entry stands where the entry does
+group_at : (front back : List Entry) (entry : Entry)
+    → slice_get (read_groups (front ++ entry ∷ back)) (length front) ≡ Some (group_of_entry entry)
+group_at [] back entry = refl
+group_at (first ∷ front) back entry = group_at front back entry
+
+-- the kind that the main name of a new entry has
+own_kind : (front back : List Entry) (entry : Entry)
+    → AreLawful entry.signature.names.short entry.signature.names.long → name_again front entry ≡ None
+    → kind_of (read_groups (front ++ entry ∷ back)) (main_name entry.signature.names) ≡ Some entry.signature.kind
+own_kind front back entry lawful new =
+    let name = main_name entry.signature.names in
+    let groups = read_groups (front ++ entry ∷ back) in
     let first : 0 + length front ≡ length front = omega arith in
     let place : main_place (names_of groups) name ≡ Some (length front) =
     position_from-zero (is_main name) (names_of groups)
-    ∙ own_place name front back group 0 (main_uncalled front group lawful new) refl
+    ∙ own_place name front back entry 0 (main_uncalled front entry lawful new) refl
     ∙ ap Some first in
     ap (option_and_then (λ (place : ℕ). option_map (λ (g : Group). g.signature.kind) (slice_get groups place)))
     (resolution-main (names_of groups) name (length front) place)
-    ∙ ap (option_map (λ (g : Group). g.signature.kind)) (slice_get-append front (group ∷ back))
+    ∙ ap (option_map (λ (g : Group). g.signature.kind)) (group_at front back entry)
 
--- a kind that takes no argument
-no_kind : (kind : HasArg) → is_no kind ≡ true → kind ≡ No
-no_kind No is = refl
-no_kind Yes is = absurd (false≢true is)
-no_kind Maybe is = absurd (false≢true is)
+-- an option that stands alone takes no argument
+no_kind : (mark : Mark) (kind : HasArg) → stands_alone mark ≡ true → fits mark kind ≡ true → kind ≡ No
+no_kind Alone No is fits = refl
+no_kind Alone Yes is fits = absurd (false≢true fits)
+no_kind Alone Maybe is fits = absurd (false≢true fits)
+no_kind Plain kind is fits = absurd (false≢true is)
+no_kind Last kind is fits = absurd (false≢true is)
 
--- the names of an option that is found may stand in the table
-found_named : (table : Text) (options : Declared) (matches : Matched) (group : Group)
-    → DeclaresOptions table options.groups → find (is_alone matches) options.groups ≡ Some group
-    → MayBeNames group.signature.names.short group.signature.names.long
-found_named table options matches group declares is =
-    let found = found_between (is_alone matches) options.groups group is in
-    let may = λ (g : Group). MayBeNames g.signature.names.short g.signature.names.long in
-    (AllByRecursion-right may found.0 (group ∷ found.1)
-    (subst (AllByRecursion may) found.2 (options_named (lines_of table) options.groups declares))).0
-
--- the word of an option that is found holds no NUL byte
-pub alone_clear : (table : Text) (options : Declared) (matches : Matched) (group : Group)
-    → DeclaresOptions table options.groups → find (is_alone matches) options.groups ≡ Some group
-    → holds_nul (main_word group) ≡ false
-alone_clear table options matches group declares is =
-    let named = found_named table options matches group declares is in
-    (plain_main group.signature.names named.short_name named.long_name).1
+-- the entry that is found may stand in the table
+found_stands : (table : Text) (entries : List Entry) (matches : Matched) (entry : Entry)
+    → DeclaresOptions table entries → find (is_alone matches) entries ≡ Some entry → MayStand entry
+found_stands table entries matches entry declares is =
+    let found = found_between (is_alone matches) entries entry is in
+    (AllByRecursion-right MayStand found.0 (entry ∷ found.1)
+    (subst (AllByRecursion MayStand) found.2 (entries_stand (lines_of table) entries declares))).0
 
 -- the word of an option that is found has a reading
-pub alone_reads : (table : Text) (options : Declared) (matches : Matched) (group : Group)
-    → DeclaresOptions table options.groups → find (is_alone matches) options.groups ≡ Some group
-    → HaveReading options (main_word group ∷ [])
-alone_reads table options matches group declares is =
-    let name = main_name group.signature.names in
-    let found = found_between (is_alone matches) options.groups group is in
-    let named = found_named table options matches group declares is in
-    let new = new_at [] found.0 group found.1
-    (subst (λ (groups : List Group). HaveNewNames [] groups) found.2 declares.once) in
-    let alone = and_parts (stands_alone group) (is_present matches.groups name) found.3 in
-    let kind = no_kind group.signature.kind (and_parts (is_no group.signature.kind) _ alone.0).0 in (
+pub alone_reads : (table : Text) (options : Declared) (entries : List Entry) (matches : Matched) (entry : Entry)
+    → DeclaresOptions table entries → options.groups ≡ read_groups entries
+    → find (is_alone matches) entries ≡ Some entry → HaveReading options (main_word entry ∷ [])
+alone_reads table options entries matches entry declares groups_are is =
+    let name = main_name entry.signature.names in
+    let found = found_between (is_alone matches) entries entry is in
+    let stands = found_stands table entries matches entry declares is in
+    let new = new_at [] found.0 entry found.1
+    (subst (λ (entries : List Entry). HaveNewNames [] entries) found.2 declares.once) in
+    let alone = and_parts (stands_alone entry.mark) (is_present matches.groups name) found.3 in
+    let kind = no_kind entry.mark entry.signature.kind alone.0 stands.fits_kind in (
       record { items = reading.long reading.two name reading.none ∷ []; tail = reading.line_end },
       record {
         spells = ap (λ (t : Text). (45 ∷ 45 ∷ t) ∷ []) (append-nil name);
         items = (
           record {
             before = tt;
-            cut_once = (plain_main group.signature.names named.short_name named.long_name).0;
+            cut_once = plain_main entry.signature.names stands.named.short_name stands.named.long_name;
             resolves = (
               No,
-              ap (λ (groups : List Group). kind_of groups name) found.2
-                  ∙ own_kind found.0 found.1 group named.lawful new ∙ ap Some kind,
+              ap (λ (groups : List Group). kind_of groups name) (groups_are ∙ ap read_groups found.2)
+                  ∙ own_kind found.0 found.1 entry stands.named.lawful new ∙ ap Some kind,
               tt,
             );
           },

@@ -4,7 +4,7 @@ use Rattle.std.proofs.Common.{refl, sym, ap, ◌∙◌, suc, zero, length, take,
 use Rattle.std.proofs.Common.{add-one, add-zero, arith, min, get_or, ◌+◌, ◌-◌, ◌^◌, ◌<◌, ◌≤◌}
 use Rattle.std.specs.Prelude.{nat_lt, slice_get, ◌&&◌, ◌||◌}
 use Rattle.std.specs.Borrow.{Bor}
-use Rattle.std.specs.List.{flat_map, list_all, list_any, onto_first, slice_split}
+use Rattle.std.specs.List.{flat_map, last_or, list_all, list_any}
 use Rattle.std.specs.Option.{option_copied, option_or, unwrap_or}
 use Rattle.std.specs.Str.{bytes_eq}
 use Rattle.std.proofs.lemmas.Bool.{eq-eqb}
@@ -13,17 +13,16 @@ use Rattle.std.proofs.lemmas.List.{at_drop_more, get_or-append-add, get_or_past,
 use Rattle.std.proofs.lemmas.List.{length-take-le, take-append-drop, take_more}
 use Rattle.std.proofs.lemmas.List.Concat.{flat_map-append}
 use Rattle.std.proofs.lemmas.List.Folds.{list_all-append, list_all-map}
-use Rattle.std.proofs.lemmas.List.Splits.{length-slice_split}
 use Rattle.getopts.specs.Accessors.{each_value, found_in}
 use Rattle.getopts.specs.Matches.{Found, MatchedGroup}
 use Rattle.getopts.specs.Names.{Text, Names, main_name}
-use Rattle.getopts.specs.Options.{Group, Signature, names_of, signatures_of}
+use Rattle.getopts.specs.Options.{Group, names_of}
 use Rattle.getopts.specs.Wrap.{lines_of, parting}
-use Rattle.getopts_shell.specs.Held.{group_of_row, groups_of, held_signatures}
-use Rattle.getopts_shell.specs.Quote.{quoted, quoted_words, spaced}
+use Rattle.getopts_shell.specs.Held.{entries_of, group_of_row, groups_of}
+use Rattle.getopts_shell.specs.Quote.{quoted, quoted_words, replaced, spaced}
 use Rattle.getopts_shell.specs.Table.{is_passed, line_number}
-use Rattle.getopts_shell.specs.Variables.{any_has_variable, first_fault, HaveOwnVariables, is_variable}
-use Rattle.getopts_shell.specs.Variables.{is_variable_byte, name_fault, option_lines}
+use Rattle.getopts_shell.specs.Variables.{any_has_variable, first_fault, Given, given_from, HaveOwnVariables, holds_all}
+use Rattle.getopts_shell.specs.Variables.{is_variable, is_variable_byte, name_fault, option_lines}
 use Rattle.getopts_shell.specs.Variables.{texts_found, variable, variable_byte, VariableFault, variable_of}
 use Rattle.getopts_shell.specs.declared.row.Row.{Row}
 
@@ -32,68 +31,15 @@ some_lt n = grind (arith, nat_tests)
 
 -- ---- a name with `_` for each `-`
 
--- parts, each but the first after `_`
-abbrev after_underscore : Text → Text
-after_underscore part = 95 ∷ part
-
-abbrev pub name_of_parts : List Text → Text
-name_of_parts [] = []
-name_of_parts (part ∷ parts) = part ++ flat_map after_underscore parts
-
-onto_name : (byte : ℕ) (parts : List Text)
-    → name_of_parts (onto_first byte parts) ≡ byte ∷ name_of_parts parts
-onto_name byte [] = refl
-onto_name byte (part ∷ parts) = refl
-
-after_dash : (parts : List Text) → 0 < length parts → name_of_parts ([] ∷ parts) ≡ 95 ∷ name_of_parts parts
-after_dash [] some = absurd (omega arith)
-after_dash (part ∷ parts) some = refl
-
-parts_of_name : (name : Text) → name_of_parts (slice_split (λ b. eqb b 45) name) ≡ map variable_byte name
-parts_of_name [] = refl
-parts_of_name (byte ∷ name) = by_test (parts_of_name name) (eqb byte 45) refl
+-- each byte of a name as it stands in a variable
+pub name_written : (name : Text) → flat_map (replaced 45 (95 ∷ [])) name ≡ map variable_byte name
+name_written [] = refl
+name_written (byte ∷ name) = by_test (name_written name) (eqb byte 45) refl
   where
-    by_test : name_of_parts (slice_split (λ b. eqb b 45) name) ≡ map variable_byte name
-        → (test : Bool) → eqb byte 45 ≡ test
-        → name_of_parts (slice_split (λ b. eqb b 45) (byte ∷ name)) ≡ map variable_byte (byte ∷ name)
-    by_test rest true is =
-        simp is (after_dash (slice_split (λ b. eqb b 45) name)
-        (omega (arith, length-slice_split (λ b. eqb b 45) name))
-        ∙ ap (λ (text : Text). 95 ∷ text) rest)
-    by_test rest false is =
-        simp is (onto_name byte (slice_split (λ b. eqb b 45) name) ∙ ap (λ (text : Text). byte ∷ text) rest)
-
--- The text has grown by the parts so far, and the flag tells whether there is any.
-pub record NameSoFar (parts : List Text) (begun : Bool) (old text : Text) : Type 0 where
-  pub begun_is : begun ≡ nat_lt 0 (length parts)
-  pub text_is : text ≡ old ++ name_of_parts parts
-
-pub one_more_name_part : (parts : List Text) (begun : Bool) (part old text : Text) → NameSoFar parts begun old text
-    → NameSoFar (parts ++ part ∷ []) true old (text ++ (parting begun (95 ∷ []) ++ part))
-one_more_name_part [] begun part old text so_far = record {
-  begun_is = refl;
-  text_is = ap (λ (begun : Bool). text ++ (parting begun (95 ∷ []) ++ part)) so_far.begun_is
-      ∙ ap (λ (text : Text). text ++ part) (so_far.text_is ∙ append-nil old)
-      ∙ ap (λ (part : Text). old ++ part) (sym (append-nil part));
-}
-one_more_name_part (first ∷ parts) begun part old text so_far = record {
-  begun_is = some_lt (length (parts ++ part ∷ []));
-  text_is = ap (λ (begun : Bool). text ++ (parting begun (95 ∷ []) ++ part))
-      (so_far.begun_is ∙ sym (some_lt (length parts)))
-      ∙ ap (λ (text : Text). text ++ (95 ∷ part)) so_far.text_is
-      ∙ append_assoc old (first ++ flat_map after_underscore parts) (95 ∷ part)
-      ∙ ap (λ (text : Text). old ++ text)
-      (append_assoc first (flat_map after_underscore parts) (95 ∷ part)
-      ∙ ap (λ (text : Text). first ++ text)
-      (ap (λ (last : Text). flat_map after_underscore parts ++ last) (sym (append-nil (95 ∷ part)))
-      ∙ sym (flat_map-append after_underscore parts (part ∷ []))));
-}
-
-pub all_name_parts : (name : Text) (parts : List Text) (begun : Bool) (old text : Text)
-    → NameSoFar parts begun old text → parts ≡ slice_split (λ b. eqb b 45) name
-    → text ≡ old ++ map variable_byte name
-all_name_parts name parts begun old text so_far all =
-    so_far.text_is ∙ ap (λ (text : Text). old ++ text) (ap name_of_parts all ∙ parts_of_name name)
+    by_test : flat_map (replaced 45 (95 ∷ [])) name ≡ map variable_byte name → (test : Bool) → eqb byte 45 ≡ test
+        → flat_map (replaced 45 (95 ∷ [])) (byte ∷ name) ≡ map variable_byte (byte ∷ name)
+    by_test rest true is = simp is (ap (λ (text : Text). 95 ∷ text) rest)
+    by_test rest false is = simp is (ap (λ (text : Text). byte ∷ text) rest)
 
 -- ---- values
 
@@ -141,42 +87,49 @@ quoted_words_more texts nth below = ap quoted_words (take_more texts nth [] belo
         ∙ ap (λ (begun : Bool). (quoted first ++ flat_map spaced (take nth texts))
         ++ (parting begun (32 ∷ []) ++ quoted word)) (some_lt nth)
 
--- ---- groups
+-- ---- options
 
--- the group at the place of a row
-pub group_at : (groups : List MatchedGroup) (rows : List Row) (place : ℕ) (row : Row)
-    → held_signatures groups ≡ signatures_of (groups_of rows) → slice_get rows place ≡ Some row
-    → slice_get groups place
-    ≡ Some (record { signature = (group_of_row row).signature; found = found_in groups place })
-group_at [] [] place row same is = cc
-group_at [] (other ∷ rows) place row same is = cc
-group_at (group ∷ groups) [] place row same is = cc
-group_at (group ∷ groups) (other ∷ rows) zero row same is =
-    let row_is : other ≡ row = cc in
-    let signature_is : group.signature ≡ (group_of_row other).signature = cc in
-    let makes = λ (signature : Signature).
-    let made : MatchedGroup = record { signature = signature; found = group.found } in made in
-    ap Some (ap makes (signature_is ∙ ap (λ (row : Row). (group_of_row row).signature) row_is))
-group_at (group ∷ groups) (other ∷ rows) (suc place) row same is =
-    let rest : held_signatures groups ≡ signatures_of (groups_of rows) = cc in
-    group_at groups rows place row rest is
+-- the last text
+pub last_text : (texts : List Text) (before : Option Text) → 0 < length texts
+    → last_or before texts ≡ Some (get_or texts (length texts - 1) [])
+last_text [] before some = absurd (omega arith)
+last_text (text ∷ []) before some = refl
+last_text (text ∷ other ∷ texts) before some =
+    let next : suc (length (other ∷ texts) - 1) ≡ length (text ∷ other ∷ texts) - 1 = omega arith in
+    last_text (other ∷ texts) (Some text) (omega arith)
+    ∙ ap (λ (n : ℕ). Some (get_or (text ∷ other ∷ texts) n [])) next
 
--- one more line
-pub lines_more : (line : MatchedGroup → Text) (groups : List MatchedGroup) (place : ℕ) (group : MatchedGroup)
-    → slice_get groups place ≡ Some group
-    → flat_map line (take (place + 1) groups) ≡ flat_map line (take place groups) ++ line group
-lines_more line groups place group is =
-    ap (λ (n : ℕ). flat_map line (take n groups)) (add-one place) ∙ by_place groups place is
+-- the option of a row as it was given
+abbrev pub given_row : Row → List Found → Given
+given_row row found = record {
+  names = (group_of_row row).signature.names;
+  kind = row.kind;
+  all = holds_all row.mark row.occurrence;
+  found = found;
+}
+
+-- one more option
+pub given_more : (from place : ℕ) (rows : List Row) (held : List MatchedGroup) (row : Row) → place < length rows
+    → row ≡ get_or rows place row
+    → given_from from (entries_of (take (place + 1) rows)) held
+    ≡ given_from from (entries_of (take place rows)) held ++ given_row row (found_in held (from + place)) ∷ []
+given_more from place rows held row below is =
+    ap (λ (n : ℕ). given_from from (entries_of (take n rows)) held) (add-one place) ∙ by_place from place rows below is
   where
-    by_place : (groups : List MatchedGroup) (place : ℕ) → slice_get groups place ≡ Some group
-        → flat_map line (take (suc place) groups) ≡ flat_map line (take place groups) ++ line group
-    by_place [] place is = cc
-    by_place (first ∷ groups) zero is =
-        let same : first ≡ group = cc in
-        append-nil (line first) ∙ ap line same
-    by_place (first ∷ groups) (suc place) is =
-        ap (λ (text : Text). line first ++ text) (by_place groups place is)
-        ∙ sym (append_assoc (line first) (flat_map line (take place groups)) (line group))
+    by_place : (from place : ℕ) (rows : List Row) → place < length rows → row ≡ get_or rows place row
+        → given_from from (entries_of (take (suc place) rows)) held
+        ≡ given_from from (entries_of (take place rows)) held ++ given_row row (found_in held (from + place)) ∷ []
+    by_place from place [] below is = absurd (omega arith)
+    by_place from zero (other ∷ rows) below is =
+        let same : row ≡ other = is in
+        ap (λ (r : Row). given_row r (found_in held from) ∷ []) (sym same)
+        ∙ ap (λ (n : ℕ). given_row row (found_in held n) ∷ []) (sym (add-zero from))
+    by_place from (suc place) (other ∷ rows) below is =
+        let next : from + 1 + place ≡ from + suc place = omega arith in
+        ap (λ (options : List Given). given_row other (found_in held from) ∷ options)
+        (by_place (from + 1) place rows (omega arith) is)
+        ∙ ap (λ (n : ℕ). given_row other (found_in held from)
+        ∷ given_from (from + 1) (entries_of (take place rows)) held ++ given_row row (found_in held n) ∷ []) next
 
 -- ---- lines
 

@@ -1,122 +1,169 @@
 -- Items: what they are made of, in one way each.
 use Rattle.std.proofs.Common.{◌≡◌, ◌≢◌, ℕ, ◌<◌, Bool, true, false, [], ◌∷◌, ◌++◌, length, get_or}
-use Rattle.std.proofs.Common.{Bor, MatchOption, cond, eqb, drop, take, Option, Some, None, inl, inr, refl, sym, ap, subst}
-use Rattle.std.proofs.Common.{◌∙◌, arith, append_assoc}
-use Rattle.std.specs.Prelude.{slice_index, ◌&&◌, not}
-use Rattle.std.specs.List.{AllByRecursion, ends_with, last_or, list_all}
-use Rattle.std.specs.Option.{option_map_or}
+use Rattle.std.proofs.Common.{Bor, MatchOption, cond, eqb, drop, take, Option, Some, None, refl, sym, ap, subst}
+use Rattle.std.proofs.Common.{◌∙◌, ◌+◌, ◌≤◌, arith, lit<, take-append-drop}
+use Rattle.std.specs.Prelude.{slice_index, ◌&&◌, ◌||◌, not}
+use Rattle.std.specs.List.{AllByRecursion, ends_with, list_all}
+use Rattle.std.specs.Option.{option_map_or, unwrap_or}
+use Rattle.std.specs.Str.{bytes_eq}
 use Rattle.std.proofs.lemmas.Bool.Decides.{nat_tests}
+use Rattle.std.proofs.lemmas.Slice.Eq.{bytes_eq-Decides}
 use Rattle.std.proofs.lemmas.List.{append_cancel_right}
 use Rattle.getopts.specs.Names.{Text, Names, is_empty}
 use Rattle.getopts.specs.Options.{Signature}
 use Rattle.getopts.specs.declared.groups.HasArg.{HasArg}
 use Rattle.getopts.specs.declared.groups.HasArg.TheVariants.{Yes, No, Maybe}
 use Rattle.getopts.specs.declared.groups.Occur.{Occur}
-use Rattle.getopts.specs.declared.groups.Occur.TheVariants.{Req, Optional, Multi}
+use Rattle.getopts.specs.declared.groups.Occur.TheVariants.{Optional, Multi}
 use Rattle.getopts_shell.specs.Table.{is_name, is_hint, names_text, MayBeNames, AreNames, IsArgument}
-use Rattle.getopts_shell.specs.Table.{HasParts, IsBracketed, IsItem, is_hint_byte}
-use Rattle.getopts_shell.specs.Table.{IsMarked, IsOption, unmarked, marked}
-use Rattle.getopts_shell.specs.Held.{group_of_row}
-use Rattle.getopts_shell.specs.declared.row.Row.{Row}
-
--- ---- the end of a text
-
-last_pushed : (before : Option ℕ) (text : Text) (byte : ℕ) → last_or before (text ++ byte ∷ []) ≡ Some byte
-last_pushed before [] byte = refl
-last_pushed before (first ∷ text) byte = last_pushed (Some first) text byte
-
--- texts that are the same have the same byte before the same end
-same_before_end : (text other : Text) (byte another : ℕ) (end : Text)
-    → text ++ (byte ∷ end) ≡ other ++ (another ∷ end) → byte ≡ another
-same_before_end text other byte another end same =
-    let cut = append_cancel_right (text ++ byte ∷ []) (other ++ another ∷ []) end
-    (append_assoc text (byte ∷ []) end ∙ same ∙ sym (append_assoc other (another ∷ []) end)) in
-    let last : Some byte ≡ Some another =
-    sym (last_pushed None text byte) ∙ ap (last_or None) cut ∙ last_pushed None other another in
-    cc
+use Rattle.getopts_shell.specs.Table.{HasParts, IsBracketed, bare, bracketed, IsItem, end_means, fits, is_hint_byte}
+use Rattle.getopts_shell.specs.declared.row.Mark.{Mark}
+use Rattle.getopts_shell.specs.declared.row.Mark.TheVariants.{Plain, Alone, Last}
+use Rattle.std.specs.Str.Pattern.{RFindsChar}
+use Rattle.std.proofs.lemmas.List.Elements.{All-from_get_or, recursion_from_All}
+use Rattle.std.proofs.lemmas.Str.Pattern.{NoCharPasses-char, drop_at_char}
 
 -- ---- brackets
+
+-- a text with a byte isn't empty
+pub is_empty-cons : (byte : ℕ) (text : Text) → is_empty (byte ∷ text) ≡ false
+is_empty-cons byte text = grind (arith, nat_tests)
 
 -- a text that doesn't begin with `[`
 pub no_bracket : (text : Text) → ((rest : Text) → text ≢ 91 ∷ rest) → slice_index text 0 ≢ 91
 no_bracket [] none = λ is. absurd (omega arith)
 no_bracket (byte ∷ rest) none = λ is. none rest (ap (λ (b : ℕ). b ∷ rest) is)
 
--- a text that begins with `[` and has none of the ends has no brackets
-pub none_bracketed : (text inside : Text) → text ≡ 91 ∷ inside
-    → ((front : Text) → inside ≢ front ++ (93 ∷ []))
-    → ((front : Text) → inside ≢ front ++ (93 ∷ 46 ∷ 46 ∷ []))
-    → ((front : Text) → inside ≢ front ++ (93 ∷ 46 ∷ 46 ∷ 46 ∷ []))
-    → (occurrence : Occur) (other : Text) → ¬ (IsBracketed occurrence other text)
-none_bracketed text inside opens one two three Req other is =
-    is.1 (ap (λ (t : Text). slice_index t 0) opens)
-none_bracketed text inside opens one two three Optional other is =
-    let same : 91 ∷ inside ≡ 91 ∷ (other ++ (93 ∷ [])) = sym opens ∙ is in one other cc
-none_bracketed text inside opens one two three Multi other (inl is) =
-    let same : 91 ∷ inside ≡ 91 ∷ (other ++ (93 ∷ 46 ∷ 46 ∷ [])) = sym opens ∙ is in two other cc
-none_bracketed text inside opens one two three Multi other (inr is) =
-    let same : 91 ∷ inside ≡ 91 ∷ (other ++ (93 ∷ 46 ∷ 46 ∷ 46 ∷ [])) = sym opens ∙ is in three other cc
+-- something isn't nothing
+never : {X : Type 0} (x : X) → None ≡ Some x → ⊥
+never x is = cc
 
--- a bracket is no dot
-no_such : (bracket dot : ℕ) → bracket ≡ 93 → dot ≡ 46 → bracket ≡ dot → ⊥
-no_such bracket dot is also same = absurd (omega arith)
+abbrev meaning : Occur → Mark → Option (Occur × Mark)
+meaning occurrence mark = Some (occurrence, mark)
 
--- an end that isn't the other's
-ends_apart : (inside other : Text) (end : Text) (text : Text)
-    → text ≡ 91 ∷ (inside ++ (93 ∷ end)) → text ≡ 91 ∷ (other ++ (46 ∷ end)) → ⊥
-ends_apart inside other end text is also =
-    let same : 91 ∷ (inside ++ (93 ∷ end)) ≡ 91 ∷ (other ++ (46 ∷ end)) = sym is ∙ also in
-    no_such 93 46 refl refl (same_before_end inside other 93 46 end cc)
+-- the parts of meanings that are the same
+same_parts : (occurrence another : Occur) (mark behind : Mark) → meaning another behind ≡ meaning occurrence mark
+    → (another ≡ occurrence) × (behind ≡ mark)
+same_parts occurrence another mark behind is =
+    let pair : Occur × Mark = (occurrence, mark) in (
+      ap (λ (o : Option (Occur × Mark)). (unwrap_or o pair).0) is,
+      ap (λ (o : Option (Occur × Mark)). (unwrap_or o pair).1) is,
+    )
 
--- the same end
-ends_same : (inside other end text : Text)
-    → text ≡ 91 ∷ (inside ++ end) → text ≡ 91 ∷ (other ++ end) → other ≡ inside
-ends_same inside other end text is also =
-    let same : 91 ∷ (other ++ end) ≡ 91 ∷ (inside ++ end) = sym also ∙ is in
-    append_cancel_right other inside end cc
+-- an end holds no `]`
+closed : (end : Text) (occurrence : Occur) (mark : Mark) → end_means end ≡ Some (occurrence, mark)
+    → AllByRecursion (λ (byte : ℕ). byte ≢ 93) end
+closed [] occurrence mark means = tt
+closed (a ∷ []) occurrence mark means = (
+  λ is. never (occurrence, mark) (sym (ap (λ (b : ℕ). end_means (b ∷ [])) is) ∙ means),
+  tt,
+)
+closed (a ∷ b ∷ more) occurrence mark means =
+    by_test (is_empty (a ∷ b ∷ more)) (is_empty-cons a (b ∷ more)) (bytes_eq (a ∷ b ∷ more) (33 ∷ [])) refl
+    (bytes_eq (a ∷ b ∷ more) (46 ∷ 46 ∷ [])) refl (bytes_eq (a ∷ b ∷ more) (46 ∷ 46 ∷ 46 ∷ [])) refl
+    (bytes_eq (a ∷ b ∷ more) (42 ∷ [])) refl means
+  where
+    holds_none : (end : Text) → bytes_eq (a ∷ b ∷ more) end ≡ true → AllByRecursion (λ (byte : ℕ). byte ≢ 93) end
+        → AllByRecursion (λ (byte : ℕ). byte ≢ 93) (a ∷ b ∷ more)
+    holds_none end is none = subst (AllByRecursion (λ (byte : ℕ). byte ≢ 93))
+        (sym ((bytes_eq-Decides (a ∷ b ∷ more) end).0 is)) none
 
--- more of an end
-one_two : (inside other text : Text) → text ≡ 91 ∷ (inside ++ (93 ∷ []))
-    → text ≡ 91 ∷ (other ++ (93 ∷ 46 ∷ 46 ∷ [])) → ⊥
-one_two inside other text is also = ends_apart inside (other ++ (93 ∷ 46 ∷ [])) [] text is
-    (also ∙ ap (λ (t : Text). 91 ∷ t) (sym (append_assoc other (93 ∷ 46 ∷ []) (46 ∷ []))))
+    by_test : (nothing : Bool) → nothing ≡ false → (one : Bool) → bytes_eq (a ∷ b ∷ more) (33 ∷ []) ≡ one
+        → (two : Bool) → bytes_eq (a ∷ b ∷ more) (46 ∷ 46 ∷ []) ≡ two
+        → (three : Bool) → bytes_eq (a ∷ b ∷ more) (46 ∷ 46 ∷ 46 ∷ []) ≡ three
+        → (star : Bool) → bytes_eq (a ∷ b ∷ more) (42 ∷ []) ≡ star
+        → cond nothing (meaning Optional Plain) (cond one (meaning Optional Alone) (cond (two || three)
+        (meaning Multi Plain) (cond star (meaning Multi Last) None))) ≡ meaning occurrence mark
+        → AllByRecursion (λ (byte : ℕ). byte ≢ 93) (a ∷ b ∷ more)
+    by_test nothing filled true is two _ three _ star _ means =
+        holds_none (33 ∷ []) is (λ same. absurd (omega arith), tt)
+    by_test nothing filled false _ true is three _ star _ means =
+        holds_none (46 ∷ 46 ∷ []) is (λ same. absurd (omega arith), (λ same. absurd (omega arith), tt))
+    by_test nothing filled false _ false _ true is star _ means =
+        holds_none (46 ∷ 46 ∷ 46 ∷ []) is
+        (λ same. absurd (omega arith), (λ same. absurd (omega arith), (λ same. absurd (omega arith), tt)))
+    by_test nothing filled false _ false _ false _ true is means =
+        holds_none (42 ∷ []) is (λ same. absurd (omega arith), tt)
+    by_test nothing filled false _ false _ false _ false _ means = absurd (never (occurrence, mark)
+        (sym (ap (λ (b : Bool). cond b (meaning Optional Plain) None) filled) ∙ means))
 
-one_three : (inside other text : Text) → text ≡ 91 ∷ (inside ++ (93 ∷ []))
-    → text ≡ 91 ∷ (other ++ (93 ∷ 46 ∷ 46 ∷ 46 ∷ [])) → ⊥
-one_three inside other text is also = ends_apart inside (other ++ (93 ∷ 46 ∷ 46 ∷ [])) [] text is
-    (also ∙ ap (λ (t : Text). 91 ∷ t) (sym (append_assoc other (93 ∷ 46 ∷ 46 ∷ []) (46 ∷ []))))
+-- where a text is cut at its last `]`
+pub last_close : (text : Text) (result : Option (Bor Text × Bor Text))
+    → MatchOption result (RFindsChar 93 text None) (λ x. (i : ℕ) × (j : ℕ) × RFindsChar 93 text (Some (i, j))
+    × (x.0.now ≡ take i text) × (x.1.now ≡ drop j text) × (i ≤ j) × (length x.0.now ≡ i)
+    × (length x.1.now + j ≡ length text))
+    → MatchOption result (AllByRecursion (λ (byte : ℕ). byte ≢ 93) text)
+    (λ x. (text ≡ x.0.now ++ 93 ∷ x.1.now) × AllByRecursion (λ (byte : ℕ). byte ≢ 93) x.1.now)
+last_close text None none =
+    recursion_from_All (λ (b : ℕ). b ≢ 93) text
+    (All-from_get_or (λ (b : ℕ). b ≢ 93) text 0 (λ i. NoCharPasses-char 93 text i none (lit< tt)))
+last_close text (Some x) h = (
+  sym (take-append-drop h.0 text)
+      ∙ ap (λ (t : Text). take h.0 text ++ t) (drop_at_char 93 text h.0 h.1 h.2.1 (lit< tt))
+      ∙ ap (λ (t : Text). t ++ 93 ∷ drop h.1 text) (sym h.3)
+      ∙ ap (λ (t : Text). x.0.now ++ 93 ∷ t) (sym h.4),
+  subst (AllByRecursion (λ (byte : ℕ). byte ≢ 93)) (sym h.4)
+      (recursion_from_All (λ (b : ℕ). b ≢ 93) (drop h.1 text)
+      (All-from_get_or (λ (b : ℕ). b ≢ 93) (drop h.1 text) 0
+      (λ i. NoCharPasses-char 93 (drop h.1 text) i h.2.0 (lit< tt)))),
+)
 
-two_three : (inside other text : Text) → text ≡ 91 ∷ (inside ++ (93 ∷ 46 ∷ 46 ∷ []))
-    → text ≡ 91 ∷ (other ++ (93 ∷ 46 ∷ 46 ∷ 46 ∷ [])) → ⊥
-two_three inside other text is also = ends_apart inside (other ++ (93 ∷ [])) (46 ∷ 46 ∷ []) text is
-    (also ∙ ap (λ (t : Text). 91 ∷ t) (sym (append_assoc other (93 ∷ []) (46 ∷ 46 ∷ 46 ∷ []))))
+-- a text without `]` is none with one
+no_close : (text front back : Text) → AllByRecursion (λ (byte : ℕ). byte ≢ 93) text → text ≡ front ++ 93 ∷ back → ⊥
+no_close [] [] back none is = cc
+no_close [] (byte ∷ front) back none is = cc
+no_close (byte ∷ text) [] back none is = none.0 cc
+no_close (byte ∷ text) (other ∷ front) back none is = no_close text front back none.1 cc
 
--- a bracket at the front
-opened : (text more : Text) → slice_index text 0 ≢ 91 → text ≡ 91 ∷ more → ⊥
-opened text more none is = none (ap (λ (t : Text). slice_index t 0) is)
+-- a text is cut at its last `]` in one way
+one_cut : (front other back after : Text) → AllByRecursion (λ (byte : ℕ). byte ≢ 93) back
+    → AllByRecursion (λ (byte : ℕ). byte ≢ 93) after → front ++ 93 ∷ back ≡ other ++ 93 ∷ after
+    → (other ≡ front) × (after ≡ back)
+one_cut [] [] back after none also same = (refl, cc)
+one_cut [] (byte ∷ other) back after none also same =
+    let rest : back ≡ other ++ 93 ∷ after = cc in absurd (no_close back other after none rest)
+one_cut (byte ∷ front) [] back after none also same =
+    let rest : after ≡ front ++ 93 ∷ back = cc in absurd (no_close after front back also rest)
+one_cut (byte ∷ front) (first ∷ other) back after none also same =
+    let byte_is : first ≡ byte = cc in
+    let rest = one_cut front other back after none also cc in (cc, rest.1)
 
--- a text is in the brackets of one occurrence, with one inside
-pub one_bracketed : (occurrence another : Occur) (inside other text : Text)
-    → IsBracketed occurrence inside text → IsBracketed another other text
-    → (another ≡ occurrence) × (other ≡ inside)
-one_bracketed Req Req inside other text is also = (refl, sym also.0 ∙ is.0)
-one_bracketed Req Optional inside other text is also = absurd (opened text _ is.1 also)
-one_bracketed Req Multi inside other text is (inl also) = absurd (opened text _ is.1 also)
-one_bracketed Req Multi inside other text is (inr also) = absurd (opened text _ is.1 also)
-one_bracketed Optional Req inside other text is also = absurd (opened text _ also.1 is)
-one_bracketed Optional Optional inside other text is also = (refl, ends_same inside other (93 ∷ []) text is also)
-one_bracketed Optional Multi inside other text is (inl also) = absurd (one_two inside other text is also)
-one_bracketed Optional Multi inside other text is (inr also) = absurd (one_three inside other text is also)
-one_bracketed Multi Req inside other text (inl is) also = absurd (opened text _ also.1 is)
-one_bracketed Multi Req inside other text (inr is) also = absurd (opened text _ also.1 is)
-one_bracketed Multi Optional inside other text (inl is) also = absurd (one_two other inside text also is)
-one_bracketed Multi Optional inside other text (inr is) also = absurd (one_three other inside text also is)
-one_bracketed Multi Multi inside other text (inl is) (inl also) =
-    (refl, ends_same inside other (93 ∷ 46 ∷ 46 ∷ []) text is also)
-one_bracketed Multi Multi inside other text (inl is) (inr also) = absurd (two_three inside other text is also)
-one_bracketed Multi Multi inside other text (inr is) (inl also) = absurd (two_three other inside text also is)
-one_bracketed Multi Multi inside other text (inr is) (inr also) =
-    (refl, ends_same inside other (93 ∷ 46 ∷ 46 ∷ 46 ∷ []) text is also)
+-- a text that begins with `[` and has no `]` after it has no brackets
+pub none_closed : (text opened : Text) → text ≡ 91 ∷ opened → AllByRecursion (λ (byte : ℕ). byte ≢ 93) opened
+    → (inside : Text) (occurrence : Occur) (mark : Mark) → ¬ (IsBracketed text inside occurrence mark)
+none_closed text opened opens none inside occurrence mark (bare is plain) = plain (ap (λ (t : Text). slice_index t 0) opens)
+none_closed text opened opens none inside occurrence mark (bracketed end _ _ is means) =
+    let same : 91 ∷ opened ≡ 91 ∷ (inside ++ 93 ∷ end) = sym opens ∙ is in no_close opened inside end none cc
+
+-- nor has one whose end means nothing
+pub none_meant : (text opened before end : Text) → text ≡ 91 ∷ opened → opened ≡ before ++ 93 ∷ end
+    → AllByRecursion (λ (byte : ℕ). byte ≢ 93) end → end_means end ≡ None
+    → (inside : Text) (occurrence : Occur) (mark : Mark) → ¬ (IsBracketed text inside occurrence mark)
+none_meant text opened before end opens parts none means inside occurrence mark (bare is plain) =
+    plain (ap (λ (t : Text). slice_index t 0) opens)
+none_meant text opened before end opens parts none means inside occurrence mark (bracketed other _ _ is also) =
+    let whole : 91 ∷ (before ++ 93 ∷ end) ≡ 91 ∷ (inside ++ 93 ∷ other) =
+    ap (λ (t : Text). 91 ∷ t) (sym parts) ∙ sym opens ∙ is in
+    let same = one_cut before inside end other none (closed other occurrence mark also) cc in
+    never (occurrence, mark) (sym means ∙ ap end_means (sym same.1) ∙ also)
+
+-- a text is in the brackets of one occurrence, with one mark and one inside
+pub one_bracketed : (text inside other : Text) (occurrence another : Occur) (mark behind : Mark)
+    → IsBracketed text inside occurrence mark → IsBracketed text other another behind
+    → (other ≡ inside) × (another ≡ occurrence) × (behind ≡ mark)
+one_bracketed text inside other occurrence another mark behind (bare is plain) (bare also simple) =
+    (sym also ∙ is, refl, refl)
+one_bracketed text inside other occurrence another mark behind (bare is plain) (bracketed end _ _ also means) =
+    absurd (plain (ap (λ (t : Text). slice_index t 0) also))
+one_bracketed text inside other occurrence another mark behind (bracketed end _ _ is means) (bare also plain) =
+    absurd (plain (ap (λ (t : Text). slice_index t 0) is))
+one_bracketed text inside other occurrence another mark behind (bracketed end _ _ is means)
+    (bracketed after _ _ also other_means) =
+    let whole : 91 ∷ (inside ++ 93 ∷ end) ≡ 91 ∷ (other ++ 93 ∷ after) = sym is ∙ also in
+    let same = one_cut inside other end after (closed end occurrence mark means)
+    (closed after another behind other_means) cc in
+    let parts = same_parts occurrence another mark behind (sym other_means ∙ ap end_means same.1 ∙ means) in
+    (same.0, parts.0, parts.1)
 
 -- ---- parts
 
@@ -151,10 +198,6 @@ one_pair text names others argument other parts also =
     cut_once names others argument other parts.0 also.0 (sym parts.1 ∙ also.1)
 
 -- ---- names
-
--- a text with a byte isn't empty
-pub is_empty-cons : (byte : ℕ) (text : Text) → is_empty (byte ∷ text) ≡ false
-is_empty-cons byte text = grind (arith, nat_tests)
 
 -- a name doesn't begin with a dash
 no_dash : (byte : ℕ) → is_name (byte ∷ []) ≡ true → byte ≢ 45
@@ -326,25 +369,41 @@ one_argument Maybe Yes hint other (Some text) is also =
 
 -- ---- items
 
-pub no_names_none : (text inside names : Text) (occurrence : Occur) (argument : Option Text)
-    → IsBracketed occurrence inside text → HasParts inside names argument
+pub no_names_none : (text inside names : Text) (occurrence : Occur) (mark : Mark) (argument : Option Text)
+    → IsBracketed text inside occurrence mark → HasParts inside names argument
     → ((are : Names) → ¬ (AreNames are names))
-    → (known : Signature) (hint : Text) → ¬ (IsItem text known hint)
-no_names_none text inside names occurrence argument brackets parts none known hint is =
-    let same = one_bracketed occurrence known.occurrence inside is.inside text brackets is.brackets in
+    → (known : Signature) (hint : Text) (behind : Mark) → ¬ (IsItem text known hint behind)
+no_names_none text inside names occurrence mark argument brackets parts none known hint behind is =
+    let same = one_bracketed text inside is.inside occurrence known.occurrence mark behind brackets is.brackets in
     let pair = one_pair inside names is.names argument is.argument parts
-    (subst (λ (t : Text). HasParts t is.names is.argument) same.1 is.parts) in
+    (subst (λ (t : Text). HasParts t is.names is.argument) same.0 is.parts) in
     none known.names (subst (AreNames known.names) pair.0 is.names_are)
 
-pub no_argument_none : (text inside names : Text) (occurrence : Occur) (argument : Option Text)
-    → IsBracketed occurrence inside text → HasParts inside names argument
+pub no_argument_none : (text inside names : Text) (occurrence : Occur) (mark : Mark) (argument : Option Text)
+    → IsBracketed text inside occurrence mark → HasParts inside names argument
     → ((kind : HasArg) (hint : Text) → ¬ (IsArgument kind hint argument))
-    → (known : Signature) (hint : Text) → ¬ (IsItem text known hint)
-no_argument_none text inside names occurrence argument brackets parts none known hint is =
-    let same = one_bracketed occurrence known.occurrence inside is.inside text brackets is.brackets in
+    → (known : Signature) (hint : Text) (behind : Mark) → ¬ (IsItem text known hint behind)
+no_argument_none text inside names occurrence mark argument brackets parts none known hint behind is =
+    let same = one_bracketed text inside is.inside occurrence known.occurrence mark behind brackets is.brackets in
     let pair = one_pair inside names is.names argument is.argument parts
-    (subst (λ (t : Text). HasParts t is.names is.argument) same.1 is.parts) in
+    (subst (λ (t : Text). HasParts t is.names is.argument) same.0 is.parts) in
     none known.kind hint (subst (λ (a : Option Text). IsArgument known.kind hint a) pair.1 is.argument_is)
+
+-- an argument that doesn't fit the mark
+pub no_fit_none : (text inside names : Text) (occurrence : Occur) (mark : Mark) (argument : Option Text)
+    (kind : HasArg) (its_hint : Text) → IsBracketed text inside occurrence mark → HasParts inside names argument
+    → IsArgument kind its_hint argument → fits mark kind ≡ false
+    → (known : Signature) (hint : Text) (behind : Mark) → ¬ (IsItem text known hint behind)
+no_fit_none text inside names occurrence mark argument kind its_hint brackets parts argument_is no_fit known hint
+    behind is =
+    let same = one_bracketed text inside is.inside occurrence known.occurrence mark behind brackets is.brackets in
+    let pair = one_pair inside names is.names argument is.argument parts
+    (subst (λ (t : Text). HasParts t is.names is.argument) same.0 is.parts) in
+    let one = one_argument kind known.kind its_hint hint argument argument_is
+    (subst (λ (a : Option Text). IsArgument known.kind hint a) pair.1 is.argument_is) in
+    let both : false ≡ true = sym no_fit ∙ ap (λ (k : HasArg). fits mark k) (sym one.0)
+    ∙ ap (λ (m : Mark). fits m known.kind) (sym same.2) ∙ is.fits_kind in
+    cc
 
 -- a kind and a hint that are found are the argument's
 pub yes_hinted : (result : Option (HasArg × Bor Text)) (text : Text) → slice_index text 0 ≢ 91
@@ -392,55 +451,3 @@ no_hint text rest opens none Yes hint is =
     hint_open rest (subst (λ (t : Text). is_hint t ≡ true) (sym is.1 ∙ opens) is.0)
 no_hint text rest opens none Maybe hint is =
     let same : 91 ∷ rest ≡ 91 ∷ (hint ++ (93 ∷ [])) = sym opens ∙ is.1 in none hint cc
-
--- ---- marked items
-
--- names before the mark are those after the bracket
-marked_names : (opened inside names : Text) → opened ≡ 91 ∷ inside
-    → opened ++ (93 ∷ 33 ∷ []) ≡ 91 ∷ (names ++ (93 ∷ 33 ∷ [])) → names ≡ inside
-marked_names opened inside names opens written =
-    let same : opened ≡ 91 ∷ names = append_cancel_right opened (91 ∷ names) (93 ∷ 33 ∷ []) written in
-    let both : 91 ∷ names ≡ 91 ∷ inside = sym same ∙ opens in cc
-
--- a text that doesn't begin with `[` is no front of a marked item
-pub no_marked_bracket : (opened : Text) → ((rest : Text) → opened ≢ 91 ∷ rest)
-    → (known : Signature) (hint : Text) → ¬ (IsMarked (opened ++ (93 ∷ 33 ∷ [])) known hint)
-no_marked_bracket opened none known hint is =
-    none is.names (append_cancel_right opened (91 ∷ is.names) (93 ∷ 33 ∷ []) is.written)
-
-pub no_marked_names : (opened inside : Text) → opened ≡ 91 ∷ inside → ((names : Names) → ¬ (AreNames names inside))
-    → (known : Signature) (hint : Text) → ¬ (IsMarked (opened ++ (93 ∷ 33 ∷ [])) known hint)
-no_marked_names opened inside opens none known hint is =
-    none known.names (subst (AreNames known.names) (marked_names opened inside is.names opens is.written) is.names_are)
-
--- a marked item ends in the mark
-pub ends_marked : (text : Text) (known : Signature) (hint : Text) → ((front : Text) → text ≢ front ++ (93 ∷ 33 ∷ []))
-    → ¬ (IsMarked text known hint)
-ends_marked text known hint plain is = plain (91 ∷ is.names) is.written
-
--- a text that ends in the mark is an option where it is a marked item
-pub by_mark : (result : Option Row) (text opened : Text) → text ≡ opened ++ (93 ∷ 33 ∷ [])
-    → MatchOption result ((known : Signature) (hint : Text) → ¬ (IsMarked (opened ++ (93 ∷ 33 ∷ [])) known hint))
-    (λ row. IsMarked (opened ++ (93 ∷ 33 ∷ [])) (group_of_row row).signature row.hint.now)
-    → MatchOption result ((known : Signature) (hint : Text) → ¬ (IsOption text known hint))
-    (λ row. IsOption text (group_of_row row).signature row.hint.now)
-by_mark None text opened ends none = by_case
-  where
-    by_case : (known : Signature) (hint : Text) → ¬ (IsOption text known hint)
-    by_case known hint (unmarked plain is) = plain opened ends
-    by_case known hint (marked is) = none known hint (subst (λ (t : Text). IsMarked t known hint) ends is)
-by_mark (Some row) text opened ends is =
-    marked (subst (λ (t : Text). IsMarked t (group_of_row row).signature row.hint.now) (sym ends) is)
-
--- another text is an option where it is an item
-pub by_item : (result : Option Row) (text : Text) → ((front : Text) → text ≢ front ++ (93 ∷ 33 ∷ []))
-    → MatchOption result ((known : Signature) (hint : Text) → ¬ (IsItem text known hint))
-    (λ row. IsItem text (group_of_row row).signature row.hint.now)
-    → MatchOption result ((known : Signature) (hint : Text) → ¬ (IsOption text known hint))
-    (λ row. IsOption text (group_of_row row).signature row.hint.now)
-by_item None text plain none = by_case
-  where
-    by_case : (known : Signature) (hint : Text) → ¬ (IsOption text known hint)
-    by_case known hint (unmarked also is) = none known hint is
-    by_case known hint (marked is) = ends_marked text known hint plain is
-by_item (Some row) text plain is = unmarked plain is

@@ -1,6 +1,5 @@
 mod Quoting
 mod QuotedBytes
-mod Nul
 mod Items
 mod Lines
 mod Only
@@ -9,12 +8,14 @@ mod Plain
 mod Help
 mod Line
 mod Status
--- words in quotes, as each shell reads them
-mod Stubs
+-- texts cut at a byte, with another in its place
+mod Parts
 -- one thing is offered at a word
 mod Offers
 mod Fronts
 mod Shell
+-- what a shell makes of the bytes that are written
+mod Written
 mod Assignments
 mod Asked
 mod GoesOn

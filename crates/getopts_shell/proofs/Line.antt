@@ -5,20 +5,19 @@ use Rattle.std.specs.List.{AllByRecursion}
 use Rattle.std.specs.Option.{option_map_or}
 use Rattle.getopts.specs.Canon.{canonical_word, main_at}
 use Rattle.getopts.specs.CanonAnswers.{IsUnwritable, IsWritten, KeepsLineLaws}
-use Rattle.getopts.specs.Names.{Text, resolution, EmptyResolvesNot}
+use Rattle.getopts.specs.Names.{AreTexts, Text, resolution, EmptyResolvesNot}
 use Rattle.getopts.specs.Options.{Declared, Group, names_of}
 use Rattle.getopts.specs.Reading.{Mention, holds_equals, stop_word}
 use Rattle.getopts_shell.specs.Held.{ArePlainlyNamed}
-use Rattle.getopts_shell.specs.Program.{Asked, TellsWords}
-use Rattle.getopts_shell.proofs.Nul.{line_none}
-use Rattle.getopts_shell.proofs.Quoting.{code_same}
+use Rattle.getopts_shell.specs.Program.{TellsWords}
+use Rattle.getopts_shell.proofs.Written.{sets_words}
 
 -- no main name holds `=`
 plain_main : (groups : List Group) → ArePlainlyNamed groups → (place : ℕ)
     → holds_equals (main_at groups place) ≡ false
 plain_main [] plain zero = refl
 plain_main [] plain (suc place) = refl
-plain_main (group ∷ groups) plain zero = plain.0.0
+plain_main (group ∷ groups) plain zero = plain.0
 plain_main (group ∷ groups) plain (suc place) = plain_main groups plain.1 place
 
 -- each content is plain
@@ -51,11 +50,11 @@ no_stops groups empty (m ∷ mentioned) sound =
     (main_no_stop groups empty m sound.0, no_stops groups empty mentioned sound.1)
 
 -- a canonical line tells the words
-pub tells_words : (asked : Asked) (options : Declared) (words line : List Text) → ArePlainlyNamed options.groups
+pub tells_words : (options : Declared) (words line : List Text) → AreTexts line
     → EmptyResolvesNot (names_of options.groups)
-    → KeepsLineLaws options → IsWritten options words line → TellsWords asked options words line
-tells_words asked options words line plain empty laws written = record {
-  shell = λ none. code_same asked line (line_none options words line plain written none);
+    → KeepsLineLaws options → IsWritten options words line → TellsWords options words line
+tells_words options words line are empty laws written = record {
+  shell = sets_words line are;
   written = written;
   reads_back = laws words line written;
   stop_is_first = no_stops options.groups empty written.content.mentions (laws words line written).sound;

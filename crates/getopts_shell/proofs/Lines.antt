@@ -1,24 +1,25 @@
 -- Lines of a table.
-use Rattle.std.proofs.Common.{◌≡◌, ℕ, ◌<◌, ◌+◌, Bool, true, false, cond, List, [], ◌∷◌, ◌++◌, length, take, drop}
+use Rattle.std.proofs.Common.{◌≡◌, ℕ, ◌<◌, ◌+◌, Bool, true, false, List, [], ◌∷◌, ◌++◌, length, take, drop}
 use Rattle.std.proofs.Common.{get_or}
-use Rattle.std.proofs.Common.{map, refl, sym, ap, ◌∙◌, arith, suc, zero}
+use Rattle.std.proofs.Common.{map, refl, sym, ap, ◌∙◌, arith}
 use Rattle.std.specs.Prelude.{◌||◌, ◌==◌, Option, Some, None, slice_index, min, ◌-◌, ◌^◌}
-use Rattle.std.specs.List.{AllZip, filter_map, list_all, list_any}
+use Rattle.std.specs.List.{AllZip, filter_map, list_any}
 use Rattle.std.specs.Option.{option_to_list}
 use Rattle.std.proofs.Common.{append_assoc, append-nil, subst, length-append}
-use Rattle.std.proofs.lemmas.Bool.Decides.{nat_tests}
 use Rattle.std.proofs.lemmas.List.{take-append-drop}
 use Rattle.std.proofs.lemmas.List.Elements.{filter_map-append}
 use Rattle.std.proofs.lemmas.List.{at_drop_more}
-use Rattle.std.proofs.lemmas.List.Folds.{list_all_at}
 use Rattle.getopts.specs.Names.{Text, is_empty}
-use Rattle.getopts.specs.Options.{Group, Signature}
+use Rattle.getopts.specs.Options.{Signature}
 use Rattle.getopts.specs.Wrap.{lines_of}
 use Rattle.getopts_shell.specs.Held.{TellsFault}
 use Rattle.getopts_shell.specs.declared.table.TableError.{TableError}
 use Rattle.getopts_shell.specs.declared.table.TableError.TheVariants as error
-use Rattle.getopts_shell.specs.Table.{is_blank, before_blanks, after_blanks, trimmed, before_gap, from_gap}
-use Rattle.getopts_shell.specs.Table.{is_passed, IsOption, DeclaresGroup, Declares}
+use Rattle.std.specs.Str.{IsTrimAscii}
+use Rattle.std.proofs.lemmas.Str.Ascii.{trim_ascii_is}
+use Rattle.getopts_shell.specs.Table.{after_blanks, trimmed, before_gap, from_gap}
+use Rattle.getopts_shell.specs.Table.{Entry, is_passed, IsItem, DeclaresEntry, Declares}
+use Rattle.getopts_shell.specs.declared.row.Mark.{Mark}
 use Rattle.getopts_shell.specs.Table.{HaveNewNames, DeclareOptions, TableFault}
 use Rattle.getopts_shell.specs.Table.{IsLineFault, IsTableFault, no_option, none}
 
@@ -28,65 +29,42 @@ pub list_any-map : {X Y : Type 0} (p : Y → Bool) (f : X → Y) (xs : List X)
 list_any-map p f [] = refl
 list_any-map p f (x ∷ xs) = ap (λ (b : Bool). p (f x) || b) (list_any-map p f xs)
 
--- a blank is of one byte
-pub blank_is_ascii : (byte : ℕ) → is_blank byte ≡ true → byte < 128
-blank_is_ascii byte blank = grind (arith, nat_tests)
-
--- one more blank at the front
-pub after_one_blank : (text : Text) (n : ℕ) → n < length text → is_blank (get_or text n 0) ≡ true
-    → after_blanks (drop n text) ≡ after_blanks (drop (n + 1) text)
-after_one_blank text n below blank = at_drop_more after_blanks text n 0 below
-    ∙ ap (λ (b : Bool). cond b (after_blanks (drop (n + 1) text)) (get_or text n 0 ∷ drop (n + 1) text)) blank
-
--- of blanks alone nothing is left
-blanks_go : (text : Text) → list_all is_blank text ≡ true → before_blanks text ≡ []
-blanks_go [] blanks = refl
-blanks_go (byte ∷ text) blanks = ap (λ (b : Bool). cond b [] (byte ∷ before_blanks text)) blanks
-
--- a text ends where what follows is blanks alone
-pub ends_before_blanks : (text : Text) (n : ℕ) → n < length text → is_blank (get_or text n 0) ≡ false
-    → list_all is_blank (drop (suc n) text) ≡ true → before_blanks text ≡ take (suc n) text
-ends_before_blanks [] n below plain blanks = absurd (omega arith)
-ends_before_blanks (byte ∷ text) zero below plain blanks =
-    ap (λ (b : Bool). cond b [] (byte ∷ before_blanks text))
-    (list_all_at is_blank (byte ∷ text) zero 0 below plain)
-    ∙ ap (λ (t : Text). byte ∷ t) (blanks_go text blanks)
-ends_before_blanks (byte ∷ text) (suc n) below plain blanks =
-    ap (λ (b : Bool). cond b [] (byte ∷ before_blanks text))
-    (list_all_at is_blank (byte ∷ text) (suc n) 0 below plain)
-    ∙ ap (λ (t : Text). byte ∷ t) (ends_before_blanks text n (omega arith) plain blanks)
+-- what the trimming of std gives
+pub trimmed_is : (text other : Text) → IsTrimAscii text other → other ≡ trimmed text
+trimmed_is text other is = trim_ascii_is text other (after_blanks text) refl is
 
 -- ---- what a line declares
 
 -- a line that isn't passed over and has an option declares it
-pub declares_group : (line text item rest description : Text) (group : Group) → text ≡ trimmed line
+pub declares_entry : (line text item rest description : Text) (entry : Entry) → text ≡ trimmed line
     → (is_empty text || (slice_index text 0 == 35)) ≡ false
-    → item ≡ before_gap text → rest ≡ from_gap text → description ≡ trimmed rest
-    → group.description ≡ description → IsOption item group.signature group.hint → DeclaresGroup line group
-declares_group line text item rest description group text_is there item_is rest_is description_is is of_item =
+    → item ≡ trimmed (before_gap text) → rest ≡ from_gap text → description ≡ trimmed rest
+    → entry.description ≡ description → IsItem item entry.signature entry.hint entry.mark → DeclaresEntry line entry
+declares_entry line text item rest description entry text_is there item_is rest_is description_is is of_item =
     record {
       there = ap (λ (t : Text). is_empty t || (slice_index t 0 == 35)) (sym text_is) ∙ there;
-      item = subst (λ (t : Text). IsOption t group.signature group.hint) (item_is ∙ ap before_gap text_is) of_item;
+      item = subst (λ (t : Text). IsItem t entry.signature entry.hint entry.mark)
+          (item_is ∙ ap (λ (t : Text). trimmed (before_gap t)) text_is) of_item;
       description = is ∙ description_is ∙ ap trimmed (rest_is ∙ ap from_gap text_is);
     }
 
 -- a line that isn't passed over and has no option has a fault
-pub faulty_line : (line text item : Text) (number : ℕ) (groups : List Group) → text ≡ trimmed line
-    → (is_empty text || (slice_index text 0 == 35)) ≡ false → item ≡ before_gap text
-    → ((known : Signature) (hint : Text) → ¬ (IsOption item known hint))
-    → IsLineFault number groups line (no_option number item)
-faulty_line line text item number groups text_is there item_is none_of =
-    subst (λ (t : Text). IsLineFault number groups line (no_option number t))
-    (sym (item_is ∙ ap before_gap text_is))
+pub faulty_line : (line text item : Text) (number : ℕ) (entries : List Entry) → text ≡ trimmed line
+    → (is_empty text || (slice_index text 0 == 35)) ≡ false → item ≡ trimmed (before_gap text)
+    → ((known : Signature) (hint : Text) (mark : Mark) → ¬ (IsItem item known hint mark))
+    → IsLineFault number entries line (no_option number item)
+faulty_line line text item number entries text_is there item_is none_of =
+    subst (λ (t : Text). IsLineFault number entries line (no_option number t))
+    (sym (item_is ∙ ap (λ (t : Text). trimmed (before_gap t)) text_is))
     (none declares_not)
   where
     passed_not : is_passed line ≡ false
     passed_not = ap (λ (t : Text). is_empty t || (slice_index t 0 == 35)) (sym text_is) ∙ there
 
-    declares_not : (declared : Option Group) → ¬ (Declares line declared)
+    declares_not : (declared : Option Entry) → ¬ (Declares line declared)
     declares_not None is = let both : true ≡ false = sym is ∙ passed_not in cc
-    declares_not (Some group) is = none_of group.signature group.hint
-        (subst (λ (t : Text). IsOption t group.signature group.hint) (sym (item_is ∙ ap before_gap text_is)) is.item)
+    declares_not (Some entry) is = none_of entry.signature entry.hint entry.mark
+        (subst (λ (t : Text). IsItem t entry.signature entry.hint entry.mark) (sym (item_is ∙ ap (λ (t : Text). trimmed (before_gap t)) text_is)) is.item)
 
 -- ---- lines, one after the other
 
@@ -97,50 +75,50 @@ zip_push R [] (b ∷ ys) x y each one = absurd each
 zip_push R (a ∷ xs) [] x y each one = absurd each
 zip_push R (a ∷ xs) (b ∷ ys) x y each one = (each.0, zip_push R xs ys x y each.1 one)
 
-new_names-append : (before groups more : List Group) → HaveNewNames before groups
-    → HaveNewNames (before ++ groups) more → HaveNewNames before (groups ++ more)
+new_names-append : (before entries more : List Entry) → HaveNewNames before entries
+    → HaveNewNames (before ++ entries) more → HaveNewNames before (entries ++ more)
 new_names-append before [] more new also =
-    subst (λ (b : List Group). HaveNewNames b more) (append-nil before) also
-new_names-append before (group ∷ groups) more new also = (
+    subst (λ (b : List Entry). HaveNewNames b more) (append-nil before) also
+new_names-append before (entry ∷ entries) more new also = (
   new.0,
-  new_names-append (before ++ group ∷ []) groups more new.1
-      (subst (λ (b : List Group). HaveNewNames b more) (sym (append_assoc before (group ∷ []) groups)) also),
+  new_names-append (before ++ entry ∷ []) entries more new.1
+      (subst (λ (b : List Entry). HaveNewNames b more) (sym (append_assoc before (entry ∷ []) entries)) also),
 )
 
 -- what the one option is that a line declares, if any
-kept : (declared : Option Group) → filter_map (λ (d : Option Group). d) (declared ∷ []) ≡ option_to_list declared
+kept : (declared : Option Entry) → filter_map (λ (d : Option Entry). d) (declared ∷ []) ≡ option_to_list declared
 kept None = refl
-kept (Some group) = refl
+kept (Some entry) = refl
 
 -- one more line
-pub one_more_line : (lines : List Text) (line : Text) (groups : List Group) (declared : Option Group)
-    → DeclareOptions lines groups → Declares line declared → HaveNewNames groups (option_to_list declared)
-    → DeclareOptions (lines ++ line ∷ []) (groups ++ option_to_list declared)
-one_more_line lines line groups declared so_far is new = record {
+pub one_more_line : (lines : List Text) (line : Text) (entries : List Entry) (declared : Option Entry)
+    → DeclareOptions lines entries → Declares line declared → HaveNewNames entries (option_to_list declared)
+    → DeclareOptions (lines ++ line ∷ []) (entries ++ option_to_list declared)
+one_more_line lines line entries declared so_far is new = record {
   declared = (
     so_far.declared.0 ++ declared ∷ [],
     zip_push Declares lines so_far.declared.0 line declared so_far.declared.1 is,
-    ap (λ (gs : List Group). gs ++ option_to_list declared) so_far.declared.2
-        ∙ ap (λ (gs : List Group). filter_map (λ (d : Option Group). d) so_far.declared.0 ++ gs) (sym (kept declared))
-        ∙ sym (filter_map-append (λ (d : Option Group). d) so_far.declared.0 (declared ∷ [])),
+    ap (λ (gs : List Entry). gs ++ option_to_list declared) so_far.declared.2
+        ∙ ap (λ (gs : List Entry). filter_map (λ (d : Option Entry). d) so_far.declared.0 ++ gs) (sym (kept declared))
+        ∙ sym (filter_map-append (λ (d : Option Entry). d) so_far.declared.0 (declared ∷ [])),
   );
-  once = new_names-append [] groups (option_to_list declared) so_far.once new;
+  once = new_names-append [] entries (option_to_list declared) so_far.once new;
 }
 
 -- The lines so far, their number, and what they declare.
-pub record LinesSoFar (lines : List Text) (number : ℕ) (groups : List Group) : Type 0 where
+pub record LinesSoFar (lines : List Text) (number : ℕ) (entries : List Entry) : Type 0 where
   pub number_is : number ≡ min (length lines) (2 ^ 64 - 1)
-  pub declared : DeclareOptions lines groups
+  pub declared : DeclareOptions lines entries
 
-pub next_line : (lines : List Text) (line : Text) (number next : ℕ) (groups : List Group) (more : List Group)
-    (declared : Option Group) → LinesSoFar lines number groups → next ≡ min (number + 1) (2 ^ 64 - 1)
-    → Declares line declared → more ≡ groups ++ option_to_list declared
-    → HaveNewNames groups (option_to_list declared)
+pub next_line : (lines : List Text) (line : Text) (number next : ℕ) (entries : List Entry) (more : List Entry)
+    (declared : Option Entry) → LinesSoFar lines number entries → next ≡ min (number + 1) (2 ^ 64 - 1)
+    → Declares line declared → more ≡ entries ++ option_to_list declared
+    → HaveNewNames entries (option_to_list declared)
     → LinesSoFar (lines ++ line ∷ []) next more
-next_line lines line number next groups more declared so_far next_is is more_is new = record {
+next_line lines line number next entries more declared so_far next_is is more_is new = record {
   number_is = omega (arith, so_far.number_is, length-append lines (line ∷ []));
   declared = subst (DeclareOptions (lines ++ line ∷ [])) (sym more_is)
-      (one_more_line lines line groups declared so_far.declared is new);
+      (one_more_line lines line entries declared so_far.declared is new);
 }
 
 -- a list in three parts
@@ -152,20 +130,20 @@ in_parts all n x below is =
     ∙ ap (λ (y : Text). y ∷ drop (n + 1) all) (sym is))
 
 -- the fault of a line is the table's
-pub table_fault : (table : Text) (lines : List Text) (line : Text) (number next : ℕ) (groups : List Group)
+pub table_fault : (table : Text) (lines : List Text) (line : Text) (number next : ℕ) (entries : List Entry)
     (fault : TableFault) → lines ≡ take (length lines) (lines_of table) → length lines < length (lines_of table)
     → line ≡ get_or (lines_of table) (length lines) line
-    → LinesSoFar lines number groups → next ≡ min (number + 1) (2 ^ 64 - 1)
-    → IsLineFault next groups line fault → IsTableFault table fault
-table_fault table lines line number next groups fault so_far_are below line_is so_far next_is is = record {
+    → LinesSoFar lines number entries → next ≡ min (number + 1) (2 ^ 64 - 1)
+    → IsLineFault next entries line fault → IsTableFault table fault
+table_fault table lines line number next entries fault so_far_are below line_is so_far next_is is = record {
   before = lines;
   line = line;
   after = drop (length lines + 1) (lines_of table);
   lines_are = in_parts (lines_of table) (length lines) line below line_is
       ∙ ap (λ (t : List Text). t ++ line ∷ drop (length lines + 1) (lines_of table)) (sym so_far_are);
-  groups = groups;
+  entries = entries;
   declared = so_far.declared;
-  fault_at = subst (λ (n : ℕ). IsLineFault n groups line fault)
+  fault_at = subst (λ (n : ℕ). IsLineFault n entries line fault)
       (next_is ∙ omega (arith, so_far.number_is)) is;
 }
 

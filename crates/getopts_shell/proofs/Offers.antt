@@ -1,9 +1,15 @@
 -- One thing is offered at a word.
-use Rattle.std.proofs.Common.{◌≡◌, ℕ, List, ap, refl, sym, ◌∙◌}
+use Rattle.std.proofs.Common.{◌≡◌, ◌<◌, ◌-◌, ℕ, zero, suc, List, [], ◌∷◌, Option, None, arith, ap, get_or, length, refl, subst, sym}
+use Rattle.std.proofs.Common.{◌∙◌, take}
+use Rattle.std.specs.Borrow.{Bor}
+use Rattle.std.specs.Prelude.{unwrap_or}
+use Rattle.std.proofs.lemmas.List.{length-map, take-map}
 use Rattle.getopts.specs.Matches.{Matched}
-use Rattle.getopts.specs.Names.{Text}
+use Rattle.getopts.specs.Names.{Text, texts}
 use Rattle.getopts.specs.Options.{Declared}
-use Rattle.getopts_shell.specs.Completion.{IsOffer, offers_options, offers_files, options_lines, WritesNumber}
+use Rattle.getopts_shell.specs.Completion.{IsOffer, offers_options, offers_files, options_lines}
+use Rattle.getopts_shell.specs.Program.{last_word}
+use Rattle.getopts_shell.proofs.Assignments.{last_text}
 use Rattle.getopts_shell.proofs.Help.{one_reading}
 
 -- one text is offered at a word
@@ -18,7 +24,26 @@ one_offer options before word (offers_files none) (offers_options matches begins
     absurd (none matches begins may)
 one_offer options before word (offers_files none) (offers_files also) = refl
 
--- a text writes one number
-pub one_number : (text : Text) {number other : ℕ} → WritesNumber text number → WritesNumber text other
-    → other ≡ number
-one_number text is also = sym also.1 ∙ is.1
+-- what is offered at the last of words
+pub at_last : (options : Declared) (words before : List (Bor Text)) (word other : Bor Text) (last : ℕ) (text : Text)
+    → 0 < length words → last ≡ length words - 1 → before ≡ take last words → word ≡ get_or words last other
+    → IsOffer options (texts before) word.now text
+    → IsOffer options (take (length (texts words) - 1) (texts words)) (last_word (texts words)) text
+at_last options words before word other last text some last_is before_is word_is is =
+    let count : length (texts words) ≡ length words = length-map words (λ word. word.now) in
+    let place : last ≡ length (texts words) - 1 = omega (arith, count, last_is) in
+    let front : texts before ≡ take (length (texts words) - 1) (texts words) =
+    ap texts before_is ∙ sym (take-map (λ word. word.now) last words)
+    ∙ ap (λ (n : ℕ). take n (texts words)) place in
+    let at : word.now ≡ last_word (texts words) =
+    word_at words last (omega (arith, last_is)) word_is
+    ∙ ap (λ (n : ℕ). get_or (texts words) n []) place
+    ∙ ap (λ (o : Option Text). unwrap_or o []) (sym (last_text (texts words) None (omega (arith, count)))) in
+    subst (λ (w : Text). IsOffer options (take (length (texts words) - 1) (texts words)) w text) at
+    (subst (λ (b : List Text). IsOffer options b word.now text) front is)
+  where
+    word_at : (words : List (Bor Text)) (n : ℕ) → n < length words → word ≡ get_or words n other
+        → word.now ≡ get_or (texts words) n []
+    word_at [] n below is = absurd (omega arith)
+    word_at (first ∷ words) zero below is = ap (λ (w : Bor Text). w.now) is
+    word_at (first ∷ words) (suc n) below is = word_at words n (omega arith) is

@@ -13,15 +13,15 @@ use Rattle.getopts.specs.Names.{AreTexts, Text}
 use Rattle.getopts_bytes.specs.Marks.{AreBytes, bytes_of, is_mark, text_of, written}
 use Rattle.getopts_bytes.proofs.Chars.{ascii_no_marks, plain_bytes}
 use Rattle.getopts_bytes.proofs.Texts.{bytes_append, comes_back}
-use Rattle.getopts_shell.specs.Quote.{HoldNoNul, quoted_byte, quoted, spaced, quoted_words, shell_words}
+use Rattle.getopts_shell.specs.Quote.{quoted_byte, quoted, spaced, quoted_words, shell_words}
 use Rattle.getopts_shell.proofs.Quoting.{words_same}
 
 -- a text has these bytes
-record Gives (text bytes : List ℕ) : Type 0 where
-  utf8 : IsUtf8 text
-  bytes_are : bytes_of text ≡ bytes
+pub record Gives (text bytes : List ℕ) : Type 0 where
+  pub utf8 : IsUtf8 text
+  pub bytes_are : bytes_of text ≡ bytes
 
-append_gives : {text more bytes others : List ℕ} → Gives text bytes → Gives more others
+pub append_gives : {text more bytes others : List ℕ} → Gives text bytes → Gives more others
     → Gives (text ++ more) (bytes ++ others)
 append_gives {text} {more} {bytes} {others} is also = record {
   utf8 = IsUtf8-append text more is.utf8 also.utf8;
@@ -34,7 +34,7 @@ are_ascii [] are i = omega arith
 are_ascii (byte ∷ text) are zero = are.0
 are_ascii (byte ∷ text) are (suc i) = are_ascii text are.1 i
 
-ascii_gives : (text : List ℕ) → AllByRecursion (λ byte. byte < 128) text → Gives text text
+pub ascii_gives : (text : List ℕ) → AllByRecursion (λ byte. byte < 128) text → Gives text text
 ascii_gives text are =
     let ascii = are_ascii text are in
     let utf8 = IsUtf8-from_ascii text ascii in
@@ -116,7 +116,7 @@ quoted_chars (c ∷ cs) are = by (quoted_chars cs) (scalar c) refl
         (append_gives (quoted_char c is) (rest (sym (simp is refl) ∙ are)))
 
 -- a word in quotes has its bytes in quotes
-quoted_gives : (word : Text) → IsUtf8 word → Gives (quoted word) (quoted (bytes_of word))
+pub quoted_gives : (word : Text) → IsUtf8 word → Gives (quoted word) (quoted (bytes_of word))
 quoted_gives word utf8 =
     let quote : Gives (39 ∷ []) (39 ∷ []) = ascii_gives (39 ∷ []) (omega arith, tt) in
     let middle = subst (λ (w : Text). Gives (flat_map quoted_byte w) (flat_map quoted_byte (bytes_of word)))
@@ -128,14 +128,14 @@ spaced_gives : (words : List Text) → AreTexts words
 spaced_gives [] are = ascii_gives [] tt
 spaced_gives (word ∷ words) are = append_gives (append_gives (ascii_gives (32 ∷ []) (omega arith, tt)) (quoted_gives word are.0)) (spaced_gives words are.1)
 
-words_give : (words : List Text) → AreTexts words → Gives (quoted_words words) (quoted_words (map bytes_of words))
+pub words_give : (words : List Text) → AreTexts words → Gives (quoted_words words) (quoted_words (map bytes_of words))
 words_give [] are = ascii_gives [] tt
 words_give (word ∷ words) are = append_gives (quoted_gives word are.0) (spaced_gives words are.1)
 
 -- a shell makes of the bytes of quoted words the bytes of the words
-pub bytes_same : (words : List Text) → AreTexts words → HoldNoNul (map bytes_of words)
+pub bytes_same : (words : List Text) → AreTexts words
     → shell_words (bytes_of (quoted_words words)) ≡ Some (map bytes_of words)
-bytes_same words are none = ap shell_words (words_give words are).bytes_are ∙ words_same (map bytes_of words) none
+bytes_same words are = ap shell_words (words_give words are).bytes_are ∙ words_same (map bytes_of words)
 
 -- the texts of words have the words as their bytes
 texts_back : (words : List (List ℕ)) → AllByRecursion AreBytes words
@@ -150,8 +150,7 @@ texts_back (word ∷ words) are =
     )
 
 -- a shell makes of words in quotes, read as texts and written as bytes, the same words
-pub words_given : (words : List (List ℕ)) → AllByRecursion AreBytes words → HoldNoNul words
+pub words_given : (words : List (List ℕ)) → AllByRecursion AreBytes words
     → shell_words (bytes_of (quoted_words (map text_of words))) ≡ Some words
-words_given words are none =
-    let back = texts_back words are in
-    bytes_same (map text_of words) back.0 (subst HoldNoNul (sym back.1) none) ∙ ap Some back.1
+words_given words are =
+    let back = texts_back words are in bytes_same (map text_of words) back.0 ∙ ap Some back.1

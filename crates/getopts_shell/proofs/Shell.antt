@@ -1,36 +1,27 @@
--- A shell that runs the text for matches holds what they do.
+-- A shell that runs the text for options holds what they do.
 use Rattle.std.proofs.Common.{◌≡◌, ◌≢◌, ℕ, Bool, true, false, cond, eqb, List, [], ◌∷◌, ◌++◌, Option, Some, None}
-use Rattle.std.proofs.Common.{refl, sym, ap, subst, ◌∙◌, suc, zero, length, append_assoc, append-nil}
-use Rattle.std.proofs.Common.{arith, ◌+◌, ◌-◌, ◌/◌, ◌%◌, drop, take}
-use Rattle.std.specs.Prelude.{not, ⊤, ◌&&◌, decimal}
-use Rattle.std.specs.Char.{is_ascii_digit}
-use Rattle.std.specs.Fmt.{digits, digits_onto, digit_glyph}
+use Rattle.std.proofs.Common.{refl, sym, ap, subst, ◌∙◌, length, append_assoc, append-nil, arith, ◌+◌, ◌-◌, drop, take, map}
+use Rattle.std.specs.Prelude.{not, ◌&&◌}
 use Rattle.std.specs.List.{AllByRecursion, flat_map, list_all, list_any}
 use Rattle.std.specs.Option.{option_and_then, option_map}
 use Rattle.std.specs.Str.{bytes_eq}
-use Rattle.std.proofs.lemmas.Bool.{and_from, and_parts, cond_both, eqb-true, false_from_ne_true, or_from, or_parts}
+use Rattle.std.proofs.lemmas.Bool.{and_from, and_parts, eqb-true, false_from_ne_true, or_from, or_parts}
 use Rattle.std.proofs.lemmas.Bool.Decides.{nat_tests}
 use Rattle.std.proofs.lemmas.List.{drop_at, length-append, take_at}
 use Rattle.std.proofs.lemmas.List.Folds.{list_any-append}
 use Rattle.std.proofs.lemmas.Slice.Eq.{bytes_eq-Decides}
 use Rattle.getopts.proofs.Reading.Texts.{cut_at_equals-append}
-use Rattle.getopts.specs.Accessors.{held_names}
-use Rattle.getopts.specs.Matches.{Found, Matched, MatchedGroup}
 use Rattle.getopts.specs.Names.{Text, Names}
 use Rattle.getopts.specs.Reading.{holds_equals}
-use Rattle.getopts.specs.declared.groups.HasArg.{HasArg}
-use Rattle.getopts.specs.declared.groups.HasArg.TheVariants.{Yes, No, Maybe}
-use Rattle.getopts.specs.declared.groups.Occur.{Occur}
-use Rattle.getopts.specs.declared.groups.Occur.TheVariants.{Req, Optional, Multi}
-use Rattle.getopts_shell.specs.Quote.{HoldNoNul, holds_nul, quoted, quoted_byte, quoted_words, shell_words, spaced}
+use Rattle.getopts_shell.specs.Quote.{quoted, quoted_byte, quoted_words, shell_words, spaced}
 use Rattle.getopts_shell.specs.Variables.{plain, in_quotes, commands, Value, one, many, Shell, with_variable}
-use Rattle.getopts_shell.specs.Variables.{is_variable_byte, begins_variable, is_variable, only_word}
+use Rattle.getopts_shell.specs.Variables.{is_variable_byte, begins_variable, is_variable, only_word, array_front}
 use Rattle.getopts_shell.specs.Variables.{array_code, value_of_code, after_assignment, after_builtin, after_command}
-use Rattle.getopts_shell.specs.Variables.{after_commands, shell_after, variable_of, held_value, group_variable}
-use Rattle.getopts_shell.specs.Variables.{group_value, setting, option_setting, variable_line}
-use Rattle.getopts_shell.specs.Variables.{HaveOwnVariables}
-use Rattle.getopts_shell.specs.Variables.{SetsVariables, texts_found, texts_held}
-use Rattle.getopts_shell.proofs.Quoting.{nul_words, word_same, words_same}
+use Rattle.getopts_shell.specs.Variables.{after_commands, shell_after, Runs, variable_of, Given, own_variable, own_value}
+use Rattle.getopts_shell.specs.Variables.{unset_line, value_line, option_code, line_code, HaveOwnVariables}
+use Rattle.getopts_shell.specs.Variables.{RunsTo, texts_found, variables_code}
+use Rattle.getopts_shell.proofs.Items.{is_empty-cons}
+use Rattle.getopts_shell.proofs.Quoting.{word_same, words_same}
 
 -- ---- the commands of a text
 
@@ -134,7 +125,7 @@ after_line shell next command more front does =
     by_others (Some others) =
         ap (option_and_then (λ (next : Shell). after_commands next others)) does
 
--- ---- names and numbers
+-- ---- names
 
 plain_variable_byte : (byte : ℕ) → is_variable_byte byte ≡ true → is_plain_byte byte ≡ true
 plain_variable_byte byte is = grind (arith, nat_tests)
@@ -155,298 +146,260 @@ unequal_name (byte ∷ name) is =
     let each = and_parts (is_variable_byte byte) (list_all is_variable_byte name) is in
     or_from (eqb byte 61) (holds_equals name) (unequal_variable_byte byte each.0) (unequal_name name each.1)
 
-digit_is : (n : ℕ) → is_ascii_digit (digit_glyph false (n % 10)) ≡ true
-digit_is n = grind (arith, nat_tests)
-
-digits_are : (k n : ℕ) (onto : Text) → list_all is_ascii_digit onto ≡ true
-    → list_all is_ascii_digit (digits_onto k 10 false n onto) ≡ true
-digits_are zero n onto are = are
-digits_are (suc k) n onto are =
-    let last = digit_glyph false (n % 10) in
-    let more = and_from (is_ascii_digit last) (list_all is_ascii_digit onto) (digit_is n) are in
-    cond_both (eqb (n / 10) 0) (last ∷ onto) (digits_onto k 10 false (n / 10) (last ∷ onto))
-    (λ (text : Text). list_all is_ascii_digit text ≡ true) (λ _. more)
-    (λ _. digits_are k (n / 10) (last ∷ onto) more)
-
-decimal_digits : (n : ℕ) → list_all is_ascii_digit (decimal n) ≡ true
-unfolding digits
-decimal_digits n = digits_are 64 n [] refl
-
-plain_digit : (byte : ℕ) → is_ascii_digit byte ≡ true → is_plain_byte byte ≡ true
-plain_digit byte is = grind (arith, nat_tests)
-
-plain_digits : (code : Text) → list_all is_ascii_digit code ≡ true → list_all is_plain_byte code ≡ true
-plain_digits [] are = refl
-plain_digits (byte ∷ code) are =
-    let each = and_parts (is_ascii_digit byte) (list_all is_ascii_digit code) are in
-    and_from (is_plain_byte byte) (list_all is_plain_byte code)
-    (plain_digit byte each.0) (plain_digits code each.1)
-
 -- ---- what is assigned
 
-unbracketed_digit : (byte : ℕ) → is_ascii_digit byte ≡ true → eqb byte 40 ≡ false
-unbracketed_digit byte is = grind (arith, nat_tests)
-
-unbracketed_digits : (code more : Text) → list_all is_ascii_digit code ≡ true → bytes_eq code (40 ∷ more) ≡ false
-unbracketed_digits [] more are = refl
-unbracketed_digits (byte ∷ code) more are =
-    let each = and_parts (is_ascii_digit byte) (list_all is_ascii_digit code) are in
-    rw (unbracketed_digit byte each.0) refl
-
-value_of_digits : (name code : Text) → list_all is_ascii_digit code ≡ true
-    → value_of_code name code ≡ Some (one code)
-value_of_digits name code are =
-    rw (unbracketed_digits code (36 ∷ 123 ∷ (name ++ 43 ∷ 125 ∷ 32 ∷ (array_code name code ++ 41 ∷ []))) are, are) refl
-
-value_of_quoted : (name text : Text) → holds_nul text ≡ false → value_of_code name (quoted text) ≡ Some (one text)
-value_of_quoted name text none =
-    ap (λ (words : Option (List Text)). option_map one (only_word words)) (word_same text none)
+value_of_quoted : (name text : Text) → value_of_code name (quoted text) ≡ Some (one text)
+value_of_quoted name text =
+    ap (λ (words : Option (List Text)). option_map one (only_word words)) (word_same (Some []) text refl)
 
 same_text : (text : Text) → bytes_eq text text ≡ true
 same_text text = (bytes_eq-Decides text text).1 refl
 
-inside_of : (name inside : Text)
-    → array_code name (40 ∷ 36 ∷ 123 ∷ (name ++ 43 ∷ 125 ∷ 32 ∷ (inside ++ 41 ∷ []))) ≡ inside
+inside_of : (name inside : Text) → array_code name (array_front name ++ (inside ++ 41 ∷ [])) ≡ inside
 inside_of name inside =
-    let code : Text = 40 ∷ 36 ∷ 123 ∷ (name ++ 43 ∷ 125 ∷ 32 ∷ (inside ++ 41 ∷ [])) in
-    ap (λ (rest : Text). take (length code - (length name + 7)) (drop 3 rest))
-    (drop_at name (43 ∷ 125 ∷ 32 ∷ (inside ++ 41 ∷ [])) (length name) refl)
-    ∙ take_at inside (41 ∷ []) _ (omega (
-      arith,
-      length-append inside (41 ∷ []),
-      length-append name (43 ∷ 125 ∷ 32 ∷ (inside ++ 41 ∷ [])),
-    ))
+    let code = array_front name ++ (inside ++ 41 ∷ []) in
+    ap (take (length code - (length (array_front name) + 1)))
+    (drop_at (array_front name) (inside ++ 41 ∷ []) (length (array_front name)) refl)
+    ∙ take_at inside (41 ∷ []) _
+    (omega (arith, length-append inside (41 ∷ []), length-append (array_front name) (inside ++ 41 ∷ [])))
 
-value_of_words : (name : Text) (words : List Text) → HoldNoNul words
-    → value_of_code name (40 ∷ 36 ∷ 123 ∷ (name ++ 43 ∷ 125 ∷ 32 ∷ (quoted_words words ++ 41 ∷ [])))
-    ≡ Some (many words)
-value_of_words name words none =
-    let code : Text = 40 ∷ 36 ∷ 123 ∷ (name ++ 43 ∷ 125 ∷ 32 ∷ (quoted_words words ++ 41 ∷ [])) in
-    rw (inside_of name (quoted_words words), same_text code) (ap (option_map many) (words_same words none))
+value_of_words : (name : Text) (words : List Text)
+    → value_of_code name (array_front name ++ (quoted_words words ++ 41 ∷ [])) ≡ Some (many words)
+value_of_words name words =
+    let code = array_front name ++ (quoted_words words ++ 41 ∷ []) in
+    rw (inside_of name (quoted_words words), same_text code) (ap (option_map many) (words_same words))
 
 -- ---- what a shell does with a command
 
+-- what stands before the words of `set`, and before the name of `unset`
+abbrev set_front : Text
+set_front = 92 ∷ 115 ∷ 101 ∷ 116 ∷ 32 ∷ 45 ∷ 45 ∷ 32 ∷ []
+
+abbrev unset_front : Text
+unset_front = 92 ∷ 117 ∷ 110 ∷ 115 ∷ 101 ∷ 116 ∷ 32 ∷ 45 ∷ 118 ∷ 32 ∷ []
+
 after_equals : (shell : Shell) (name code : Text) (value : Value) → is_variable name ≡ true
-    → value_of_code name code ≡ Some value
+    → shell.value name ≡ None → value_of_code name code ≡ Some value
     → after_command shell (name ++ 61 ∷ code) ≡ Some (with_variable shell name (Some value))
-after_equals shell name code value is holds =
+after_equals shell name code value is unset holds =
     let bytes = (and_parts (begins_variable name) (list_all is_variable_byte name) is).1 in
     ap (λ (cut : Text × Option Text). cond (is_variable cut.0) (after_assignment shell cut)
     (after_builtin shell (name ++ 61 ∷ code))) (cut_at_equals-append name (Some code) (unequal_name name bytes))
-    ∙ rw (is, holds) refl
+    ∙ rw (is, unset, holds) refl
 
 after_unset : (shell : Shell) (name : Text) → is_variable name ≡ true
-    → after_command shell (setting name None) ≡ Some (with_variable shell name None)
+    → after_command shell (unset_front ++ name) ≡ Some (with_variable shell name None)
 after_unset shell name is = rw is refl
 
-after_set : (shell : Shell) (words : List Text) → HoldNoNul words
-    → after_command shell (92 ∷ 115 ∷ 101 ∷ 116 ∷ 32 ∷ 45 ∷ 45 ∷ 32 ∷ quoted_words words)
-    ≡ Some (record shell { words = words })
-after_set shell words none =
-    ap (option_map (λ (words : List Text). record shell { words = words })) (words_same words none)
-
--- no NUL byte is in a value
-abbrev ValueHoldsNoNul : Option Value → Type 0
-ValueHoldsNoNul None = ⊤
-ValueHoldsNoNul (Some (one text)) = holds_nul text ≡ false
-ValueHoldsNoNul (Some (many words)) = HoldNoNul words
-
--- nor in that of an option that takes an argument, where none is in those of its occurrences
-held_no_nul : (arrays : Bool) (occurrence : Occur) (founds : List Found) → HoldNoNul (texts_found founds)
-    → ValueHoldsNoNul (held_value arrays Yes occurrence founds)
-held_no_nul arrays Multi founds none = by_test arrays
-  where
-    by_test : (test : Bool)
-        → ValueHoldsNoNul (Some (cond test (many (texts_found founds)) (one (quoted_words (texts_found founds)))))
-    by_test true = none
-    by_test false = nul_words (texts_found founds) none
-held_no_nul arrays Req [] none = tt
-held_no_nul arrays Req (found ∷ founds) none = none.0
-held_no_nul arrays Optional [] none = tt
-held_no_nul arrays Optional (found ∷ founds) none = none.0
-
-after_setting : (shell : Shell) (name : Text) (value : Option Value) → is_variable name ≡ true
-    → ValueHoldsNoNul value → after_command shell (setting name value) ≡ Some (with_variable shell name value)
-after_setting shell name None is none = after_unset shell name is
-after_setting shell name (Some (one text)) is none =
-    after_equals shell name (quoted text) (one text) is (value_of_quoted name text none)
-after_setting shell name (Some (many words)) is none =
-    after_equals shell name _ (many words) is (value_of_words name words none)
-
-after_option : (shell : Shell) (arrays : Bool) (name : Text) (kind : HasArg) (occurrence : Occur) (founds : List Found)
-    → is_variable name ≡ true → HoldNoNul (texts_found founds)
-    → after_command shell (option_setting arrays name kind occurrence founds)
-    ≡ Some (with_variable shell name (held_value arrays kind occurrence founds))
-after_option shell arrays name No occurrence founds is none =
-    after_equals shell name (decimal (length founds)) (one (decimal (length founds))) is
-    (value_of_digits name (decimal (length founds)) (decimal_digits (length founds)))
-after_option shell arrays name Yes occurrence founds is none =
-    after_setting shell name (held_value arrays Yes occurrence founds) is (held_no_nul arrays occurrence founds none)
-after_option shell arrays name Maybe occurrence founds is none =
-    after_setting shell name (held_value arrays Maybe occurrence founds) is (held_no_nul arrays occurrence founds none)
+after_set : (shell : Shell) (words : List Text)
+    → after_command shell (set_front ++ quoted_words words) ≡ Some (record shell { words = words })
+after_set shell words = ap (option_map (λ (words : List Text). record shell { words = words })) (words_same words)
 
 -- ---- each command ends where its line does
 
-front_set : IsFront (92 ∷ 115 ∷ 101 ∷ 116 ∷ 32 ∷ 45 ∷ 45 ∷ 32 ∷ [])
+front_set : IsFront set_front
 front_set command more = ap (λ (c : Text). commands plain c more) (simp append_assoc refl)
 
-front_unset : IsFront (92 ∷ 117 ∷ 110 ∷ 115 ∷ 101 ∷ 116 ∷ 32 ∷ 45 ∷ 118 ∷ 32 ∷ [])
+front_unset : IsFront unset_front
 front_unset command more = ap (λ (c : Text). commands plain c more) (simp append_assoc refl)
 
-front_setting : (name : Text) (value : Option Value) → IsFront name → IsFront (setting name value)
-front_setting name None is = front_append _ name front_unset is
-front_setting name (Some (one text)) is =
-    front_append name (61 ∷ quoted text) is
-    (front_append (61 ∷ []) (quoted text) (front_plain (61 ∷ []) refl) (front_quoted text))
-front_setting name (Some (many words)) is =
-    let array : Text = quoted_words words ++ 41 ∷ [] in
-    front_append name (61 ∷ 40 ∷ 36 ∷ 123 ∷ (name ++ 43 ∷ 125 ∷ 32 ∷ array)) is
-    (front_append (61 ∷ 40 ∷ 36 ∷ 123 ∷ []) (name ++ 43 ∷ 125 ∷ 32 ∷ array)
-    (front_plain (61 ∷ 40 ∷ 36 ∷ 123 ∷ []) refl)
-    (front_append name (43 ∷ 125 ∷ 32 ∷ array) is
-    (front_append (43 ∷ 125 ∷ 32 ∷ []) array (front_plain (43 ∷ 125 ∷ 32 ∷ []) refl)
-    (front_append (quoted_words words) (41 ∷ []) (front_words words) (front_plain (41 ∷ []) refl)))))
+front_array : (name : Text) (words : List Text) → IsFront name
+    → IsFront (array_front name ++ (quoted_words words ++ 41 ∷ []))
+front_array name words is =
+    front_append (array_front name) (quoted_words words ++ 41 ∷ [])
+    (front_append (40 ∷ 36 ∷ 123 ∷ []) (name ++ (43 ∷ 125 ∷ 32 ∷ [])) (front_plain (40 ∷ 36 ∷ 123 ∷ []) refl)
+    (front_append name (43 ∷ 125 ∷ 32 ∷ []) is (front_plain (43 ∷ 125 ∷ 32 ∷ []) refl)))
+    (front_append (quoted_words words) (41 ∷ []) (front_words words) (front_plain (41 ∷ []) refl))
 
-front_option : (arrays : Bool) (name : Text) (kind : HasArg) (occurrence : Occur) (founds : List Found)
-    → IsFront name → IsFront (option_setting arrays name kind occurrence founds)
-front_option arrays name No occurrence founds is =
-    let count = decimal (length founds) in
-    front_append name (61 ∷ count) is (front_append (61 ∷ []) count (front_plain (61 ∷ []) refl)
-    (front_plain count (plain_digits count (decimal_digits (length founds)))))
-front_option arrays name Yes occurrence founds is =
-    front_setting name (held_value arrays Yes occurrence founds) is
-front_option arrays name Maybe occurrence founds is =
-    front_setting name (held_value arrays Maybe occurrence founds) is
+front_equals : (name code : Text) → IsFront name → IsFront code → IsFront (name ++ 61 ∷ code)
+front_equals name code is also =
+    front_append name (61 ∷ code) is (front_append (61 ∷ []) code (front_plain (61 ∷ []) refl) also)
 
 -- ---- all options
 
--- no value of these groups holds a NUL byte
-abbrev AreSayable : List MatchedGroup → Type 0
-AreSayable groups = AllByRecursion (λ group. HoldNoNul (texts_found group.found)) groups
+-- what a shell where a variable is unset holds once it has this value, if any
+abbrev valued : Shell → Text → Option Value → Shell
+valued shell name None = shell
+valued shell name (Some value) = with_variable shell name (Some value)
 
--- nor does one of matches, where none of the texts that they hold does
-sayable : (groups : List MatchedGroup) (free : List Text)
-    → HoldNoNul (flat_map (λ group. texts_found group.found) groups ++ free) → AreSayable groups × HoldNoNul free
-sayable [] free none = (tt, none)
-sayable (group ∷ groups) free none =
-    let parts = each_part (texts_found group.found)
-    (flat_map (λ group. texts_found group.found) groups ++ free)
-    (subst HoldNoNul (append_assoc (texts_found group.found) (flat_map (λ group. texts_found group.found) groups) free)
-    none) in
-    let rest = sayable groups free parts.1 in
-    ((parts.0, rest.0), rest.1)
-  where
-    each_part : (front back : List Text) → HoldNoNul (front ++ back) → HoldNoNul front × HoldNoNul back
-    each_part [] back none = (tt, none)
-    each_part (word ∷ front) back none = let rest = each_part front back none.1 in ((none.0, rest.0), rest.1)
+-- what a shell holds after the commands for options
+abbrev after_options : Text → Bool → Shell → List Given → Shell
+after_options prefix arrays shell [] = shell
+after_options prefix arrays shell (option ∷ options) =
+    let name = own_variable prefix option in
+    after_options prefix arrays (valued (with_variable shell name None) name (own_value arrays option)) options
 
--- what a shell holds after the lines for groups
-abbrev after_groups : Text → Bool → Shell → List MatchedGroup → Shell
-after_groups prefix arrays shell [] = shell
-after_groups prefix arrays shell (group ∷ groups) =
-    after_groups prefix arrays (with_variable shell (group_variable prefix group) (group_value arrays group)) groups
-
-after_group : (prefix : Text) (arrays : Bool) (shell : Shell) (group : MatchedGroup) (more : Text)
-    → is_variable (group_variable prefix group) ≡ true → HoldNoNul (texts_found group.found)
-    → shell_after shell (variable_line prefix arrays group ++ more)
-    ≡ shell_after (with_variable shell (group_variable prefix group) (group_value arrays group)) more
-after_group prefix arrays shell group more is none =
-    let name = group_variable prefix group in
+-- a command that assigns is done, and what follows is read
+after_value : (shell : Shell) (name code : Text) (value : Value) (more : Text) → is_variable name ≡ true
+    → IsFront code → shell.value name ≡ None → value_of_code name code ≡ Some value
+    → shell_after shell ((name ++ 61 ∷ code) ++ 10 ∷ more)
+    ≡ shell_after (with_variable shell name (Some value)) more
+after_value shell name code value more is front unset holds =
     let bytes = (and_parts (begins_variable name) (list_all is_variable_byte name) is).1 in
-    let command = option_setting arrays name group.signature.kind group.signature.occurrence group.found in
-    ap (shell_after shell) (append_assoc command (10 ∷ []) more)
-    ∙ after_line shell (with_variable shell name (group_value arrays group)) command more
-    (front_option arrays name group.signature.kind group.signature.occurrence group.found
-    (front_plain name (plain_name name bytes)))
-    (after_option shell arrays name group.signature.kind group.signature.occurrence group.found is none)
+    after_line shell (with_variable shell name (Some value)) (name ++ 61 ∷ code) more
+    (front_equals name code (front_plain name (plain_name name bytes)) front)
+    (after_equals shell name code value is unset holds)
 
-after_lines : (prefix : Text) (arrays : Bool) (before : List Names) (shell : Shell) (groups : List MatchedGroup)
-    (more : Text) → HaveOwnVariables prefix before (held_names groups) → AreSayable groups
-    → shell_after shell (flat_map (variable_line prefix arrays) groups ++ more)
-    ≡ shell_after (after_groups prefix arrays shell groups) more
-after_lines prefix arrays before shell [] more own none = refl
-after_lines prefix arrays before shell (group ∷ groups) more own none =
-    ap (shell_after shell)
-    (append_assoc (variable_line prefix arrays group) (flat_map (variable_line prefix arrays) groups) more)
-    ∙ after_group prefix arrays shell group (flat_map (variable_line prefix arrays) groups ++ more) own.0 none.0
-    ∙ after_lines prefix arrays (before ++ group.signature.names ∷ [])
-    (with_variable shell (group_variable prefix group) (group_value arrays group)) groups more own.2 none.1
+-- so is the line that gives a value
+after_value_line : (shell : Shell) (name : Text) (value : Option Value) (more : Text) → is_variable name ≡ true
+    → shell.value name ≡ None
+    → shell_after shell (value_line name value ++ more) ≡ shell_after (valued shell name value) more
+after_value_line shell name None more is unset = refl
+after_value_line shell name (Some (one text)) more is unset =
+    ap (shell_after shell) (append_assoc name (61 ∷ (quoted text ++ 10 ∷ [])) more
+    ∙ ap (λ (t : Text). name ++ 61 ∷ t) (append_assoc (quoted text) (10 ∷ []) more)
+    ∙ sym (append_assoc name (61 ∷ quoted text) (10 ∷ more)))
+    ∙ after_value shell name (quoted text) (one text) more is (front_quoted text) unset (value_of_quoted name text)
+after_value_line shell name (Some (many words)) more is unset =
+    let front = array_front name in
+    let all = quoted_words words in
+    let bytes = (and_parts (begins_variable name) (list_all is_variable_byte name) is).1 in
+    ap (shell_after shell) (append_assoc name (61 ∷ (front ++ (all ++ 41 ∷ 10 ∷ []))) more
+    ∙ ap (λ (t : Text). name ++ 61 ∷ t) (append_assoc front (all ++ 41 ∷ 10 ∷ []) more
+    ∙ ap (λ (t : Text). front ++ t) (append_assoc all (41 ∷ 10 ∷ []) more
+    ∙ sym (append_assoc all (41 ∷ []) (10 ∷ more)))
+    ∙ sym (append_assoc front (all ++ 41 ∷ []) (10 ∷ more)))
+    ∙ sym (append_assoc name (61 ∷ (front ++ (all ++ 41 ∷ []))) (10 ∷ more)))
+    ∙ after_value shell name (front ++ (all ++ 41 ∷ [])) (many words) more is
+    (front_array name words (front_plain name (plain_name name bytes))) unset (value_of_words name words)
 
--- a variable that none of the groups has is as it was
-others_kept : (prefix : Text) (arrays : Bool) (shell : Shell) (name : Text) (groups : List MatchedGroup)
-    → AllByRecursion (λ group. group_variable prefix group ≢ name) groups
-    → (after_groups prefix arrays shell groups).value name ≡ shell.value name
-others_kept prefix arrays shell name [] apart = refl
-others_kept prefix arrays shell name (group ∷ groups) apart =
-    let variable = group_variable prefix group in
+after_option : (prefix : Text) (arrays : Bool) (shell : Shell) (option : Given) (more : Text)
+    → is_variable (own_variable prefix option) ≡ true
+    → shell_after shell (option_code prefix arrays option ++ more)
+    ≡ shell_after (after_options prefix arrays shell (option ∷ [])) more
+after_option prefix arrays shell option more is =
+    let name = own_variable prefix option in
+    let line = value_line name (own_value arrays option) in
+    let bytes = (and_parts (begins_variable name) (list_all is_variable_byte name) is).1 in
+    let next = with_variable shell name None in
+    ap (shell_after shell) (append_assoc (unset_line name) line more
+    ∙ ap (λ (t : Text). unset_front ++ t) (append_assoc name (10 ∷ []) (line ++ more))
+    ∙ sym (append_assoc unset_front name (10 ∷ (line ++ more))))
+    ∙ after_line shell next (unset_front ++ name) (line ++ more)
+    (front_append unset_front name front_unset (front_plain name (plain_name name bytes))) (after_unset shell name is)
+    ∙ after_value_line next name (own_value arrays option) more is (rw (same_text name) refl)
+
+after_codes : (prefix : Text) (arrays : Bool) (before : List Names) (shell : Shell) (options : List Given)
+    (more : Text) → HaveOwnVariables prefix before (map (λ (option : Given). option.names) options)
+    → shell_after shell (flat_map (option_code prefix arrays) options ++ more)
+    ≡ shell_after (after_options prefix arrays shell options) more
+after_codes prefix arrays before shell [] more own = refl
+after_codes prefix arrays before shell (option ∷ options) more own =
+    let code = option_code prefix arrays in
+    ap (shell_after shell) (append_assoc (code option) (flat_map code options) more)
+    ∙ after_option prefix arrays shell option (flat_map code options ++ more) own.0
+    ∙ after_codes prefix arrays (before ++ option.names ∷ [])
+    (after_options prefix arrays shell (option ∷ [])) options more own.2
+
+-- what a shell holds in a variable after the commands for one option
+held_after : (shell : Shell) (name other : Text) (value : Option Value)
+    → (valued (with_variable shell name None) name value).value other
+    ≡ cond (bytes_eq other name) value (shell.value other)
+held_after shell name other None = refl
+held_after shell name other (Some value) = by_test (bytes_eq other name)
+  where
+    by_test : (test : Bool) → cond test (Some value) (cond test None (shell.value other))
+        ≡ cond test (Some value) (shell.value other)
+    by_test true = refl
+    by_test false = refl
+
+-- a variable that none of the options has is as it was
+others_kept : (prefix : Text) (arrays : Bool) (shell : Shell) (name : Text) (options : List Given)
+    → AllByRecursion (λ option. own_variable prefix option ≢ name) options
+    → (after_options prefix arrays shell options).value name ≡ shell.value name
+others_kept prefix arrays shell name [] others = refl
+others_kept prefix arrays shell name (option ∷ options) others =
+    let variable = own_variable prefix option in
     let differs : bytes_eq name variable ≡ false = false_from_ne_true (bytes_eq name variable)
-    (λ same. apart.0 (sym ((bytes_eq-Decides name variable).0 same))) in
-    others_kept prefix arrays (with_variable shell variable (group_value arrays group)) name groups apart.1
+    (λ same. others.0 (sym ((bytes_eq-Decides name variable).0 same))) in
+    others_kept prefix arrays (after_options prefix arrays shell (option ∷ [])) name options others.1
+    ∙ held_after shell variable name (own_value arrays option)
     ∙ rw differs refl
 
 -- names after others don't make the variable of one of these
-apart_from : (prefix : Text) (names : Names) (front back : List Names) (groups : List MatchedGroup)
-    → HaveOwnVariables prefix (front ++ names ∷ back) (held_names groups)
-    → AllByRecursion (λ group. group_variable prefix group ≢ variable_of prefix names) groups
-apart_from prefix names front back [] own = tt
-apart_from prefix names front back (group ∷ groups) own =
-    let same = λ (other : Names). bytes_eq (variable_of prefix other) (group_variable prefix group) in
+make_others : (prefix : Text) (names : Names) (front back : List Names) (options : List Given)
+    → HaveOwnVariables prefix (front ++ names ∷ back) (map (λ (option : Given). option.names) options)
+    → AllByRecursion (λ option. own_variable prefix option ≢ variable_of prefix names) options
+make_others prefix names front back [] own = tt
+make_others prefix names front back (option ∷ options) own =
+    let same = λ (other : Names). bytes_eq (variable_of prefix other) (own_variable prefix option) in
     let none : list_any same (front ++ names ∷ back) ≡ false = own.1 in
     let parts = or_parts (list_any same front) (list_any same (names ∷ back))
     (sym (list_any-append same front (names ∷ back)) ∙ none) in
     let differs = (or_parts (same names) (list_any same back) parts.1).0 in (
       λ is. absurd (true_is_false
-          (sym ((bytes_eq-Decides (variable_of prefix names) (group_variable prefix group)).1 (sym is)) ∙ differs)),
-      apart_from prefix names front (back ++ group.signature.names ∷ []) groups
-          (subst (λ (before : List Names). HaveOwnVariables prefix before (held_names groups))
-          (append_assoc front (names ∷ back) (group.signature.names ∷ [])) own.2),
+          (sym ((bytes_eq-Decides (variable_of prefix names) (own_variable prefix option)).1 (sym is)) ∙ differs)),
+      make_others prefix names front (back ++ option.names ∷ []) options
+          (subst
+          (λ (before : List Names). HaveOwnVariables prefix before (map (λ (option : Given). option.names) options))
+          (append_assoc front (names ∷ back) (option.names ∷ [])) own.2),
     )
   where
     true_is_false : true ≡ false → ⊥
     true_is_false is = cc
 
-options_held : (prefix : Text) (arrays : Bool) (before : List Names) (shell : Shell) (groups : List MatchedGroup)
-    → HaveOwnVariables prefix before (held_names groups)
-    → AllByRecursion (λ group. (after_groups prefix arrays shell groups).value (group_variable prefix group)
-    ≡ group_value arrays group) groups
+options_held : (prefix : Text) (arrays : Bool) (before : List Names) (shell : Shell) (options : List Given)
+    → HaveOwnVariables prefix before (map (λ (option : Given). option.names) options)
+    → AllByRecursion (λ option. (after_options prefix arrays shell options).value (own_variable prefix option)
+    ≡ own_value arrays option) options
 options_held prefix arrays before shell [] own = tt
-options_held prefix arrays before shell (group ∷ groups) own =
-    let variable = group_variable prefix group in
-    let next = with_variable shell variable (group_value arrays group) in (
-      others_kept prefix arrays next variable groups
-          (apart_from prefix group.signature.names before [] groups own.2)
+options_held prefix arrays before shell (option ∷ options) own =
+    let variable = own_variable prefix option in
+    let next = after_options prefix arrays shell (option ∷ []) in (
+      others_kept prefix arrays next variable options (make_others prefix option.names before [] options own.2)
+          ∙ held_after shell variable variable (own_value arrays option)
           ∙ rw (same_text variable) refl,
-      options_held prefix arrays (before ++ group.signature.names ∷ []) next groups own.2,
+      options_held prefix arrays (before ++ option.names ∷ []) next options own.2,
     )
 
 -- the values that a text of words gives
-once_more : (groups : List MatchedGroup) → AreSayable groups
-    → AllByRecursion (λ group. shell_words (quoted_words (texts_found group.found)) ≡ Some (texts_found group.found))
-    groups
-once_more [] none = tt
-once_more (group ∷ groups) none = (words_same (texts_found group.found) none.0, once_more groups none.1)
+pub once_more : (options : List Given)
+    → AllByRecursion (λ option. shell_words (quoted_words (texts_found option.found)) ≡ Some (texts_found option.found))
+    options
+once_more [] = tt
+once_more (option ∷ options) = (words_same (texts_found option.found), once_more options)
 
--- the shell holds what the matches do
-pub code_sets : (prefix : Text) (arrays : Bool) (matches : Matched)
-    → HaveOwnVariables prefix [] (held_names matches.groups) → HoldNoNul (texts_held matches)
-    → SetsVariables prefix arrays matches
-code_sets prefix arrays matches own none = record {
-  own = own;
-  shell = λ before.
-      let held = after_groups prefix arrays before matches.groups in
-      let set : Text = 92 ∷ 115 ∷ 101 ∷ 116 ∷ 32 ∷ 45 ∷ 45 ∷ 32 ∷ [] in
-      let after : Shell = record held { words = matches.free } in (
-        after,
-        after_lines prefix arrays [] before matches.groups (set ++ (quoted_words matches.free ++ 10 ∷ [])) own
-            (sayable matches.groups matches.free none).0
-            ∙ after_line held after (set ++ quoted_words matches.free) []
-            (front_append set (quoted_words matches.free) front_set (front_words matches.free))
-            (after_set held matches.free (sayable matches.groups matches.free none).1),
-        record {
-          options = options_held prefix arrays [] before matches.groups own;
-          others = λ name apart. others_kept prefix arrays before name matches.groups apart;
-          words = refl;
-        },
-      );
-  once_more = once_more matches.groups (sayable matches.groups matches.free none).0;
-}
+-- ---- the last command
+
+-- words that are set after other commands; the last line end may have gone
+runs_set : (before held : Shell) (front : Text) (words : List Text)
+    → ((more : Text) → shell_after before (front ++ more) ≡ shell_after held more)
+    → Runs before (front ++ line_code words) (record held { words = words })
+runs_set before held front words so_far =
+    let command = set_front ++ quoted_words words in
+    let after : Shell = record held { words = words } in
+    let is = front_append set_front (quoted_words words) front_set (front_words words) in
+    let text : front ++ line_code words ≡ (front ++ command) ++ 10 ∷ [] =
+    sym (append_assoc front command (10 ∷ [])) in
+    record {
+      whole = so_far (line_code words) ∙ after_line held after command [] is (after_set held words);
+      cut = ap (λ (t : Text). shell_after before (take (length t - 1) t)) text
+          ∙ ap (shell_after before) (take_at (front ++ command) (10 ∷ []) _
+          (omega (arith, length-append (front ++ command) (10 ∷ []))))
+          ∙ so_far command
+          ∙ ap (λ (t : Text). shell_after held t) (sym (append-nil command))
+          ∙ ap (option_and_then (after_commands held)) (is [] [])
+          ∙ ap (λ (b : Bool). option_and_then (after_commands held) (Some (cond b [] (command ∷ []))))
+          (is_empty-cons 92 (drop 1 set_front ++ quoted_words words))
+          ∙ ap (option_and_then (λ (next : Shell). Some next)) (after_set held words);
+    }
+
+-- a shell that runs the command holds the words
+pub line_runs : (words : List Text) (before : Shell) → Runs before (line_code words) (record before { words = words })
+line_runs words before = runs_set before before [] words (λ more. refl)
+
+-- a shell that runs the text holds what the options do
+pub code_runs : (prefix : Text) (arrays : Bool) (options : List Given) (free : List Text)
+    → HaveOwnVariables prefix [] (map (λ (option : Given). option.names) options)
+    → RunsTo prefix arrays (variables_code prefix arrays options free) options free
+code_runs prefix arrays options free own before =
+    let held = after_options prefix arrays before options in (
+      record held { words = free },
+      runs_set before held (flat_map (option_code prefix arrays) options) free
+          (λ more. after_codes prefix arrays [] before options more own),
+      record {
+        own = options_held prefix arrays [] before options own;
+        others = λ name others. others_kept prefix arrays before name options others;
+        words = refl;
+      },
+    )

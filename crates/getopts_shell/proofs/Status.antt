@@ -2,9 +2,10 @@
 use Rattle.std.proofs.Common.{◌≢◌, ◌≤◌, ℕ, List, [], ◌∷◌, Option, Some, None, sym, subst, arith}
 use Rattle.std.specs.Option.{option_map_or}
 use Rattle.getopts.specs.Names.{Text}
-use Rattle.getopts.specs.Options.{Declared, Group}
+use Rattle.getopts.specs.Options.{Declared}
+use Rattle.getopts_shell.specs.Table.{Entry}
 use Rattle.getopts_shell.specs.Completion.{stub}
-use Rattle.getopts_shell.specs.Program.{Answer, Asked, done, misused, no_completion, AnswersPlace, AnswersNumbered, AnswersOffer, at_place, no_shell, offered, no_place}
+use Rattle.getopts_shell.specs.Program.{Answer, Asked, done, misused, no_completion, AnswersOffer, offered, no_shell}
 use Rattle.getopts_shell.specs.Program.{AnswersScript, usage, offers, help, alone, accepted, variables, refused}
 use Rattle.getopts_shell.specs.Program.{AnswersAlone, as_line, as_variables}
 use Rattle.getopts_shell.specs.Program.{faulty, completion, no_variables, declared, AnswersFree, IsStatus}
@@ -31,32 +32,22 @@ of_completion : (fault : Text) (code : Option Text) → AnswersBy (option_map_or
 of_completion fault (Some text) = is_done
 of_completion fault None = is_misused
 
-of_place : {options : Declared} {number : Text} {words : List Text} {answer : Answer}
-    → AnswersPlace options number words answer → AnswersBy answer.status
-of_place (offered place text writes within is) = is_done
-of_place (no_place none) = is_misused
-
-of_numbered : (options : Declared) (words : List Text) (answer : Answer)
-    → AnswersNumbered options words answer → AnswersBy answer.status
-of_numbered options [] answer is = of_place is
-of_numbered options (number ∷ words) answer is = of_place is
-
 of_offer : {shell : Text} {options : Declared} {words : List Text} {answer : Answer}
     → AnswersOffer shell options words answer → AnswersBy answer.status
-of_offer {options = options} {words = words} (at_place answer has is) = of_numbered options words answer is
+of_offer (offered text has is) = is_done
 of_offer (no_shell none) = is_misused
 
-of_alone : {asked : Asked} {options : Declared} {group : Group} {answer : Answer}
-    → AnswersAlone asked options group answer → AnswersBy answer.status
+of_alone : {asked : Asked} {options : Declared} {entries : List Entry} {entry : Entry} {answer : Answer}
+    → AnswersAlone asked options entries entry answer → AnswersBy answer.status
 of_alone (as_line plain is) = is_done
 of_alone (as_variables prefix matches by read sets) = is_done
 
-of_script : {asked : Asked} {name : Text} {options : Declared} {words : List Text} {answer : Answer}
-    → AnswersScript asked name options words answer → AnswersBy answer.status
+of_script : {asked : Asked} {name : Text} {options : Declared} {entries : List Entry} {words : List Text} {answer : Answer}
+    → AnswersScript asked name options entries words answer → AnswersBy answer.status
 of_script (usage text given is) = is_done
 of_script (offers shell answer none given is) = of_offer is
 of_script (help text reads asks is commands) = is_done
-of_script (alone group answer reads asks is) = of_alone is
+of_script (alone entry answer reads asks is) = of_alone is
 of_script (accepted line reads none plain is) = is_done
 of_script (variables prefix matches reads none by is sets) = is_done
 of_script (refused fault reads none is) = is_refused
@@ -66,10 +57,10 @@ of_free : (asked : Asked) (words : List Text) (answer : Answer) → AnswersFree 
 of_free asked [] answer is = subst (λ (a : Answer). AnswersBy a.status) (sym is) is_misused
 of_free asked (name ∷ []) answer is = subst (λ (a : Answer). AnswersBy a.status) (sym is) is_misused
 of_free asked (name ∷ table ∷ words) answer (faulty fault is) = is_misused
-of_free asked (name ∷ table ∷ words) answer (completion groups shell are given) =
+of_free asked (name ∷ table ∷ words) answer (completion entries shell are given) =
     of_completion (no_completion shell) (stub shell asked.stop asked.long_only name table)
-of_free asked (name ∷ table ∷ words) answer (no_variables groups fault are none is) = is_misused
-of_free asked (name ∷ table ∷ words) answer (declared groups other are none fits is) = of_script is
+of_free asked (name ∷ table ∷ words) answer (no_variables entries fault are none is) = is_misused
+of_free asked (name ∷ table ∷ words) answer (declared entries other are none fits is) = of_script is
 
 -- each answer has one of these
 pub answers_by : (words : List Text) (answer : Answer) → IsAnswer words answer → AnswersBy answer.status

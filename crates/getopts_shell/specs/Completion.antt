@@ -1,10 +1,9 @@
 -- Completion: the code that a shell runs at a script's words, and what the program offers it there.
 use Rattle.std.specs.Prelude.{◌≡◌, ◌==◌, ◌&&◌, ◌||◌, not, ◌-◌, ℕ, nat_eq, Bool, true, false, List, [], ◌∷◌, ◌++◌}
-use Rattle.std.specs.Prelude.{Option, Some, None, codes, decimal, length, slice_get, unwrap_or, if◌then◌else◌}
+use Rattle.std.specs.Prelude.{Option, Some, None, codes, decimal, length, if◌then◌else◌}
 use Rattle.std.specs.List.{flat_map, starts_with}
 use Rattle.std.specs.Option.{option_map_or}
 use Rattle.std.specs.Str.{bytes_eq}
-use Rattle.std.specs.Str.Parse.{IsNumeral, digits_value, without_leading_plus}
 use Rattle.getopts.specs.Accessors.{is_present}
 use Rattle.getopts.specs.Matches.{Matched, matches_of}
 use Rattle.getopts.specs.Names.{Text, is_empty, main_name}
@@ -99,15 +98,6 @@ pub data IsOffer (options : Declared) (before : List Text) (word : Text) : Text 
       → IsOffer options before word (options_lines matches options.long_only word options.groups)
   offers_files : ((matches : Matched) → begins_with_dash word ≡ true → ¬ (MayGoOn options before matches))
       → IsOffer options before word (codes "files\n")
-
--- a text writes a number in decimal digits
-abbrev pub WritesNumber : Text → ℕ → Type 0
-WritesNumber text number = IsNumeral 10 (without_leading_plus text)
-    × (digits_value 10 (without_leading_plus text) ≡ number)
-
--- the word at a place, or an empty one after the last
-abbrev pub word_at : List Text → ℕ → Text
-word_at words place = unwrap_or (slice_get words place) []
 
 -- ---- the code for a shell
 

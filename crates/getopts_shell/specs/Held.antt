@@ -1,17 +1,16 @@
 -- What the code holds, as the definitions see it.
-use Rattle.std.specs.Prelude.{◌≡◌, ⊤, List, [], ◌∷◌, Option, Some, None, map, MatchOption, false}
+use Rattle.std.specs.Prelude.{Bool, if◌then◌else◌, ◌≡◌, ⊤, List, [], ◌∷◌, Option, Some, None, map, MatchOption, false}
 use Rattle.std.specs.List.{AllByRecursion}
 use Rattle.std.specs.Option.{option_map}
 use Rattle.std.specs.String.{string_bytes}
 use Rattle.getopts.specs.Matches.{MatchedGroup, matched}
 use Rattle.getopts.specs.Names.{Text, main_name}
-use Rattle.getopts.specs.Options.{Declared, Group, Signature, group_of, signatures_of, with_group}
+use Rattle.getopts.specs.Options.{Declared, Group, group_of, signatures_of, with_group}
 use Rattle.getopts.specs.Parse.{Reads}
 use Rattle.getopts.specs.Reading.{Occurrence, Reading, holds_equals}
 use Rattle.getopts_shell.specs.Program.{Answer, Asked, own_groups}
-use Rattle.getopts_shell.specs.Quote.{holds_nul}
-use Rattle.getopts_shell.specs.Variables.{VariableFault, arrays_only, no_prefix, no_variable, variable_twice, with_words}
-use Rattle.getopts_shell.specs.Table.{TableFault, no_option, name_twice}
+use Rattle.getopts_shell.specs.Variables.{VariableFault, arrays_only, no_prefix, no_variable, variable_twice}
+use Rattle.getopts_shell.specs.Table.{Entry, shown_group, TableFault, no_option, name_twice}
 use Rattle.getopts_shell.specs.declared.answer.Asked.{Asked as AskedHeld}
 use Rattle.getopts_shell.specs.declared.answer.Outcome.{Outcome}
 use Rattle.getopts_shell.specs.declared.row.Row.{Row}
@@ -20,7 +19,20 @@ use Rattle.getopts_shell.specs.declared.table.TableError.TheVariants as error
 use Rattle.getopts_shell.specs.declared.variables.VariableError.{VariableError}
 use Rattle.getopts_shell.specs.declared.variables.VariableError.TheVariants as variable
 
--- the group of a row
+-- the entry of a row
+abbrev pub entry_of_row : Row → Entry
+entry_of_row row = record {
+  signature = (group_of row.short.now row.long.now row.description.now row.hint.now
+      row.kind row.occurrence).signature;
+  hint = row.hint.now;
+  description = row.description.now;
+  mark = row.mark;
+}
+
+abbrev pub entries_of : List Row → List Entry
+entries_of rows = map entry_of_row rows
+
+-- the group that a row is read by
 abbrev pub group_of_row : Row → Group
 group_of_row row = group_of row.short.now row.long.now row.description.now row.hint.now
     row.kind row.occurrence
@@ -28,6 +40,11 @@ group_of_row row = group_of row.short.now row.long.now row.description.now row.h
 -- the groups of rows
 abbrev pub groups_of : List Row → List Group
 groups_of rows = map group_of_row rows
+
+-- the groups of rows, as they are shown or as they are read
+abbrev pub groups_as : Bool → List Row → List Group
+groups_as shown rows =
+    map (λ row. if shown then shown_group (entry_of_row row) else group_of_row row) rows
 
 -- the fault that an error of a table tells, unless it tells that memory was refused
 abbrev pub fault_told : TableError → Option TableFault
@@ -49,7 +66,6 @@ asked_of asked = record {
   brief = option_map string_bytes asked.brief;
   stop = asked.stop;
   long_only = asked.long_only;
-  words = asked.words;
   usage = asked.usage;
   complete = option_map string_bytes asked.complete;
   complete_words = option_map string_bytes asked.complete_words;
@@ -61,11 +77,10 @@ asked_of asked = record {
 abbrev pub HasOwnGroups : List MatchedGroup → Type 0
 HasOwnGroups groups = (occurrences : List Occurrence) × (groups ≡ matched 0 (signatures_of own_groups) occurrences)
 
--- no main name holds `=` or a NUL byte
+-- no main name holds `=`
 abbrev pub ArePlainlyNamed : List Group → Type 0
-ArePlainlyNamed groups = AllByRecursion
-    (λ group. (holds_equals (main_name group.signature.names) ≡ false)
-    × (holds_nul (main_name group.signature.names) ≡ false)) groups
+ArePlainlyNamed groups =
+    AllByRecursion (λ group. holds_equals (main_name group.signature.names) ≡ false) groups
 
 -- the words have a reading
 abbrev pub HaveReading : Declared → List Text → Type 0
@@ -76,13 +91,8 @@ abbrev pub with_groups : Declared → List Group → Declared
 with_groups options [] = options
 with_groups options (group ∷ groups) = with_groups (with_group options group) groups
 
--- what reading asks of each group that matches hold
-abbrev pub held_signatures : List MatchedGroup → List Signature
-held_signatures groups = map (λ group. group.signature) groups
-
 -- the fault that an error of variables tells
 abbrev pub variable_fault_told : VariableError → VariableFault
-variable_fault_told variable.WithWords = with_words
 variable_fault_told variable.ArraysOnly = arrays_only
 variable_fault_told (variable.NoPrefix prefix) = no_prefix prefix.now
 variable_fault_told (variable.NoVariable number name) = no_variable number name.now

@@ -1,8 +1,8 @@
 -- The program: what it answers to words, and with which status.
-use Rattle.std.specs.Prelude.{◌≡◌, ◌≢◌, ◌≤◌, ◌&&◌, ◌||◌, ℕ, Bool, true, false, List, [], ◌∷◌, ◌++◌, Option}
-use Rattle.std.specs.Prelude.{Some, None, codes, decimal, if◌then◌else◌, length, take}
+use Rattle.std.specs.Prelude.{◌≡◌, ◌≢◌, ◌≤◌, ◌&&◌, ◌||◌, ◌-◌, ℕ, Bool, true, false, List, [], ◌∷◌, ◌++◌, Option}
+use Rattle.std.specs.Prelude.{Some, None, codes, decimal, if◌then◌else◌, length, map, take}
 use Rattle.std.specs.Io.KnownBytes.{Appends}
-use Rattle.std.specs.List.{AllByRecursion, find, list_any}
+use Rattle.std.specs.List.{AllByRecursion, find, last_or, list_any}
 use Rattle.std.specs.Option.{option_map_or, unwrap_or}
 use Rattle.std.specs.Str.{bytes_eq}
 use Rattle.getopts.specs.Accessors.{first_value, found_of, is_present}
@@ -20,13 +20,16 @@ use Rattle.getopts.specs.declared.groups.HasArg.{HasArg}
 use Rattle.getopts.specs.declared.groups.HasArg.TheVariants.{Yes, No}
 use Rattle.getopts.specs.declared.groups.Occur.TheVariants.{Optional}
 use Rattle.getopts.specs.declared.groups.ParsingStyle.TheVariants.{FloatingFrees, StopAtFirstFree}
-use Rattle.getopts_shell.specs.Completion.{IsOffer, WritesNumber, stub, word_at}
+use Rattle.getopts_shell.specs.Completion.{IsOffer, stub}
 use Rattle.getopts_bytes.specs.Marks.{bytes_of}
-use Rattle.getopts_shell.specs.Quote.{AreCommands, HoldNoNul, holds_nul, quoted, quoted_words, shell_words}
-use Rattle.getopts_shell.specs.Table.{DeclaresOptions, IsTableFault, TableFault, alone_mark, no_option, name_twice}
+use Rattle.getopts_shell.specs.Quote.{quoted, shell_words}
+use Rattle.getopts_shell.specs.declared.row.Mark.{Mark}
+use Rattle.getopts_shell.specs.declared.row.Mark.TheVariants.{Alone}
+use Rattle.getopts_shell.specs.Table.{Entry, group_of_entry, shown_group, DeclaresOptions, IsTableFault, TableFault}
+use Rattle.getopts_shell.specs.Table.{no_option, name_twice}
 use Rattle.getopts_shell.specs.Table.{reason_of}
-use Rattle.getopts_shell.specs.Variables.{SetsVariables, VariableFault, no_prefix, no_variable, prefix_fault}
-use Rattle.getopts_shell.specs.Variables.{arrays_only, variable_twice, variables_code, with_words}
+use Rattle.getopts_shell.specs.Variables.{SetsVariables, SetsWords, VariableFault, arrays_only, given_from, line_code}
+use Rattle.getopts_shell.specs.Variables.{no_prefix, no_variable, prefix_fault, variable_twice, variables_code}
 
 -- ---- the program's own options
 
@@ -35,14 +38,13 @@ own_groups =
     group_of (codes "b") (codes "brief") (codes "begin the help with TEXT") (codes "TEXT") Yes Optional
     ∷ group_of (codes "s") (codes "stop") (codes "leave all words from the first free one on free") [] No Optional
     ∷ group_of (codes "l") (codes "long-only") (codes "let long names follow one dash too") [] No Optional
-    ∷ group_of (codes "w") (codes "words") (codes "write the words alone, without 'set --'") [] No Optional
     ∷ group_of (codes "V") (codes "variables") (codes "set a variable for each option, named PREFIX and its name")
     (codes "PREFIX") Yes Optional
     ∷ group_of (codes "A") (codes "arrays") (codes "with --variables, make an array of values") [] No Optional
     ∷ group_of (codes "u") (codes "usage") (codes "write the help of TABLE") [] No Optional
     ∷ group_of (codes "c") (codes "complete") (codes "write a completion script for bash, zsh or fish")
     (codes "SHELL") Yes Optional
-    ∷ group_of [] (codes "complete-words") (codes "write what may come at word N, where the WORDs are N and words")
+    ∷ group_of [] (codes "complete-words") (codes "write what may come at the last WORD")
     (codes "SHELL") Yes Optional
     ∷ group_of (codes "h") (codes "help") (codes "print this help") [] No Optional
     ∷ group_of [] (codes "version") (codes "print the version") [] No Optional
@@ -65,7 +67,6 @@ pub record Asked : Type 0 where
   pub brief : Option Text
   pub stop : Bool
   pub long_only : Bool
-  pub words : Bool
   pub usage : Bool
   pub complete : Option Text
   pub complete_words : Option Text
@@ -78,7 +79,6 @@ asked_by own = record {
   brief = value_given own (codes "brief");
   stop = is_given own (codes "stop");
   long_only = is_given own (codes "long-only");
-  words = is_given own (codes "words");
   usage = is_given own (codes "usage");
   complete = value_given own (codes "complete");
   complete_words = value_given own (codes "complete-words");
@@ -110,11 +110,6 @@ misused text = record { text = text; status = 5 }
 abbrev pub fault_line : Text → Fault → Text
 fault_line name fault = name ++ (codes ": " ++ (fault_text fault ++ codes "\n"))
 
--- a fault of the script's words, with its short usage
-abbrev pub refused_text : Declared → Text → Fault → Text
-refused_text options name fault =
-    fault_line name fault ++ (short_usage_text options name ++ codes "\n")
-
 -- the line of a fault of a table
 abbrev pub table_fault_line : TableFault → Text
 table_fault_line (no_option number item) = codes "getopts_shell: line "
@@ -132,10 +127,29 @@ script_options asked groups = record {
   long_only = asked.long_only;
 }
 
--- the help of a script: it begins with the text that was given, or else with the short usage
+-- the options of a table as the script's words are read by them, and as its help shows them
+abbrev pub read_groups : List Entry → List Group
+read_groups entries = map group_of_entry entries
+
+abbrev pub shown_options : Asked → List Entry → Declared
+shown_options asked entries = script_options asked (map shown_group entries)
+
+-- the text that a script's help begins with: the one that was given, or else the short usage
+abbrev pub brief_text : Asked → Text → Declared → Text
+brief_text asked name shown = unwrap_or asked.brief (short_usage_text shown name)
+
+-- the help of a script
 abbrev pub IsHelp : Asked → Text → Declared → Text → Type 0
-IsHelp asked name options help =
-    IsTheOnly (IsUsageText options (unwrap_or asked.brief (short_usage_text options name))) help
+IsHelp asked name shown help = IsTheOnly (IsUsageText shown (brief_text asked name shown)) help
+
+-- a fault of the script's words, and the text that its help begins with
+abbrev pub refused_text : Asked → Declared → Text → Fault → Text
+refused_text asked shown name fault = fault_line name fault ++ (brief_text asked name shown ++ codes "\n")
+
+-- a shell makes of this text in quotes one word, itself; and of the bytes of that the bytes of the text
+pub record IsOneWord (text : Text) : Type 0 where
+  pub shell : shell_words (quoted text) ≡ Some (text ∷ [])
+  pub bytes : shell_words (bytes_of (quoted text)) ≡ Some (bytes_of text ∷ [])
 
 -- the code that prints a help, and ends the script; no alias stands for a word that begins with `\`
 abbrev pub help_code : Text → Text
@@ -156,37 +170,40 @@ abbrev pub AskHelp : Declared → List Text → Type 0
 AskHelp options words = (matches : Matched) × HasReading options words matches
     × (offers_help options.groups ≡ true) × (is_present matches.groups (codes "help") ≡ true)
 
--- whether an option stands alone: it takes no argument, and has the hint that tells so
-abbrev pub stands_alone : Group → Bool
-stands_alone group = is_no group.signature.kind && bytes_eq group.hint alone_mark
+-- whether an option stands alone
+abbrev pub stands_alone : Mark → Bool
+stands_alone Alone = true
+stands_alone mark = false
 
--- whether it does, and matches have it
-abbrev pub is_alone : Matched → Group → Bool
-is_alone matches group = stands_alone group && is_present matches.groups (main_name group.signature.names)
+-- whether the option of an entry does, and matches have it
+abbrev pub is_alone : Matched → Entry → Bool
+is_alone matches entry =
+    stands_alone entry.mark && is_present matches.groups (main_name entry.signature.names)
 
--- The words ask for this option alone: they don't ask for help, and have a reading, whatever its counts, with
--- options that stand alone, of which it is the first in the table.
-pub record AskAlone (options : Declared) (words : List Text) (group : Group) : Type 0 where
+-- The words ask for the option of this entry alone: they don't ask for help, and have a reading, whatever its counts,
+-- with options that stand alone, of which it is the first in the table.
+pub record AskAlone (options : Declared) (entries : List Entry) (words : List Text) (entry : Entry)
+    : Type 0 where
   pub no_help : ¬ (AskHelp options words)
   pub matches : Matched
   pub read : HasReading options words matches
-  pub first : find (is_alone matches) options.groups ≡ Some group
+  pub first : find (is_alone matches) entries ≡ Some entry
 
 -- the counts of the words are checked: they ask neither for help nor for one option alone
-abbrev pub AreCounted : Declared → List Text → Type 0
-AreCounted options words = ¬ (AskHelp options words) × ((group : Group) → ¬ (AskAlone options words group))
+abbrev pub AreCounted : Declared → List Entry → List Text → Type 0
+AreCounted options entries words =
+    ¬ (AskHelp options words) × ((entry : Entry) → ¬ (AskAlone options entries words entry))
 
 -- the word of an option by its main name
-abbrev pub main_word : Group → Text
-main_word group = codes "--" ++ main_name group.signature.names
+abbrev pub main_word : Entry → Text
+main_word entry = codes "--" ++ main_name entry.signature.names
 
 -- the line of an option alone: that word, and the stop
-abbrev pub alone_line : Group → List Text
-alone_line group = main_word group ∷ stop_word ∷ []
+abbrev pub alone_line : Entry → List Text
+alone_line entry = main_word entry ∷ stop_word ∷ []
 
 -- the line of a fault of variables
 abbrev pub variable_fault_line : VariableFault → Text
-variable_fault_line with_words = codes "getopts_shell: --words and --variables don't go together\n"
 variable_fault_line arrays_only = codes "getopts_shell: --arrays needs --variables\n"
 variable_fault_line (no_prefix prefix) = codes "getopts_shell: '" ++ (prefix ++ codes "' makes no variable\n")
 variable_fault_line (no_variable number name) = codes "getopts_shell: line "
@@ -197,23 +214,13 @@ variable_fault_line (variable_twice number name) = codes "getopts_shell: line "
 -- the fault of the variables or the arrays that are asked for, with a table of these options
 abbrev pub asked_fault : Asked → Text → List Group → Option VariableFault
 asked_fault asked table groups = option_map_or
-    (λ prefix. if asked.words then Some with_words else prefix_fault prefix table (names_of groups)) asked.variables
+    (λ prefix. prefix_fault prefix table (names_of groups)) asked.variables
     (if asked.arrays then Some arrays_only else None)
 
--- the code that sets a script's words to those of a line, or the words alone
-abbrev pub line_code : Asked → List Text → Text
-line_code asked line =
-    (if asked.words then [] else codes "\\set -- ") ++ (quoted_words line ++ codes "\n")
-
--- what a shell has to make of it: `set`, `--` and the words of the line, or these alone
-abbrev pub code_words : Asked → List Text → List Text
-code_words asked line = if asked.words then line else codes "set" ∷ codes "--" ∷ line
-
--- What a canonical line tells: where the words hold no NUL byte, a shell makes of its code, line end and all, the
--- words that it has to; it is accepted in both styles and both modes with the content of the words, and says nothing
--- else; and of its words the first that is `--` is the stop.
-pub record TellsWords (asked : Asked) (options : Declared) (words line : List Text) : Type 0 where
-  pub shell : HoldNoNul words → shell_words (line_code asked line) ≡ Some (code_words asked line)
+-- What a canonical line tells: a shell that runs its code holds its words; it is accepted in both styles and both
+-- modes with the content of the words, and says nothing else; and of its words the first that is `--` is the stop.
+pub record TellsWords (options : Declared) (words line : List Text) : Type 0 where
+  pub shell : SetsWords line
   pub written : IsWritten options words line
   pub reads_back : HasCanonicalLine options written.content
   pub stop_is_first : AllByRecursion (λ m. canonical_word options.groups m ≢ stop_word) written.content.mentions
@@ -232,79 +239,76 @@ abbrev pub completion_answer : Asked → Text → Text → Text → Answer
 completion_answer asked shell name table =
     option_map_or done (stub shell asked.stop asked.long_only name table) (misused (no_completion shell))
 
--- what is said of a number that no word has
-abbrev pub no_word : Text → Text
-no_word number = codes "getopts_shell: no word has the number '" ++ (number ++ codes "'\n")
+-- the last of words, and those before it; of no words an empty one
+abbrev pub last_word : List Text → Text
+last_word words = unwrap_or (last_or None words) []
 
--- What may come at the word with this number, of which 0 is the first and the highest stands after the last.
-pub data AnswersPlace (options : Declared) (number : Text) (words : List Text) : Answer → Type 0 where
-  offered : (place : ℕ) (text : Text) → WritesNumber number place → place ≤ length words
-      → IsOffer options (take place words) (word_at words place) text
-      → AnswersPlace options number words (done text)
-  no_place : ((place : ℕ) → WritesNumber number place → ¬ (place ≤ length words))
-      → AnswersPlace options number words (misused (no_word number))
-
--- the same, where the number stands before the words; a number that isn't there is no number
-abbrev pub AnswersNumbered : Declared → List Text → Answer → Type 0
-AnswersNumbered options (number ∷ words) answer = AnswersPlace options number words answer
-AnswersNumbered options [] answer = AnswersPlace options [] [] answer
-
--- the answer to a shell that asks what may come at a word, if there is completion in it
+-- the answer to a shell that asks what may come at the last word, if there is completion in it
 pub data AnswersOffer (shell : Text) (options : Declared) (words : List Text) : Answer → Type 0 where
-  at_place : (answer : Answer) → has_completion shell ≡ true → AnswersNumbered options words answer
-      → AnswersOffer shell options words answer
+  offered : (text : Text) → has_completion shell ≡ true
+      → IsOffer options (take (length words - 1) words) (last_word words) text
+      → AnswersOffer shell options words (done text)
   no_shell : has_completion shell ≡ false → AnswersOffer shell options words (misused (no_completion shell))
 
--- The answer to words that ask for one option alone: the code of its line, which a shell has to make of it, or
--- the code that sets variables to what its one word gives, whatever its counts.
-pub data AnswersAlone (asked : Asked) (options : Declared) (group : Group) : Answer → Type 0 where
-  as_line : asked.variables ≡ None
-      → shell_words (line_code asked (alone_line group)) ≡ Some (code_words asked (alone_line group))
-      → AnswersAlone asked options group (done (line_code asked (alone_line group)))
-  as_variables : (prefix : Text) (matches : Matched) → asked.variables ≡ Some prefix
-      → HasReading options (main_word group ∷ []) matches → SetsVariables prefix asked.arrays matches
-      → AnswersAlone asked options group (done (variables_code prefix asked.arrays matches))
+-- the code that sets variables to what matches hold
+abbrev pub code_for : Text → Asked → List Entry → Matched → Text
+code_for prefix asked entries matches =
+    variables_code prefix asked.arrays (given_from 0 entries matches.groups) matches.free
 
--- The answer for a script with these options: its help, what may come at a word, or what its words are. That
--- is the code that prints its help where they ask for it, and else the code of the one option that they ask
--- for alone, their canonical line, the code that sets variables, or the first fault.
-pub data AnswersScript (asked : Asked) (name : Text) (options : Declared) (words : List Text)
+-- a shell that runs it holds that
+abbrev pub SetsMatched : Text → Asked → List Entry → Matched → Type 0
+SetsMatched prefix asked entries matches =
+    SetsVariables prefix asked.arrays (given_from 0 entries matches.groups) matches.free
+
+-- The answer to words that ask for one option alone: the code of its line, or the code that sets variables to what
+-- its one word gives, whatever its counts.
+pub data AnswersAlone (asked : Asked) (options : Declared) (entries : List Entry) (entry : Entry)
     : Answer → Type 0 where
-  usage : (help : Text) → asked.usage ≡ true → IsHelp asked name options help
-      → AnswersScript asked name options words (done help)
+  as_line : asked.variables ≡ None → SetsWords (alone_line entry)
+      → AnswersAlone asked options entries entry (done (line_code (alone_line entry)))
+  as_variables : (prefix : Text) (matches : Matched) → asked.variables ≡ Some prefix
+      → HasReading options (main_word entry ∷ []) matches → SetsMatched prefix asked entries matches
+      → AnswersAlone asked options entries entry (done (code_for prefix asked entries matches))
+
+-- The answer for a script with these entries, read by these options: its help, what may come at a word, or what its
+-- words are. That is the code that prints its help where they ask for it, and else the code of the one option that
+-- they ask for alone, their canonical line, the code that sets variables, or the first fault.
+pub data AnswersScript (asked : Asked) (name : Text) (options : Declared) (entries : List Entry)
+    (words : List Text) : Answer → Type 0 where
+  usage : (help : Text) → asked.usage ≡ true → IsHelp asked name (shown_options asked entries) help
+      → AnswersScript asked name options entries words (done help)
   offers : (shell : Text) (answer : Answer) → asked.usage ≡ false → asked.complete_words ≡ Some shell
-      → AnswersOffer shell options words answer → AnswersScript asked name options words answer
-  help : (help : Text) → ReadsWords asked → AskHelp options words → IsHelp asked name options help
-      → (holds_nul help ≡ false
-      → AreCommands (help_code help) (codes "printf" ∷ codes "%s" ∷ help ∷ []) (codes "exit" ∷ []))
-      → AnswersScript asked name options words (done (help_code help))
-  alone : (group : Group) (answer : Answer) → ReadsWords asked → AskAlone options words group
-      → AnswersAlone asked options group answer → AnswersScript asked name options words answer
-  accepted : (line : List Text) → ReadsWords asked → AreCounted options words
-      → asked.variables ≡ None → TellsWords asked options words line
-      → AnswersScript asked name options words (done (line_code asked line))
-  variables : (prefix : Text) (matches : Matched) → ReadsWords asked → AreCounted options words
+      → AnswersOffer shell options words answer → AnswersScript asked name options entries words answer
+  help : (help : Text) → ReadsWords asked → AskHelp options words
+      → IsHelp asked name (shown_options asked entries) help → IsOneWord help
+      → AnswersScript asked name options entries words (done (help_code help))
+  alone : (entry : Entry) (answer : Answer) → ReadsWords asked → AskAlone options entries words entry
+      → AnswersAlone asked options entries entry answer → AnswersScript asked name options entries words answer
+  accepted : (line : List Text) → ReadsWords asked → AreCounted options entries words
+      → asked.variables ≡ None → TellsWords options words line
+      → AnswersScript asked name options entries words (done (line_code line))
+  variables : (prefix : Text) (matches : Matched) → ReadsWords asked → AreCounted options entries words
       → asked.variables ≡ Some prefix → IsAccepted options words matches
-      → (HoldNoNul words → SetsVariables prefix asked.arrays matches)
-      → AnswersScript asked name options words (done (variables_code prefix asked.arrays matches))
-  refused : (fault : Fault) → ReadsWords asked → AreCounted options words
-      → IsRefused options words fault → AnswersScript asked name options words
-      (record { text = refused_text options name fault; status = 2 })
+      → SetsMatched prefix asked entries matches
+      → AnswersScript asked name options entries words (done (code_for prefix asked entries matches))
+  refused : (fault : Fault) → ReadsWords asked → AreCounted options entries words
+      → IsRefused options words fault → AnswersScript asked name options entries words
+      (record { text = refused_text asked (shown_options asked entries) name fault; status = 2 })
 
 -- The answer to a script's name, its table and its words: the fault of the table, the code that completes the
 -- words, the fault of the table's variables, or the answer for the table's options.
 pub data AnswersTable (asked : Asked) (name table : Text) (words : List Text) : Answer → Type 0 where
   faulty : (fault : TableFault) → IsTableFault table fault
       → AnswersTable asked name table words (misused (table_fault_line fault))
-  completion : (groups : List Group) (shell : Text) → DeclaresOptions table groups
+  completion : (entries : List Entry) (shell : Text) → DeclaresOptions table entries
       → asked.complete ≡ Some shell
       → AnswersTable asked name table words (completion_answer asked shell name table)
-  no_variables : (groups : List Group) (fault : VariableFault) → DeclaresOptions table groups
-      → asked.complete ≡ None → asked_fault asked table groups ≡ Some fault
+  no_variables : (entries : List Entry) (fault : VariableFault) → DeclaresOptions table entries
+      → asked.complete ≡ None → asked_fault asked table (read_groups entries) ≡ Some fault
       → AnswersTable asked name table words (misused (variable_fault_line fault))
-  declared : (groups : List Group) (answer : Answer) → DeclaresOptions table groups → asked.complete ≡ None
-      → asked_fault asked table groups ≡ None
-      → AnswersScript asked name (script_options asked groups) words answer
+  declared : (entries : List Entry) (answer : Answer) → DeclaresOptions table entries → asked.complete ≡ None
+      → asked_fault asked table (read_groups entries) ≡ None
+      → AnswersScript asked name (script_options asked (read_groups entries)) entries words answer
       → AnswersTable asked name table words answer
 
 -- the answer to the free words of the program's own

@@ -1,9 +1,9 @@
 -- The table of options: what each line of it declares, and which options it declares.
-use Rattle.std.specs.Prelude.{◌≡◌, ◌≢◌, ◌==◌, ◌||◌, ◌&&◌, ◌⊎◌, not, ℕ, ◌+◌, nat_lt, min, ◌-◌, ◌^◌, Bool, true, false}
+use Rattle.std.specs.Prelude.{◌≡◌, ◌≢◌, ◌==◌, ◌||◌, ◌&&◌, not, ℕ, ◌+◌, nat_lt, min, ◌-◌, ◌^◌, Bool, true, false}
 use Rattle.std.specs.Prelude.{List, [], ◌∷◌, ◌++◌, Option, Some, None, codes, if◌then◌else◌, slice_index, length}
-use Rattle.std.specs.Prelude.{⊤, drop}
-use Rattle.std.specs.Char.{is_ascii_alphanumeric}
-use Rattle.std.specs.List.{AllByRecursion, AllZip, ends_with, filter_map, list_all, list_any}
+use Rattle.std.specs.Prelude.{⊤, drop, take}
+use Rattle.std.specs.Char.{is_ascii_alphanumeric, is_ascii_whitespace}
+use Rattle.std.specs.List.{AllByRecursion, AllZip, ends_with, filter_map, list_all, list_any, prefix_len, suffix_len}
 use Rattle.std.specs.Option.{option_map_or}
 use Rattle.std.specs.Str.{bytes_eq}
 use Rattle.getopts.specs.Names.{Text, Names, AreLawful, is_empty}
@@ -14,13 +14,15 @@ use Rattle.getopts.specs.declared.groups.HasArg.{HasArg}
 use Rattle.getopts.specs.declared.groups.HasArg.TheVariants.{Yes, No, Maybe}
 use Rattle.getopts.specs.declared.groups.Occur.{Occur}
 use Rattle.getopts.specs.declared.groups.Occur.TheVariants.{Req, Optional, Multi}
+use Rattle.getopts_shell.specs.declared.row.Mark.{Mark}
+use Rattle.getopts_shell.specs.declared.row.Mark.TheVariants.{Plain, Alone, Last}
 
 -- ---- names, hints and items
 
--- a byte that a short name may be: no space, no control character, and none of `|`, `[`, `]` and `=`
+-- a byte that a short name may be: a letter, a digit, or one of `?@#%+_^,./:`
 abbrev pub is_name_byte : ℕ → Bool
-is_name_byte byte = nat_lt 32 byte && not (byte == 127) && not (byte == 124) && not (byte == 91)
-    && not (byte == 93) && not (byte == 61)
+is_name_byte byte = is_ascii_alphanumeric byte || byte == 63 || byte == 64 || byte == 35 || byte == 37
+    || byte == 43 || byte == 95 || byte == 94 || byte == 44 || byte == 46 || byte == 47 || byte == 58
 
 -- whether a text may be a short name: it doesn't begin with `-`, and its bytes may stand there
 abbrev pub is_name : Text → Bool
@@ -31,9 +33,13 @@ abbrev pub is_long_byte : ℕ → Bool
 is_long_byte byte = is_ascii_alphanumeric byte || byte == 45 || byte == 95 || byte == 46 || byte == 43
     || byte == 58 || nat_lt 127 byte
 
--- whether a text may be a long name: it doesn't begin with `-`, and its bytes may stand there
+-- whether a text ends in a byte
+abbrev pub ends_in : ℕ → Text → Bool
+ends_in byte text = not (is_empty text) && slice_index text (length text - 1) == byte
+
+-- whether a text may be a long name: it doesn't begin with `-` nor end in `:`, and its bytes may stand there
 abbrev pub is_long_name : Text → Bool
-is_long_name text = not (begins_with_dash text) && list_all is_long_byte text
+is_long_name text = not (begins_with_dash text) && (list_all is_long_byte text && not (ends_in 58 text))
 
 -- a byte that a hint may hold: no space, no tab, no `[` and no `]`
 abbrev pub is_hint_byte : ℕ → Bool
@@ -74,60 +80,77 @@ abbrev pub HasParts : Text → Text → Option Text → Type 0
 HasParts text names argument = AllByRecursion (λ byte. byte ≢ 32) names
     × (text ≡ names ++ option_map_or (λ argument. codes " " ++ argument) argument [])
 
--- a text in the brackets of an occurrence: none for Req, `[` and `]` for Optional, and for Multi `[`
--- and `]..` or `]...`
-abbrev pub IsBracketed : Occur → Text → Text → Type 0
-IsBracketed Req inside text = (text ≡ inside) × (slice_index text 0 ≢ 91)
-IsBracketed Optional inside text = text ≡ codes "[" ++ (inside ++ codes "]")
-IsBracketed Multi inside text = (text ≡ codes "[" ++ (inside ++ codes "].."))
-    ⊎ (text ≡ codes "[" ++ (inside ++ codes "]..."))
+-- what stands behind `]`: nothing, the option may come once; `!`, it stands alone; two or three dots, it may come any
+-- number of times; `*`, it may so, and its last value counts
+abbrev pub end_means : Text → Option (Occur × Mark)
+end_means end =
+    if is_empty end then Some (Optional, Plain)
+    else (if bytes_eq end (codes "!") then Some (Optional, Alone)
+    else (if bytes_eq end (codes "..") || bytes_eq end (codes "...") then Some (Multi, Plain)
+    else (if bytes_eq end (codes "*") then Some (Multi, Last) else None)))
 
--- An item: names, and perhaps an argument, in the brackets of an occurrence.
-pub record IsItem (text : Text) (known : Signature) (hint : Text) : Type 0 where
+-- A text with another inside, in no brackets where it is required, and else in `[` and `]`, and what follows these.
+pub data IsBracketed (text inside : Text) : Occur → Mark → Type 0 where
+  bare : text ≡ inside → slice_index text 0 ≢ 91 → IsBracketed text inside Req Plain
+  bracketed : (end : Text) (occurrence : Occur) (mark : Mark)
+      → text ≡ codes "[" ++ (inside ++ (codes "]" ++ end)) → end_means end ≡ Some (occurrence, mark)
+      → IsBracketed text inside occurrence mark
+
+-- whether an option with a mark may be of a kind: one that stands alone takes no argument
+abbrev pub fits : Mark → HasArg → Bool
+fits Alone Yes = false
+fits Alone Maybe = false
+fits mark kind = true
+
+-- An item: names, and perhaps an argument, in the brackets of an occurrence. An option that stands alone takes no
+-- argument.
+pub record IsItem (text : Text) (known : Signature) (hint : Text) (mark : Mark) : Type 0 where
   pub inside : Text
-  pub brackets : IsBracketed known.occurrence inside text
+  pub brackets : IsBracketed text inside known.occurrence mark
   pub names : Text
   pub argument : Option Text
   pub parts : HasParts inside names argument
   pub names_are : AreNames known.names names
   pub argument_is : IsArgument known.kind hint argument
+  pub fits_kind : fits mark known.kind ≡ true
 
--- the hint of an option that stands alone, which no text shows
-abbrev pub alone_mark : Text
-alone_mark = codes "!"
+-- An entry of a table: what is asked of its option, the hint, the description, and the mark.
+pub record Entry : Type 0 where
+  pub signature : Signature
+  pub hint : Text
+  pub description : Text
+  pub mark : Mark
 
--- A marked item: names in `[` and `]!`. Its option takes no argument and stands alone, as its hint tells.
-pub record IsMarked (text : Text) (known : Signature) (hint : Text) : Type 0 where
-  pub names : Text
-  pub written : text ≡ codes "[" ++ (names ++ codes "]!")
-  pub names_are : AreNames known.names names
-  pub kind_is : known.kind ≡ No
-  pub occurrence_is : known.occurrence ≡ Optional
-  pub hint_is : hint ≡ alone_mark
+-- the group that an entry is read by
+abbrev pub group_of_entry : Entry → Group
+group_of_entry entry =
+    record { signature = entry.signature; hint = entry.hint; description = entry.description }
 
--- an option as it is written: an item, or one that is marked and so ends in `]!`
-pub data IsOption (text : Text) (known : Signature) (hint : Text) : Type 0 where
-  unmarked : ((front : Text) → text ≢ front ++ codes "]!") → IsItem text known hint → IsOption text known hint
-  marked : IsMarked text known hint → IsOption text known hint
+-- the group that a help shows: an option of which the last value counts is shown as one that may come once
+abbrev pub shown_occurrence : Mark → Occur → Occur
+shown_occurrence Last occurrence = Optional
+shown_occurrence mark occurrence = occurrence
+
+abbrev pub shown_group : Entry → Group
+shown_group entry = record {
+  signature = record entry.signature {
+    occurrence = shown_occurrence entry.mark entry.signature.occurrence;
+  };
+  hint = entry.hint;
+  description = entry.description;
+}
 
 -- ---- lines
 
--- whether a byte is a space, a tab or a carriage return
-abbrev pub is_blank : ℕ → Bool
-is_blank byte = byte == 32 || byte == 9 || byte == 13
-
--- a text without the blanks that it begins with
+-- a text without the ASCII white space that it begins with
 abbrev pub after_blanks : Text → Text
-after_blanks [] = []
-after_blanks (byte ∷ more) = if is_blank byte then after_blanks more else byte ∷ more
+after_blanks text = drop (prefix_len is_ascii_whitespace text) text
 
--- a text without the blanks that it ends in
+-- a text without the ASCII white space that it ends in
 abbrev pub before_blanks : Text → Text
-before_blanks [] = []
-before_blanks (byte ∷ more) =
-    if list_all is_blank (byte ∷ more) then [] else byte ∷ before_blanks more
+before_blanks text = take (length text - suffix_len is_ascii_whitespace text) text
 
--- a text without the blanks at both ends
+-- a text without the ASCII white space at both ends
 abbrev pub trimmed : Text → Text
 trimmed text = before_blanks (after_blanks text)
 
@@ -149,67 +172,67 @@ from_gap (byte ∷ more) = if begins_gap (byte ∷ more) then byte ∷ more else
 
 -- the item of a line
 abbrev pub item_of : Text → Text
-item_of line = before_gap (trimmed line)
+item_of line = trimmed (before_gap (trimmed line))
 
 -- whether a line declares nothing: it is empty or begins with `#`
 abbrev pub is_passed : Text → Bool
 is_passed line = is_empty (trimmed line) || slice_index (trimmed line) 0 == 35
 
--- A line declares a group: its option, and after a tab or two spaces its description.
-pub record DeclaresGroup (line : Text) (group : Group) : Type 0 where
+-- A line declares an entry: its option, and after a tab or two spaces its description.
+pub record DeclaresEntry (line : Text) (entry : Entry) : Type 0 where
   pub there : is_passed line ≡ false
-  pub item : IsOption (item_of line) group.signature group.hint
-  pub description : group.description ≡ trimmed (from_gap (trimmed line))
+  pub item : IsItem (item_of line) entry.signature entry.hint entry.mark
+  pub description : entry.description ≡ trimmed (from_gap (trimmed line))
 
--- what a line declares: nothing, or a group
-abbrev pub Declares : Text → Option Group → Type 0
+-- what a line declares: nothing, or an entry
+abbrev pub Declares : Text → Option Entry → Type 0
 Declares line None = is_passed line ≡ true
-Declares line (Some group) = DeclaresGroup line group
+Declares line (Some entry) = DeclaresEntry line entry
 
 -- ---- tables
 
--- the groups that lines declare, in order
-abbrev pub DeclareGroups : List Text → List Group → Type 0
-DeclareGroups lines groups = (each : List (Option Group)) × AllZip Declares lines each
-    × (groups ≡ filter_map (λ declared. declared) each)
+-- the entries that lines declare, in order
+abbrev pub DeclareEntries : List Text → List Entry → Type 0
+DeclareEntries lines entries = (each : List (Option Entry)) × AllZip Declares lines each
+    × (entries ≡ filter_map (λ declared. declared) each)
 
--- whether one of these groups has this name
-abbrev pub any_has_name : List Group → Text → Bool
-any_has_name groups name = not (is_empty name)
-    && list_any (λ group. bytes_eq group.signature.names.short name || bytes_eq group.signature.names.long name)
-    groups
+-- whether one of these entries has this name
+abbrev pub any_has_name : List Entry → Text → Bool
+any_has_name entries name = not (is_empty name)
+    && list_any (λ entry. bytes_eq entry.signature.names.short name || bytes_eq entry.signature.names.long name)
+    entries
 
--- the first of a group's names that one of these groups has already
-abbrev pub name_again : List Group → Group → Option Text
-name_again groups group =
-    if any_has_name groups group.signature.names.short then Some group.signature.names.short
-    else (if any_has_name groups group.signature.names.long then Some group.signature.names.long else None)
+-- the first of an entry's names that one of these entries has already
+abbrev pub name_again : List Entry → Entry → Option Text
+name_again entries entry =
+    if any_has_name entries entry.signature.names.short then Some entry.signature.names.short
+    else (if any_has_name entries entry.signature.names.long then Some entry.signature.names.long else None)
 
--- no name stands twice: no group has a name of one before it, where these stand before the first
-abbrev pub HaveNewNames : List Group → List Group → Type 0
+-- no name stands twice: no entry has a name of one before it, where these stand before the first
+abbrev pub HaveNewNames : List Entry → List Entry → Type 0
 HaveNewNames before [] = ⊤
-HaveNewNames before (group ∷ groups) =
-    (name_again before group ≡ None) × HaveNewNames (before ++ group ∷ []) groups
+HaveNewNames before (entry ∷ entries) =
+    (name_again before entry ≡ None) × HaveNewNames (before ++ entry ∷ []) entries
 
 -- Lines declare these options.
-pub record DeclareOptions (lines : List Text) (groups : List Group) : Type 0 where
-  pub declared : DeclareGroups lines groups
-  pub once : HaveNewNames [] groups
+pub record DeclareOptions (lines : List Text) (entries : List Entry) : Type 0 where
+  pub declared : DeclareEntries lines entries
+  pub once : HaveNewNames [] entries
 
 -- the table declares these options
-abbrev pub DeclaresOptions : Text → List Group → Type 0
-DeclaresOptions table groups = DeclareOptions (lines_of table) groups
+abbrev pub DeclaresOptions : Text → List Entry → Type 0
+DeclaresOptions table entries = DeclareOptions (lines_of table) entries
 
 -- a table declares one list of options at most
 abbrev pub OneTableOneList : Type 0
-OneTableOneList = (table : Text) (groups others : List Group) → DeclaresOptions table groups
-    → DeclaresOptions table others → others ≡ groups
+OneTableOneList = (table : Text) (entries others : List Entry) → DeclaresOptions table entries
+    → DeclaresOptions table others → others ≡ entries
 
 -- ---- faults
 
 -- Why a text is no option, in one of these texts. The first that fits counts: no bracket closes one that is
--- open; a space stands after the argument or the brackets; the names are wrong; or else the brackets are, or
--- the mark.
+-- open; names stand apart; a space stands within an argument, or after it or the brackets; the names are wrong; or
+-- else the brackets are, or the mark.
 
 -- what stands before the first space or `]`, and after it
 abbrev pub before_end : Text → Text
@@ -231,7 +254,7 @@ brackets_reason item =
     else codes "brackets stand around the option or its argument, and dots only after ']'"
 
 abbrev pub bytes_reason : Text
-bytes_reason = codes "a name may hold letters, digits, '-', '_', '.', '+', ':' and bytes from 128 on"
+bytes_reason = codes "a long name may hold letters, digits, '-', '_', '.', '+', ':' and bytes from 128 on"
 
 abbrev pub dashes_reason : Text
 dashes_reason = codes "a short name comes after '-', a long one after '--'"
@@ -240,17 +263,24 @@ dashes_reason = codes "a short name comes after '-', a long one after '--'"
 abbrev pub long_reason : Text → Text → Text
 long_reason right long =
     if nat_lt (length long) 2 then codes "a long name has at least two bytes"
+    else (if holds 124 long then codes "the short name comes first, then one long one"
     else (if not (list_all is_long_byte long) then bytes_reason
-    else (if slice_index long 0 == 45 then dashes_reason else right))
+    else (if slice_index long 0 == 45 then dashes_reason
+    else (if ends_in 58 long then codes "a long name doesn't end in ':'" else right))))
+
+-- of what follows a short name, where it is `|` or nothing
+abbrev pub after_short : Text → Text → Text
+after_short right more =
+    if is_empty more then right
+    else (if slice_index more 1 == 45 && slice_index more 2 == 45 then long_reason right (drop 3 more)
+    else dashes_reason)
 
 -- of a short name, and what follows it
 abbrev pub short_reason : Text → ℕ → Text → Text
 short_reason right short more =
     if not (is_empty more) && not (slice_index more 0 == 124) then codes "a short name has one byte"
-    else (if not (is_name_byte short) then bytes_reason
-    else (if is_empty more then right
-    else (if slice_index more 1 == 45 && slice_index more 2 == 45 then long_reason right (drop 3 more)
-    else dashes_reason)))
+    else (if not (is_name_byte short) then codes "a short name is a letter, a digit or one of ?@#%+_^,./:"
+    else after_short right more)
 
 -- of names
 abbrev pub names_reason : Text → Text → Text
@@ -263,25 +293,39 @@ names_reason right names =
 abbrev pub after_bracket : Text → Text
 after_bracket text = if slice_index text 0 == 91 then drop 1 text else text
 
+-- where no name holds `=` or `[`
+abbrev pub plain_reason : Text → Text → Text
+plain_reason right names =
+    if holds 61 names then codes "an argument comes after a space, as in '--long ARG'"
+    else (if holds 91 names then right else names_reason right names)
+
+-- of what stands after the first space or `]`, where this is the reason if it holds no space
+abbrev pub rest_reason : Text → Text → Text → Text
+rest_reason right item rest =
+    if slice_index rest 0 == 45 || slice_index rest 0 == 124 then
+    codes "names are written as -s|--long, without a blank or a comma"
+    else (if not (holds 32 rest) then right
+    else (if ends_in 93 item then codes "an argument holds no space"
+    else codes "a tab or two spaces have to come before the description"))
+
 abbrev pub reason_of : Text → Text
 reason_of item =
     if holds 91 item && not (holds 93 item) then codes "no ']'"
-    else (if holds 32 (after_end item) then codes "a tab or two spaces have to come before the description"
-    else names_reason (brackets_reason item) (after_bracket (before_end item)))
+    else rest_reason (plain_reason (brackets_reason item) (after_bracket (before_end item))) item (after_end item)
 
 -- a fault of a table: the number of a line, and its item or a name
 pub data TableFault : Type 0 where
   no_option : ℕ → Text → TableFault
   name_twice : ℕ → Text → TableFault
 
--- the fault of the line with this number, where the lines before it declare these groups: it declares
--- neither nothing nor a group, or a group with a name that stands there already
-pub data IsLineFault (number : ℕ) (groups : List Group) (line : Text) : TableFault → Type 0 where
-  none : ((declared : Option Group) → ¬ (Declares line declared))
-      → IsLineFault number groups line (no_option number (item_of line))
-  twice : (group : Group) (name : Text) → DeclaresGroup line group
-      → name_again groups group ≡ Some name
-      → IsLineFault number groups line (name_twice number name)
+-- the fault of the line with this number, where the lines before it declare these entries: it declares
+-- neither nothing nor an entry, or an entry with a name that stands there already
+pub data IsLineFault (number : ℕ) (entries : List Entry) (line : Text) : TableFault → Type 0 where
+  none : ((declared : Option Entry) → ¬ (Declares line declared))
+      → IsLineFault number entries line (no_option number (item_of line))
+  twice : (entry : Entry) (name : Text) → DeclaresEntry line entry
+      → name_again entries entry ≡ Some name
+      → IsLineFault number entries line (name_twice number name)
 
 -- the number of the line after so many; numbers end at the highest of 64 bits
 abbrev pub line_number : ℕ → ℕ
@@ -293,6 +337,6 @@ pub record IsTableFault (table : Text) (fault : TableFault) : Type 0 where
   pub line : Text
   pub after : List Text
   pub lines_are : lines_of table ≡ before ++ line ∷ after
-  pub groups : List Group
-  pub declared : DeclareOptions before groups
-  pub fault_at : IsLineFault (line_number (length before)) groups line fault
+  pub entries : List Entry
+  pub declared : DeclareOptions before entries
+  pub fault_at : IsLineFault (line_number (length before)) entries line fault

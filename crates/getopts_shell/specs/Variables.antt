@@ -1,22 +1,25 @@
 -- Options as variables: what a shell does with a text of commands, and the text that is written.
 use Rattle.std.specs.Prelude.{◌≡◌, ◌≢◌, ◌==◌, ◌||◌, ◌&&◌, not, ⊤, ℕ, ◌+◌, ◌-◌, Bool, true, false, List, [], ◌∷◌}
-use Rattle.std.specs.Prelude.{◌++◌, Option, Some, None, codes, decimal, if◌then◌else◌, length, map, slice_index, take}
+use Rattle.std.specs.Prelude.{◌++◌, Option, Some, None, codes, decimal, drop, if◌then◌else◌, is_some, length, map}
+use Rattle.std.specs.Prelude.{slice_index, take}
 use Rattle.std.specs.Char.{is_ascii_alphanumeric, is_ascii_digit}
-use Rattle.std.specs.List.{AllByRecursion, flat_map, list_all, list_any, starts_with}
+use Rattle.std.specs.List.{AllByRecursion, flat_map, last_or, list_all, list_any, starts_with}
 use Rattle.std.specs.Option.{option_and_then, option_map, option_or, unwrap_or}
-use Rattle.std.specs.Prelude.{drop}
 use Rattle.std.specs.Str.{bytes_eq}
-use Rattle.getopts.specs.Accessors.{each_value, first_value_or, held_names}
-use Rattle.getopts.specs.Matches.{Found, Matched, MatchedGroup}
-use Rattle.getopts.specs.Names.{Text, Names, is_empty, main_name}
+use Rattle.getopts.specs.Accessors.{each_value, found_in}
+use Rattle.getopts.specs.Matches.{Found, MatchedGroup}
+use Rattle.getopts.specs.Names.{AreTexts, Text, Names, is_empty, main_name}
 use Rattle.getopts.specs.Turn.{cut_at_equals}
 use Rattle.getopts.specs.declared.groups.HasArg.{HasArg}
 use Rattle.getopts.specs.declared.groups.HasArg.TheVariants.{No}
-use Rattle.getopts.specs.declared.groups.Occur.{Occur}
-use Rattle.getopts.specs.declared.groups.Occur.TheVariants.{Multi}
 use Rattle.getopts.specs.Wrap.{lines_of}
-use Rattle.getopts_shell.specs.Quote.{HoldNoNul, quoted, quoted_words, shell_words, words_after}
-use Rattle.getopts_shell.specs.Table.{is_passed, line_number}
+use Rattle.getopts_bytes.specs.Marks.{bytes_of}
+use Rattle.getopts_shell.specs.Completion.{is_multi}
+use Rattle.getopts_shell.specs.Quote.{quoted, quoted_words, shell_words, words_after}
+use Rattle.getopts.specs.declared.groups.Occur.{Occur}
+use Rattle.getopts_shell.specs.declared.row.Mark.{Mark}
+use Rattle.getopts_shell.specs.declared.row.Mark.TheVariants.{Last}
+use Rattle.getopts_shell.specs.Table.{Entry, is_passed, line_number}
 
 -- ---- the commands of a text
 
@@ -37,9 +40,11 @@ abbrev pub ends_command : Place → ℕ → Bool
 ends_command plain byte = byte == 10
 ends_command place byte = false
 
--- the commands of a text, where this much of the first has been read; each ends in a line end
+-- the commands of a text, where this much of the first has been read: each ends in a line end, and the last also
+-- where the text does
 abbrev pub commands : Place → Text → Text → Option (List Text)
-commands place command [] = if is_empty command then Some [] else None
+commands plain command [] = Some (if is_empty command then [] else command ∷ [])
+commands place command [] = None
 commands place command (byte ∷ more) =
     if ends_command place byte then option_map (λ others. command ∷ others) (commands plain [] more)
     else commands (place_after place byte) (command ++ byte ∷ []) more
@@ -79,27 +84,27 @@ abbrev pub only_word : Option (List Text) → Option Text
 only_word (Some (word ∷ [])) = Some word
 only_word words = None
 
--- the text that is assigned by `NAME=` and this: digits as they stand, or one word
-abbrev pub text_of_code : Text → Option Text
-text_of_code code = if list_all is_ascii_digit code then Some code
-    else only_word (words_after (Some []) code)
+-- What stands before the words of an array that is assigned to NAME. `${NAME+}` is no word, but keeps the first of
+-- them from being the name of a command, as `(typeset)` is.
+abbrev pub array_front : Text → Text
+array_front name = codes "(${" ++ (name ++ codes "+} ")
 
--- what stands in `(${NAME+} ..)`, where a text is that
+-- what stands between that and `)`, where a text is that
 abbrev pub array_code : Text → Text → Text
-array_code name code = take (length code - (length name + 7)) (drop 3 (drop (length name) (drop 3 code)))
+array_code name code =
+    take (length code - (length (array_front name) + 1)) (drop (length (array_front name)) code)
 
--- What is assigned by `NAME=` and this. `(${NAME+} WORDS)` is an array of these words, whatever NAME held:
--- `${NAME+}` is no word, but keeps the first of them from being the name of a command, as `(typeset)` is.
+-- what is assigned to an unset NAME by `NAME=` and this: an array of words, or one word
 abbrev pub value_of_code : Text → Text → Option Value
 value_of_code name code =
-    if bytes_eq code (codes "(${" ++ (name ++ (codes "+} " ++ (array_code name code ++ codes ")")))) then
+    if bytes_eq code (array_front name ++ (array_code name code ++ codes ")")) then
     option_map many (shell_words (array_code name code))
-    else option_map one (text_of_code code)
+    else option_map one (only_word (words_after (Some []) code))
 
--- what a shell holds after `NAME=CODE`
+-- What a shell holds after `NAME=CODE`. It is said only where NAME is unset: an array would keep its other texts.
 abbrev pub after_assignment : Shell → Text × Option Text → Option Shell
-after_assignment shell (name, Some code) =
-    option_map (λ value. with_variable shell name (Some value)) (value_of_code name code)
+after_assignment shell (name, Some code) = if is_some (shell.value name) then None
+    else option_map (λ value. with_variable shell name (Some value)) (value_of_code name code)
 after_assignment shell (name, None) = None
 
 -- what a shell holds after `\set -- WORDS` or `\unset -v NAME`
@@ -125,6 +130,12 @@ after_commands shell (command ∷ others) =
 -- what a shell holds after a text, where that is said
 abbrev pub shell_after : Shell → Text → Option Shell
 shell_after shell text = option_and_then (after_commands shell) (commands plain [] text)
+
+-- A shell that held `before` and runs a text holds `after`; also where the text has lost its last line end, as
+-- `$(..)` takes it away.
+pub record Runs (before : Shell) (text : Text) (after : Shell) : Type 0 where
+  pub whole : shell_after before text ≡ Some after
+  pub cut : shell_after before (take (length text - 1) text) ≡ Some after
 
 -- ---- the variables of options
 
@@ -152,6 +163,29 @@ HaveOwnVariables prefix before (names ∷ more) = (is_variable (variable_of pref
     × (any_has_variable prefix before names ≡ false)
     × HaveOwnVariables prefix (before ++ names ∷ []) more
 
+-- An option as words give it: its names, its kind, whether its variable holds all values, and its occurrences.
+pub record Given : Type 0 where
+  pub names : Names
+  pub kind : HasArg
+  pub all : Bool
+  pub found : List Found
+
+-- whether the variable of an entry's option holds all values: it may come any number of times, and not only its last
+-- value counts
+abbrev pub holds_all : Mark → Occur → Bool
+holds_all Last occurrence = false
+holds_all mark occurrence = is_multi occurrence
+
+-- the options of a table as matches give them, where the first has this place
+abbrev pub given_from : ℕ → List Entry → List MatchedGroup → List Given
+given_from place [] held = []
+given_from place (entry ∷ entries) held = record {
+  names = entry.signature.names;
+  kind = entry.signature.kind;
+  all = holds_all entry.mark entry.signature.occurrence;
+  found = found_in held place;
+} ∷ given_from (place + 1) entries held
+
 -- the values of occurrences, with the empty text for one that has none
 abbrev pub texts_found : List Found → List Text
 texts_found founds = map (λ value. unwrap_or value []) (each_value founds)
@@ -160,80 +194,100 @@ texts_found founds = map (λ value. unwrap_or value []) (each_value founds)
 abbrev pub all_values : Bool → List Found → Value
 all_values arrays founds = if arrays then many (texts_found founds) else one (quoted_words (texts_found founds))
 
--- what the variable of an option holds: how often it came where it takes no argument, all values where
--- it may come any number of times, and else the first value, or nothing
-abbrev pub held_value : Bool → HasArg → Occur → List Found → Option Value
-held_value arrays No occurrence founds = Some (one (decimal (length founds)))
-held_value arrays kind Multi founds = Some (all_values arrays founds)
-held_value arrays kind occurrence founds = option_map one (first_value_or founds [])
+-- what a variable holds: how often the option came where it takes no argument, all values, or the last value, if
+-- there is one
+abbrev pub held_value : Bool → HasArg → Bool → List Found → Option Value
+held_value arrays No all founds = Some (one (decimal (length founds)))
+held_value arrays kind true founds = Some (all_values arrays founds)
+held_value arrays kind false founds = option_map one (last_or None (texts_found founds))
 
--- the variable of a group, and what it holds
-abbrev pub group_variable : Text → MatchedGroup → Text
-group_variable prefix group = variable_of prefix group.signature.names
+-- the variable of an option, and what it holds
+abbrev pub own_variable : Text → Given → Text
+own_variable prefix option = variable_of prefix option.names
 
-abbrev pub group_value : Bool → MatchedGroup → Option Value
-group_value arrays group = held_value arrays group.signature.kind group.signature.occurrence group.found
+abbrev pub own_value : Bool → Given → Option Value
+own_value arrays option = held_value arrays option.kind option.all option.found
 
 -- What a shell holds that held `before`: each option's variable its value, all other variables what
 -- they held, and the words are the free words.
-pub record HoldsOptions (prefix : Text) (arrays : Bool) (matches : Matched) (before after : Shell) : Type 0 where
-  pub options : AllByRecursion (λ group. after.value (group_variable prefix group) ≡ group_value arrays group)
-      matches.groups
-  pub others : (name : Text) → AllByRecursion (λ group. group_variable prefix group ≢ name) matches.groups
+pub record HoldsOptions (prefix : Text) (arrays : Bool) (options : List Given) (free : List Text)
+    (before after : Shell) : Type 0 where
+  pub own : AllByRecursion (λ option. after.value (own_variable prefix option) ≡ own_value arrays option) options
+  pub others : (name : Text) → AllByRecursion (λ option. own_variable prefix option ≢ name) options
       → after.value name ≡ before.value name
-  pub words : after.words ≡ matches.free
+  pub words : after.words ≡ free
 
 -- ---- the text
 
--- the command that gives a variable its value, or takes it away
-abbrev pub setting : Text → Option Value → Text
-setting name None = codes "\\unset -v " ++ name
-setting name (Some (one text)) = name ++ (codes "=" ++ quoted text)
-setting name (Some (many words)) =
-    name ++ (codes "=(${" ++ (name ++ (codes "+} " ++ (quoted_words words ++ codes ")"))))
+-- the command that takes a variable away, with its attributes, and that which gives it a value, if it has one
+abbrev pub unset_line : Text → Text
+unset_line name = codes "\\unset -v " ++ (name ++ codes "\n")
 
--- the command for an option; a count stands without quotes
-abbrev pub option_setting : Bool → Text → HasArg → Occur → List Found → Text
-option_setting arrays name No occurrence founds = name ++ (codes "=" ++ decimal (length founds))
-option_setting arrays name kind occurrence founds = setting name (held_value arrays kind occurrence founds)
+abbrev pub value_line : Text → Option Value → Text
+value_line name None = []
+value_line name (Some (one text)) = name ++ (codes "=" ++ (quoted text ++ codes "\n"))
+value_line name (Some (many words)) =
+    name ++ (codes "=" ++ (array_front name ++ (quoted_words words ++ codes ")\n")))
 
--- the line for a group
-abbrev pub variable_line : Text → Bool → MatchedGroup → Text
-variable_line prefix arrays group =
-    option_setting arrays (group_variable prefix group) group.signature.kind group.signature.occurrence group.found
-    ++ codes "\n"
+-- the commands for an option
+abbrev pub option_code : Text → Bool → Given → Text
+option_code prefix arrays option =
+    unset_line (own_variable prefix option) ++ value_line (own_variable prefix option) (own_value arrays option)
 
--- the text for matches: a line for each option, and the free words
-abbrev pub variables_code : Text → Bool → Matched → Text
-variables_code prefix arrays matches = flat_map (variable_line prefix arrays) matches.groups
-    ++ (codes "\\set -- " ++ (quoted_words matches.free ++ codes "\n"))
+-- the command that sets the words `$@`
+abbrev pub line_code : List Text → Text
+line_code words = codes "\\set -- " ++ (quoted_words words ++ codes "\n")
 
--- a shell that runs the text for matches holds what they do, and the words of a text of values are these
--- values
-pub record SetsVariables (prefix : Text) (arrays : Bool) (matches : Matched) : Type 0 where
-  pub own : HaveOwnVariables prefix [] (held_names matches.groups)
-  pub shell : (before : Shell) → (after : Shell)
-      × (shell_after before (variables_code prefix arrays matches) ≡ Some after)
-      × HoldsOptions prefix arrays matches before after
-  pub once_more : AllByRecursion (λ group. shell_words (quoted_words (texts_found group.found))
-      ≡ Some (texts_found group.found)) matches.groups
+-- the text for options and free words
+abbrev pub variables_code : Text → Bool → List Given → List Text → Text
+variables_code prefix arrays options free = flat_map (option_code prefix arrays) options ++ line_code free
 
--- the texts that matches hold: the values, and the free words
-abbrev pub texts_held : Matched → List Text
-texts_held matches = flat_map (λ group. texts_found group.found) matches.groups ++ matches.free
+-- ---- what a shell makes of the text, and of its bytes
 
--- the text for matches sets variables, where each option makes one, no two the same, and no text holds a NUL byte
+-- an option with the bytes of its values
+abbrev pub found_in_bytes : Found → Found
+found_in_bytes found = record found { value = option_map bytes_of found.value }
+
+abbrev pub in_bytes : Given → Given
+in_bytes option = record option { found = map found_in_bytes option.found }
+
+-- the values of options are UTF-8
+abbrev pub HoldTexts : List Given → Type 0
+HoldTexts options = AllByRecursion (λ option. AreTexts (texts_found option.found)) options
+
+-- A shell that runs the command holds these words; and one that runs its bytes holds the bytes of the words.
+pub record SetsWords (words : List Text) : Type 0 where
+  pub shell : (before : Shell) → Runs before (line_code words) (record before { words = words })
+  pub bytes : (before : Shell) → Runs before (bytes_of (line_code words)) (record before { words = map bytes_of words })
+
+-- what a shell holds that ran this text: options and free words
+abbrev pub RunsTo : Text → Bool → Text → List Given → List Text → Type 0
+RunsTo prefix arrays text options free = (before : Shell) → (after : Shell) × Runs before text after
+    × HoldsOptions prefix arrays options free before after
+
+-- A shell that runs the text for options and free words holds these, each option in a variable of its own, and the
+-- words of a text of values are these values. Where the values are UTF-8, a shell that runs the bytes of the text holds
+-- the bytes of all.
+pub record SetsVariables (prefix : Text) (arrays : Bool) (options : List Given) (free : List Text) : Type 0 where
+  pub own : HaveOwnVariables prefix [] (map (λ option. option.names) options)
+  pub shell : RunsTo prefix arrays (variables_code prefix arrays options free) options free
+  pub bytes : HoldTexts options → AreTexts free
+      → RunsTo prefix arrays (bytes_of (variables_code prefix arrays options free)) (map in_bytes options)
+      (map bytes_of free)
+  pub once_more : AllByRecursion (λ option. shell_words (quoted_words (texts_found option.found))
+      ≡ Some (texts_found option.found)) options
+
+-- the text for options sets variables, where each option makes one, no two the same
 abbrev pub CodeSetsVariables : Type 0
-CodeSetsVariables = (prefix : Text) (arrays : Bool) (matches : Matched)
-    → HaveOwnVariables prefix [] (held_names matches.groups) → HoldNoNul (texts_held matches)
-    → SetsVariables prefix arrays matches
+CodeSetsVariables = (prefix : Text) (arrays : Bool) (options : List Given) (free : List Text)
+    → HaveOwnVariables prefix [] (map (λ option. option.names) options)
+    → SetsVariables prefix arrays options free
 
 -- ---- faults
 
--- a fault of variables: they are asked for with the words alone, or arrays without them, or that of the
--- prefix, or of a name in the line with this number
+-- a fault of variables: arrays are asked for without them, or that of the prefix, or of a name in the line with this
+-- number
 pub data VariableFault : Type 0 where
-  with_words : VariableFault
   arrays_only : VariableFault
   no_prefix : Text → VariableFault
   no_variable : ℕ → Text → VariableFault

@@ -1,11 +1,11 @@
 //! What the program answers to words.
 
-ghost use Rattle.std.specs.Prelude.{◌≡◌, ◌≢◌, ◌≤◌, ◌⊎◌, ℕ, ◌++◌, ◌↔◌, ◌&&◌, codes, map, true, false, IsTrue, List};
+ghost use Rattle.std.specs.Prelude.{◌≡◌, ◌≢◌, ◌⊎◌, ◌++◌, ◌-◌, ◌↔◌, ◌&&◌, codes, map, length, take, true, false, IsTrue, List};
 ghost use Rattle.std.specs.Prelude.{Option, IfOk, MatchOption, OnOk, Some, None, ◌∷◌, []};
 ghost use Rattle.std.specs.Option.{option_map};
 ghost use Rattle.std.specs.Io.KnownBytes.{Appends};
 ghost use Rattle.std.specs.List.{find, list_any};
-ghost use Rattle.std.specs.Str.{bytes_eq};
+ghost use Rattle.std.specs.Str.{IsUtf8, bytes_eq};
 ghost use Rattle.std.specs.String.{string_bytes};
 ghost use Rattle.getopts.specs.Accessors.{is_present};
 ghost use Rattle.getopts.specs.Fail.{Fault, Tells, fault_of, fault_text};
@@ -13,29 +13,31 @@ ghost use Rattle.getopts.specs.Matches.{Matched};
 ghost use Rattle.getopts.specs.Names.{Text, texts};
 ghost use Rattle.getopts.specs.Options.{Group, with_group};
 ghost use Rattle.getopts.specs.Parse.{IsAccepted, IsRefused};
-ghost use Rattle.getopts_shell.specs.Held.{group_of_row, groups_of, fault_told, answer_of, HasOwnGroups};
+ghost use Rattle.getopts_shell.specs.Held.{entry_of_row, entries_of, group_of_row, groups_as, groups_of};
+ghost use Rattle.getopts_shell.specs.Held.{fault_told, answer_of, HasOwnGroups};
 ghost use Rattle.getopts_shell.specs.Held.{ArePlainlyNamed, HaveReading, asked_of, variable_fault_told};
-ghost use Rattle.getopts_shell.specs.Program.{own_groups, own_options, script_options, done, misused};
+ghost use Rattle.getopts_shell.specs.Program.{own_groups, own_options, script_options, done, misused, brief_text, shown_options};
 ghost use Rattle.getopts_shell.specs.Program.{table_fault_line, fault_line, refused_text};
-ghost use Rattle.getopts_shell.specs.Program.{IsHelp, help_code, AskHelp, is_no, offers_help, line_code};
+ghost use Rattle.getopts_shell.specs.Program.{IsHelp, help_code, AskHelp, is_no, offers_help, last_word};
+ghost use Rattle.getopts_shell.specs.Variables.{line_code};
 ghost use Rattle.getopts_shell.specs.Program.{Asked, asked_by, ReadsWords, AnswersScript, AppendsFront, ShowsFront};
 ghost use Rattle.getopts_shell.specs.Program.{AnswersTable, AnswersFree, IsAnswer, IsOutput, IsStatus, ShowsAnswer};
-ghost use Rattle.getopts_shell.specs.Program.{AnswersOffer, AnswersNumbered, AnswersPlace};
+ghost use Rattle.getopts_shell.specs.Program.{AnswersOffer};
 ghost use Rattle.getopts_shell.specs.Program.{completion_answer, has_completion, no_completion};
 ghost use Rattle.getopts_shell.specs.Program.{asked_fault, variable_fault_line};
 ghost use Rattle.getopts_shell.specs.Program.{AreCounted, AnswersAlone, AskAlone, is_alone, main_word, stands_alone};
-ghost use Rattle.getopts_shell.specs.Quote.{holds_nul};
-ghost use Rattle.getopts_shell.specs.Table.{DeclaresOptions, TableFault, no_option, name_twice};
+ghost use Rattle.getopts_shell.specs.Completion.{IsOffer};
+ghost use Rattle.getopts_shell.specs.Table.{DeclaresOptions, Entry, TableFault, no_option, name_twice, shown_occurrence};
 ghost use Rattle.getopts_shell.specs.Held.{with_groups};
 
-use crate::complete::{is_given, offers_at, place_of, read_words, stub};
-use crate::item::{ALONE, reason_of};
-use crate::quote::{push_quoted, push_quoted_words};
-use crate::row::Row;
+use crate::complete::{is_given, offers, read_words, stub};
+use crate::item::reason_of;
+use crate::quote::{push_line, push_quoted};
+use crate::row::{Mark, Row};
 use crate::table::{TableError, rows_of};
 use crate::variables::{VariableError, Variables, main_name, variable_error, variables_code};
 use crate::words::texts_of;
-use getopts::{Fail, HasArg, Matches, Options, ParsingStyle, names_resolve};
+use getopts::{Fail, HasArg, Matches, Occur, Options, ParsingStyle, names_resolve};
 use getopts_bytes::push_bytes;
 use std::alloc::{AllocError, Global};
 use std::io;
@@ -81,7 +83,6 @@ struct Asked {
     brief: Option<String>,
     stop: bool,
     long_only: bool,
-    words: bool,
     usage: bool,
     complete: Option<String>,
     complete_words: Option<String>,
@@ -107,13 +108,12 @@ struct Script<'s> {
 ///
 /// - 0: code that sets the script's words to those of the canonical line, or, with `--variables`, that sets
 ///   variables, or that prints the script's help; with `--usage` the help itself, with `--complete` the code
-///   that completes words in a shell, with `--complete-words` what may come at a word, with `--help` the
+///   that completes words in a shell, with `--complete-words` what may come at the last word, with `--help` the
 ///   program's help
 /// - 2: why the script's words are refused, and its short usage
 /// - 3: out of memory, with nothing written
 /// - 4: a write or a flush failed, and what was written is a front of the text
-/// - 5: what is wrong with the call: its own words, an unknown shell, a number that no word has, a missing table,
-///   or a line of it
+/// - 5: what is wrong with the call: its own words, an unknown shell, a missing table, or a line of it
 pub fn answer<W: Write, E: Write>(alloc: Global, words: &[&str], out: &mut W, err: &mut E) -> u8
     ensures status { IsStatus result }
     ensures shown { result ≡ 0
@@ -230,7 +230,6 @@ fn add_own_options(options: &mut Options) -> Result<(), AllocError>
             "leave all words from the first free one on free",
         )?
         .optflag("l", "long-only", "let long names follow one dash too")?
-        .optflag("w", "words", "write the words alone, without 'set --'")?
         .optopt(
             "V",
             "variables",
@@ -248,7 +247,7 @@ fn add_own_options(options: &mut Options) -> Result<(), AllocError>
         .optopt(
             "",
             "complete-words",
-            "write what may come at word N, where the WORDs are N and words",
+            "write what may come at the last WORD",
             "SHELL",
         )?
         .optflag("h", "help", "print this help")?
@@ -300,7 +299,6 @@ fn asked_by(alloc: Global, own: &Matches) -> Result<Asked, AllocError>
         brief: own.opt_str(alloc, "brief")?,
         stop: own.opt_present("stop"),
         long_only: own.opt_present("long-only"),
-        words: own.opt_present("words"),
         usage: own.opt_present("usage"),
         complete: own.opt_str(alloc, "complete")?,
         complete_words: own.opt_str(alloc, "complete-words")?,
@@ -352,7 +350,7 @@ fn completed_answer(
     rows: &[Row<'_>],
     words: &[&str],
 ) -> Result<Outcome, AllocError>
-    requires declared { DeclaresOptions table.now (groups_of rows.now) }
+    requires declared { DeclaresOptions table.now (entries_of rows.now) }
     ensures { IfOk result (λ outcome.
         AnswersTable (asked_of asked.now) name.now table.now (texts words.now) (answer_of outcome)) }
 {
@@ -388,7 +386,7 @@ fn declared_answer(
     rows: &[Row<'_>],
     words: &[&str],
 ) -> Result<Outcome, AllocError>
-    requires declared { DeclaresOptions table.now (groups_of rows.now) }
+    requires declared { DeclaresOptions table.now (entries_of rows.now) }
     requires no_code { (asked_of asked.now).complete ≡ None }
     ensures { IfOk result (λ outcome.
         AnswersTable (asked_of asked.now) name.now table.now (texts words.now) (answer_of outcome)) }
@@ -408,7 +406,6 @@ fn asked_error<'t>(asked: &'t Asked, table: &'t str, rows: &[Row<'t>]) -> Option
         ≡ asked_fault (asked_of asked.now) table.now (groups_of rows.now) }
 {
     match &asked.variables {
-        Some(_) if asked.words => Some(VariableError::WithWords),
         Some(prefix) => variable_error(prefix.as_str(), table, rows),
         None if asked.arrays => Some(VariableError::ArraysOnly),
         None => None,
@@ -421,9 +418,6 @@ fn variable_refusal(alloc: Global, error: VariableError<'_>) -> Result<String, A
         string_bytes text ≡ variable_fault_line (variable_fault_told error.entry)) }
 {
     match error {
-        VariableError::WithWords => format!(in alloc;
-            "getopts_shell: --words and --variables don't go together\n"
-        ),
         VariableError::ArraysOnly => {
             format!(in alloc; "getopts_shell: --arrays needs --variables\n")
         }
@@ -448,12 +442,13 @@ fn rows_answer(
     rows: &[Row<'_>],
     words: &[&str],
 ) -> Result<Outcome, AllocError>
-    requires declared { DeclaresOptions table.now (groups_of rows.now) }
+    requires declared { DeclaresOptions table.now (entries_of rows.now) }
     requires variables { asked_fault (asked_of asked.now) table.now (groups_of rows.now) ≡ None }
     ensures { IfOk result (λ outcome. AnswersScript (asked_of asked.now) name.now
-        (script_options (asked_of asked.now) (groups_of rows.now)) (texts words.now) (answer_of outcome)) }
+        (script_options (asked_of asked.now) (groups_of rows.now)) (entries_of rows.now) (texts words.now)
+        (answer_of outcome)) }
 {
-    let options = options_of(alloc, asked, rows)?;
+    let options = options_of(alloc, asked, rows, false)?;
     let script = Script {
         asked,
         name,
@@ -464,44 +459,65 @@ fn rows_answer(
     script_answer(alloc, script, words)
 }
 
-/// The options of a table, in the style and the mode that are asked for.
-fn options_of(alloc: Global, asked: &Asked, rows: &[Row<'_>]) -> Result<Options, AllocError>
-    ensures { IfOk result (λ options. options ≡ script_options (asked_of asked.now) (groups_of rows.now)) }
+/// The options of a table, in the style and the mode that are asked for: as a help shows them, or as words are read.
+fn options_of(
+    alloc: Global,
+    asked: &Asked,
+    rows: &[Row<'_>],
+    shown: bool,
+) -> Result<Options, AllocError>
+    ensures { IfOk result (λ options. options ≡ script_options (asked_of asked.now) (groups_as shown rows.now)) }
 {
     let mut options = Options::new(alloc);
     if asked.stop {
         options.parsing_style(ParsingStyle::StopAtFirstFree);
     }
     options.long_only(asked.long_only);
-    add_rows(&mut options, rows)?;
+    add_rows(&mut options, rows, shown)?;
     Ok(options)
 }
 
 /// Adds the options of a table.
-fn add_rows(options: &mut Options, rows: &[Row<'_>]) -> Result<(), AllocError>
-    ensures { OnOk result (options.new ≡ record options.old { groups = options.old.groups ++ groups_of rows.now }) }
+fn add_rows(options: &mut Options, rows: &[Row<'_>], shown: bool) -> Result<(), AllocError>
+    ensures { OnOk result (options.new
+        ≡ record options.old { groups = options.old.groups ++ groups_as shown rows.now }) }
 {
     for row in rows {
+        let occurrence = if shown {
+            shown_occurrence(row.mark, row.occurrence)
+        } else {
+            row.occurrence
+        };
         options.add_group(
             row.short,
             row.long,
             row.description,
             row.hint,
             row.kind,
-            row.occurrence,
+            occurrence,
         )?;
     }
     Ok(())
+}
+
+/// How often an option may come, as a help shows it.
+fn shown_occurrence(mark: Mark, occurrence: Occur) -> Occur
+    ensures { result ≡ shown_occurrence mark occurrence }
+{
+    match mark {
+        Mark::Last => Occur::Optional,
+        _ => occurrence,
+    }
 }
 
 /// The answer for a script and its words.
 fn script_answer(alloc: Global, script: Script<'_>, words: &[&str]) -> Result<Outcome, AllocError>
     requires rows { script.options.now.groups ≡ groups_of script.rows.now }
     requires mode { script.options.now.long_only ≡ script.asked.now.long_only }
-    requires declared { DeclaresOptions script.table.now (groups_of script.rows.now) }
+    requires declared { DeclaresOptions script.table.now (entries_of script.rows.now) }
     requires variables { asked_fault (asked_of script.asked.now) script.table.now (groups_of script.rows.now) ≡ None }
     ensures { IfOk result (λ outcome. AnswersScript (asked_of script.entry.asked.now) script.entry.name.now
-        script.entry.options.now (texts words.now) (answer_of outcome)) }
+        script.entry.options.now (entries_of script.entry.rows.now) (texts words.now) (answer_of outcome)) }
 {
     if script.asked.usage {
         return Ok(Outcome {
@@ -515,18 +531,33 @@ fn script_answer(alloc: Global, script: Script<'_>, words: &[&str]) -> Result<Ou
     }
 }
 
+/// The options of a script as its help shows them.
+fn shown_options(alloc: Global, script: Script<'_>) -> Result<Options, AllocError>
+    ensures { IfOk result (λ options. options
+        ≡ shown_options (asked_of script.entry.asked.now) (entries_of script.entry.rows.now)) }
+{
+    options_of(alloc, script.asked, script.rows, true)
+}
+
+/// The text that the help of a script begins with.
+fn brief_text(alloc: Global, script: Script<'_>, shown: &Options) -> Result<String, AllocError>
+    ensures { IfOk result (λ text. string_bytes text
+        ≡ brief_text (asked_of script.entry.asked.now) script.entry.name.now shown.now) }
+{
+    match &script.asked.brief {
+        Some(brief) => String::from_str(alloc, brief.as_str()),
+        None => shown.short_usage(alloc, script.name),
+    }
+}
+
 /// The help of a script.
 fn help_of(alloc: Global, script: Script<'_>) -> Result<String, AllocError>
     ensures { IfOk result (λ text. IsHelp (asked_of script.entry.asked.now) script.entry.name.now
-        script.entry.options.now (string_bytes text)) }
+        (shown_options (asked_of script.entry.asked.now) (entries_of script.entry.rows.now)) (string_bytes text)) }
 {
-    match &script.asked.brief {
-        Some(brief) => script.options.usage(alloc, brief.as_str()),
-        None => {
-            let brief = script.options.short_usage(alloc, script.name)?;
-            script.options.usage(alloc, brief.as_str())
-        }
-    }
+    let shown = shown_options(alloc, script)?;
+    let brief = brief_text(alloc, script, &shown)?;
+    shown.usage(alloc, brief.as_str())
 }
 
 /// The code that completes a script's words in a shell, or that there is none for it.
@@ -563,7 +594,7 @@ fn has_completion(shell: &str) -> bool
     shell == "bash" || shell == "zsh" || shell == "fish"
 }
 
-/// The answer to a shell that asks what may come at a word: its number stands before the words.
+/// The answer to a shell that asks what may come at the last word.
 fn offer_answer(
     alloc: Global,
     shell: &str,
@@ -578,51 +609,28 @@ fn offer_answer(
     if !has_completion(shell) {
         return no_completion(alloc, shell);
     }
-    numbered_answer(alloc, script, words)
+    Ok(Outcome {
+        text: last_offers(alloc, script, words)?,
+        status: DONE,
+    })
 }
 
-/// What may come at a word whose number stands before the words.
-fn numbered_answer(alloc: Global, script: Script<'_>, words: &[&str]) -> Result<Outcome, AllocError>
+/// What may come at the last word.
+fn last_offers(alloc: Global, script: Script<'_>, words: &[&str]) -> Result<String, AllocError>
     requires rows { script.options.now.groups ≡ groups_of script.rows.now }
     requires mode { script.options.now.long_only ≡ script.asked.now.long_only }
-    ensures { IfOk result (λ outcome. AnswersNumbered script.entry.options.now
-        (texts words.now) (answer_of outcome)) }
+    ensures { IfOk result (λ text. IsOffer script.entry.options.now
+        (take (length (texts words.now) - 1) (texts words.now)) (last_word (texts words.now)) (string_bytes text)) }
 {
-    match words {
-        [number, words @ ..] => place_answer(alloc, script, number, words),
-        [] => place_answer(alloc, script, "", &[]),
+    let options = script.options;
+    let long_only = script.asked.long_only;
+    let count = words.len();
+    if count == 0 {
+        return offers(alloc, options, long_only, script.rows, words, "");
     }
-}
-
-/// What may come at the word with this number.
-fn place_answer(
-    alloc: Global,
-    script: Script<'_>,
-    number: &str,
-    words: &[&str],
-) -> Result<Outcome, AllocError>
-    requires rows { script.options.now.groups ≡ groups_of script.rows.now }
-    requires mode { script.options.now.long_only ≡ script.asked.now.long_only }
-    ensures { IfOk result (λ outcome. AnswersPlace script.entry.options.now number.now
-        (texts words.now) (answer_of outcome)) }
-{
-    match place_of(number, words.len()) {
-        Some(place) => Ok(Outcome {
-            text: offers_at(
-                alloc,
-                script.options,
-                script.asked.long_only,
-                script.rows,
-                words,
-                place,
-            )?,
-            status: DONE,
-        }),
-        None => Ok(Outcome {
-            text: format!(in alloc; "getopts_shell: no word has the number '{number}'\n")?,
-            status: MISUSED,
-        }),
-    }
+    let before = &words[..count - 1];
+    let word = words[count - 1];
+    offers(alloc, options, long_only, script.rows, before, word)
 }
 
 /// The answer to the words of a script: the code that prints its help where they ask for it, the code of the one
@@ -630,10 +638,10 @@ fn place_answer(
 fn words_answer(alloc: Global, script: Script<'_>, words: &[&str]) -> Result<Outcome, AllocError>
     requires asked { ReadsWords (asked_of script.asked.now) }
     requires rows { script.options.now.groups ≡ groups_of script.rows.now }
-    requires declared { DeclaresOptions script.table.now (groups_of script.rows.now) }
+    requires declared { DeclaresOptions script.table.now (entries_of script.rows.now) }
     requires variables { asked_fault (asked_of script.asked.now) script.table.now (groups_of script.rows.now) ≡ None }
     ensures { IfOk result (λ outcome. AnswersScript (asked_of script.entry.asked.now) script.entry.name.now
-        script.entry.options.now (texts words.now) (answer_of outcome)) }
+        script.entry.options.now (entries_of script.entry.rows.now) (texts words.now) (answer_of outcome)) }
 {
     let asked = asks_help(alloc, script, words)?;
     if asked {
@@ -684,8 +692,8 @@ fn asked_alone<'s>(
     requires rows { script.options.now.groups ≡ groups_of script.rows.now }
     requires no_help { ¬ (AskHelp script.options.now (texts words.now)) }
     ensures { IfOk result (λ found. MatchOption found
-        ((group : Group) → ¬ (AskAlone script.entry.options.now (texts words.now) group))
-        (λ row. AskAlone script.entry.options.now (texts words.now) (group_of_row row))) }
+        ((entry : Entry) → ¬ (AskAlone script.entry.options.now (entries_of script.entry.rows.now) (texts words.now) entry))
+        (λ row. AskAlone script.entry.options.now (entries_of script.entry.rows.now) (texts words.now) (entry_of_row row))) }
 {
     let marked = any_stands_alone(script.rows);
     if !marked {
@@ -700,21 +708,21 @@ fn asked_alone<'s>(
 
 /// Whether one of the rows stands alone.
 fn any_stands_alone(rows: &[Row<'_>]) -> bool
-    ensures { result ≡ list_any (λ row. stands_alone (group_of_row row)) rows.now }
+    ensures { result ≡ list_any (λ row. stands_alone row.mark) rows.now }
 {
-    rows.iter().any(|row| stands_alone(*row))
+    rows.iter().any(|row| stands_alone(row.mark))
 }
 
-/// Whether a row stands alone.
-fn stands_alone(row: Row<'_>) -> bool
-    ensures { result ≡ stands_alone (group_of_row row.entry) }
+/// Whether an option with this mark stands alone.
+fn stands_alone(mark: Mark) -> bool
+    ensures { result ≡ stands_alone mark }
 {
-    matches!(row.kind, HasArg::No) && row.hint == ALONE
+    matches!(mark, Mark::Alone)
 }
 
 /// The first row that stands alone and is given by matches.
 fn first_alone<'t>(rows: &[Row<'t>], matches: &Matches) -> Option<Row<'t>>
-    ensures { option_map group_of_row result ≡ find (is_alone matches.now) (groups_of rows.now) }
+    ensures { option_map entry_of_row result ≡ find (is_alone matches.now) (entries_of rows.now) }
 {
     for at in 0..rows.len() {
         let row = rows[at];
@@ -727,19 +735,18 @@ fn first_alone<'t>(rows: &[Row<'t>], matches: &Matches) -> Option<Row<'t>>
 
 /// Whether a row stands alone and is given by matches.
 fn is_alone(row: Row<'_>, matches: &Matches) -> bool
-    ensures { result ≡ is_alone matches.now (group_of_row row.entry) }
+    ensures { result ≡ is_alone matches.now (entry_of_row row.entry) }
 {
-    stands_alone(row) && is_given(matches, main_name(row))
+    stands_alone(row.mark) && is_given(matches, main_name(row))
 }
 
 /// The answer to words that ask for one option alone: its line, or the code that sets variables to what it gives.
 fn alone_answer(alloc: Global, script: Script<'_>, row: Row<'_>) -> Result<Outcome, AllocError>
     requires rows { script.options.now.groups ≡ groups_of script.rows.now }
     requires variables { asked_fault (asked_of script.asked.now) script.table.now (groups_of script.rows.now) ≡ None }
-    requires readable { HaveReading script.options.now (main_word (group_of_row row) ∷ []) }
-    requires clear { holds_nul (main_word (group_of_row row)) ≡ false }
+    requires readable { HaveReading script.options.now (main_word (entry_of_row row) ∷ []) }
     ensures { IfOk result (λ outcome. AnswersAlone (asked_of script.entry.asked.now)
-        script.entry.options.now (group_of_row row.entry) (answer_of outcome)) }
+        script.entry.options.now (entries_of script.entry.rows.now) (entry_of_row row.entry) (answer_of outcome)) }
 {
     match &script.asked.variables {
         Some(prefix) => alone_variables(alloc, script, prefix.as_str(), row),
@@ -750,14 +757,13 @@ fn alone_answer(alloc: Global, script: Script<'_>, row: Row<'_>) -> Result<Outco
 /// The code of the line of one option alone.
 fn alone_line(alloc: Global, script: Script<'_>, row: Row<'_>) -> Result<Outcome, AllocError>
     requires no_variables { (asked_of script.asked.now).variables ≡ None }
-    requires clear { holds_nul (main_word (group_of_row row)) ≡ false }
     ensures { IfOk result (λ outcome. AnswersAlone (asked_of script.entry.asked.now)
-        script.entry.options.now (group_of_row row.entry) (answer_of outcome)) }
+        script.entry.options.now (entries_of script.entry.rows.now) (entry_of_row row.entry) (answer_of outcome)) }
 {
     let word = main_word(alloc, row)?;
     let stop = String::from_str(alloc, "--")?;
     Ok(Outcome {
-        text: line_code(alloc, script.asked, &[word, stop])?,
+        text: line_code(alloc, &[word, stop])?,
         status: DONE,
     })
 }
@@ -772,10 +778,9 @@ fn alone_variables(
     requires prefix { (asked_of script.asked.now).variables ≡ Some prefix.now }
     requires rows { script.options.now.groups ≡ groups_of script.rows.now }
     requires variables { asked_fault (asked_of script.asked.now) script.table.now (groups_of script.rows.now) ≡ None }
-    requires readable { HaveReading script.options.now (main_word (group_of_row row) ∷ []) }
-    requires clear { holds_nul (main_word (group_of_row row)) ≡ false }
+    requires readable { HaveReading script.options.now (main_word (entry_of_row row) ∷ []) }
     ensures { IfOk result (λ outcome. AnswersAlone (asked_of script.entry.asked.now)
-        script.entry.options.now (group_of_row row.entry) (answer_of outcome)) }
+        script.entry.options.now (entries_of script.entry.rows.now) (entry_of_row row.entry) (answer_of outcome)) }
 {
     let variables = Variables {
         prefix,
@@ -794,7 +799,7 @@ fn alone_variables(
 
 /// The word of an option by its main name.
 fn main_word(alloc: Global, row: Row<'_>) -> Result<String, AllocError>
-    ensures { IfOk result (λ word. string_bytes word ≡ main_word (group_of_row row.entry)) }
+    ensures { IfOk result (λ word. string_bytes word ≡ main_word (entry_of_row row.entry)) }
 {
     let mut word = String::from_str(alloc, "--")?;
     word.push_str(main_name(row))?;
@@ -804,8 +809,9 @@ fn main_word(alloc: Global, row: Row<'_>) -> Result<String, AllocError>
 /// The code that prints the help of a script, and ends it.
 fn help_code(alloc: Global, script: Script<'_>) -> Result<String, AllocError>
     ensures { IfOk result (λ text. (help : Text)
-        × IsHelp (asked_of script.entry.asked.now) script.entry.name.now script.entry.options.now help
-        × (string_bytes text ≡ help_code help)) }
+        × IsHelp (asked_of script.entry.asked.now) script.entry.name.now
+        (shown_options (asked_of script.entry.asked.now) (entries_of script.entry.rows.now)) help
+        × IsUtf8 help × (string_bytes text ≡ help_code help)) }
 {
     let help = help_of(alloc, script)?;
     let mut text = String::from_str(alloc, "\\printf %s ")?;
@@ -817,12 +823,12 @@ fn help_code(alloc: Global, script: Script<'_>) -> Result<String, AllocError>
 /// The answer to words whose counts are checked: variables or the canonical line, or the first fault.
 fn counted_answer(alloc: Global, script: Script<'_>, words: &[&str]) -> Result<Outcome, AllocError>
     requires asked { ReadsWords (asked_of script.asked.now) }
-    requires counted { AreCounted script.options.now (texts words.now) }
+    requires counted { AreCounted script.options.now (entries_of script.rows.now) (texts words.now) }
     requires rows { script.options.now.groups ≡ groups_of script.rows.now }
-    requires declared { DeclaresOptions script.table.now (groups_of script.rows.now) }
+    requires declared { DeclaresOptions script.table.now (entries_of script.rows.now) }
     requires variables { asked_fault (asked_of script.asked.now) script.table.now (groups_of script.rows.now) ≡ None }
     ensures { IfOk result (λ outcome. AnswersScript (asked_of script.entry.asked.now) script.entry.name.now
-        script.entry.options.now (texts words.now) (answer_of outcome)) }
+        script.entry.options.now (entries_of script.entry.rows.now) (texts words.now) (answer_of outcome)) }
 {
     match &script.asked.variables {
         Some(prefix) => variables_answer(alloc, script, prefix.as_str(), words),
@@ -834,15 +840,15 @@ fn counted_answer(alloc: Global, script: Script<'_>, words: &[&str]) -> Result<O
 fn line_answer(alloc: Global, script: Script<'_>, words: &[&str]) -> Result<Outcome, AllocError>
     requires asked { ReadsWords (asked_of script.asked.now) }
     requires no_variables { (asked_of script.asked.now).variables ≡ None }
-    requires counted { AreCounted script.options.now (texts words.now) }
+    requires counted { AreCounted script.options.now (entries_of script.rows.now) (texts words.now) }
     requires plain { ArePlainlyNamed script.options.now.groups }
     ensures { IfOk result (λ outcome. AnswersScript (asked_of script.entry.asked.now) script.entry.name.now
-        script.entry.options.now (texts words.now) (answer_of outcome)) }
+        script.entry.options.now (entries_of script.entry.rows.now) (texts words.now) (answer_of outcome)) }
 {
     names_resolve(script.options);
     match script.options.canonical_words(alloc, words) {
         Ok(Some(line)) => Ok(Outcome {
-            text: line_code(alloc, script.asked, &line)?,
+            text: line_code(alloc, &line)?,
             status: DONE,
         }),
         Ok(None) => unreachable!(),
@@ -862,11 +868,11 @@ fn variables_answer(
 ) -> Result<Outcome, AllocError>
     requires asked { ReadsWords (asked_of script.asked.now) }
     requires prefix { (asked_of script.asked.now).variables ≡ Some prefix.now }
-    requires counted { AreCounted script.options.now (texts words.now) }
+    requires counted { AreCounted script.options.now (entries_of script.rows.now) (texts words.now) }
     requires rows { script.options.now.groups ≡ groups_of script.rows.now }
     requires variables { asked_fault (asked_of script.asked.now) script.table.now (groups_of script.rows.now) ≡ None }
     ensures { IfOk result (λ outcome. AnswersScript (asked_of script.entry.asked.now) script.entry.name.now
-        script.entry.options.now (texts words.now) (answer_of outcome)) }
+        script.entry.options.now (entries_of script.entry.rows.now) (texts words.now) (answer_of outcome)) }
 {
     let variables = Variables {
         prefix,
@@ -884,28 +890,26 @@ fn variables_answer(
     }
 }
 
-/// The code that sets a script's words to those of a line, or the words alone.
-fn line_code(alloc: Global, asked: &Asked, line: &[String]) -> Result<String, AllocError>
-    ensures { IfOk result (λ text. string_bytes text
-        ≡ line_code (asked_of asked.now) (map string_bytes line.now)) }
+/// The code that sets a script's words to those of a line.
+fn line_code(alloc: Global, line: &[String]) -> Result<String, AllocError>
+    ensures { IfOk result (λ text. string_bytes text ≡ line_code (map string_bytes line.now)) }
 {
     let mut text = String::new(alloc);
-    if !asked.words {
-        text.push_str("\\set -- ")?;
-    }
-    push_quoted_words(&mut text, line)?;
-    text.push('\n')?;
+    push_line(&mut text, line)?;
     Ok(text)
 }
 
-/// Why a script's words are refused, and its short usage.
+/// Why a script's words are refused, and the text that its help begins with.
 fn refusal(alloc: Global, script: Script<'_>, fail: &Fail) -> Result<String, AllocError>
     ensures { IfOk result (λ text. (fault : Fault) × (fault_of fail.now ≡ Some fault)
-        × (string_bytes text ≡ refused_text script.entry.options.now script.entry.name.now fault)) }
+        × (string_bytes text ≡ refused_text (asked_of script.entry.asked.now)
+        (shown_options (asked_of script.entry.asked.now) (entries_of script.entry.rows.now))
+        script.entry.name.now fault)) }
 {
     let mut text = fault_line(alloc, script.name, fail)?;
-    let usage = script.options.short_usage(alloc, script.name)?;
-    text.push_str(usage.as_str())?;
+    let shown = shown_options(alloc, script)?;
+    let brief = brief_text(alloc, script, &shown)?;
+    text.push_str(brief.as_str())?;
     text.push('\n')?;
     Ok(text)
 }

@@ -1,7 +1,7 @@
 //! What completes a script's words: the code for bash, zsh and fish, and what it is answered.
 
 ghost use Rattle.std.specs.Prelude.{◌≡◌, ◌++◌, ◌∷◌, [], Option, Some, IfOk, OnOk, MatchOption, codes, map};
-ghost use Rattle.std.specs.Prelude.{if◌then◌else◌, nat_eq, length, take, ℕ, ◌≤◌};
+ghost use Rattle.std.specs.Prelude.{if◌then◌else◌, nat_eq};
 ghost use Rattle.getopts.specs.Wrap.{parting};
 ghost use Rattle.getopts_shell.specs.Quote.{quoted};
 ghost use Rattle.std.specs.List.{flat_map, starts_with};
@@ -16,8 +16,9 @@ ghost use Rattle.getopts.specs.Reading.{begins_with_dash, stop_word};
 ghost use Rattle.getopts_shell.specs.Completion as Spec;
 ghost use Rattle.getopts_shell.specs.Held.{HaveReading, group_of_row, groups_of};
 
-use crate::quote::push_quoted;
+use crate::quote::{push_parting, push_replaced};
 use crate::row::Row;
+use crate::variables::main_name;
 use getopts::{Fail, HasArg, Matches, Occur, Options};
 use std::alloc::{AllocError, Global};
 
@@ -30,7 +31,7 @@ const BASH: &str = r#"_getopts_shell_offer() {
         if [[ $at == -1 || $rest != "$line" ]]; then at=$((at + 1)); fi
         words[at]+=${rest:0:${#word}} line=${rest:${#word}}
     done
-    mapfile -t COMPREPLY < <("${@:2}" "$((at - 1))" "${words[@]:1}" 2>/dev/null)
+    mapfile -t COMPREPLY < <("${@:2}" "${words[@]:1}" 2>/dev/null)
     if [[ ${COMPREPLY-} == [fv]* ]]; then COMPREPLY=(); compopt -o default; fi
     line=${words[at]%"$1"}
     for at in "${!COMPREPLY[@]}"; do
@@ -44,7 +45,7 @@ const BASH: &str = r#"_getopts_shell_offer() {
 /// What offers words in zsh.
 const ZSH: &str = r#"_getopts_shell_offer() {
     local -a offers
-    offers=("${(@f)$("$@" "$((CURRENT - 2))" "${(@Q)words[2,CURRENT-1]}" "$PREFIX" 2>/dev/null)}")
+    offers=("${(@f)$("$@" "${(@Q)words[2,CURRENT-1]}" "$PREFIX" 2>/dev/null)}")
     case $offers[1] in
     (files) _files ;;
     (value) compset -P 1 '*='; _files ;;
@@ -61,7 +62,7 @@ const ZSH: &str = r#"_getopts_shell_offer() {
 const FISH: &str = r#"function _getopts_shell_offer
     set -l before (commandline -opc); set -e before[1]
     set -l word (commandline -ct)
-    set -l offers (command $argv (count $before) $before "$word" 2>/dev/null)
+    set -l offers (command $argv $before "$word" 2>/dev/null)
     switch "$offers[1]"
         case files; __fish_complete_path "$word"
         case value
@@ -77,22 +78,14 @@ end
 fn push_stub_quoted(text: &mut String, word: &str) -> Result<(), AllocError>
     ensures { OnOk result (string_bytes text.new ≡ string_bytes text.old ++ Spec.stub_quoted word.now) }
 {
+    text.push('\'')?;
     let mut begun = false;
     for part in word.split('\\') {
-        push_part(text, begun, part)?;
+        push_parting(text, begun, "'\\\\'")?;
+        push_replaced(text, part, '\'', "'\\''")?;
         begun = true;
     }
-    Ok(())
-}
-
-/// Adds a part of a word that holds no backslash in quotes, after a backslash where another part stands before
-/// it.
-fn push_part(text: &mut String, begun: bool, part: &str) -> Result<(), AllocError>
-    ensures { OnOk result (string_bytes text.new
-        ≡ string_bytes text.old ++ (parting begun (codes "\\\\") ++ quoted part.now)) }
-{
-    text.push_str(if begun { "\\\\" } else { "" })?;
-    push_quoted(text, part)
+    text.push('\'')
 }
 
 /// The mark of a name in names of functions.
@@ -208,55 +201,8 @@ fn fish_stub(alloc: Global, mark: &str, call: &str, name: &str) -> Result<String
     )
 }
 
-/// The place that a word writes, if it is at most this.
-pub(crate) fn place_of(word: &str, most: usize) -> Option<usize>
-    ensures { MatchOption result ((place : ℕ) → Spec.WritesNumber word.now place → ¬ (place ≤ most))
-        (λ place. Spec.WritesNumber word.now place × (place ≤ most)) }
-{
-    match word.parse::<usize>() {
-        Ok(place) if place <= most => Some(place),
-        _ => None,
-    }
-}
-
-/// What is offered at a place of words by a script with these options.
-pub(crate) fn offers_at(
-    alloc: Global,
-    options: &Options,
-    long_only: bool,
-    rows: &[Row<'_>],
-    words: &[&str],
-    place: usize,
-) -> Result<String, AllocError>
-    requires rows { options.now.groups ≡ groups_of rows.now }
-    requires mode { options.now.long_only ≡ long_only }
-    requires place { place ≤ length words.now }
-    ensures { IfOk result (λ text. Spec.IsOffer options.now (take place (texts words.now))
-        (Spec.word_at (texts words.now) place) (string_bytes text)) }
-{
-    offers(
-        alloc,
-        options,
-        long_only,
-        rows,
-        &words[..place],
-        word_at(words, place),
-    )
-}
-
-/// The word at a place, or an empty one after the last.
-fn word_at<'w>(words: &[&'w str], place: usize) -> &'w str
-    ensures { result.now ≡ Spec.word_at (texts words.now) place }
-{
-    if place < words.len() {
-        words[place]
-    } else {
-        ""
-    }
-}
-
 /// What is offered at a word of a script with these options, after the words before it: options, or files.
-fn offers(
+pub(crate) fn offers(
     alloc: Global,
     options: &Options,
     long_only: bool,
@@ -391,7 +337,7 @@ fn push_row(
 fn may_come(matches: &Matches, row: &Row<'_>) -> bool
     ensures { result ≡ Spec.may_come matches.now (group_of_row row.now) }
 {
-    is_multi(row.occurrence) || !is_given(matches, main_name(row))
+    is_multi(row.occurrence) || !is_given(matches, main_name(*row))
 }
 
 /// Whether an option may come any number of times.
@@ -399,17 +345,6 @@ fn is_multi(occurrence: Occur) -> bool
     ensures { result ≡ Spec.is_multi occurrence }
 {
     matches!(occurrence, Occur::Multi)
-}
-
-/// The main name of a row.
-fn main_name<'t>(row: &Row<'t>) -> &'t str
-    ensures { result.now ≡ main_name (group_of_row row.now).signature.names }
-{
-    if row.long.is_empty() {
-        row.short
-    } else {
-        row.long
-    }
 }
 
 /// Whether matches have an option of this name.

@@ -1,49 +1,79 @@
 //! Words in quotes, as a shell reads them back.
 
-ghost use Rattle.std.specs.Prelude.{◌≡◌, ◌++◌, codes, map, ℕ, List, Option, Some, OnOk};
+ghost use Rattle.std.specs.Prelude.{◌≡◌, ◌<◌, ◌++◌, map, ℕ, List, Option, Some, OnOk};
 ghost use Rattle.std.specs.List.{AllByRecursion, flat_map};
 ghost use Rattle.std.specs.String.{string_bytes};
 ghost use Rattle.getopts.specs.Names.{Text};
 ghost use Rattle.getopts.specs.Wrap.{parting};
 ghost use Rattle.getopts_bytes.specs.Marks.{AreBytes, bytes_of, text_of};
-ghost use Rattle.getopts_shell.specs.Quote.{HoldNoNul, quoted, quoted_words, shell_words, spaced};
+ghost use Rattle.getopts_shell.specs.Quote.{quoted, quoted_words, replaced, shell_words, spaced};
+ghost use Rattle.getopts_shell.specs.Variables.{line_code};
 
 use std::alloc::AllocError;
 
-/// A shell makes of words in quotes the same words, where none holds a NUL byte; also where they are words of any other
-/// bytes, read as texts and written as bytes. No other words are written alike. A law to cite, which does nothing.
+/// A shell makes of words in quotes the same words; also where they are words of any bytes, read as texts and written
+/// as bytes. No other words are written alike. A law to cite, which does nothing.
 pub fn words_come_back()
-    ensures same { (words : List Text) → HoldNoNul words → shell_words (quoted_words words) ≡ Some words }
-    ensures bytes { (words : List (List ℕ)) → AllByRecursion AreBytes words → HoldNoNul words
+    ensures same { (words : List Text) → shell_words (quoted_words words) ≡ Some words }
+    ensures bytes { (words : List (List ℕ)) → AllByRecursion AreBytes words
         → shell_words (bytes_of (quoted_words (map text_of words))) ≡ Some words }
     ensures only { (words others : List Text)
         → quoted_words words ≡ quoted_words others → words ≡ others }
 {}
+
+/// Adds a text with another in the place of each such character of ASCII.
+pub(crate) fn push_replaced(
+    text: &mut String,
+    word: &str,
+    character: char,
+    other: &str,
+) -> Result<(), AllocError>
+    requires { character < 128 }
+    ensures { OnOk result (string_bytes text.new
+        ≡ string_bytes text.old ++ flat_map (replaced character other.now) word.now) }
+{
+    let mut begun = false;
+    for part in word.split(character) {
+        push_parting(text, begun, other)?;
+        text.push_str(part)?;
+        begun = true;
+    }
+    Ok(())
+}
+
+/// Adds the separator, where `begun` says that anything came before.
+pub(crate) fn push_parting(
+    text: &mut String,
+    begun: bool,
+    separator: &str,
+) -> Result<(), AllocError>
+    ensures { OnOk result (string_bytes text.new
+        ≡ string_bytes text.old ++ parting begun separator.now) }
+{
+    text.push_str(if begun { separator } else { "" })
+}
 
 /// Adds a word in quotes: `'`, its bytes with `'\''` for each `'`, and `'`.
 pub(crate) fn push_quoted(text: &mut String, word: &str) -> Result<(), AllocError>
     ensures { OnOk result (string_bytes text.new ≡ string_bytes text.old ++ quoted word.now) }
 {
     text.push('\'')?;
-    let mut begun = false;
-    for part in word.split('\'') {
-        push_part(text, begun, part)?;
-        begun = true;
-    }
+    push_replaced(text, word, '\'', "'\\''")?;
     text.push('\'')
 }
 
-/// Adds a part of a word that holds no `'`, after `'\''` where another part stands before it.
-fn push_part(text: &mut String, begun: bool, part: &str) -> Result<(), AllocError>
+/// Adds the command that sets the words of a script.
+pub(crate) fn push_line(text: &mut String, words: &[String]) -> Result<(), AllocError>
     ensures { OnOk result (string_bytes text.new
-        ≡ string_bytes text.old ++ (parting begun (codes "'\\''") ++ part.now)) }
+        ≡ string_bytes text.old ++ line_code (map string_bytes words.now)) }
 {
-    text.push_str(if begun { "'\\''" } else { "" })?;
-    text.push_str(part)
+    text.push_str("\\set -- ")?;
+    push_quoted_words(text, words)?;
+    text.push('\n')
 }
 
 /// Adds words in quotes, with a space between each two.
-pub(crate) fn push_quoted_words(text: &mut String, words: &[String]) -> Result<(), AllocError>
+fn push_quoted_words(text: &mut String, words: &[String]) -> Result<(), AllocError>
     ensures { OnOk result (string_bytes text.new
         ≡ string_bytes text.old ++ quoted_words (map string_bytes words.now)) }
 {

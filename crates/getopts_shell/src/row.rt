@@ -4,6 +4,17 @@ ghost use Rattle.getopts.specs.Names.{AreLawful};
 
 use getopts::{HasArg, Occur};
 
+/// What stands behind the brackets of an option, besides how often it may come.
+#[derive(Clone, Copy)]
+pub enum Mark {
+    /// Nothing.
+    Plain,
+    /// `!`: it stands alone.
+    Alone,
+    /// `*`: it may come again, and its last value counts.
+    Last,
+}
+
 /// An option that a line of a table declares, by lawful names.
 #[derive(Clone, Copy)]
 pub struct Row<'t> {
@@ -13,5 +24,6 @@ pub struct Row<'t> {
     pub occurrence: Occur,
     pub hint: &'t str,
     pub description: &'t str,
+    pub mark: Mark,
     ghost lawful: { AreLawful short.now long.now },
 }

@@ -6,11 +6,10 @@ ghost use Rattle.std.specs.List.{list_any};
 ghost use Rattle.std.specs.Option.{option_copied, option_to_list};
 ghost use Rattle.std.specs.Str.{bytes_eq};
 ghost use Rattle.getopts.specs.Names.{Text, is_empty};
-ghost use Rattle.getopts.specs.Options.{Group};
-ghost use Rattle.getopts_shell.specs.Held.{group_of_row, groups_of, TellsFault};
-ghost use Rattle.getopts_shell.specs.Table.{is_blank, after_blanks, before_blanks, trimmed, begins_gap};
+ghost use Rattle.getopts_shell.specs.Held.{entry_of_row, entries_of, TellsFault};
+ghost use Rattle.getopts_shell.specs.Table.{trimmed, begins_gap};
 ghost use Rattle.getopts_shell.specs.Table.{before_gap, from_gap, any_has_name, name_again, HaveNewNames};
-ghost use Rattle.getopts_shell.specs.Table.{OneTableOneList, Declares, DeclaresOptions, IsLineFault, IsTableFault};
+ghost use Rattle.getopts_shell.specs.Table.{Entry, OneTableOneList, Declares, DeclaresOptions, IsLineFault, IsTableFault};
 
 use crate::item::row_of;
 use crate::row::Row;
@@ -34,7 +33,7 @@ pub fn one_table_one_list()
 
 /// The options that a table declares, in order.
 pub(crate) fn rows_of(alloc: Global, table: &str) -> Result<Vec<Row<'_>>, TableError<'_>>
-    ensures { MatchResult result (λ rows. DeclaresOptions table.now (groups_of rows.items))
+    ensures { MatchResult result (λ rows. DeclaresOptions table.now (entries_of rows.items))
         (λ error. TellsFault error (IsTableFault table.now)) }
 {
     let mut rows = Vec::new(alloc);
@@ -52,17 +51,18 @@ fn push_line<'t>(
     number: usize,
     line: &'t str,
 ) -> Result<(), TableError<'t>>
-    ensures declared { OnOk result ((declared : Option Group) × Declares line.now declared
-        × (groups_of rows.new.items ≡ groups_of rows.old.items ++ option_to_list declared)
-        × HaveNewNames (groups_of rows.old.items) (option_to_list declared)) }
+    ensures declared { OnOk result ((declared : Option Entry) × Declares line.now declared
+        × (entries_of rows.new.items ≡ entries_of rows.old.items ++ option_to_list declared)
+        × HaveNewNames (entries_of rows.old.items) (option_to_list declared)) }
     ensures fault { IfErr result (λ error.
-        TellsFault error (IsLineFault number (groups_of rows.old.items) line.now)) }
+        TellsFault error (IsLineFault number (entries_of rows.old.items) line.now)) }
 {
     let line = trimmed(line);
     if declares_nothing(line) {
         return Ok(());
     }
     let (item, description) = cut_at_gap(line);
+    let item = trimmed(item);
     let Some(row) = row_of(item, trimmed(description)) else {
         return Err(TableError::NoOption(number, item));
     };
@@ -84,7 +84,7 @@ pub(crate) fn declares_nothing(line: &str) -> bool
 
 /// The first of a row's names that one of the rows has already.
 fn name_again<'t>(rows: &[Row<'t>], row: Row<'t>) -> Option<&'t str>
-    ensures { option_copied result ≡ name_again (groups_of rows.now) (group_of_row row.entry) }
+    ensures { option_copied result ≡ name_again (entries_of rows.now) (entry_of_row row.entry) }
 {
     if any_has_name(rows, row.short) {
         Some(row.short)
@@ -97,7 +97,7 @@ fn name_again<'t>(rows: &[Row<'t>], row: Row<'t>) -> Option<&'t str>
 
 /// Whether one of the rows has this name.
 fn any_has_name(rows: &[Row<'_>], name: &str) -> bool
-    ensures { result ≡ any_has_name (groups_of rows.now) name.now }
+    ensures { result ≡ any_has_name (entries_of rows.now) name.now }
 {
     !name.is_empty() && any_is_called(rows, name)
 }
@@ -109,44 +109,11 @@ fn any_is_called(rows: &[Row<'_>], text: &str) -> bool
     rows.iter().any(|row| row.short == text || row.long == text)
 }
 
-/// A text without the spaces, tabs and carriage returns at both ends.
+/// A text without the ASCII white space at both ends.
 pub(crate) fn trimmed(text: &str) -> &str
     ensures { result.now ≡ trimmed text.now }
 {
-    before_blanks(after_blanks(text))
-}
-
-/// Whether a byte is a space, a tab or a carriage return.
-fn is_blank(byte: u8) -> bool
-    ensures { result ≡ is_blank byte }
-{
-    matches!(byte, b' ' | b'\t' | b'\r')
-}
-
-/// A text without the blanks that it begins with.
-fn after_blanks(text: &str) -> &str
-    ensures { result.now ≡ after_blanks text.now }
-{
-    let bytes = text.as_bytes();
-    for at in 0..bytes.len() {
-        if !is_blank(bytes[at]) {
-            return &text[at..];
-        }
-    }
-    ""
-}
-
-/// A text without the blanks that it ends in.
-fn before_blanks(text: &str) -> &str
-    ensures { result.now ≡ before_blanks text.now }
-{
-    let bytes = text.as_bytes();
-    for at in (0..bytes.len()).rev() {
-        if !is_blank(bytes[at]) {
-            return &text[..at + 1];
-        }
-    }
-    ""
+    text.trim_ascii()
 }
 
 /// A text in two: what stands before its first tab or two spaces, and what begins with these.

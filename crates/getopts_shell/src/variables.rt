@@ -1,22 +1,22 @@
 //! Options as variables of a script: the code that sets them, and why a table has none.
 
-ghost use Rattle.std.specs.Prelude.{◌≡◌, ◌++◌, [], ◌==◌, Bool, List, ◌&&◌, ◌||◌, codes, map, fold, IfOk, OnOk, MatchOption};
-ghost use Rattle.std.specs.Prelude.{decimal, length, not, slice_index, get_or, Some};
+ghost use Rattle.std.specs.Prelude.{◌≡◌, ◌++◌, [], codes, map, IfOk, OnOk};
+ghost use Rattle.std.specs.Prelude.{decimal, slice_index, get_or, None, Some};
 ghost use Rattle.std.specs.Option.{option_map};
-ghost use Rattle.std.specs.List.{list_all, list_any};
+ghost use Rattle.std.specs.List.{flat_map, last_or, list_all, list_any};
 ghost use Rattle.std.specs.String.{string_bytes};
 ghost use Rattle.std.specs.Str.{bytes_eq};
-ghost use Rattle.getopts.specs.Accessors.{first_value_or};
 ghost use Rattle.getopts.specs.Names.{Text, main_name};
-ghost use Rattle.getopts.specs.Options.{names_of, signatures_of};
+ghost use Rattle.getopts.specs.Options.{names_of};
 ghost use Rattle.getopts.specs.Wrap.{lines_of, parting};
-ghost use Rattle.getopts_shell.specs.Held.{group_of_row, groups_of, held_signatures, variable_fault_told};
+ghost use Rattle.getopts_shell.specs.Held.{entries_of, group_of_row, groups_of, variable_fault_told};
+ghost use Rattle.getopts_shell.specs.Completion.{is_multi};
 ghost use Rattle.getopts_shell.specs.Quote.{quoted, quoted_words};
 ghost use Rattle.getopts_shell.specs.Variables as Spec;
-ghost use Rattle.getopts_shell.specs.Variables.{one};
+ghost use Rattle.getopts_shell.specs.Variables.{many, one};
 
-use crate::quote::{push_quoted, push_quoted_words};
-use crate::row::Row;
+use crate::quote::{push_line, push_parting, push_quoted, push_replaced};
+use crate::row::{Mark, Row};
 use crate::table::{declares_nothing, trimmed};
 use getopts::{HasArg, Matches, Occur, Occurrences};
 use std::alloc::{AllocError, Global};
@@ -31,8 +31,6 @@ pub(crate) struct Variables<'p> {
 /// Why there are no variables.
 #[derive(Clone, Copy)]
 pub(crate) enum VariableError<'t> {
-    /// The words alone are asked for too.
-    WithWords,
     /// Arrays are asked for, and no variables.
     ArraysOnly,
     /// The prefix begins no name of a variable.
@@ -55,13 +53,13 @@ pub(crate) fn variables_code(
     rows: &[Row<'_>],
     matches: &Matches,
 ) -> Result<String, AllocError>
-    requires { held_signatures matches.now.groups ≡ signatures_of (groups_of rows.now) }
     ensures { IfOk result (λ text. string_bytes text
-        ≡ Spec.variables_code variables.entry.prefix.now variables.entry.arrays matches.now) }
+        ≡ Spec.variables_code variables.entry.prefix.now variables.entry.arrays
+        (Spec.given_from 0 (entries_of rows.now) matches.now.groups) matches.now.free) }
 {
     let mut text = String::new(alloc);
     for (place, row) in rows.iter().enumerate() {
-        push_line(
+        push_option(
             alloc,
             &mut text,
             variables,
@@ -69,14 +67,12 @@ pub(crate) fn variables_code(
             &matches.occurrences_at(place),
         )?;
     }
-    text.push_str("\\set -- ")?;
-    push_quoted_words(&mut text, &matches.free)?;
-    text.push('\n')?;
+    push_line(&mut text, &matches.free)?;
     Ok(text)
 }
 
-/// Adds the line of an option.
-fn push_line(
+/// Adds the commands for an option: its variable is taken away, and then set if it has a value.
+fn push_option(
     alloc: Global,
     text: &mut String,
     variables: Variables<'_>,
@@ -84,14 +80,21 @@ fn push_line(
     given: &Occurrences<'_>,
 ) -> Result<(), AllocError>
     ensures { OnOk result (string_bytes text.new ≡ string_bytes text.old
-        ++ Spec.variable_line variables.entry.prefix.now variables.entry.arrays
-        record { signature = (group_of_row row.entry).signature; found = given.now }) }
+        ++ Spec.option_code variables.entry.prefix.now variables.entry.arrays record {
+          names = (group_of_row row.entry).signature.names;
+          kind = row.entry.kind;
+          all = Spec.holds_all row.entry.mark row.entry.occurrence;
+          found = given.now;
+        }) }
 {
-    push_setting(alloc, text, variables, row, given)?;
-    text.push('\n')
+    let name = main_name(row);
+    text.push_str("\\unset -v ")?;
+    push_variable(text, variables.prefix, name)?;
+    text.push('\n')?;
+    push_setting(alloc, text, variables, row, given)
 }
 
-/// Adds the command that sets or removes the variable of an option.
+/// Adds the command that sets the variable of an option, if it has a value.
 fn push_setting(
     alloc: Global,
     text: &mut String,
@@ -100,15 +103,17 @@ fn push_setting(
     given: &Occurrences<'_>,
 ) -> Result<(), AllocError>
     ensures { OnOk result (string_bytes text.new ≡ string_bytes text.old
-        ++ Spec.option_setting variables.entry.arrays
+        ++ Spec.value_line
         (Spec.variable_of variables.entry.prefix.now (group_of_row row.entry).signature.names)
-        row.entry.kind row.entry.occurrence given.now) }
+        (Spec.held_value variables.entry.arrays row.entry.kind
+        (Spec.holds_all row.entry.mark row.entry.occurrence) given.now)) }
 {
     let name = main_name(row);
-    match (row.kind, row.occurrence) {
-        (HasArg::No, _) => push_count(alloc, text, variables.prefix, name, given.len()),
-        (_, Occur::Multi) => push_values(alloc, text, variables, name, given),
-        _ => push_first(text, variables.prefix, name, given),
+    match (row.kind, row.mark, row.occurrence) {
+        (HasArg::No, _, _) => push_count(alloc, text, variables.prefix, name, given.len()),
+        (_, Mark::Last, _) => push_last(text, variables.prefix, name, given),
+        (_, _, Occur::Multi) => push_values(alloc, text, variables, name, given),
+        _ => push_last(text, variables.prefix, name, given),
     }
 }
 
@@ -123,7 +128,7 @@ pub(crate) fn main_name<'t>(row: Row<'t>) -> &'t str
     }
 }
 
-/// Adds how often an option came.
+/// Adds the command that sets a variable to how often an option came.
 fn push_count(
     alloc: Global,
     text: &mut String,
@@ -132,38 +137,42 @@ fn push_count(
     count: usize,
 ) -> Result<(), AllocError>
     ensures { OnOk result (string_bytes text.new ≡ string_bytes text.old
-        ++ (Spec.variable prefix.now name.now ++ (codes "=" ++ decimal count))) }
+        ++ Spec.value_line (Spec.variable prefix.now name.now) (Some (one (decimal count)))) }
 {
-    push_variable(text, prefix, name)?;
-    let count = format!(in alloc; "={count}")?;
-    text.push_str(count.as_str())
+    let count = format!(in alloc; "{count}")?;
+    push_value(text, prefix, name, count.as_str())
 }
 
-/// Adds the value of an option's first occurrence, or that it has none.
-fn push_first(
+/// Adds the command that sets a variable to the value of an option's last occurrence, if it has one.
+fn push_last(
     text: &mut String,
     prefix: &str,
     name: &str,
     given: &Occurrences<'_>,
 ) -> Result<(), AllocError>
     ensures { OnOk result (string_bytes text.new ≡ string_bytes text.old
-        ++ Spec.setting (Spec.variable prefix.now name.now)
-        (option_map one (first_value_or given.now []))) }
+        ++ Spec.value_line (Spec.variable prefix.now name.now)
+        (option_map one (last_or None (Spec.texts_found given.now)))) }
 {
-    match given.get(0) {
-        Some((_, value)) => {
-            push_variable(text, prefix, name)?;
-            text.push('=')?;
-            push_quoted(text, value.unwrap_or(""))
-        }
-        None => {
-            text.push_str("\\unset -v ")?;
-            push_variable(text, prefix, name)
-        }
+    let count = given.len();
+    if count == 0 {
+        return Ok(());
     }
+    push_value(text, prefix, name, text_at(given, count - 1))
 }
 
-/// Adds all values of an option, as an array or as words in quotes.
+/// Adds the command that sets a variable to a text.
+fn push_value(text: &mut String, prefix: &str, name: &str, value: &str) -> Result<(), AllocError>
+    ensures { OnOk result (string_bytes text.new ≡ string_bytes text.old
+        ++ Spec.value_line (Spec.variable prefix.now name.now) (Some (one value.now))) }
+{
+    push_variable(text, prefix, name)?;
+    text.push('=')?;
+    push_quoted(text, value)?;
+    text.push('\n')
+}
+
+/// Adds the command that sets a variable to all values of an option, as an array or as words in quotes.
 fn push_values(
     alloc: Global,
     text: &mut String,
@@ -172,30 +181,35 @@ fn push_values(
     given: &Occurrences<'_>,
 ) -> Result<(), AllocError>
     ensures { OnOk result (string_bytes text.new ≡ string_bytes text.old
-        ++ Spec.setting (Spec.variable variables.entry.prefix.now name.now)
+        ++ Spec.value_line (Spec.variable variables.entry.prefix.now name.now)
         (Some (Spec.all_values variables.entry.arrays given.now))) }
 {
-    push_variable(text, variables.prefix, name)?;
-    if !variables.arrays {
-        push_words(alloc, text, given)
-    } else {
+    if variables.arrays {
         push_array(text, variables.prefix, name, given)
+    } else {
+        push_words(alloc, text, variables.prefix, name, given)
     }
 }
 
-/// Adds all values as words in quotes, which are quoted once more.
-fn push_words(alloc: Global, text: &mut String, given: &Occurrences<'_>) -> Result<(), AllocError>
+/// Adds the command that sets a variable to all values as words in quotes, which are quoted once more.
+fn push_words(
+    alloc: Global,
+    text: &mut String,
+    prefix: &str,
+    name: &str,
+    given: &Occurrences<'_>,
+) -> Result<(), AllocError>
     ensures { OnOk result (string_bytes text.new ≡ string_bytes text.old
-        ++ (codes "=" ++ quoted (quoted_words (Spec.texts_found given.now)))) }
+        ++ Spec.value_line (Spec.variable prefix.now name.now)
+        (Some (one (quoted_words (Spec.texts_found given.now))))) }
 {
     let mut words = String::new(alloc);
     push_texts(&mut words, given)?;
-    text.push('=')?;
-    push_quoted(text, words.as_str())
+    push_value(text, prefix, name, words.as_str())
 }
 
-/// Adds all values as an array. `${NAME+}` is no word: the Korn shell takes a first word such as `typeset` for a
-/// declaration, and `()` for no array.
+/// Adds the command that sets a variable to all values as an array. `${NAME+}` is no word: the Korn shell takes a first
+/// word such as `typeset` for a declaration, and `()` for no array.
 fn push_array(
     text: &mut String,
     prefix: &str,
@@ -203,14 +217,15 @@ fn push_array(
     given: &Occurrences<'_>,
 ) -> Result<(), AllocError>
     ensures { OnOk result (string_bytes text.new ≡ string_bytes text.old
-        ++ (codes "=(${" ++ (Spec.variable prefix.now name.now
-        ++ (codes "+} " ++ (quoted_words (Spec.texts_found given.now) ++ codes ")"))))) }
+        ++ Spec.value_line (Spec.variable prefix.now name.now)
+        (Some (many (Spec.texts_found given.now)))) }
 {
+    push_variable(text, prefix, name)?;
     text.push_str("=(${")?;
     push_variable(text, prefix, name)?;
     text.push_str("+} ")?;
     push_texts(text, given)?;
-    text.push(')')
+    text.push_str(")\n")
 }
 
 /// Adds the values of occurrences as words in quotes, with the empty text for one that has none.
@@ -229,7 +244,7 @@ fn push_word(text: &mut String, begun: bool, word: &str) -> Result<(), AllocErro
     ensures { OnOk result (string_bytes text.new
         ≡ string_bytes text.old ++ (parting begun (codes " ") ++ quoted word.now)) }
 {
-    text.push_str(if begun { " " } else { "" })?;
+    push_parting(text, begun, " ")?;
     push_quoted(text, word)
 }
 
@@ -249,21 +264,8 @@ fn push_variable(text: &mut String, prefix: &str, name: &str) -> Result<(), Allo
         ≡ string_bytes text.old ++ Spec.variable prefix.now name.now) }
 {
     text.push_str(prefix)?;
-    let mut begun = false;
-    for part in name.split('-') {
-        push_part(text, begun, part)?;
-        begun = true;
-    }
+    push_replaced(text, name, '-', "_")?;
     Ok(())
-}
-
-/// Adds a part of a name that holds no `-`, after `_` where another part stands before it.
-fn push_part(text: &mut String, begun: bool, part: &str) -> Result<(), AllocError>
-    ensures { OnOk result (string_bytes text.new
-        ≡ string_bytes text.old ++ (parting begun (codes "_") ++ part.now)) }
-{
-    text.push_str(if begun { "_" } else { "" })?;
-    text.push_str(part)
 }
 
 /// Why a prefix and the options of a table make no variables, if they make none.

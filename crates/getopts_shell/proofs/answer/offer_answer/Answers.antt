@@ -1,7 +1,7 @@
 use Rattle.std.proofs.Common.{subst, sym, ◌∙◌}
 use Rattle.std.proofs.lemmas.Result.{IfOk-weaker}
 use Rattle.getopts.specs.Names.{texts}
-use Rattle.getopts_shell.specs.Program.{Answer, AnswersOffer, at_place, no_shell}
+use Rattle.getopts_shell.specs.Program.{Answer, AnswersOffer, no_shell, offered}
 use Rattle.getopts_shell.proofs.answer.offer_answer.Goals as goal
 
 pub returns-then-not-has_completion : goal.returns-then-not-has_completion
@@ -13,7 +13,4 @@ returns-then-not-has_completion c =
     c.no_completion.ensures
 
 pub returns : goal.returns
-returns c =
-    IfOk-weaker c.numbered_answer.result _ _
-    (λ outcome is. at_place _ (sym c.has_completion.ensures ∙ c.if-not-has_completion.false) is)
-    c.numbered_answer.ensures
+returns c = offered _ (sym c.has_completion.ensures ∙ c.if-not-has_completion.false) c.in_ok-last_offers.ensures

@@ -1,12 +1,12 @@
 use Rattle.std.proofs.Common.{subst, sym}
-use Rattle.getopts_shell.specs.Held.{groups_of}
+use Rattle.getopts_shell.specs.Held.{entries_of}
 use Rattle.getopts_shell.specs.Program.{faulty}
 use Rattle.getopts_shell.specs.Table.{DeclaresOptions}
 use Rattle.getopts_shell.proofs.answer.table_answer.Goals as goal
 
 pub completed_answer-requires : goal.completed_answer-requires
 completed_answer-requires c = record {
-  declared = subst (λ rows. DeclaresOptions c.args.table.now (groups_of rows)) (sym c.deref.ensures.value)
+  declared = subst (λ rows. DeclaresOptions c.args.table.now (entries_of rows)) (sym c.deref.ensures.value)
       c.in-Ok.ensures;
 }
 

@@ -1,24 +1,39 @@
-use Rattle.std.proofs.Common.{true, [], ◌∷◌, ◌++◌, map, string_bytes, lit<, ap, append-nil, ◌∙◌, subst, sym, refl}
+use Rattle.std.proofs.Common.{true, [], ◌∷◌, ◌++◌, map, string_bytes, lit<, ap, append-nil, ◌∙◌, subst}
+use Rattle.std.proofs.Common.{◌≡◌, List, sym, refl, arith, rules}
+use Rattle.std.proofs.lemmas.Grind.{common_steps}
+use Rattle.std.specs.List.{flat_map}
 use Rattle.std.specs.Str.Iter.{split_text, split_has_more, split_pattern}
 use Rattle.std.proofs.lemmas.Iterator.Consumers.{YieldsList-end}
 use Rattle.std.proofs.lemmas.Iterator.Splits.{YieldsList-from_str_split}
 use Rattle.std.proofs.lemmas.List.{map-append}
 use Rattle.getopts.specs.Names.{Text}
-use Rattle.getopts_shell.proofs.Stubs.{QuotedSoFar, one_more_quoted, all_quoted}
+use Rattle.getopts_shell.specs.Completion.{stub_quoted}
+use Rattle.getopts_shell.specs.Quote.{quoted_byte}
+use Rattle.getopts_shell.proofs.Parts.{JoinedSoFar, one_more, all_stub_quoted}
 use Rattle.getopts_shell.proofs.complete.push_stub_quoted.Goals as goal
 
 pub loop-part-init : goal.loop-part-init
-loop-part-init c = record { begun_is = refl; text_is = sym (append-nil (string_bytes c.args.text.now)) }
+loop-part-init c =
+    let first : string_bytes c.push.new.self ≡ string_bytes c.args.text.now ++ 39 ∷ [] = search rules in
+    record { begun_is = refl; text_is = first ∙ sym (append-nil (string_bytes c.args.text.now ++ 39 ∷ [])) }
 
 -- one more part
 pub loop-part-preserved : goal.loop-part-preserved
 loop-part-preserved c =
     let parts = map (λ part. part.now) c.loop-part.yielded in
-    let more = one_more_quoted parts c.loop-part.begun c.in-Some.part.now _ _ c.loop-part.invariant in
-    subst (λ parts. QuotedSoFar parts true (string_bytes c.args.text.now) (string_bytes c.push_part.new.text))
-    (sym (map-append (λ part. part.now) c.loop-part.yielded (c.in-Some.part ∷ [])))
-    (subst (λ (text : Text). QuotedSoFar (parts ++ c.in-Some.part.now ∷ []) true (string_bytes c.args.text.now) text)
-    (sym c.in_ok-push_part.ensures) more)
+    let more = one_more (39 ∷ 92 ∷ 92 ∷ 39 ∷ []) (map (flat_map quoted_byte) parts) c.loop-part.begun
+    (flat_map quoted_byte c.in-Some.part.now) _ _ c.loop-part.invariant in
+    subst
+    (λ (texts : List Text). JoinedSoFar (39 ∷ 92 ∷ 92 ∷ 39 ∷ []) texts true (string_bytes c.args.text.now ++ 39 ∷ [])
+    (string_bytes c.push_replaced.new.text))
+    (sym (ap (map (flat_map quoted_byte)) (map-append (λ part. part.now) c.loop-part.yielded (c.in-Some.part ∷ []))
+    ∙ map-append (flat_map quoted_byte) parts (c.in-Some.part.now ∷ [])))
+    (subst
+    (λ (text : Text). JoinedSoFar (39 ∷ 92 ∷ 92 ∷ 39 ∷ [])
+    (map (flat_map quoted_byte) parts ++ flat_map quoted_byte c.in-Some.part.now ∷ []) true
+    (string_bytes c.args.text.now ++ 39 ∷ []) text)
+    (sym (c.in_ok-push_replaced.ensures
+    ∙ ap (λ (text : Text). text ++ flat_map quoted_byte c.in-Some.part.now) c.in_ok-push_parting.ensures)) more)
 
 -- the parts that `split` gave are all the parts
 pub returns : goal.returns
@@ -28,4 +43,6 @@ returns c =
     let all = YieldsList-from_str_split 92 c.args.word.now (lit< tt) (ap split_text start ∙ split.text)
     (ap split_has_more start ∙ split.has_more) (ap split_pattern start ∙ split.pattern) in
     let each = YieldsList-end all c.loop-part.yielded _ c.loop-part.yielded_by _ _ c.in-None.is c.next.ensures.steps in
-    all_quoted c.args.word.now _ _ _ _ c.loop-part.invariant each.0
+    let whole : string_bytes c.loop-part.text ++ 39 ∷ [] ≡ string_bytes c.args.text.now ++ stub_quoted c.args.word.now =
+    all_stub_quoted c.args.word.now (map (λ part. part.now) c.loop-part.yielded) _ _ _ c.loop-part.invariant each.0 in
+    grind (arith, common_steps)

@@ -1,14 +1,20 @@
-use Rattle.std.proofs.Common.{[], ◌∷◌, ◌++◌, ap, sym, ◌∙◌}
-use Rattle.getopts.specs.Names.{Text}
-use Rattle.getopts_shell.proofs.Items.{by_mark, by_item}
+use Rattle.std.proofs.Common.{sym, ◌∙◌}
+use Rattle.getopts_shell.proofs.Items.{no_names_none, no_argument_none, no_fit_none}
 use Rattle.getopts_shell.proofs.item.row_of.Goals as goal
 
-pub returns-in-Some-clause-option : goal.returns-in-Some-clause-option
-returns-in-Some-clause-option c =
-    by_mark c.marked_row.result c.args.text.now c.in-Some.opened.now
-    (c.in-Some.ensures.cases.1.1 ∙ ap (λ (t : Text). t ++ (93 ∷ 33 ∷ [])) (sym c.in-Some.ensures.cases.2))
-    c.marked_row.ensures.option
+pub returns-in_err-short-clause-option : goal.returns-in_err-short-clause-option
+returns-in_err-short-clause-option c =
+    rw c.from_residual-in_err-short.ensures
+    (no_names_none c.args.item.now c.in_ok-inside.inside.now _ c.in_ok-inside.occurrence c.in_ok-inside.mark _
+    c.in_ok-inside.ensures c.parts_of.ensures c.in_err-short.ensures)
 
-pub returns-in-None-clause-option : goal.returns-in-None-clause-option
-returns-in-None-clause-option c =
-    by_item c.item_row.result c.args.text.now c.in-None.ensures.cases c.item_row.ensures.option
+pub returns-in_err-kind-clause-option : goal.returns-in_err-kind-clause-option
+returns-in_err-kind-clause-option c =
+    rw c.from_residual-in_err-kind.ensures
+    (no_argument_none c.args.item.now c.in_ok-inside.inside.now _ c.in_ok-inside.occurrence c.in_ok-inside.mark _
+    c.in_ok-inside.ensures c.parts_of.ensures c.in_err-kind.ensures)
+
+pub returns-then-not-fits-clause-option : goal.returns-then-not-fits-clause-option
+returns-then-not-fits-clause-option c =
+    no_fit_none c.args.item.now c.in_ok-inside.inside.now _ c.in_ok-inside.occurrence c.in_ok-inside.mark _ _ _
+    c.in_ok-inside.ensures c.parts_of.ensures c.in_ok-kind.ensures (sym c.fits.ensures ∙ c.if-not-fits.true)

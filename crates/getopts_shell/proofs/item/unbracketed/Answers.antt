@@ -1,16 +1,31 @@
-use Rattle.std.proofs.Common.{Some, None, lit<, refl}
-use Rattle.std.proofs.lemmas.Str.Pattern.{strip_prefix_char, strip_suffix_char}
-use Rattle.getopts_shell.proofs.Items.{no_bracket, none_bracketed}
+use Rattle.std.proofs.Common.{◌∷◌, Some, None, ap, lit<, refl, sym, ◌∙◌}
+use Rattle.std.proofs.lemmas.Str.Pattern.{strip_prefix_char}
+use Rattle.getopts.specs.Names.{Text}
+use Rattle.getopts_shell.specs.Table.{bare, bracketed}
+use Rattle.getopts_shell.proofs.Items.{no_bracket, none_closed, none_meant}
 use Rattle.getopts_shell.proofs.item.unbracketed.Goals as goal
 
 pub returns-in_default : goal.returns-in_default
 returns-in_default c =
     let none = strip_prefix_char 91 c.args.text.now None c.in_default.ensures.cases (lit< tt) in
-    (refl, no_bracket c.args.text.now none)
+    bare refl (no_bracket c.args.text.now none)
 
-pub returns-in-None : goal.returns-in-None
-returns-in-None c =
-    let opens = strip_prefix_char 91 c.args.text.now (Some c.in-Some.inside) c.in-Some.ensures.cases (lit< tt) in
-    let one = strip_suffix_char 93 c.in-Some.inside.now None c.in_default-strip_suffix.ensures.cases (lit< tt) in
-    none_bracketed c.args.text.now c.in-Some.inside.now opens one
-    c.in_default-strip_suffix-2.ensures.cases c.in-None.ensures.cases
+pub returns-in_err-inside : goal.returns-in_err-inside
+returns-in_err-inside c =
+    rw c.from_residual.ensures (none_closed c.args.text.now c.in-Some.opened.now
+    (strip_prefix_char 91 c.args.text.now (Some c.in-Some.opened) c.in-Some.ensures.cases (lit< tt))
+    c.in_err-inside.ensures)
+
+pub returns-in_err-occurrence : goal.returns-in_err-occurrence
+returns-in_err-occurrence c =
+    rw c.from_residual-in_err-occurrence.ensures (none_meant c.args.text.now c.in-Some.opened.now
+    c.in_ok-inside.inside.now c.in_ok-inside.end.now
+    (strip_prefix_char 91 c.args.text.now (Some c.in-Some.opened) c.in-Some.ensures.cases (lit< tt))
+    c.in_ok-inside.ensures.0 c.in_ok-inside.ensures.1 (sym c.in_err-occurrence.ensures))
+
+pub returns : goal.returns
+returns c =
+    bracketed c.in_ok-inside.end.now _ _
+    (strip_prefix_char 91 c.args.text.now (Some c.in-Some.opened) c.in-Some.ensures.cases (lit< tt)
+    ∙ ap (λ (t : Text). 91 ∷ t) c.in_ok-inside.ensures.0)
+    (sym c.in_ok-occurrence.ensures)

@@ -4,7 +4,7 @@ use Rattle.std.proofs.lemmas.Iterator.Consumers.{YieldsList-end, YieldsList-turn
 use Rattle.std.proofs.lemmas.Iterator.Splits.{YieldsList-from_str_split}
 use Rattle.std.proofs.lemmas.List.{map-append, length-map}
 use Rattle.std.proofs.lemmas.Result.{err_from_is_err_and}
-use Rattle.getopts_shell.specs.Held.{groups_of}
+use Rattle.getopts_shell.specs.Held.{entries_of}
 use Rattle.getopts_shell.specs.Table.{DeclareOptions}
 use Rattle.getopts_shell.proofs.Lines.{LinesSoFar, next_line, table_fault, tells_weaker}
 use Rattle.getopts_shell.proofs.table.rows_of.Goals as goal
@@ -13,7 +13,7 @@ pub loop-line-preserved : goal.loop-line-preserved
 loop-line-preserved c =
     let lines = map (λ line. line.now) c.loop-line.yielded in
     let pushed = c.in_ok-push_line.ensures.declared in
-    subst (λ lines. LinesSoFar lines c.saturating_add-number.result (groups_of c.push_line.new.rows.items))
+    subst (λ lines. LinesSoFar lines c.saturating_add-number.result (entries_of c.push_line.new.rows.items))
     (sym (map-append (λ line. line.now) c.loop-line.yielded (c.in-Some.line ∷ [])))
     (next_line lines c.in-Some.line.now c.loop-line.number _ _ _ pushed.0 c.loop-line.invariant
     c.saturating_add-number.ensures pushed.1 pushed.2 pushed.3)
@@ -41,4 +41,4 @@ returns c =
     let all = YieldsList-from_str_split 10 c.args.table.now (lit< tt) (ap split_text start ∙ split.text)
     (ap split_has_more start ∙ split.has_more) (ap split_pattern start ∙ split.pattern) in
     let each = YieldsList-end all c.loop-line.yielded _ c.loop-line.yielded_by _ _ c.in-None.is c.next.ensures.steps in
-    subst (λ lines. DeclareOptions lines (groups_of c.loop-line.rows.items)) each.0 c.loop-line.invariant.declared
+    subst (λ lines. DeclareOptions lines (entries_of c.loop-line.rows.items)) each.0 c.loop-line.invariant.declared

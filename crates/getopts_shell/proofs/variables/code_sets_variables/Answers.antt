@@ -1,4 +1,4 @@
-use Rattle.getopts_shell.proofs.Shell.{code_sets}
+use Rattle.getopts_shell.proofs.Written.{code_sets}
 use Rattle.getopts_shell.proofs.variables.code_sets_variables.Goals as goal
 
 pub returns : goal.returns
