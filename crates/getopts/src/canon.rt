@@ -14,6 +14,7 @@ ghost use Rattle.getopts.specs.Held.Line.{line_content};
 use crate::fail::Fail;
 use crate::groups::Groups;
 use crate::matches::ReadLine;
+use crate::occurrences::LineOccurrences;
 use crate::options::Options;
 use crate::parse::words_from;
 use crate::scan::Line;
@@ -57,6 +58,25 @@ fn canonical_word(alloc: Global, main: &str, value: Option<&str>) -> Result<Stri
     Ok(word)
 }
 
+/// The words of the occurrences, with capacity for so many words more.
+fn option_words(
+    alloc: Global,
+    groups: &Groups,
+    found: &LineOccurrences,
+    more: usize,
+) -> Result<Vec<String>, AllocError>
+    requires { AllByRecursion (λ o. o.mention.group < length groups.now) found.now }
+    ensures { IfOk result (λ words. map string_bytes words.items
+        ≡ map (Spec.canonical_word groups.now) (map (λ o. o.mention) found.now)) }
+{
+    let mut words = Vec::with_capacity(alloc, found.len().saturating_add(more))?;
+    for place in 0..found.len() {
+        let (group, (_, value)) = found.at(place);
+        words.push(canonical_word(alloc, groups.main(group), value)?)?;
+    }
+    Ok(words)
+}
+
 /// The words of the occurrences, then `--`, then the free words.
 fn canonical_line(alloc: Global, groups: &Groups, line: Line) -> Result<Vec<String>, AllocError>
     requires { AllByRecursion (λ o. o.mention.group < length groups.now) line.found }
@@ -64,12 +84,7 @@ fn canonical_line(alloc: Global, groups: &Groups, line: Line) -> Result<Vec<Stri
         ≡ Spec.canonical_line groups.now (line_content line)) }
 {
     let Line { found, free, .. } = line;
-    let room = found.len().saturating_add(free.len()).saturating_add(1);
-    let mut words = Vec::with_capacity(alloc, room)?;
-    for place in 0..found.len() {
-        let (group, (_, value)) = found.at(place);
-        words.push(canonical_word(alloc, groups.main(group), value)?)?;
-    }
+    let mut words = option_words(alloc, groups, &found, free.len().saturating_add(1))?;
     words.push(String::from_str(alloc, "--")?)?;
     for word in free {
         words.push(word)?;

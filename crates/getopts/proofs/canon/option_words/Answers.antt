@@ -7,17 +7,17 @@ use Rattle.getopts.specs.Names.{Text}
 use Rattle.getopts.specs.Reading.{two, long_word, Occurrence, at_position}
 use Rattle.getopts.specs.Canon.{canonical_word}
 use Rattle.getopts.proofs.Lists.{take-get, AllByRecursion-at}
-use Rattle.getopts.proofs.canon.canonical_line.Goals as goal
+use Rattle.getopts.proofs.canon.option_words.Goals as goal
 
 pub main-requires : goal.main-requires
 main-requires c =
     AllByRecursion-at (λ (o : Occurrence). o.mention.group < length c.args.groups.now)
-    c.args.line.found c.loop-place.place _ c.requires c.at-group.ensures
+    c.args.found.now c.loop-place.place _ c.requires c.at-group.ensures
 
 pub loop-place-preserved : goal.loop-place-preserved
 loop-place-preserved c =
     let groups = c.args.groups.now in
-    let found = c.args.line.found in
+    let found = c.args.found.now in
     let words_of = λ (os : List Occurrence). map (canonical_word groups)
     (map (λ (o : Occurrence). o.mention) os) in
     let occurrence : Occurrence = at_position c.at-group.result.1.0
