@@ -71,8 +71,9 @@ fn option_words(
 {
     let mut words = Vec::with_capacity(alloc, found.len().saturating_add(more))?;
     for place in 0..found.len() {
-        let (group, (_, value)) = found.at(place);
-        words.push(canonical_word(alloc, groups.main(group), value)?)?;
+        let occurrence = found.at(place);
+        let value = occurrence.value;
+        words.push(canonical_word(alloc, groups.main(occurrence.group), value)?)?;
     }
     Ok(words)
 }

@@ -49,8 +49,9 @@ fn option_words(
 ) -> Result<Vec<String>, AllocError> {
     let mut words = Vec::of_capacity(alloc, found.len().saturating_add(more))?;
     for place in 0..found.len() {
-        let (group, (_, value)) = found.at(place);
-        words.try_push(canonical_word(alloc, groups.main(group), value)?)?;
+        let occurrence = found.at(place);
+        let value = occurrence.value;
+        words.try_push(canonical_word(alloc, groups.main(occurrence.group), value)?)?;
     }
     Ok(words)
 }

@@ -12,7 +12,7 @@ use Rattle.getopts.proofs.canon.option_words.Goals as goal
 pub main-requires : goal.main-requires
 main-requires c =
     AllByRecursion-at (λ (o : Occurrence). o.mention.group < length c.args.groups.now)
-    c.args.found.now c.loop-place.place _ c.requires c.at-group.ensures
+    c.args.found.now c.loop-place.place _ c.requires c.at-occurrence.ensures
 
 pub loop-place-preserved : goal.loop-place-preserved
 loop-place-preserved c =
@@ -20,15 +20,18 @@ loop-place-preserved c =
     let found = c.args.found.now in
     let words_of = λ (os : List Occurrence). map (canonical_word groups)
     (map (λ (o : Occurrence). o.mention) os) in
-    let occurrence : Occurrence = at_position c.at-group.result.1.0
-    (record { group = c.at-group.result.0; value = option_copied c.at-group.result.1.1 }) in
+    let occurrence : Occurrence = at_position c.at-occurrence.result.position
+    (record {
+      group = c.at-occurrence.result.group;
+      value = option_copied c.at-occurrence.result.value;
+    }) in
     let word : string_bytes c.in_ok-canonical_word.field-0
     ≡ canonical_word groups occurrence.mention =
     c.in_ok-canonical_word.ensures
     ∙ ap (λ (main : Text). long_word two main occurrence.mention.value) c.main.ensures in
     let more : words_of (take (c.loop-place.place + 1) found) ≡ words_of
     (take c.loop-place.place found) ++ canonical_word groups occurrence.mention ∷ [] =
-    ap words_of (take-get found c.loop-place.place occurrence c.at-group.ensures)
+    ap words_of (take-get found c.loop-place.place occurrence c.at-occurrence.ensures)
     ∙ ap (map (canonical_word groups)) (map-append (λ (o : Occurrence). o.mention)
     (take c.loop-place.place found) (occurrence ∷ []))
     ∙ map-append (canonical_word groups)
