@@ -9,4 +9,3 @@ pub mod Line
 pub mod Matches
 pub mod Occurrences
 pub mod Same
-pub mod Fails
