@@ -224,12 +224,32 @@ impl Groups {
         self.records[place].kinds
     }
 
+    /// The short name of the group at a place. It starts where the texts of the group before it end.
+    #[inline(always)]
+    pub(crate) fn short(&self, place: usize) -> &str
+        requires { place < length self.now }
+        ensures { result.now ≡ (names_at (names_of self.now) place).short }
+    {
+        let start = start_of(&self.records, place);
+        &self.text[start..self.records[place].short_end]
+    }
+
+    /// The long name of the group at a place.
+    #[inline(always)]
+    pub(crate) fn long(&self, place: usize) -> &str
+        requires { place < length self.now }
+        ensures { result.now ≡ (names_at (names_of self.now) place).long }
+    {
+        let group = self.records[place];
+        &self.text[group.short_end..group.long_end]
+    }
+
     /// The main name of the group at a place.
     pub(crate) fn main(&self, place: usize) -> &str
         requires { place < length self.now }
         ensures { result.now ≡ main_at self.now place }
     {
-        self.signature(place).names.main()
+        self.names(place).main()
     }
 
     /// The two names of the group at a place.
@@ -238,7 +258,10 @@ impl Groups {
         requires { place < length self.now }
         ensures { names_view result ≡ names_at (names_of self.now) place }
     {
-        self.signature(place).names
+        Names {
+            short: self.short(place),
+            long: self.long(place),
+        }
     }
 
     /// The name of this number, where each group in turn has two, the short one first. Past the last
@@ -248,13 +271,11 @@ impl Groups {
     {
         let place = number / 2;
         if place >= self.len() {
-            return "";
-        }
-        let names = self.names(place);
-        if number % 2 == 0 {
-            names.short
+            ""
+        } else if number % 2 == 0 {
+            self.short(place)
         } else {
-            names.long
+            self.long(place)
         }
     }
 
@@ -265,20 +286,17 @@ impl Groups {
         is_of_bytes(&self.text);
     }
 
-    /// What reading asks of the group at a place: its texts start where those of the one before it end.
+    /// What reading asks of the group at a place.
     #[inline]
     pub(crate) fn signature(&self, place: usize) -> Signature<'_>
         requires { place < length self.now }
         ensures { Some (signature_view result)
             ≡ option_map (λ group. group.signature) (slice_get self.now place) }
     {
-        let group = self.records[place];
-        let start = start_of(&self.records, place);
-        let short = &self.text[start..group.short_end];
-        let long = &self.text[group.short_end..group.long_end];
-        let names = Names { short, long };
-        let kinds = group.kinds;
-        Signature { names, kinds }
+        Signature {
+            names: self.names(place),
+            kinds: self.kinds_at(place),
+        }
     }
 
     /// The group at a place.

@@ -12,6 +12,8 @@ use Rattle.std.proofs.lemmas.Bool.Decides.{Decides-and, Decides-like, Decides-eq
 use Rattle.std.proofs.lemmas.Bool.Decides.{same_from_decides}
 use Rattle.std.proofs.lemmas.List.Elements.{All-nil, All-take, All-drop}
 use Rattle.std.proofs.lemmas.Option.{same_Some}
+use Rattle.std.proofs.lemmas.Str.{IsUtf8-string_bytes, IsCharBoundary-start}
+use Rattle.std.specs.String.{string_bytes}
 use Rattle.std.proofs.lemmas.Slice.Eq.{bytes_eq-Decides}
 use Rattle.getopts.specs.Names.{Text}
 use Rattle.getopts.specs.Options.{Signature, Group, names_of}
@@ -19,8 +21,9 @@ use Rattle.getopts.specs.Held.Pieces.{pieces, AreEnds, IsWellCut, IsOfBytes}
 use Rattle.getopts.specs.Same.{same_group}
 use Rattle.getopts.specs.Held.Table.{names_at, HaveNamesOfBytes}
 use Rattle.getopts.specs.Held.Groups.{signature_with, kinds_of, same_kinds, same_record}
-use Rattle.getopts.specs.Held.Groups.{text_ends, groups_with}
+use Rattle.getopts.specs.Held.Groups.{text_ends, groups_with, HoldGroups}
 use Rattle.getopts.specs.declared.groups.GroupRecord.{GroupRecord}
+use Rattle.getopts.specs.declared.groups.Groups.TheInside.{Inside}
 use Rattle.getopts.specs.declared.groups.Kinds.{Kinds}
 use Rattle.getopts.proofs.Held.Options.{same_signature-decides, same_group-decides}
 use Rattle.getopts.proofs.Held.Pieces.{pieces_tell, length-pieces}
@@ -101,7 +104,28 @@ AreEndsOf-at text start (first ∷ records) (suc i) r starts in_order cut at =
     AreEndsOf-at text first.desc_end records i r (cut 3 0 (omega arith)) in_order.1.1.1.1
     (λ k d within. cut (suc (suc (suc (suc k)))) d (omega (arith, within))) at
 
+-- what is held of the group at a place
+pub ends_at : (inside : Inside) (place : ℕ) (r : GroupRecord) → HoldGroups inside
+    → slice_get inside.records.items place ≡ Some r
+    → AreEndsOf (string_bytes inside.text) (start_at 0 inside.records.items place) r
+ends_at inside place r holds at =
+    let text = string_bytes inside.text in
+    AreEndsOf-at text 0 inside.records.items place r
+    (IsCharBoundary-start text (IsUtf8-string_bytes inside.text))
+    holds.cut.in_order holds.cut.between_characters at
+
 -- ---- the names
+
+-- the names at a place, by the record there
+pub names_from-at : (text : Text) (start : ℕ) (records : List GroupRecord) (i : ℕ) (r : GroupRecord)
+    → slice_get records i ≡ Some r
+    → names_at (names_of (groups_from text start records)) i
+    ≡ (group_by text (start_at start records i) r).signature.names
+names_from-at text start [] i r at = cc at
+names_from-at text start (first ∷ records) zero r at =
+    ap (λ (r : GroupRecord). (group_by text start r).signature.names) (same_Some first r at)
+names_from-at text start (first ∷ records) (suc i) r at =
+    names_from-at text first.desc_end records i r at
 
 -- where the text of all is of bytes, each name is
 pub HaveNamesOfBytes-from : (text : Text) → IsOfBytes text
