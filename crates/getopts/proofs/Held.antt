@@ -3,6 +3,7 @@ pub mod Pieces
 pub mod Texts
 pub mod Options
 pub mod Signatures
+pub mod Twos
 pub mod Groups
 pub mod Index
 pub mod Line

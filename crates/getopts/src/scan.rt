@@ -222,9 +222,9 @@ impl<'o> Scanner<'o> {
             (λ option. (grammar.place name.now ≡ Some option.0)
             × (grammar.kind name.now ≡ Some option.1)) }
     {
-        let groups = self.options.groups();
-        let place = self.table.resolve(groups, name)?;
-        Some((place, groups.kinds_at(place).kind))
+        let signatures = self.options.signatures();
+        let place = self.table.resolve(signatures, name)?;
+        Some((place, signatures.kinds_at(place).kind))
     }
 
     /// Reads an item in long form, by its text after the dashes and the words after its first. Adds

@@ -168,9 +168,9 @@ fn ending<'w>(
 impl<'o> Scanner<'o> {
     /// The place and the kind of argument of the option that a name resolves to.
     fn option(&self, name: &str) -> Option<(usize, HasArg)> {
-        let groups = self.options.groups();
-        let place = self.table.resolve(groups, name)?;
-        Some((place, groups.kinds_at(place).kind))
+        let signatures = self.options.signatures();
+        let place = self.table.resolve(signatures, name)?;
+        Some((place, signatures.kinds_at(place).kind))
     }
 
     /// Reads an item in long form, by its text after the dashes and the words after its first. Adds

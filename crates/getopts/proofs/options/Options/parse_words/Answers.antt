@@ -1,5 +1,6 @@
 -- The line that was read gives accepted matches, and its options keep the laws of readings.
 use Rattle.std.proofs.Common.{◌≡◌, ◌∙◌, subst}
+use Rattle.getopts.specs.Options.{signatures_of}
 use Rattle.getopts.specs.ReadingLaws.{HavePositionsBelow}
 use Rattle.getopts.proofs.Canonical.Answered.{IsAccepted-line}
 use Rattle.getopts.proofs.Parsing.Parsed.{positions_below-read, keeps_laws}
@@ -9,9 +10,9 @@ use Rattle.getopts.proofs.options.Options.parse_words.Goals as goal
 
 pub returns-clause-accepted : goal.returns-clause-accepted
 returns-clause-accepted c =
-    let groups : c.in_ok-clone.field-0 ≡ c.args.self.now.groups = c.in_ok-clone.ensures.cases
-    ∙ c.groups.ensures.groups in
-    rw (c.of_line.ensures, groups)
+    let signatures : c.in_ok-clone.field-0 ≡ signatures_of c.args.self.now.groups =
+    c.in_ok-clone.ensures.cases ∙ c.signatures.ensures.signatures in
+    rw (c.of_line.ensures, signatures)
     (IsAccepted-line _ _ c.in_ok-accepted.accepted c.in_ok-accepted.ensures.accepted)
 
 pub returns-clause-declared : goal.returns-clause-declared
@@ -26,4 +27,4 @@ pub returns-clause-free_last : goal.returns-clause-free_last
 returns-clause-free_last c = HaveLastWordsFree-read _ _ _ (returns-clause-accepted c).read
 
 pub returns-clause-laws : goal.returns-clause-laws
-returns-clause-laws c = keeps_laws c.args.self.now c.groups.ensures.declared
+returns-clause-laws c = keeps_laws c.args.self.now c.signatures.ensures.declared
