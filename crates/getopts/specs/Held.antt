@@ -2,6 +2,8 @@
 
 -- lists and texts cut at places
 pub mod Pieces
+-- names by their places, and their keys
+pub mod Names
 -- names and kinds of groups, by their records
 pub mod Groups
 -- groups with their hints and descriptions

@@ -1,19 +1,19 @@
 //! Option groups: their kinds, and the names and kinds of many held together.
 
 ghost use Rattle.std.specs.Prelude.{◌≡◌, ◌++◌, ◌∷◌, [], Some, ◌+◌, ◌*◌, ◌≤◌, ◌<◌, ◌^◌, length, map};
-ghost use Rattle.std.specs.Prelude.{get_or, slice_get, OnOk, OnErr};
+ghost use Rattle.std.specs.Prelude.{not, get_or, slice_get, OnOk, OnErr};
 ghost use Rattle.std.specs.Option.{option_map};
 ghost use Rattle.std.specs.String.{string_bytes, string_len, string_capacity};
 ghost use Rattle.std.specs.Cmp.Lexicographic.{pointwise};
 ghost use Rattle.std.specs.Cmp.Rules.{comparing};
 ghost use Rattle.std.proofs.Common.{rules};
-ghost use Rattle.getopts.specs.Names.{AreLawful};
-ghost use Rattle.getopts.specs.Names.{main_name};
+ghost use Rattle.getopts.specs.Names.{AreLawful, is_empty, main_name};
 ghost use Rattle.getopts.specs.Held.Groups.{signature_view, names_view, names_in, signature_with};
 ghost use Rattle.getopts.specs.Held.Groups.{AreLawfulSignatures};
-ghost use Rattle.getopts.specs.Held.Table.{names_at, name_at, HaveNamesOfBytes};
+ghost use Rattle.getopts.specs.Held.Names as Keys;
+ghost use Rattle.getopts.specs.Held.Names.{names_at, name_at, HaveNamesOfBytes};
 
-use crate::names::{Names, is_of_bytes};
+use crate::names::{Names, is_of_bytes, key_of, short_byte};
 use std::alloc::{AllocError, Global};
 use std::marker::Model;
 
@@ -113,10 +113,16 @@ impl PartialEq for Ends {
     }
 }
 
-/// A group among others: where its names end in the text of all names, and its kinds.
+/// A group among others: where its names end in the text of all names, what they are looked up by, and
+/// its kinds.
 #[derive(Debug, Clone, Copy)]
 struct SignatureRecord {
     names: Ends,
+    /// The key of the main name.
+    key: u64,
+    /// The byte of the short name, or `NO_BYTE`.
+    short: u16,
+    has_long: bool,
     kinds: Kinds,
 }
 
@@ -128,7 +134,11 @@ impl PartialEq for SignatureRecord {
     ghost laws = { Prim.search (comparing, rules) depth 14 };
 
     fn eq(&self, other: &SignatureRecord) -> bool {
-        self.names == other.names && self.kinds == other.kinds
+        self.names == other.names
+            && self.key == other.key
+            && self.short == other.short
+            && self.has_long == other.has_long
+            && self.kinds == other.kinds
     }
 }
 
@@ -203,6 +213,7 @@ impl Signatures {
         }
     }
 
+    #[inline]
     pub(crate) fn len(&self) -> usize
         ensures len { result ≡ length self.now }
         ensures small { 2 * result < 2 ^ 64 }
@@ -246,6 +257,33 @@ impl Signatures {
         &self.text[group.names.first..group.names.second]
     }
 
+    /// The key of the main name of the group at a place.
+    #[inline(always)]
+    pub(crate) fn key_at(&self, place: usize) -> u64
+        requires { place < length self.now }
+        ensures { result ≡ Keys.key_of (main_name (names_at (names_in self.now) place)) }
+    {
+        self.records[place].key
+    }
+
+    /// The byte of the short name of the group at a place, or `NO_BYTE`.
+    #[inline(always)]
+    pub(crate) fn short_at(&self, place: usize) -> u16
+        requires { place < length self.now }
+        ensures { result ≡ Keys.short_code (names_at (names_in self.now) place).short }
+    {
+        self.records[place].short
+    }
+
+    /// Whether the group at a place has a long name.
+    #[inline(always)]
+    pub(crate) fn has_long(&self, place: usize) -> bool
+        requires { place < length self.now }
+        ensures { result ≡ not (is_empty (names_at (names_in self.now) place).long) }
+    {
+        self.records[place].has_long
+    }
+
     /// The two names of the group at a place.
     #[inline]
     pub(crate) fn names(&self, place: usize) -> Names<'_>
@@ -264,7 +302,11 @@ impl Signatures {
         requires { place < length self.now }
         ensures { result.now ≡ main_name (names_at (names_in self.now) place) }
     {
-        self.names(place).main()
+        if self.has_long(place) {
+            self.long(place)
+        } else {
+            self.short(place)
+        }
     }
 
     /// The name of this number, where each group in turn has two, the short one first. Past the last
@@ -290,7 +332,7 @@ impl Signatures {
     }
 
     /// What reading asks of the group at a place.
-    #[inline]
+    #[inline(always)]
     pub(crate) fn get(&self, place: usize) -> Signature<'_>
         requires { place < length self.now }
         ensures { Some (signature_view result) ≡ slice_get self.now place }
@@ -324,8 +366,14 @@ impl Signatures {
         }
         let first = push_reserved(&mut self.text, short);
         let second = push_reserved(&mut self.text, long);
-        let names = Ends { first, second };
-        self.records.push_reserved(SignatureRecord { names, kinds });
+        let key = key_of(Names { short, long }.main());
+        self.records.push_reserved(SignatureRecord {
+            names: Ends { first, second },
+            key,
+            short: short_byte(short),
+            has_long: !long.is_empty(),
+            kinds,
+        });
         Ok(())
     }
 }

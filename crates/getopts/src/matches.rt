@@ -51,6 +51,7 @@ impl Model for Matches {
 
 impl Matches {
     /// What a line gives to groups.
+    #[inline(always)]
     pub(crate) fn of_line(signatures: Signatures, read: ReadLine) -> Matches
         requires { IsOfSignatures signatures read }
         ensures { result ≡ record {
@@ -172,6 +173,7 @@ impl MatchedGroups {
     }
 
     /// The place of the group that a name resolves to.
+    #[inline]
     pub(crate) fn place_of(&self, name: &str) -> Option<usize>
         ensures { result ≡ Spec.place_of self.now name.now }
     {

@@ -233,6 +233,7 @@ impl<'m> Occurrences<'m> {
     }
 
     /// Whether there are none.
+    #[inline]
     pub fn is_empty(&self) -> bool
         ensures { IsTrue result ↔ (self.now ≡ []) }
     {
@@ -335,6 +336,7 @@ impl<'m> IntoIterator for Occurrences<'m> {
 
     ghost into_iter_gives = { λ occurrences iterator. iterator ≡ occurrences };
 
+    #[inline]
     fn into_iter(self) -> OccurrencesIter<'m> {
         OccurrencesIter {
             occurrences: self,
@@ -366,6 +368,7 @@ impl<'m> Iterator for OccurrencesIter<'m> {
 
     ghost remaining = { item_count (λ rest. rest) };
 
+    #[inline]
     fn next(&mut self) -> Option<(usize, Option<&'m str>)> {
         if self.next >= self.occurrences.len() {
             return None;

@@ -99,6 +99,7 @@ impl Options {
     }
 
     /// Reads a line, and checks its counts.
+    #[inline(always)]
     pub(crate) fn accepted_line(&self, alloc: Global, words: &[&str]) -> Result<ReadLine, Fail>
         ensures accepted { IfOk result (IsAcceptedLine self.now (texts words.now)) }
         ensures refused { IfErr result (λ fail. Tells fail
@@ -110,6 +111,7 @@ impl Options {
     }
 
     /// Reads a line, whatever its counts.
+    #[inline(always)]
     fn read_line(&self, alloc: Global, words: &[&str]) -> Result<ReadLine, Fail>
         ensures read { IfOk result (IsReadLine self.now (texts words.now)) }
         ensures refused { IfErr result (λ fail. Tells fail
@@ -146,6 +148,7 @@ pub(crate) fn words_from<'a, I: Iterator<Item = &'a str> + Drop>(
 }
 
 /// Checks how often the options of a line came, group by group in order of definition.
+#[inline(always)]
 fn check_counts(alloc: Global, signatures: &Signatures, read: &ReadLine) -> Result<(), Fail>
     requires { IsOfSignatures signatures.now read.now }
     ensures ok { OnOk result
@@ -163,6 +166,7 @@ fn check_counts(alloc: Global, signatures: &Signatures, read: &ReadLine) -> Resu
 }
 
 /// Whether an option may come so many times.
+#[inline(always)]
 fn fits_count(occurrence: Occur, count: usize) -> bool
     ensures { IsTrue result ↔ Spec.FitsCount occurrence count }
 {

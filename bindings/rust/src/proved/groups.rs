@@ -3,7 +3,7 @@
 
 use crate::fallible::*;
 
-use super::names::{Names, is_of_bytes};
+use super::names::{Names, is_of_bytes, key_of, short_byte};
 use crate::alloc::{AllocError, Global};
 
 /// The capacity once a first group is added: so many groups need no second request.
@@ -84,16 +84,26 @@ impl PartialEq for Ends {
     }
 }
 
-/// A group among others: where its names end in the text of all names, and its kinds.
+/// A group among others: where its names end in the text of all names, what they are looked up by, and
+/// its kinds.
 #[derive(Debug, Clone, Copy)]
 struct SignatureRecord {
     names: Ends,
+    /// The key of the main name.
+    key: u64,
+    /// The byte of the short name, or `NO_BYTE`.
+    short: u16,
+    has_long: bool,
     kinds: Kinds,
 }
 
 impl PartialEq for SignatureRecord {
     fn eq(&self, other: &SignatureRecord) -> bool {
-        self.names == other.names && self.kinds == other.kinds
+        self.names == other.names
+            && self.key == other.key
+            && self.short == other.short
+            && self.has_long == other.has_long
+            && self.kinds == other.kinds
     }
 }
 
@@ -135,6 +145,7 @@ impl Signatures {
         }
     }
 
+    #[inline]
     pub(crate) fn len(&self) -> usize {
         self.records.len()
     }
@@ -164,6 +175,24 @@ impl Signatures {
         &self.text[group.names.first..group.names.second]
     }
 
+    /// The key of the main name of the group at a place.
+    #[inline(always)]
+    pub(crate) fn key_at(&self, place: usize) -> u64 {
+        self.records[place].key
+    }
+
+    /// The byte of the short name of the group at a place, or `NO_BYTE`.
+    #[inline(always)]
+    pub(crate) fn short_at(&self, place: usize) -> u16 {
+        self.records[place].short
+    }
+
+    /// Whether the group at a place has a long name.
+    #[inline(always)]
+    pub(crate) fn has_long(&self, place: usize) -> bool {
+        self.records[place].has_long
+    }
+
     /// The two names of the group at a place.
     #[inline]
     pub(crate) fn names(&self, place: usize) -> Names<'_> {
@@ -176,7 +205,11 @@ impl Signatures {
     /// The main name of the group at a place.
     #[inline]
     pub(crate) fn main(&self, place: usize) -> &str {
-        self.names(place).main()
+        if self.has_long(place) {
+            self.long(place)
+        } else {
+            self.short(place)
+        }
     }
 
     /// The name of this number, where each group in turn has two, the short one first. Past the last
@@ -198,7 +231,7 @@ impl Signatures {
     }
 
     /// What reading asks of the group at a place.
-    #[inline]
+    #[inline(always)]
     pub(crate) fn get(&self, place: usize) -> Signature<'_> {
         Signature {
             names: self.names(place),
@@ -224,8 +257,14 @@ impl Signatures {
         }
         let first = push_reserved(&mut self.text, short);
         let second = push_reserved(&mut self.text, long);
-        let names = Ends { first, second };
-        self.records.push_reserved(SignatureRecord { names, kinds });
+        let key = key_of(Names { short, long }.main());
+        self.records.push_reserved(SignatureRecord {
+            names: Ends { first, second },
+            key,
+            short: short_byte(short),
+            has_long: !long.is_empty(),
+            kinds,
+        });
         Ok(())
     }
 }

@@ -29,6 +29,7 @@ pub struct Matches {
 
 impl Matches {
     /// What a line gives to groups.
+    #[inline(always)]
     pub(crate) fn of_line(signatures: Signatures, read: ReadLine) -> Matches {
         let ReadLine { table, line, index } = read;
         let Line {
@@ -98,6 +99,7 @@ impl MatchedGroups {
     }
 
     /// The place of the group that a name resolves to.
+    #[inline]
     pub(crate) fn place_of(&self, name: &str) -> Option<usize> {
         self.table.resolve(&self.signatures, name)
     }

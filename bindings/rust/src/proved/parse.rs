@@ -54,6 +54,7 @@ impl Options {
     }
 
     /// Reads a line, and checks its counts.
+    #[inline(always)]
     pub(crate) fn accepted_line(&self, alloc: Global, words: &[&str]) -> Result<ReadLine, Fail> {
         let read = self.read_line(alloc, words)?;
         check_counts(alloc, self.signatures(), &read)?;
@@ -61,6 +62,7 @@ impl Options {
     }
 
     /// Reads a line, whatever its counts.
+    #[inline(always)]
     fn read_line(&self, alloc: Global, words: &[&str]) -> Result<ReadLine, Fail> {
         are_texts(words);
         let signatures = self.signatures();
@@ -89,6 +91,7 @@ pub(crate) fn words_from<'a, I: Iterator<Item = &'a str>>(
 }
 
 /// Checks how often the options of a line came, group by group in order of definition.
+#[inline(always)]
 fn check_counts(alloc: Global, signatures: &Signatures, read: &ReadLine) -> Result<(), Fail> {
     for place in 0..signatures.len() {
         let count = read.index.count(place);
@@ -100,6 +103,7 @@ fn check_counts(alloc: Global, signatures: &Signatures, read: &ReadLine) -> Resu
 }
 
 /// Whether an option may come so many times.
+#[inline(always)]
 fn fits_count(occurrence: Occur, count: usize) -> bool {
     match occurrence {
         Occur::Req => count == 1,

@@ -1,9 +1,10 @@
 -- Signatures and groups by what is held of them: which stands at a place, what one more adds, and
 -- when two lists are the same.
 use Rattle.std.proofs.Common.{◌≡◌, ◌&&◌, ℕ, zero, suc, ◌-◌, ◌<◌, List, [], ◌∷◌, map, ◌++◌}
-use Rattle.std.proofs.Common.{length, get_or, drop, slice_get, Some, refl, ap}
+use Rattle.std.proofs.Common.{not, length, get_or, drop, slice_get, Some, refl, ap}
 use Rattle.std.proofs.Common.{sym, ◌∙◌, subst, arith}
 use Rattle.std.specs.Bool.{Decides}
+use Rattle.std.specs.Cmp.{booleans_Decides}
 use Rattle.std.specs.Cmp.Lexicographic.{pointwise, pointwise_decides}
 use Rattle.std.specs.Str.{IsUtf8, bytes_eq}
 use Rattle.std.proofs.lemmas.Bool.Decides.{Decides-and, Decides-like, Decides-eqb}
@@ -12,14 +13,15 @@ use Rattle.std.proofs.lemmas.List.{length-map, map-append}
 use Rattle.std.proofs.lemmas.List.Elements.{All-nil, All-take, All-drop}
 use Rattle.std.proofs.lemmas.Option.{same_Some}
 use Rattle.std.proofs.lemmas.Slice.Eq.{bytes_eq-Decides}
-use Rattle.getopts.specs.Names.{Text, IsLawfullyNamed, main_name}
+use Rattle.getopts.specs.Names.{Text, Names, IsLawfullyNamed, is_empty, main_name}
 use Rattle.getopts.specs.Options.{Signature, Group, MayBeDeclared, signatures_of}
 use Rattle.getopts.specs.Held.Pieces.{IsWellCut, IsOfBytes}
 use Rattle.getopts.specs.Same.{same_signature, same_group}
-use Rattle.getopts.specs.Held.Table.{names_at, HaveNamesOfBytes}
+use Rattle.getopts.specs.Held.Names.{names_at, HaveNamesOfBytes}
 use Rattle.getopts.specs.Held.Groups.{signature_with, kinds_of, same_kinds, same_record, same_ends}
 use Rattle.getopts.specs.Held.Groups.{names_in, text_ends, signatures_with}
-use Rattle.getopts.specs.Held.Groups.{AreLawfulSignatures}
+use Rattle.getopts.specs.Held.Groups.{AreLawfulSignatures, HasKeys, HaveKeys}
+use Rattle.getopts.specs.Held.Names.{key_of, short_code}
 use Rattle.getopts.specs.Held.Help.{groups_with, groups_view, HoldGroups}
 use Rattle.std.specs.String.{string_bytes}
 use Rattle.getopts.specs.Canon.{main_at}
@@ -104,6 +106,17 @@ names_at-signature (first ∷ signatures) zero signature is =
     ap (λ k. k.names) (same_Some first signature is)
 names_at-signature (first ∷ signatures) (suc place) signature is =
     names_at-signature signatures place signature is
+
+-- what the record at a place has, by the names there
+pub HasKeys-at : (records : List SignatureRecord) (signatures : List Signature) (i : ℕ)
+    (r : SignatureRecord) → HaveKeys records signatures → slice_get records i ≡ Some r
+    → HasKeys r (names_at (names_in signatures) i)
+HasKeys-at [] signatures i r keyed at = cc at
+HasKeys-at (first ∷ records) [] i r keyed at = absurd keyed
+HasKeys-at (first ∷ records) (signature ∷ signatures) zero r keyed at =
+    subst (λ (r : SignatureRecord). HasKeys r signature.names) (same_Some first r at) keyed.0
+HasKeys-at (first ∷ records) (signature ∷ signatures) (suc i) r keyed at =
+    HasKeys-at records signatures i r keyed.1 at
 
 -- where the text of all is of bytes, each name is
 pub HaveNamesOfBytes-from : (text : Text) → IsOfBytes text
@@ -275,22 +288,38 @@ twos-groups (first ∷ signatures) (two ∷ twos) as_many =
 
 -- records are told by the ends of names, and by the kinds of the groups
 records_told : (text other : Text) (start other_start : ℕ) (records others : List SignatureRecord)
+    → HaveKeys records (signatures_from text start records)
+    → HaveKeys others (signatures_from other other_start others)
     → ends_in records ≡ ends_in others
     → signatures_from text start records ≡ signatures_from other other_start others
     → records ≡ others
-records_told text other start other_start [] [] ends same = refl
-records_told text other start other_start [] (o ∷ others) ends same = cc ends
-records_told text other start other_start (r ∷ records) [] ends same = cc ends
-records_told text other start other_start (r ∷ records) (o ∷ others) ends same =
+records_told text other start other_start [] [] keyed others_keyed ends same = refl
+records_told text other start other_start [] (o ∷ others) keyed others_keyed ends same = cc ends
+records_told text other start other_start (r ∷ records) [] keyed others_keyed ends same = cc ends
+records_told text other start other_start (r ∷ records) (o ∷ others) keyed others_keyed ends same =
     let names : r.names ≡ o.names = cc ends in
     let more_ends : ends_in records ≡ ends_in others = cc ends in
     let first : signature_by text start r ≡ signature_by other other_start o = cc same in
     let kinds : r.kinds ≡ o.kinds = ap kinds_of first in
+    let texts : (signature_by text start r).names ≡ (signature_by other other_start o).names =
+    ap (λ (s : Signature). s.names) first in
+    let key : r.key ≡ o.key = keyed.0.key ∙ ap (λ (n : Names). key_of (main_name n)) texts
+    ∙ sym others_keyed.0.key in
+    let short : r.short ≡ o.short = keyed.0.short ∙ ap (λ (n : Names). short_code n.short) texts
+    ∙ sym others_keyed.0.short in
+    let long : r.has_long ≡ o.has_long = keyed.0.has_long
+    ∙ ap (λ (n : Names). not (is_empty n.long)) texts ∙ sym others_keyed.0.has_long in
     let more : signatures_from text r.names.second records
     ≡ signatures_from other o.names.second others = cc same in
-    let rest = records_told text other r.names.second o.names.second records others more_ends more
-    in
-    λ i. record { names = names i; kinds = kinds i } ∷ rest i
+    let rest = records_told text other r.names.second o.names.second records others keyed.1
+    others_keyed.1 more_ends more in
+    λ i. record {
+      names = names i;
+      key = key i;
+      short = short i;
+      has_long = long i;
+      kinds = kinds i;
+    } ∷ rest i
 
 same_kinds-decides : (a b : Kinds) → Decides (same_kinds a b) (a ≡ b)
 same_kinds-decides a b = Decides-like (same_kinds a b) (λ e. ap kinds_of e)
@@ -307,16 +336,34 @@ same_ends-decides a b = Decides-like (same_ends a b)
 -- so does that of two records
 same_record-decides : (a b : SignatureRecord) → Decides (same_record a b) (a ≡ b)
 same_record-decides a b = Decides-like (same_record a b)
-    (λ h. λ i. record { names = h.0 i; kinds = h.1 i })
-    (λ e. (ap (λ r. r.names) e, ap (λ r. r.kinds) e))
-    (Decides-and _ _ (same_ends-decides a.names b.names) (same_kinds-decides a.kinds b.kinds))
+    (λ h. λ i. record {
+      names = h.0 i;
+      key = h.1.0 i;
+      short = h.1.1.0 i;
+      has_long = h.1.1.1.0 i;
+      kinds = h.1.1.1.1 i;
+    })
+    (λ e. (
+      ap (λ r. r.names) e,
+      (
+        ap (λ r. r.key) e,
+        (ap (λ r. r.short) e, (ap (λ r. r.has_long) e, ap (λ r. r.kinds) e)),
+      ),
+    ))
+    (Decides-and _ _ (same_ends-decides a.names b.names)
+    (Decides-and _ _ (Decides-eqb a.key b.key)
+    (Decides-and _ _ (Decides-eqb a.short b.short)
+    (Decides-and _ _ (booleans_Decides a.has_long b.has_long)
+    (same_kinds-decides a.kinds b.kinds)))))
 
 -- signatures are the same where their records and the text of all names are
 pub same_signatures : (text other : Text) (records others : List SignatureRecord)
     → IsWellCut text (text_ends (ends_in records)) → IsWellCut other (text_ends (ends_in others))
+    → HaveKeys records (signatures_from text 0 records)
+    → HaveKeys others (signatures_from other 0 others)
     → (bytes_eq text other && pointwise same_record records others)
     ≡ pointwise same_signature (signatures_from text 0 records) (signatures_from other 0 others)
-same_signatures text other records others cut other_cut =
+same_signatures text other records others cut other_cut keyed others_keyed =
     let by_parts : Decides (bytes_eq text other && pointwise same_record records others)
     ((text ≡ other) × (records ≡ others)) =
     Decides-and _ _ (bytes_eq-Decides text other)
@@ -330,7 +377,7 @@ same_signatures text other records others cut other_cut =
     (sym (twos-signatures records (twos_from text 0 (ends_in records)) (as_many text records))
     ∙ ap (map (λ (s : Signature). (s.names.short, s.names.long))) e
     ∙ twos-signatures others (twos_from other 0 (ends_in others)) (as_many other others)) in
-    (parts.0, records_told text other 0 0 records others parts.1 e) in
+    (parts.0, records_told text other 0 0 records others keyed others_keyed parts.1 e) in
     same_from_decides _ _
     (Decides-like _ (λ same i. signatures_from (same.0 i) 0 (same.1 i)) told by_parts)
     (pointwise_decides same_signature-decides (signatures_from text 0 records)

@@ -1,12 +1,14 @@
 -- What is seen of the names and kinds of groups that are held or borrowed.
-use Rattle.std.specs.Prelude.{◌==◌, ℕ, Bool, List, [], ◌∷◌, map}
-use Rattle.std.specs.List.{AllByRecursion}
+use Rattle.std.specs.Prelude.{◌≡◌, ◌==◌, ℕ, Bool, not, List, [], ◌∷◌, map}
+use Rattle.std.specs.Bool.{beq}
+use Rattle.std.specs.List.{AllByRecursion, AllZip}
 use Rattle.std.specs.Ordering.{on, eq_of_both}
 use Rattle.std.specs.Str.{IsUtf8}
 use Rattle.std.specs.String.{string_bytes}
-use Rattle.getopts.specs.Names.{Text, Names, IsLawfullyNamed}
+use Rattle.getopts.specs.Names.{Text, Names, IsLawfullyNamed, is_empty, main_name}
 use Rattle.getopts.specs.Options.{Signature}
 use Rattle.getopts.specs.Same.{same_signature}
+use Rattle.getopts.specs.Held.Names.{key_of, short_code}
 use Rattle.getopts.specs.Held.Pieces.{pieces, IsWellCut}
 use Rattle.getopts.specs.declared.names.Names.{Names as HeldNames}
 use Rattle.getopts.specs.declared.groups.Kinds.{Kinds}
@@ -69,19 +71,32 @@ pub record AreLawfulSignatures (signatures : List Signature) : Type 0 where
   pub named : AllByRecursion (λ signature. IsLawfullyNamed signature.names) signatures
   pub shorts : AllByRecursion (λ signature. IsUtf8 signature.names.short) signatures
 
+-- a record has the key of the main name, the byte of the short name, and whether there is a long one
+pub record HasKeys (group : SignatureRecord) (names : Names) : Type 0 where
+  pub key : group.key ≡ key_of (main_name names)
+  pub short : group.short ≡ short_code names.short
+  pub has_long : group.has_long ≡ not (is_empty names.long)
+
+-- each record has those of its names
+abbrev pub HaveKeys : List SignatureRecord → List Signature → Type 0
+HaveKeys groups signatures = AllZip (λ group signature. HasKeys group signature.names) groups signatures
+
 -- the one text is cut where names end, which are lawful
 pub record HoldSignatures (inside : Inside) : Type 0 where
   pub cut : IsWellCut (string_bytes inside.text)
       (text_ends (map (λ group. group.names) inside.records.items))
   pub lawful : AreLawfulSignatures (signatures_view inside)
+  pub keyed : HaveKeys inside.records.items (signatures_view inside)
 
 -- whether the two ends are the same
 abbrev pub same_ends : Ends → Ends → Bool
 same_ends = eq_of_both (on (λ e. e.first) ◌==◌) (on (λ e. e.second) ◌==◌)
 
--- whether the ends and the kinds of two records are the same
+-- whether all parts of two records are the same
 abbrev pub same_record : SignatureRecord → SignatureRecord → Bool
-same_record = eq_of_both (on (λ group. group.names) same_ends) (on (λ group. group.kinds) same_kinds)
+same_record = eq_of_both (on (λ group. group.names) same_ends)
+    (eq_of_both (on (λ group. group.key) ◌==◌) (eq_of_both (on (λ group. group.short) ◌==◌)
+    (eq_of_both (on (λ group. group.has_long) beq) (on (λ group. group.kinds) same_kinds))))
 
 -- the signature of a borrowed group
 abbrev pub signature_view : HeldSignature → Signature

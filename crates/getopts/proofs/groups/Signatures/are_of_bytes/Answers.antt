@@ -2,7 +2,7 @@
 use Rattle.std.proofs.Common.{subst}
 use Rattle.std.specs.String.{string_bytes}
 use Rattle.getopts.specs.Held.Groups.{names_in}
-use Rattle.getopts.specs.Held.Table.{HaveNamesOfBytes}
+use Rattle.getopts.specs.Held.Names.{HaveNamesOfBytes}
 use Rattle.getopts.proofs.Held.Groups.{HaveNamesOfBytes-from}
 use Rattle.getopts.proofs.groups.Signatures.are_of_bytes.Goals as goal
 

@@ -1,11 +1,13 @@
 -- One more group has its names at the end of the text of all.
-use Rattle.std.proofs.Common.{◌≡◌, List, [], ◌∷◌, ◌++◌, ap, ◌∙◌, arith}
+use Rattle.std.proofs.Common.{◌≡◌, not, List, [], ◌∷◌, ◌++◌, ap, ◌∙◌, arith}
 use Rattle.std.proofs.lemmas.Grind.{common_steps}
+use Rattle.std.proofs.lemmas.Slice.Zip.{all_zipped_more}
 use Rattle.std.specs.Str.{IsUtf8}
 use Rattle.std.specs.String.{string_bytes}
 use Rattle.getopts.specs.Names.{IsLawfullyNamed}
 use Rattle.getopts.specs.Options.{Signature}
-use Rattle.getopts.specs.Held.Groups.{text_ends, signature_with}
+use Rattle.getopts.specs.Held.Groups.{text_ends, signature_with, HasKeys}
+use Rattle.getopts.specs.Held.Names.{key_of}
 use Rattle.getopts.specs.Held.Pieces.{IsWellCut}
 use Rattle.getopts.specs.declared.groups.SignatureRecord.{SignatureRecord}
 use Rattle.getopts.proofs.Lists.{AllByRecursion-append}
@@ -23,6 +25,9 @@ added c = record {
     first = c.push_reserved-first.result;
     second = c.push_reserved-second.result;
   };
+  key = c.key_of-key.result;
+  short = c.short_byte.result;
+  has_long = not c.is_empty-2.result;
   kinds = c.args.kinds;
 }
 
@@ -54,6 +59,13 @@ pushed c =
     c.push_reserved-first.ensures.end c.push_reserved-second.ensures.end c.utf8.short c.utf8.long
     c.self.inside.records.items c.self.invariant.cut)
 
+has_keys : (c : goal.After-push_reserved) → HasKeys (added c) (signature c).names
+has_keys c = record {
+  key = c.key_of-key.ensures ∙ ap key_of c.main.ensures;
+  short = c.short_byte.ensures;
+  has_long = ap not c.is_empty-2.ensures;
+}
+
 pub invariant_of-self-2 : goal.invariant_of-self-2
 invariant_of-self-2 c =
     let same = (pushed c).1 in
@@ -67,6 +79,8 @@ invariant_of-self-2 c =
             (AllByRecursion-append (λ (s : Signature). IsUtf8 s.names.short) _
             (signature c ∷ []) c.self.invariant.lawful.shorts (c.utf8.short, tt));
       };
+      keyed = rw (same, items c) (all_zipped_more _ _ _ (added c) (signature c)
+          c.self.invariant.keyed (has_keys c));
     }
 
 pub returns-clause-ok : goal.returns-clause-ok

@@ -3,7 +3,7 @@ use Rattle.std.proofs.Common.{List, sym, ap, ◌∙◌, arith}
 use Rattle.getopts.specs.Names.{main_name}
 use Rattle.getopts.specs.Options.{Signature}
 use Rattle.getopts.specs.Held.Groups.{names_in}
-use Rattle.getopts.specs.Held.Table.{names_at}
+use Rattle.getopts.specs.Held.Names.{names_at}
 use Rattle.getopts.proofs.Held.Groups.{signatures_held, main_at-names}
 use Rattle.getopts.proofs.help.Groups.main.Goals as goal
 

@@ -1,20 +1,13 @@
 -- The table finds what a name resolves to.
-use Rattle.std.proofs.Common.{◌≡◌, Option, Some, None, refl, sym, ap, ◌∙◌, arith}
+use Rattle.std.proofs.Common.{refl, sym, ap, ◌∙◌, arith}
 use Rattle.std.proofs.lemmas.List.{length-map}
 use Rattle.std.specs.Option.{option_map}
-use Rattle.getopts.specs.Held.Groups.{kinds_of, names_in}
-use Rattle.getopts.specs.Options.{Signature, Group}
+use Rattle.getopts.specs.Held.Groups.{names_in}
+use Rattle.getopts.specs.Options.{Signature}
 use Rattle.getopts.specs.declared.groups.Kinds.{Kinds}
-use Rattle.getopts.proofs.Held.Signatures.{names-signatures_of, kinds-signatures_of}
+use Rattle.getopts.proofs.Held.Signatures.{names-signatures_of, kinds-signatures_of, kind_of-kinds}
 use Rattle.getopts.proofs.Lookup.Names.{resolution_within}
 use Rattle.getopts.proofs.scan.Scanner.option.Goals as goal
-
--- the kind of argument, by the kinds of the group
-kind_of-kinds : (group : Option Group)
-    → option_map (λ (k : Kinds). k.kind) (option_map (λ (g : Group). kinds_of g.signature) group)
-    ≡ option_map (λ (g : Group). g.signature.kind) group
-kind_of-kinds None = refl
-kind_of-kinds (Some group) = refl
 
 pub resolve-requires : goal.resolve-requires
 resolve-requires c = rw (
