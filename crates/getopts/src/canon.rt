@@ -7,12 +7,13 @@ ghost use Rattle.std.specs.String.{string_bytes};
 ghost use Rattle.getopts.specs.Reading as Scan;
 ghost use Rattle.getopts.specs.Canon as Spec;
 ghost use Rattle.getopts.specs.Fail.{Tells};
-ghost use Rattle.getopts.specs.Held.Matches.{IsOfGroups};
+ghost use Rattle.getopts.specs.Held.Matches.{IsOfSignatures};
 ghost use Rattle.getopts.specs.Names.{texts};
+ghost use Rattle.getopts.specs.Options.{signatures_of};
 ghost use Rattle.getopts.specs.Held.Line.{line_content};
 
 use crate::fail::Fail;
-use crate::groups::Groups;
+use crate::help::Groups;
 use crate::matches::ReadLine;
 use crate::occurrences::LineOccurrences;
 use crate::options::Options;
@@ -29,7 +30,7 @@ fn holds_equals(text: &str) -> bool
 
 /// Whether no group with an occurrence has a main name that holds `=`.
 fn are_plain(groups: &Groups, read: &ReadLine) -> bool
-    requires { IsOfGroups groups.now read.now }
+    requires { IsOfSignatures (signatures_of groups.now) read.now }
     ensures { result
         ≡ list_all (λ o. not (Scan.holds_equals (Spec.main_at groups.now o.mention.group)))
         read.now.line.found }

@@ -250,6 +250,7 @@ impl<'m> Occurrences<'m> {
     }
 
     /// Whether there are none.
+    #[inline]
     pub fn is_empty(&self) -> bool
         ensures { IsTrue result ↔ (self.now ≡ []) }
     {
@@ -353,6 +354,7 @@ impl<'m> IntoIterator for Occurrences<'m> {
 
     ghost into_iter_gives = { λ occurrences iterator. iterator ≡ occurrences };
 
+    #[inline]
     fn into_iter(self) -> OccurrencesIter<'m> {
         OccurrencesIter {
             occurrences: self,
@@ -384,6 +386,7 @@ impl<'m> Iterator for OccurrencesIter<'m> {
 
     ghost remaining = { item_count (λ rest. rest) };
 
+    #[inline]
     fn next(&mut self) -> Option<(usize, Option<&'m str>)> {
         if self.next >= self.occurrences.len() {
             return None;

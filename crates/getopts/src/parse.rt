@@ -6,11 +6,10 @@ ghost use Rattle.std.specs.Iterator.Runs.{WholeRun};
 ghost use Rattle.getopts.specs.Matches as Spec;
 ghost use Rattle.getopts.specs.Fail.{Tells};
 ghost use Rattle.getopts.specs.Names.{texts};
-ghost use Rattle.getopts.specs.Options.{signatures_of};
-ghost use Rattle.getopts.specs.Held.Matches.{IsOfGroups};
+ghost use Rattle.getopts.specs.Held.Matches.{IsOfSignatures};
 
 use crate::fail::Fail;
-use crate::groups::{Groups, Occur};
+use crate::groups::{Occur, Signatures};
 use crate::index::Index;
 use crate::matches::{Matches, ReadLine};
 use crate::options::Options;
@@ -62,7 +61,7 @@ impl Options {
         ensures laws { OnOk result (KeepsReadingLaws (grammar_of self.now)) }
     {
         let accepted = self.accepted_line(alloc, words)?;
-        Ok(Matches::of_line(self.groups().clone()?, accepted))
+        Ok(Matches::of_line(self.signatures().clone()?, accepted))
     }
 
     /// Reads the words of a line, as `parse_words` does, whatever their counts.
@@ -82,7 +81,7 @@ impl Options {
             (EndsInTrailing (texts words.now) matches)) }
     {
         let read = self.read_line(alloc, words)?;
-        Ok(Matches::of_line(self.groups().clone()?, read))
+        Ok(Matches::of_line(self.signatures().clone()?, read))
     }
 
     /// Reads the words of a line, as `parse_words` does, over the items of an iterator.
@@ -111,6 +110,7 @@ impl Options {
     }
 
     /// Reads a line, and checks its counts.
+    #[inline(always)]
     pub(crate) fn accepted_line(&self, alloc: Global, words: &[&str]) -> Result<ReadLine, Fail>
         ensures accepted { IfOk result (IsAcceptedLine self.now (texts words.now)) }
         ensures refused { IfErr result (λ fail. Tells fail
@@ -118,11 +118,12 @@ impl Options {
         ensures results { HasResults self.now (texts words.now) }
     {
         let read = self.read_line(alloc, words)?;
-        check_counts(alloc, self.groups(), &read)?;
+        check_counts(alloc, self.signatures(), &read)?;
         Ok(read)
     }
 
     /// Reads a line, whatever its counts.
+    #[inline(always)]
     fn read_line(&self, alloc: Global, words: &[&str]) -> Result<ReadLine, Fail>
         ensures read { IfOk result (IsReadLine self.now (texts words.now)) }
         ensures refused { IfErr result (λ fail. Tells fail
@@ -130,14 +131,14 @@ impl Options {
         ensures results { HasResults self.now (texts words.now) }
     {
         are_texts(words);
-        let groups = self.groups();
-        let table = Table::of(alloc, groups)?;
+        let signatures = self.signatures();
+        let table = Table::of(alloc, signatures)?;
         let scanner = Scanner {
             options: self,
             table: &table,
         };
         let line = scanner.scan(alloc, words)?;
-        let index = Index::of(alloc, groups.len(), &line.found)?;
+        let index = Index::of(alloc, signatures.len(), &line.found)?;
         Ok(ReadLine { table, line, index })
     }
 }
@@ -160,23 +161,25 @@ pub(crate) fn words_from<'a, I: Iterator<Item = &'a str> + Drop>(
 }
 
 /// Checks how often the options of a line came, group by group in order of definition.
-fn check_counts(alloc: Global, groups: &Groups, read: &ReadLine) -> Result<(), Fail>
-    requires { IsOfGroups groups.now read.now }
+#[inline(always)]
+fn check_counts(alloc: Global, signatures: &Signatures, read: &ReadLine) -> Result<(), Fail>
+    requires { IsOfSignatures signatures.now read.now }
     ensures ok { OnOk result
-        (Spec.KeepsCounts (Spec.matched 0 (signatures_of groups.now) read.now.line.found)) }
+        (Spec.KeepsCounts (Spec.matched 0 signatures.now read.now.line.found)) }
     ensures err { IfErr result (λ fail. Tells fail
-        (Spec.IsCountFault (Spec.matched 0 (signatures_of groups.now) read.now.line.found))) }
+        (Spec.IsCountFault (Spec.matched 0 signatures.now read.now.line.found))) }
 {
-    for place in 0..groups.len() {
+    for place in 0..signatures.len() {
         let count = read.index.count(place);
-        if !fits_count(groups.kinds_at(place).occurrence, count) {
-            return Err(count_fault(alloc, groups.main(place), count));
+        if !fits_count(signatures.kinds_at(place).occurrence, count) {
+            return Err(count_fault(alloc, signatures.main(place), count));
         }
     }
     Ok(())
 }
 
 /// Whether an option may come so many times.
+#[inline(always)]
 fn fits_count(occurrence: Occur, count: usize) -> bool
     ensures { IsTrue result ↔ Spec.FitsCount occurrence count }
 {

@@ -4,7 +4,7 @@
 use crate::fallible::*;
 
 use super::fail::Fail;
-use super::groups::Groups;
+use super::help::Groups;
 use super::matches::ReadLine;
 use super::occurrences::LineOccurrences;
 use super::options::Options;

@@ -3,8 +3,10 @@
 
 // Which pairs of names are lawful.
 mod names;
-// Option groups, held together: their texts as one, and a record of each.
+// Names and kinds of option groups, held together: their names as one text, and a record of each.
 mod groups;
+// Groups as they are declared, with their hints and descriptions.
+mod help;
 // The groups that a caller declares, with a style and a mode, and the calls that declare them.
 mod options;
 // Why a line is refused.

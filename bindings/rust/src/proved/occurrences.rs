@@ -171,6 +171,7 @@ impl<'m> Occurrences<'m> {
     }
 
     /// Whether there are none.
+    #[inline]
     pub fn is_empty(&self) -> bool {
         self.len() == 0
     }
@@ -253,6 +254,7 @@ impl<'m> IntoIterator for Occurrences<'m> {
 
     type IntoIter = OccurrencesIter<'m>;
 
+    #[inline]
     fn into_iter(self) -> OccurrencesIter<'m> {
         OccurrencesIter {
             occurrences: self,
@@ -271,6 +273,7 @@ pub struct OccurrencesIter<'m> {
 impl<'m> Iterator for OccurrencesIter<'m> {
     type Item = (usize, Option<&'m str>);
 
+    #[inline]
     fn next(&mut self) -> Option<(usize, Option<&'m str>)> {
         if self.next >= self.occurrences.len() {
             return None;

@@ -1,6 +1,7 @@
 -- The line that was read gives the matches of its reading.
 use Rattle.std.proofs.Common.{◌≡◌, ◌∙◌, Ok, Err}
 use Rattle.std.proofs.lemmas.Result.{err_from_is_err_and}
+use Rattle.getopts.specs.Options.{signatures_of}
 use Rattle.getopts.proofs.Canonical.Answered.{HasReading-line}
 use Rattle.getopts.proofs.Parsing.Holds.{HoldGiven-read, EndsInTrailing-read}
 use Rattle.getopts.proofs.MainTheorem.Results.{GivesResult-read}
@@ -8,9 +9,9 @@ use Rattle.getopts.proofs.options.Options.parse_ignoring_counts.Goals as goal
 
 pub returns-clause-read : goal.returns-clause-read
 returns-clause-read c =
-    let groups : c.in_ok-clone.field-0 ≡ c.args.self.now.groups = c.in_ok-clone.ensures.cases
-    ∙ c.groups.ensures.groups in
-    rw (c.of_line.ensures, groups)
+    let signatures : c.in_ok-clone.field-0 ≡ signatures_of c.args.self.now.groups =
+    c.in_ok-clone.ensures.cases ∙ c.signatures.ensures.signatures in
+    rw (c.of_line.ensures, signatures)
     (HasReading-line _ _ c.in_ok-read.read c.in_ok-read.ensures.read)
 
 pub returns-clause-given : goal.returns-clause-given

@@ -1,6 +1,7 @@
 -- The line that was read gives accepted matches, and its options keep the laws of readings.
 use Rattle.std.proofs.Common.{◌≡◌, ◌∙◌, subst, Ok, Err}
 use Rattle.std.proofs.lemmas.Result.{err_from_is_err_and}
+use Rattle.getopts.specs.Options.{signatures_of}
 use Rattle.getopts.specs.ReadingLaws.{HavePositionsBelow}
 use Rattle.getopts.proofs.Canonical.Answered.{IsAccepted-line}
 use Rattle.getopts.proofs.MainTheorem.Results.{GivesResult-parse}
@@ -12,9 +13,9 @@ use Rattle.getopts.proofs.options.Options.parse_words.Goals as goal
 
 pub returns-clause-accepted : goal.returns-clause-accepted
 returns-clause-accepted c =
-    let groups : c.in_ok-clone.field-0 ≡ c.args.self.now.groups = c.in_ok-clone.ensures.cases
-    ∙ c.groups.ensures.groups in
-    rw (c.of_line.ensures, groups)
+    let signatures : c.in_ok-clone.field-0 ≡ signatures_of c.args.self.now.groups =
+    c.in_ok-clone.ensures.cases ∙ c.signatures.ensures.signatures in
+    rw (c.of_line.ensures, signatures)
     (IsAccepted-line _ _ c.in_ok-accepted.accepted c.in_ok-accepted.ensures.accepted)
 
 pub returns-clause-declared : goal.returns-clause-declared
@@ -32,7 +33,7 @@ pub returns-clause-trailing : goal.returns-clause-trailing
 returns-clause-trailing c = EndsInTrailing-read _ _ _ (returns-clause-accepted c).read
 
 pub returns-clause-laws : goal.returns-clause-laws
-returns-clause-laws c = keeps_laws c.args.self.now c.groups.ensures.declared
+returns-clause-laws c = keeps_laws c.args.self.now c.signatures.ensures.declared
 
 pub returns-in_err-accepted-clause-result : goal.returns-in_err-accepted-clause-result
 returns-in_err-accepted-clause-result c =
