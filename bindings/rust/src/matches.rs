@@ -67,7 +67,7 @@ impl Matches {
     pub(crate) fn every_option(
         &self,
     ) -> impl Iterator<Item = impl Iterator<Item = (usize, Option<&str>)> + '_> + '_ {
-        let places = 0..self.held.groups().len();
+        let places = 0..self.held.signatures().len();
         places.map(|place| self.held.occurrences_at(place).into_iter())
     }
 
