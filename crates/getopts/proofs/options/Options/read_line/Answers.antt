@@ -39,16 +39,16 @@ returns-clause-read c = record {
 
 pub returns-in_err-table-clause-results : goal.returns-in_err-table-clause-results
 returns-in_err-table-clause-results c =
-    HasResults-declared _ c.groups-groups.ensures.declared _ c.are_texts.ensures
+    HasResults-declared _ c.signatures-signatures.ensures.declared _ c.are_texts.ensures
 
 pub returns-in_err-line-clause-results : goal.returns-in_err-line-clause-results
 returns-in_err-line-clause-results c =
-    HasResults-declared _ c.groups-groups.ensures.declared _ c.are_texts.ensures
+    HasResults-declared _ c.signatures-signatures.ensures.declared _ c.are_texts.ensures
 
 pub returns-in_err-index-clause-results : goal.returns-in_err-index-clause-results
 returns-in_err-index-clause-results c =
-    HasResults-declared _ c.groups-groups.ensures.declared _ c.are_texts.ensures
+    HasResults-declared _ c.signatures-signatures.ensures.declared _ c.are_texts.ensures
 
 pub returns-clause-results : goal.returns-clause-results
 returns-clause-results c =
-    HasResults-declared _ c.groups-groups.ensures.declared _ c.are_texts.ensures
+    HasResults-declared _ c.signatures-signatures.ensures.declared _ c.are_texts.ensures
