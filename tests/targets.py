@@ -1,4 +1,4 @@
-"""The targets on which the Rust crate and the C library are tested, by Debian's rustc 1.63: compilers and what runs programs.
+"""The targets on which the Rust crate and the library for C are tested, by Debian's rustc 1.63.
 
 Of libstd-rust-dev and libstd-rust-1.63 for arm64 and i386, which Debian doesn't install beside those of this machine
 (dpkg --add-architecture, apt-get download, dpkg -x), put the folders usr/lib/rustlib/TARGET beside the others there."""

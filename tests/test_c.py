@@ -39,7 +39,8 @@ def library(tmp_path_factory):
         if target not in built:
             folder = copied(room / (target or "host"), "bindings/c", "bindings/rust") / "bindings/c"
             if target:
-                cargo_for(target, folder, "build", "--release", "--ignore-rust-version", env={"RUSTFLAGS": "--cfg old_rustc"})
+                words = ["build", "--release", "--ignore-rust-version"]
+                cargo_for(target, folder, *words, env={"RUSTFLAGS": "--cfg old_rustc"})
             else:
                 need("cargo", "cc")
                 run("cargo", "build", "--release", *offline(), cwd=folder, env={"RUSTFLAGS": "-D warnings"})
@@ -132,7 +133,8 @@ def test_a_kind_in_place_of_a_mode(compiler, modes, right, tmp_path):
     plus = compiler.endswith("++")
     source = tmp_path / ("modes.cc" if plus else "modes.c")
     source.write_text(f'#include "{C}/getopts.h"\nstruct getopts *made(const struct getopts_option *table);\n'
-                      f"struct getopts *made(const struct getopts_option *table) {{ return getopts_new(table, {modes}); }}\n")
+                      "struct getopts *made(const struct getopts_option *table)"
+                      f" {{ return getopts_new(table, {modes}); }}\n")
     flags = PLUS_WARNINGS if plus else WARNINGS
     assert (answer(compiler, *flags, "-c", source, "-o", tmp_path / "modes.o")[1] == 0) == right
 
@@ -209,7 +211,8 @@ def test_what_a_program_grows_by(prefix, tmp_path):
     most = int(re.search(r" grows by (\d+) KB at most", (C / "getopts.h").read_text())[1]) * 1000
     (tmp_path / "empty.c").write_text("int main(void) { return 0; }\n")
     run("cc", "-O2", "-s", tmp_path / "empty.c", "-o", tmp_path / "without")
-    run("cc", "-O2", "-s", C / "head.c", "-isystem", prefix / "include", prefix / "lib/libgetopts.a", "-o", tmp_path / "with")
+    library = ["-isystem", prefix / "include", prefix / "lib/libgetopts.a"]
+    run("cc", "-O2", "-s", C / "head.c", *library, "-o", tmp_path / "with")
     grown = (tmp_path / "with").stat().st_size - (tmp_path / "without").stat().st_size
     assert 0.8 * most < grown <= most
 
@@ -230,13 +233,15 @@ def test_installed_for_another_target(show_c, tmp_path):
     need("/usr/bin/cargo", compiler)
     env = {"CARGO": "/usr/bin/cargo", "CARGO_FLAGS": "--ignore-rust-version", "RUSTFLAGS": "--cfg old_rustc",
            "RUSTC": "/usr/bin/rustc", "RUSTC_BOOTSTRAP": "1", "CARGO_BUILD_TARGET": "aarch64-unknown-linux-gnu"}
-    if not Path(run("/usr/bin/rustc", "--print", "target-libdir", "--target", env["CARGO_BUILD_TARGET"])[0].strip()).exists():
+    std = run("/usr/bin/rustc", "--print", "target-libdir", "--target", env["CARGO_BUILD_TARGET"])[0].strip()
+    if not Path(std).exists():
         pytest.skip("/usr/bin/rustc has no std for aarch64: see tests/targets.py")
     _, errors = run("sh", C / "install.sh", tmp_path / "to", env=env, status=1)
     assert "CC has to name the C compiler for aarch64-unknown-linux-gnu" in errors
     run("sh", C / "install.sh", tmp_path / "to", env={**env, "CC": compiler})
     to, program = tmp_path / "to", tmp_path / "linked"
-    run(compiler, "-isystem", to / "include", C / "show.c", f"-L{to}/lib", f"-Wl,-rpath,{to}/lib", "-lgetopts", "-o", program)
+    library = ["-isystem", to / "include", f"-L{to}/lib", f"-Wl,-rpath,{to}/lib", "-lgetopts"]
+    run(compiler, C / "show.c", *library, "-o", program)
     assert answer(*by, program, "-vv", "x") == answer(show_c, "-vv", "x")
 
 

@@ -1,4 +1,4 @@
-"""The Rust crate: that it is the proved source, its form, and that it answers as the crate getopts 0.2.24, on five targets."""
+"""The Rust crate: it is the proved source, its form, and it answers as the crate getopts 0.2.24, on five targets."""
 
 import re
 import shutil
@@ -12,7 +12,8 @@ from targets import TARGETS, UNWINDS, cargo_for, copied, offline, runner
 
 RUST = ROOT / "bindings/rust"
 TWIN = ROOT / "tests/differential/twin"
-ERASED = {"getopts": RUST / "src/proved", "getopts_bytes": RUST / "src/bytes", "getopts_shell": ROOT / "bindings/shell/src/program"}
+ERASED = {"getopts": RUST / "src/proved", "getopts_bytes": RUST / "src/bytes",
+          "getopts_shell": ROOT / "bindings/shell/src/program"}
 
 
 # ---- the source
@@ -32,7 +33,8 @@ def test_erased_source_is_that_of_today():
 
 
 @pytest.mark.parametrize("file, right, wrong", [
-    ("parse.rs", "count <= 1", "count < 1"), ("scan.rs", "line.try_grow(words, stops)?;", "line.try_grow(words, stops);"),
+    ("parse.rs", "count <= 1", "count < 1"),
+    ("scan.rs", "line.try_grow(words, stops)?;", "line.try_grow(words, stops);"),
     ("table.rs", "entries.dedup_by", "entries.reverse(); entries.dedup_by")])
 def test_other_tokens_are_found(file, right, wrong, tmp_path):
     shutil.copytree(ERASED["getopts"], tmp_path / "planted")
@@ -69,7 +71,8 @@ def test_readers_stop(plant, reader, tmp_path):
 
 @pytest.mark.parametrize("file, right, wrong, why", [
     ("row.rt", "const MARGIN: usize = 24", "const MARGIN: usize ≡ 24", "'≡': it isn't Rust"),
-    ("table.rt", "let Table { entries: _ } = self;", "let _ = self;", "'Drop': its impl does more than to take a value apart"),
+    ("table.rt", "let Table { entries: _ } = self;", "let _ = self;",
+     "'Drop': its impl does more than to take a value apart"),
     ("names.rt", "    short.len()", "    (short.len()", "'}': it closes nothing")])
 def test_eraser_stops(file, right, wrong, why, reader):
     eraser, source = reader
@@ -129,7 +132,7 @@ def test_documentation(cargo):
 
 def test_package(cargo):
     names = cargo("package", "--allow-dirty", "--list")[0].split()
-    assert {"README.md", "LICENSE-MIT", "LICENSE-APACHE", "NOTICE", "src/proved/mod.rs", "src/bytes/mod.rs"} <= set(names)
+    assert set("README.md LICENSE-MIT LICENSE-APACHE NOTICE src/proved/mod.rs src/bytes/mod.rs".split()) <= set(names)
     for name in set(names) - {"Cargo.lock", "Cargo.toml.orig", ".cargo_vcs_info.json"}:
         (RUST / name).read_text(encoding="utf-8")
     tree = cargo("tree", "--edges", "normal", "--prefix", "none")[0].splitlines()
@@ -222,7 +225,8 @@ def test_target(target, tmp_path, quick, request, ours, example):
     shutil.copy(RUST / "examples/show.rs", twin / "src/bin")
     (twin / "tests").mkdir()
     shutil.copy(RUST / "tests/os.rs", twin / "tests")
-    left_out = [] if target in UNWINDS else ["--skip", "panics", "--skip", "test_long_name_too_short", "--skip", "test_undefined_opt_present"]
+    panics = [] if target in UNWINDS else ["panics", "test_long_name_too_short", "test_undefined_opt_present"]
+    left_out = [word for name in panics for word in ("--skip", name)]
     crate = request.config.getoption("--getopts")
     if crate and (Path(crate) / "tests/public.rs").exists():
         shutil.copy(Path(crate) / "tests/public.rs", twin / "tests")

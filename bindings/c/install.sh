@@ -9,10 +9,10 @@
 # - PREFIX/share/man/man3: getopts.3, also by the name of each function
 # - PREFIX/share/doc/getopts: README.md, head.c and the licences
 #
-# It needs cargo with Rust 1.68 or later, a C compiler and binutils, and runs by any POSIX shell, also busybox's. It takes
-# unicode-width from Debian's librust-unicode-width-dev where that is installed, and else cargo fetches it. For another
-# target name it and its compiler: CARGO_BUILD_TARGET=aarch64-unknown-linux-gnu CC=aarch64-linux-gnu-gcc. It uses
-# CARGO, CARGO_FLAGS, CC, AR, CFLAGS and LDFLAGS, and writes its files below DESTDIR.
+# It needs cargo with Rust 1.68 or later, a C compiler and binutils, and runs by any POSIX shell, also busybox's. It
+# takes unicode-width from Debian's librust-unicode-width-dev where that is installed, and else cargo fetches it. For
+# another target name it and its compiler: CARGO_BUILD_TARGET=aarch64-unknown-linux-gnu CC=aarch64-linux-gnu-gcc. It
+# uses CARGO, CARGO_FLAGS, CC, AR, CFLAGS and LDFLAGS, and writes its files below DESTDIR.
 set -eu
 unset CDPATH
 here=$(cd "$(dirname "$0")" && pwd)
@@ -66,8 +66,10 @@ if [ -n "$remove" ]; then
     exit
 fi
 
-command -v "$cargo" >/dev/null || fail "there is no $cargo: install Rust 1.68 or later (Debian's package cargo, or rustup.rs)"
-command -v "${cc%% *}" >/dev/null || fail "there is no ${cc%% *}: install a C compiler (Debian's package gcc), or name one by CC"
+command -v "$cargo" >/dev/null ||
+    fail "there is no $cargo: install Rust 1.68 or later (Debian's package cargo, or rustup.rs)"
+command -v "${cc%% *}" >/dev/null ||
+    fail "there is no ${cc%% *}: install a C compiler (Debian's package gcc), or name one by CC"
 [ -z "$target" ] || [ -n "${CC:-}" ] || fail "CC has to name the C compiler for $target"
 room=$(mktemp -d)
 trap 'rm -rf "$room"' EXIT
@@ -80,12 +82,13 @@ offline=
 for crate in /usr/share/cargo/registry/unicode-width-*; do
     if [ -d "$crate" ]; then
         offline=--offline
-        printf '[source.crates-io]\nreplace-with = "debian"\n[source.debian]\ndirectory = "%s"\n' "${crate%/*}" >"$room/c/.cargo/config.toml"
+        printf '[source]\ncrates-io.replace-with = "debian"\ndebian.directory = "%s"\n' "${crate%/*}" >"$room/c/.cargo/config.toml"
     fi
 done
 # shellcheck disable=SC2086
 (cd "$room/c" && CARGO_TARGET_DIR=$room/target "$cargo" build --release --quiet $offline ${CARGO_FLAGS:-}) ||
-    fail "cargo can't build it; it needs Rust 1.68 or later with the target's standard library, and the crate unicode-width (without a network Debian's librust-unicode-width-dev)"
+    fail "cargo can't build it. It needs Rust 1.68 or later with the target's standard library, and the crate
+unicode-width: without a network Debian's package librust-unicode-width-dev"
 built=$room/target/${target:+$target/}release/libgetopts.a
 [ -f "$built" ] || fail "cargo left no libgetopts.a for $target"
 
@@ -128,7 +131,8 @@ case $($cc -dumpmachine) in
     "${AR:-$(tool ar)}" rcs "$room/libgetopts.a" "$room/getopts.o"
     built=$room/libgetopts.a
     # shellcheck disable=SC2086
-    $cc -shared ${CFLAGS:-} ${LDFLAGS:-} -Wl,-soname,"$soname" -Wl,-z,defs -Wl,-z,text "$room/getopts.o" -o "$room/$shared"
+    $cc -shared ${CFLAGS:-} ${LDFLAGS:-} -Wl,-soname,"$soname" -Wl,-z,defs -Wl,-z,text "$room/getopts.o" \
+        -o "$room/$shared"
     put "$room/$shared" "lib/$shared" 755
     ln -sf "$shared" "$to/lib/$soname"
     ln -sf "$soname" "$to/lib/libgetopts.so"

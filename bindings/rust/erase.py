@@ -6,8 +6,8 @@
 Writes the Rust of each crate to the folder that CRATES names. With --check it writes nothing, and status 1 says that
 what stands there is not what it would write. It needs `rustfmt`, which lays the Rust out.
 
-It reads a crate's files as tokens, by this grammar, and stops at whatever else stands there, with the file, the line and
-the word. What is marked by * means nothing when a program runs, and is deleted.
+It reads a crate's files as tokens, by this grammar, and stops at whatever else stands there, with the file, the line
+and the word. What is marked by * means nothing when a program runs, and is deleted.
 
     file      item..
     item      attribute.. ( ghost* | law* | use | mod NAME ; | const | type | struct | enum | function | impl )
@@ -21,8 +21,8 @@ the word. What is marked by * means nothing when a program runs, and is deleted.
     generics  < .. >, where Drop* may stand as a bound
     attribute #[derive(..)], in which Drop* may stand | #[tactic(..)]* | those of ATTRIBUTES
 
-A module of laws has functions that return nothing and lend all that they take, and is left out. The names of Rust that a
-source uses are in SAME and IMPORTS: each means in Rust what Rattle's contract of it says, which is trusted.
+A module of laws has functions that return nothing and lend all that they take, and is left out. The names of Rust that
+a source uses are in SAME and IMPORTS: each means in Rust what Rattle's contract of it says, which is trusted.
 
 It renames by the tables below; no source has a name of those that it gives. `same_tokens.py` checks what it wrote, and
 shares neither code nor tables with it.
@@ -94,24 +94,24 @@ CRATES = {
 }
 LEFT_OUT = ["laws", "tests"]
 # Words that may stand in no signature, body or type.
-STRANGE = set("""requires ensures ghost tactic Model Drop mod use fn impl trait struct enum union static extern unsafe
-    macro_rules async await dyn where crate""".split())
+STRANGE = set("""requires ensures ghost tactic Model Drop mod use fn impl trait struct enum union static extern
+    unsafe macro_rules async await dyn where crate""".split())
 ATTRIBUTES = {"inline", "cold", "must_use"}
 DERIVED = {"Clone", "Copy", "Debug", "PartialEq", "Eq", "Drop"}
 # What is imported of Rust, or of what stands in its place.
 IMPORTS = set("""std::alloc std::cmp::Ordering std::convert::AsStr std::env std::error::Error std::fmt std::io
     std::process::ExitCode std::str::FromStr std::vec unicode_width""".split())
 # Functions, methods and macros of Rust, or of what stands in their place.
-SAME = set("""all alloc allocator any arg as_bytes as_slice as_str binary_search_by binary_search_by_key capacity chars
-    checked_add clone cmp contains count dedup_by encode_utf8 ends_with enumerate extend_from_slice first flush format get
-    into_iter is_ascii is_ascii_alphanumeric is_ascii_digit is_empty is_none is_some iter iter_mut kind len len_utf8 lines map_or
-    matches max min next ok_or parse push push_reserved push_str reserve reserve_exact resize rev rsplit_once saturating_add
-    saturating_mul saturating_sub size_hint sort_by split split_at split_at_mut split_once split_whitespace starts_with
-    stderr strip_prefix strip_suffix then_some trim_ascii truncate unreachable unwrap_or vec width write writeln Err FnMut
-    Ok Some bytes""".split())
+SAME = set("""all alloc allocator any arg as_bytes as_slice as_str binary_search_by binary_search_by_key
+    capacity chars checked_add clone cmp contains count dedup_by encode_utf8 ends_with enumerate
+    extend_from_slice first flush format get into_iter is_ascii is_ascii_alphanumeric is_ascii_digit is_empty
+    is_none is_some iter iter_mut kind len len_utf8 lines map_or matches max min next ok_or parse push push_reserved
+    push_str reserve reserve_exact resize rev rsplit_once saturating_add saturating_mul saturating_sub size_hint
+    sort_by split split_at split_at_mut split_once split_whitespace starts_with stderr strip_prefix strip_suffix
+    then_some trim_ascii truncate unreachable unwrap_or vec width write writeln Err FnMut Ok Some bytes""".split())
 # Those of them that are called of a type, as in `u32::from(..)`.
-OF_TYPES = set("""Error::from String::new String::from_str String::with_capacity Vec::new Vec::with_capacity ExitCode::from
-    char::from_u32 io::writer str::from_utf8 u32::from u32::from_be_bytes u64::from_be_bytes""".split())
+OF_TYPES = set("""Error::from String::new String::from_str String::with_capacity Vec::new Vec::with_capacity
+    ExitCode::from char::from_u32 io::writer str::from_utf8 u32::from u32::from_be_bytes u64::from_be_bytes""".split())
 
 TOKEN = re.compile(
     r"""(?P<lead>(?:\s+|//[^\n]*)*)
@@ -127,11 +127,11 @@ BRACKETS = {"{": "}", "(": ")", "[": "]"}
 ABOVE = re.compile(r"(\n *//(?!!)[^\n]*)*\n *\Z")
 
 
-KEYWORDS = set("""as break const continue crate else enum fn for if impl in let loop match mod move mut pub ref return self
-    struct super type use while""".split())
+KEYWORDS = set("""as break const continue crate else enum fn for if impl in let loop match mod move mut pub ref
+    return self struct super type use while""".split())
 # The names that renaming gives, which no source may have.
-GIVEN = {word for name in CALLS.values() for word in re.findall(r"\w+", name) if "try_" in word or word in ("of_capacity", "copy_of")}
-GIVEN |= {"TryClone", "try_resize", "trimmed_ascii"}
+GIVEN = {word for name in CALLS.values() for word in re.findall(r"\w+", name) if word.startswith("try_")}
+GIVEN |= {"of_capacity", "copy_of", "TryClone", "try_resize", "trimmed_ascii"}
 
 
 class NotRust(Exception):
@@ -481,7 +481,7 @@ class Eraser:
         self.items(one)
 
     def calls(self, known, values):
-        """Stops at calls, and names of functions, that aren't of this repository, and not among Rust's that are known."""
+        """Stops at calls and names of functions that aren't of this repository, and aren't known of Rust."""
         imported = 0
         for at, token in enumerate(self.tokens):
             text, after = token.text, self.text(at + 1)
@@ -528,7 +528,7 @@ def read(path, one="item"):
 
 
 def defined(eraser):
-    """The names that a file defines: of functions and types, with variants and modules; and of what may hold a function."""
+    """The names that a file defines, of functions, types, variants and modules; and of what may hold a function."""
     text, names, values = eraser.text, {"Self"}, set()
     for at in range(len(eraser.tokens)):
         if text(at - 1) in ("fn", "struct", "enum", "type", "const", "mod"):
@@ -582,7 +582,8 @@ def main(arguments):
     for name, (folder, module, names) in CRATES.items():
         folder, files = TOP / folder, {}
         for path, eraser in crates[name].items():
-            files["mod.rs" if path.stem in ("lib", "main") else path.stem + ".rs"] = rust_of(path, eraser, module, names)
+            file = "mod.rs" if path.stem in ("lib", "main") else path.stem + ".rs"
+            files[file] = rust_of(path, eraser, module, names)
         there = {path.name: path.read_text(encoding="utf-8") for path in folder.glob("*.rs")}
         for file in sorted(files.keys() | there.keys()):
             if files.get(file) == there.get(file):
