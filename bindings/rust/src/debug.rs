@@ -1,5 +1,6 @@
 //! `{:?}` of options and matches, which reads as that of the crate getopts.
 
+use crate::proved::matches::MatchedGroups;
 use crate::{HasArg, Occur, proved};
 use std::fmt::{Debug, Formatter, Result};
 
@@ -34,8 +35,8 @@ pub fn groups_of(options: &proved::Options) -> Vec<Group<'_>> {
     shown!(options.groups())
 }
 
-pub fn opts_of(matches: &proved::Matches) -> Vec<Opt<'_>> {
-    let groups: Vec<_> = shown!(matches.held.groups());
+pub(crate) fn opts_of(matches: &MatchedGroups) -> Vec<Opt<'_>> {
+    let groups: Vec<_> = shown!(matches.groups());
     groups.into_iter().map(Opt).collect()
 }
 

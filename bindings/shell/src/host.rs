@@ -104,20 +104,12 @@ fn bytes_of(word: OsString) -> Vec<u8> {
 pub trait TryExtend<T: Copy> {
     /// The items, cut or filled to so many with this one.
     fn try_resize(&mut self, len: usize, item: T) -> Result<(), AllocError>;
-    /// The items, and then these.
-    fn try_extend_from_slice(&mut self, items: &[T]) -> Result<(), AllocError>;
 }
 
 impl<T: Copy> TryExtend<T> for Vec<T> {
     fn try_resize(&mut self, len: usize, item: T) -> Result<(), AllocError> {
         self.try_grow(len.saturating_sub(self.len()))?;
         self.resize(len, item);
-        Ok(())
-    }
-
-    fn try_extend_from_slice(&mut self, items: &[T]) -> Result<(), AllocError> {
-        self.try_grow(items.len())?;
-        self.extend_from_slice(items);
         Ok(())
     }
 }

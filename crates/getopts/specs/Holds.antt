@@ -1,5 +1,5 @@
 -- What accepted matches hold of the names that the options declare.
-use Rattle.std.specs.Prelude.{◌≡◌, ◌<◌, List, length, map, Some, IsSome}
+use Rattle.std.specs.Prelude.{◌≡◌, ◌<◌, ℕ, List, ◌∷◌, ◌++◌, drop, length, map, Some, IfSome, IsSome}
 use Rattle.std.specs.List.{AllByRecursion}
 use Rattle.std.specs.Borrow.{Bor}
 use Rattle.getopts.specs.Names.{Text, texts}
@@ -7,7 +7,7 @@ use Rattle.getopts.specs.Options.{Declared, Declares, signatures_of, kind_of, oc
 use Rattle.getopts.specs.Matches.{Matched, MatchedGroup, KeepsCounts}
 use Rattle.getopts.specs.Parse.{IsAccepted}
 use Rattle.getopts.specs.Accessors.{IsDefined, found_of, first_value}
-use Rattle.getopts.specs.Reading.{FitsKind}
+use Rattle.getopts.specs.Reading.{FitsKind, stop_word}
 use Rattle.getopts.specs.ReadingLaws.{HavePositionsInOrder, HavePositionsBelow, EndIn}
 use Rattle.getopts.specs.declared.groups.HasArg.TheVariants.{Yes}
 use Rattle.getopts.specs.declared.groups.Occur.TheVariants.{Req}
@@ -45,10 +45,18 @@ pub record HoldDeclared (options : Declared) (groups : List MatchedGroup) : Type
 abbrev pub HaveLastWordsFree : Declared → List Text → List Text → Type 0
 HaveLastWordsFree options words free = options.style ≡ StopAtFirstFree → EndIn words free
 
--- The options accept the words with these matches, whose positions are indexes of words; and under
--- `StopAtFirstFree` the words end in the free words.
+-- The words are some words, `--`, and the free words from the trailing start on, of which there is
+-- one at least.
+pub record EndsInTrailing (words : List Text) (matches : Matched) (start : ℕ) : Type 0 where
+  pub below : start < length matches.free
+  pub before : List Text
+  pub words_are : words ≡ before ++ stop_word ∷ drop start matches.free
+
+-- The options accept the words with these matches, whose positions are indexes of words; under
+-- `StopAtFirstFree` the words end in the free words, and where `--` has words after it, in those.
 pub record Accepts (options : Declared) (words : List (Bor Text)) (matches : Matched)
     : Type 0 where
   pub accepted : IsAccepted options (texts words) matches
   pub positions_below : HavePositionsBelow (length words) matches.groups
   pub free_last : HaveLastWordsFree options (texts words) matches.free
+  pub trailing : IfSome matches.trailing_start (EndsInTrailing (texts words) matches)

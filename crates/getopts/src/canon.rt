@@ -2,7 +2,7 @@
 
 ghost use Rattle.std.specs.Prelude.{◌≡◌, ◌<◌, length, map, IfOk, IfErr, IfSome, IfNone, OnOk, not};
 ghost use Rattle.std.specs.List.{AllByRecursion, list_all};
-ghost use Rattle.std.specs.Option.{option_copied};
+ghost use Rattle.std.specs.Option.{option_copied, option_map};
 ghost use Rattle.std.specs.String.{string_bytes};
 ghost use Rattle.getopts.specs.Reading as Scan;
 ghost use Rattle.getopts.specs.Canon as Spec;
@@ -81,7 +81,9 @@ impl Options {
     ghost use Rattle.std.specs.Iterator.{IsFinite};
     ghost use Rattle.std.specs.Iterator.Runs.{WholeRun};
     ghost use Rattle.getopts.specs.Parse.{IsRefused};
+    ghost use Rattle.getopts.specs.Results.{GivesAs, canonical_result};
     ghost use Rattle.getopts.specs.CanonAnswers.{IsWritten, IsUnwritable, KeepsLineLaws};
+    ghost use Rattle.getopts.specs.Theorem.{LinesReadAgain};
 
     /// Writes an accepted line again with main names alone, for a program that logs, compares or caches
     /// by command lines.
@@ -113,7 +115,11 @@ impl Options {
             (λ run. IsUnwritable self.now (texts run.items)))) }
         ensures refused { IfErr result (λ fail. Tells fail (λ fault. WholeRun I.next_gives args
             (λ run. IsRefused self.now (texts run.items) fault))) }
+        ensures result { GivesAs (option_map (λ line. map string_bytes line.items)) result
+            (λ answer. WholeRun I.next_gives args
+            (λ run. canonical_result self.now (texts run.items) ≡ answer)) }
         ensures laws { OnOk result (KeepsLineLaws self.now) }
+        ensures read_again { OnOk result (LinesReadAgain self.now) }
     {
         let words = words_from(alloc, args)?;
         self.canonical_words(alloc, &words)
@@ -134,7 +140,10 @@ impl Options {
             (IsUnwritable self.now (texts words.now))) }
         ensures refused { IfErr result (λ fail. Tells fail
             (IsRefused self.now (texts words.now))) }
+        ensures result { GivesAs (option_map (λ line. map string_bytes line.items)) result
+            (λ answer. canonical_result self.now (texts words.now) ≡ answer) }
         ensures laws { OnOk result (KeepsLineLaws self.now) }
+        ensures read_again { OnOk result (LinesReadAgain self.now) }
     {
         let accepted = self.accepted_line(alloc, words)?;
         let groups = self.groups();

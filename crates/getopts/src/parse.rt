@@ -1,6 +1,6 @@
 //! Reading a line: its words are scanned, and then its counts are checked.
 
-ghost use Rattle.std.specs.Prelude.{◌≡◌, ◌↔◌, IsTrue, IfOk, IfErr, OnOk, length};
+ghost use Rattle.std.specs.Prelude.{◌≡◌, ◌↔◌, IsTrue, IfOk, IfErr, IfSome, OnOk, length};
 ghost use Rattle.std.specs.Iterator.{IsFinite};
 ghost use Rattle.std.specs.Iterator.Runs.{WholeRun};
 ghost use Rattle.getopts.specs.Matches as Spec;
@@ -23,7 +23,10 @@ impl Options {
     ghost use Rattle.getopts.specs.ReadingLaws.{HavePositionsBelow};
     ghost use Rattle.getopts.specs.Parse.{IsAccepted, IsRefused, HasReading, HasNoReading};
     ghost use Rattle.getopts.specs.Parse.{KeepsReadingLaws};
+    ghost use Rattle.getopts.specs.Results.{Gives, GivesResult, HasResults, parse_result};
+    ghost use Rattle.getopts.specs.Results.{read_result};
     ghost use Rattle.getopts.specs.Holds.{HoldDeclared, HoldGiven, HaveLastWordsFree, Accepts};
+    ghost use Rattle.getopts.specs.Holds.{EndsInTrailing};
     ghost use Rattle.getopts.specs.Held.Matches.{IsReadLine, IsAcceptedLine};
 
     /// Reads the words of a line, without the program's own name.
@@ -43,6 +46,7 @@ impl Options {
         ensures accepted { IfOk result (IsAccepted self.now (texts words.now)) }
         ensures refused { IfErr result (λ fail. Tells fail
             (IsRefused self.now (texts words.now))) }
+        ensures result { GivesResult result (parse_result self.now (texts words.now)) }
 
         // What was found of each declared option is as it is declared.
         ensures declared { IfOk result (λ matches. HoldDeclared self.now matches.groups) }
@@ -50,6 +54,8 @@ impl Options {
             HavePositionsBelow (length words.now) matches.groups) }
         ensures free_last { IfOk result (λ matches.
             HaveLastWordsFree self.now (texts words.now) matches.free) }
+        ensures trailing { IfOk result (λ matches. IfSome matches.trailing_start
+            (EndsInTrailing (texts words.now) matches)) }
 
         // By these options: other spellings of a line, lines one after the other, and where free words and
         // occurrences stand.
@@ -70,7 +76,10 @@ impl Options {
         ensures read { IfOk result (HasReading self.now (texts words.now)) }
         ensures refused { IfErr result (λ fail. Tells fail
             (HasNoReading self.now (texts words.now))) }
+        ensures result { GivesResult result (read_result self.now (texts words.now)) }
         ensures given { IfOk result (λ matches. HoldGiven self.now matches.groups) }
+        ensures trailing { IfOk result (λ matches. IfSome matches.trailing_start
+            (EndsInTrailing (texts words.now) matches)) }
     {
         let read = self.read_line(alloc, words)?;
         Ok(Matches::of_line(self.groups().clone()?, read))
@@ -92,6 +101,8 @@ impl Options {
             (λ run. Accepts self.now run.items matches)) }
         ensures refused { IfErr result (λ fail. Tells fail (λ fault. WholeRun I.next_gives args
             (λ run. IsRefused self.now (texts run.items) fault))) }
+        ensures result { Gives result (λ answer. WholeRun I.next_gives args
+            (λ run. parse_result self.now (texts run.items) ≡ answer)) }
         ensures declared { IfOk result (λ matches. HoldDeclared self.now matches.groups) }
         ensures laws { OnOk result (KeepsReadingLaws (grammar_of self.now)) }
     {
@@ -104,6 +115,7 @@ impl Options {
         ensures accepted { IfOk result (IsAcceptedLine self.now (texts words.now)) }
         ensures refused { IfErr result (λ fail. Tells fail
             (IsRefused self.now (texts words.now))) }
+        ensures results { HasResults self.now (texts words.now) }
     {
         let read = self.read_line(alloc, words)?;
         check_counts(alloc, self.groups(), &read)?;
@@ -115,6 +127,7 @@ impl Options {
         ensures read { IfOk result (IsReadLine self.now (texts words.now)) }
         ensures refused { IfErr result (λ fail. Tells fail
             (HasNoReading self.now (texts words.now))) }
+        ensures results { HasResults self.now (texts words.now) }
     {
         are_texts(words);
         let groups = self.groups();

@@ -7,7 +7,7 @@ use super::matches::Matches;
 use super::occurrences::Occurrences;
 use crate::alloc::{AllocError, Global};
 use crate::convert::AsStr;
-use std::str::FromStr;
+use core::str::FromStr;
 
 /// A copy of a text, if there is one.
 fn copied(alloc: Global, text: Option<&str>) -> Result<Option<String>, AllocError> {

@@ -18,7 +18,7 @@ mod scan;
 // Where each group's occurrences stand.
 mod index;
 // What an accepted line gave: copies and comparisons.
-mod matches;
+pub(crate) mod matches;
 // What matches return for a name.
 mod accessors;
 // Reading a line: its words are scanned, and then its counts are checked.
@@ -42,4 +42,4 @@ pub use scan::are_texts;
 pub use usage::UsageRows;
 
 /// What `parse` returns: the matches of an accepted line, or why the line was refused.
-pub type Result = std::result::Result<Matches, Fail>;
+pub type Result = core::result::Result<Matches, Fail>;

@@ -9,7 +9,7 @@ use super::options::Options;
 use super::row::{Layout, push_argument, push_row};
 use super::wrap::push_parting;
 use crate::alloc::{AllocError, Global};
-use std::vec;
+use crate::heap::vec;
 
 /// The bytes that most rows take.
 const ROW_ROOM: usize = 80;

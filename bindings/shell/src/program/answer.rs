@@ -11,7 +11,7 @@ use super::table::{TableError, rows_of};
 use super::variables::{VariableError, Variables, main_name, variable_error, variables_code};
 use super::words::texts_of;
 use crate::getopts::{Fail, HasArg, Matches, Options, ParsingStyle, names_resolve};
-use crate::getopts_bytes::push_bytes;
+use ::getopts::bytes::push_bytes;
 use crate::host::alloc::{AllocError, Global};
 use crate::host::io;
 use crate::host::io::{ErrorKind, Write};

@@ -1,5 +1,6 @@
 -- The line that was read and its scan fault are those of the declared options.
 use Rattle.std.proofs.lemmas.Result.{err_from_is_err_and}
+use Rattle.getopts.proofs.MainTheorem.Results.{HasResults-declared}
 use Rattle.getopts.proofs.Parsing.Faults.{Tells-weaker}
 use Rattle.getopts.proofs.Parsing.Parsed.{HasNoReading-fault}
 use Rattle.getopts.proofs.options.Options.read_line.Goals as goal
@@ -30,3 +31,19 @@ returns-clause-read c = record {
   };
   reads = c.in_ok-line.ensures.ok;
 }
+
+pub returns-in_err-table-clause-results : goal.returns-in_err-table-clause-results
+returns-in_err-table-clause-results c =
+    HasResults-declared _ c.groups-groups.ensures.declared _ c.are_texts.ensures
+
+pub returns-in_err-line-clause-results : goal.returns-in_err-line-clause-results
+returns-in_err-line-clause-results c =
+    HasResults-declared _ c.groups-groups.ensures.declared _ c.are_texts.ensures
+
+pub returns-in_err-index-clause-results : goal.returns-in_err-index-clause-results
+returns-in_err-index-clause-results c =
+    HasResults-declared _ c.groups-groups.ensures.declared _ c.are_texts.ensures
+
+pub returns-clause-results : goal.returns-clause-results
+returns-clause-results c =
+    HasResults-declared _ c.groups-groups.ensures.declared _ c.are_texts.ensures
