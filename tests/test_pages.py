@@ -10,6 +10,7 @@ import os
 import re
 import shutil
 import subprocess
+import textwrap
 
 import pytest
 from conftest import ROOT, need, run
@@ -97,11 +98,11 @@ FIGURES = [
     ("README.md", r"program takes (\d+) % of the Rust crate's .* and (\d+) %",
      lambda: [share("small"), share("long")]),
     ("README.md", r"it takes (\d+) % and (\d+) %", lambda: [share("copied-small"), share("copied-long")]),
-    ("README.md", r"drop-in takes (\d+) % .* and (\d+) %",
+    ("README.md", r"takes (\d+) % of the instructions of the crate .* and (\d+) %",
      lambda: [share("small", "bindings/rust"), share("long", "bindings/rust")]),
     ("docs/DECISIONS.md", r"9,305 instructions in place of ([\d,]+)",
      lambda: [f"{int(cell(INSTRUCTIONS, 'small', 'this library')):,}"]),
-    (CALLING, r"first proof takes ([^|]*?) of processor time: by the clock\s+([^|]*?) on four", lambda: minutes("rt lib")),
+    (CALLING, r"the library once, in ([^|]*?) of processor time, by the clock in ([^|]*?)\s+on four", lambda: minutes("rt lib")),
     ("tests/differential/README.md", r"first ([\d,]+) of seed 1",
      lambda: [f"{int(re.search(r'choose 1 (.*?) ', read('tests/differential/record.sh'))[1]):,}"]),
     ("bindings/rust/README.md", r"Rust ([\d.]+) or later",
@@ -200,14 +201,19 @@ def imports_of(text):
 sources = {name: read(name) for name in tracked if re.match(r"crates/\w*/src/.*\.rt$", name)}
 
 
-@pytest.mark.parametrize("page", ["README.md", CALLING])
-def test_code_of_the_pages(page):
-    """The block of Rattle stands in one file of crates/, which the gate proves, and has the imports that it needs."""
-    block = re.search(r"^```rust\n(.*?)^```", pages[page], re.M | re.S)[1]
+blocks = [(page, block) for page in ("README.md", CALLING)
+          for block in re.findall(r"^```rust\n(.*?)^```", pages[page], re.M | re.S)]
+examples = sources | {name: read(name) for name in tracked if name.startswith("bindings/rust/tests/")}
+
+
+@pytest.mark.parametrize("page, block", blocks, ids=[f"{page}-{at}" for at, (page, _) in enumerate(blocks)])
+def test_code_of_the_pages(page, block):
+    """Each block stands in a file that is proved or tested, and has the imports that it needs."""
     code = USE.sub("", block).strip()
-    found = [name for name, text in sources.items() if f"\n{code}\n" in text]
-    assert found, "no file of crates/ has its code"
-    here, there = imports_of(block), imports_of(sources[found[0]])
+    found = [name for name, text in examples.items() if f"\n{code}\n" in textwrap.dedent(text) or
+             textwrap.indent(code, "    ") in text]
+    assert found, "no file has its code"
+    here, there = imports_of(block), imports_of(examples[found[0]])
     for name in here | there:
         used = re.search(rf"(?<!\w){re.escape(name.strip('◌'))}(?!\w)", code) is not None
         assert used == (name in here), name

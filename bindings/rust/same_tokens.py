@@ -27,7 +27,7 @@ PATHS = {"mod matches": "pub ( crate ) mod matches", "crate ::": "super ::", "st
 PATHS |= {"std :: convert": "crate :: convert", "std :: error": "crate :: error", "std :: vec": "crate :: heap :: vec"}
 PATHS |= {"std ::": "core ::", "str :: from_utf8": "core :: str :: from_utf8"}
 # Of the crates but the library.
-HOST = {"resize": "try_resize", "str :: from_utf8": "std :: str :: from_utf8"}
+HOST = {"resize": "try_resize", "trim_ascii": "trimmed_ascii", "str :: from_utf8": "std :: str :: from_utf8"}
 HOST |= {"format !": "text !", "write !": "add !", "writeln !": "add_line !", "fn main": "pub fn main"}
 HOST |= {f"std :: {name}": f"crate :: host :: {name}" for name in ("alloc", "env", "io")} | {"crate ::": "super ::"}
 HOST |= {"getopts ::": "crate :: getopts ::", "getopts_bytes ::": ":: getopts :: bytes ::"}
@@ -36,7 +36,7 @@ TOKEN = r"""//.*|r#"[\s\S]*?"#|b?"(?:\\[\s\S]|[^"\\])*"|b?'(?:\\.[^']*|[^\\'])'|
 
 # Words that Rust and Rattle read apart, or that no source needs.
 ODD = set("size_of size_of_val align_of align_of_val type_name unsafe static extern macro_rules union trait dyn async".split())
-ODD |= {"of_capacity", "copy_of", "TryClone"}
+ODD |= {"of_capacity", "copy_of", "TryClone", "trimmed_ascii"}
 # What stands behind a sign in an attribute, what is derived, and what is imported of Rust.
 SIGNED = r"# (! )?\[ (inline|cold|must_use|tactic|derive \( (((Clone|Copy|Debug|PartialEq|Eq|Drop) )(, )?)+\)|cfg \( test \) \] mod tests)"
 TAKEN = r"use (?!std)|use std :: (alloc|cmp|convert|env|error|fmt|io|marker|process|str|vec) "
@@ -45,7 +45,7 @@ CALLED = set("""all alloc allocator any arg as_bytes as_slice as_str binary_sear
     checked_add clone cmp contains count dedup_by encode_utf8 ends_with enumerate extend_from_slice first flush from
     from_be_bytes from_str from_u32 from_utf8 get into_iter is_ascii is_ascii_alphanumeric is_ascii_digit is_empty is_some
     iter iter_mut kind len len_utf8 lines map_or max min next new ok_or parse push push_reserved push_str reserve
-    reserve_exact resize rev saturating_add saturating_mul saturating_sub size_hint sort_by split split_at split_at_mut
+    reserve_exact resize rev rsplit_once saturating_add saturating_mul saturating_sub size_hint sort_by split split_at split_at_mut
     split_once split_whitespace starts_with stderr strip_prefix strip_suffix then_some trim_ascii truncate unwrap_or
     width with_capacity write writer Err FnMut Ok Some format matches unreachable vec writeln inline derive cfg tactic
     if in let for match pub return while""".split())

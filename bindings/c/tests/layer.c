@@ -155,6 +155,17 @@ static void counts_are_no_reason_to_forget(void) {
     getopts_delete(options);
 }
 
+/* A reading whose texts take as many bytes as its words and its message. */
+static void all_texts_stay(void) {
+    char *words[] = { "first", "second", "third", NULL };
+    struct getopts *options = getopts_new(required, GETOPTS_ORDINARY);
+    expect(getopts_read(options, 3, words) == GETOPTS_OPTION_MISSING && getopts_free_count(options) == 3, "free words alone");
+    for (size_t nth = 0; nth < 3; nth++)
+        expect(strcmp(getopts_free_words(options)[nth], words[nth]) == 0, "each of them");
+    expect(strcmp(getopts_message(options), "Required option 'output' missing") == 0, "the message before them");
+    getopts_delete(options);
+}
+
 static void numbers_are_checked(void) {
     static const struct {
         const char *text;
@@ -253,6 +264,7 @@ int main(void) {
     null_is_bad();
     no_kind_is_a_flag();
     counts_are_no_reason_to_forget();
+    all_texts_stay();
     numbers_are_checked();
     bytes_come_back();
     values_are_listed();

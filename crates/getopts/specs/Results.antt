@@ -49,8 +49,7 @@ abbrev pub with_items : List Item → Result Reading Fault → Result Reading Fa
 with_items items (Ok reading) = Ok (record { items = items ++ reading.items; tail = reading.tail })
 with_items items (Err fault) = Err fault
 
--- the outcome of a line, by the turn of its first word and the outcomes of the words after one and
--- after two
+-- the outcome of a line, by its first word's turn and the outcomes after one word and after two
 abbrev pub after_turn : Turn → Result Reading Fault → Result Reading Fault → Result Reading Fault
 after_turn (ends tail) after_one after_two = Ok (record { items = []; tail = tail })
 after_turn (takes item (separate word)) after_one after_two = with_items (item ∷ []) after_two

@@ -23,8 +23,8 @@ AcceptedExactlyWhen options = (words : List Text) (matches : Matched)
     ↔ ((reading : Reading) × IsCountKeeping options reading words
     × (matches ≡ matches_of options reading))
 
--- Words are refused exactly when no reading of them keeps the counts, with the first fault: their
--- scan fault, or the count fault of a reading of them.
+-- Words are refused exactly when no reading of them keeps the counts.
+-- The fault is the first: their scan fault, or the count fault of a reading of them.
 abbrev pub RefusedExactlyWhen : Declared → Type 0
 RefusedExactlyWhen options = (words : List Text) (fault : Fault) → AreTexts words
     → IsRefused options words fault
@@ -37,8 +37,8 @@ RefusedExactlyWhen options = (words : List Text) (fault : Fault) → AreTexts wo
 abbrev pub HaveResults : Declared → Type 0
 HaveResults options = (words : List Text) → AreTexts words → HasResults options words
 
--- two matches hold the same but for positions: each occurrence of each name has the same value, or
--- none in both, and the free words are the same
+-- Each occurrence of each name has the same value, or none in both, and free words are the same.
+-- Two matches hold the same, but for positions.
 pub record HoldSame (matches other : Matched) : Type 0 where
   pub values : (name : Text)
       → each_value (found_of other.groups name) ≡ each_value (found_of matches.groups name)
@@ -65,8 +65,8 @@ abbrev pub LinesReadAgain : Declared → Type 0
 LinesReadAgain options = (words line : List Text) (matches : Matched) → IsWritten options words line
     → HasReading options words matches → ReadAgain options line matches
 
--- Two plain contents that lines say, in styles and modes that may differ, have equal canonical
--- lines exactly if they are equal.
+-- The styles and modes, by which lines say the contents, may differ.
+-- Two plain contents have equal canonical lines exactly if they are equal.
 abbrev pub OneLineOneContent : Declared → Type 0
 OneLineOneContent options = (words others : List Text) (content other : Content)
     → Says options words content → IsPlain options.groups content
