@@ -1,8 +1,8 @@
 #!/usr/bin/env python3
-"""Makes what this repository carries built, from the proved source: the static programs for shell scripts, the archives
-for C, and the erased Rust.
+"""Makes what this repository carries built, from the proved source: the static programs for shell scripts, and the erased
+Rust.
 
-usage: bindings/build.py [--check] [shell | c | rust]..
+usage: bindings/build.py [--check] [shell | rust]..
 
 A crate is proved over its libraries as `rt ci`, or `rt lib` in their folders, left them, and built for each processor from
 one proof. Beside what is made, proved.sha256 has its sums, those of its sources, and the toolchain. With --check nothing
@@ -22,8 +22,7 @@ from pathlib import Path
 ROOT = Path(__file__).resolve().parents[1]
 PROCESSORS = ["x86_64", "aarch64"]
 # What is made: the crate, the folder with proved.sha256, the file for each processor below it, and what else it is of.
-MADE = {"shell": ("getopts_shell", "bindings/shell", "{}/getopts_shell", ["bindings/shell/start.c"]),
-        "c": ("getopts_c", "bindings/c", "native/{}/libgetopts_c.a", [])}
+MADE = {"shell": ("getopts_shell", "bindings/shell", "{}/getopts_shell", ["bindings/shell/start.c"])}
 
 
 def stop(why):
@@ -49,7 +48,6 @@ def libraries(crate):
 def over(command, crate, *words):
     """Checks or builds a crate over its libraries as they were proved."""
     folder = ROOT / "crates" / crate
-    root = ["src/main.rt"] if (folder / "src/main.rt").exists() else ["src/lib.rt", "--crate-type", "staticlib"]
     externs = []
     for library in ["std", *named(crate)]:
         own = ROOT / f"crates/{library}/out/rlib/{library}.rlib"
@@ -57,7 +55,7 @@ def over(command, crate, *words):
         at.is_dir() or stop(f"{at} isn't there: run 'rt ci', or 'rt lib' in crates/{library}")
         externs += ["--extern", f"{library}={at}", "-L", f"dependency={at.parent}"]
     (folder / "out").mkdir(exist_ok=True)
-    done = subprocess.run([kit() / "bin/rattle", command, "--crate-name", crate, *root, "--links", f"{crate}=", "--jobs",
+    done = subprocess.run([kit() / "bin/rattle", command, "--crate-name", crate, "src/main.rt", "--links", f"{crate}=", "--jobs",
                            os.environ.get("JOBS", "1"), *externs, "--antt-project", kit() / "rattle/logic/antt-project.json",
                            "--logic-built", kit() / "logic_built", "--incremental", "out/incremental", *words],
                           cwd=folder, capture_output=True, text=True)
@@ -66,7 +64,7 @@ def over(command, crate, *words):
 
 
 def build(crate, processor, to):
-    """Builds a static library, or a program's object, for each processor of this kind."""
+    """Builds a program's object, for each processor of this kind."""
     words = ["--target", f"{processor}-unknown-linux-gnu", "--toolchain", kit() / "toolchain", "--backend", "llvm", "-o", to]
     over("build", crate, *words, *(["--cpu", "x86-64"] if processor == "x86_64" else []))
 
@@ -108,12 +106,11 @@ def make(what):
     with tempfile.TemporaryDirectory() as room:
         for processor in PROCESSORS:
             to, built = ROOT / folder / file.format(processor), Path(room) / "built"
-            build(crate, processor, f"{built}.o" if what == "shell" else built)
-            if what == "shell":
-                link(processor, built, f"{built}.o")
+            build(crate, processor, f"{built}.o")
+            link(processor, built, f"{built}.o")
             to.parent.mkdir(parents=True, exist_ok=True)
             shutil.copyfile(built, to)
-            to.chmod(0o755 if what == "shell" else 0o644)
+            to.chmod(0o755)
             Path(f"{to}.sha256").write_text(f"{hashlib.sha256(to.read_bytes()).hexdigest()}  {to.name}\n")
             print(f"made {to.relative_to(ROOT)}")
     record(what)

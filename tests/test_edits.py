@@ -173,9 +173,10 @@ def verdicts(request, tmp_path_factory):
 
 
 def tried(edits, room):
-    if edits[0].crate not in LIBRARIES:
-        wait_for(*LIBRARIES)
-    folder = copy_tree(room / "copy", *LIBRARIES) / "crates" / edits[0].crate
+    crate = edits[0].crate
+    below = [] if crate in LIBRARIES else LIBRARIES
+    wait_for(*below)
+    folder = copy_tree(room / "copy", *below) / "crates" / crate
     copies, functions, said = Copies(folder), {}, {}
     for edit in edits:
         functions[edit.name] = copies.add(edit)
