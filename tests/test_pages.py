@@ -100,8 +100,8 @@ FIGURES = [
     ("README.md", r"it takes (\d+) % and (\d+) %", lambda: [share("copied-small"), share("copied-long")]),
     ("README.md", r"takes (\d+) % of the instructions of the crate .* and (\d+) %",
      lambda: [share("small", "bindings/rust"), share("long", "bindings/rust")]),
-    ("docs/DECISIONS.md", r"9,305 instructions in place of ([\d,]+)",
-     lambda: [f"{int(cell(INSTRUCTIONS, 'small', 'this library')):,}"]),
+    ("docs/DECISIONS.md", r"Up to (\d+) groups have no table",
+     lambda: re.findall(r"const FEW: usize = (\d+)", read("crates/getopts/src/table.rt"))),
     (CALLING, r"the library once, in ([^|]*?) of processor time, by the clock in ([^|]*?)\s+on four", lambda: minutes("rt lib")),
     ("tests/differential/README.md", r"first ([\d,]+) of seed 1",
      lambda: [f"{int(re.search(r'choose 1 (.*?) ', read('tests/differential/record.sh'))[1]):,}"]),
@@ -121,7 +121,7 @@ NO_FIGURES = re.compile(r"""
     | 1,000\ words | 100,000\ words | 20\ options | 10\ words
     | (32|64)\ bits | 54\ columns | 24\ (spaces|columns) | stop\ at\ 255 | 24\ bytes | C\+\+11 | Debian\ 12 | 80\ words | 200,000\ cases
     # experiments that were done once
-    | 2,500\ random\ lines | 564\ lines | 9,305\ instructions | 393\ small\ changes | detected\ 375 | 585\ small\ changes | detected\ 492 | 54\ of\ the\ other\ 93 | 39\ are
+    | 2,500\ random\ lines | 393\ small\ changes | detected\ 375 | 585\ small\ changes | detected\ 492 | 54\ of\ the\ other\ 93 | 39\ are
 """, re.X)
 
 
