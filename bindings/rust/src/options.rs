@@ -56,6 +56,19 @@ impl fmt::Debug for Options {
     }
 }
 
+/// Puts the texts of words into a list that has a place for each. The first that isn't UTF-8 is refused.
+#[inline]
+fn put_texts<'a, A: AsRef<OsStr> + 'a>(
+    words: &mut [&'a str],
+    args: impl Iterator<Item = &'a A>,
+) -> std::result::Result<(), Fail> {
+    for (word, arg) in words.iter_mut().zip(args) {
+        let arg = arg.as_ref();
+        *word = arg.to_str().ok_or_else(|| Fail::UnrecognizedOption(format!("{arg:?}")))?;
+    }
+    Ok(())
+}
+
 impl Options {
     /// No options, in `FloatingFrees` and ordinary mode.
     ///
@@ -300,22 +313,29 @@ impl Options {
         C::Item: AsRef<OsStr>,
     {
         let options = self.named();
-        let args: Vec<C::Item> = args.into_iter().collect();
-        // Few words take no list of references.
-        let (mut few, mut many) = ([""; 16], Vec::new());
-        let words = if args.len() <= few.len() {
-            &mut few[..args.len()]
-        } else {
-            many.resize(args.len(), "");
-            &mut many[..]
-        };
-        for (word, arg) in words.iter_mut().zip(&args) {
-            let arg = arg.as_ref();
-            match arg.to_str() {
-                Some(text) => *word = text,
-                None => return Err(Fail::UnrecognizedOption(format!("{arg:?}"))),
+        // Few words take no list.
+        let (mut args, mut first) = (args.into_iter(), <[Option<C::Item>; 16]>::default());
+        let mut few = 0;
+        while few < first.len() {
+            first[few] = args.next();
+            if first[few].is_none() {
+                break;
             }
+            few += 1;
         }
+        let (mut texts, mut all, mut many);
+        let words = if few < first.len() {
+            texts = [""; 16];
+            put_texts(&mut texts[..few], first[..few].iter().flatten())?;
+            &texts[..few]
+        } else {
+            all = Vec::with_capacity(first.len().saturating_add(args.size_hint().0));
+            all.extend(first.into_iter().flatten());
+            all.extend(args);
+            many = vec![""; all.len()];
+            put_texts(&mut many, all.iter())?;
+            &many[..]
+        };
         Ok(ask(options, words)?)
     }
 
