@@ -134,11 +134,7 @@ impl PartialEq for SignatureRecord {
     ghost laws = { Prim.search (comparing, rules) depth 14 };
 
     fn eq(&self, other: &SignatureRecord) -> bool {
-        self.names == other.names
-            && self.key == other.key
-            && self.short == other.short
-            && self.has_long == other.has_long
-            && self.kinds == other.kinds
+        self.names == other.names && self.kinds == other.kinds
     }
 }
 

@@ -99,11 +99,7 @@ struct SignatureRecord {
 
 impl PartialEq for SignatureRecord {
     fn eq(&self, other: &SignatureRecord) -> bool {
-        self.names == other.names
-            && self.key == other.key
-            && self.short == other.short
-            && self.has_long == other.has_long
-            && self.kinds == other.kinds
+        self.names == other.names && self.kinds == other.kinds
     }
 }
 
