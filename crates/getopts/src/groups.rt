@@ -68,6 +68,7 @@ impl PartialEq for Kinds {
 
     ghost laws = { Prim.search (comparing, rules) depth 12 };
 
+    #[inline(always)]
     fn eq(&self, other: &Kinds) -> bool {
         self.kind == other.kind && self.occurrence == other.occurrence
     }
@@ -108,6 +109,7 @@ impl PartialEq for Ends {
 
     ghost laws = { Prim.search (comparing, rules) depth 12 };
 
+    #[inline(always)]
     fn eq(&self, other: &Ends) -> bool {
         self.first == other.first && self.second == other.second
     }
@@ -133,12 +135,9 @@ impl PartialEq for SignatureRecord {
 
     ghost laws = { Prim.search (comparing, rules) depth 14 };
 
+    #[inline(always)]
     fn eq(&self, other: &SignatureRecord) -> bool {
-        self.names == other.names
-            && self.key == other.key
-            && self.short == other.short
-            && self.has_long == other.has_long
-            && self.kinds == other.kinds
+        self.names == other.names && self.kinds == other.kinds
     }
 }
 

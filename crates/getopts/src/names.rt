@@ -6,6 +6,9 @@ ghost use Rattle.getopts.specs.Names.{AreLawful};
 ghost use Rattle.getopts.specs.Held.Names.{key_of, key_bytes, short_code};
 ghost use Rattle.getopts.specs.Held.Pieces.{IsOfBytes};
 
+/// What shifts a number by one byte.
+const ONE_BYTE: u64 = 1 << 8;
+
 /// What shifts a number by four bytes.
 const FOUR_BYTES: u64 = 1 << 32;
 
@@ -75,7 +78,12 @@ fn seven_of(bytes: &[u8]) -> u64
     ensures below { result + 8 < 2 ^ 64 }
 {
     match bytes {
-        [a, b, c, .., d, e, f, g] => u64::from_be_bytes([*a, *b, *c, *d, *e, *f, *g, 0]),
+        [a, b, c, .., d, e, f, g] => {
+            // Each half is one read of memory.
+            let front = u32::from_be_bytes([*a, *b, *c, 0]) as u64;
+            let back = u32::from_be_bytes([*d, *e, *f, *g]) as u64;
+            front * FOUR_BYTES + back * ONE_BYTE
+        }
         bytes => up_to_six(bytes),
     }
 }

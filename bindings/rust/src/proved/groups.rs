@@ -51,6 +51,7 @@ pub(crate) struct Kinds {
 }
 
 impl PartialEq for Kinds {
+    #[inline(always)]
     fn eq(&self, other: &Kinds) -> bool {
         self.kind == other.kind && self.occurrence == other.occurrence
     }
@@ -79,6 +80,7 @@ pub(crate) struct Ends {
 }
 
 impl PartialEq for Ends {
+    #[inline(always)]
     fn eq(&self, other: &Ends) -> bool {
         self.first == other.first && self.second == other.second
     }
@@ -98,12 +100,9 @@ struct SignatureRecord {
 }
 
 impl PartialEq for SignatureRecord {
+    #[inline(always)]
     fn eq(&self, other: &SignatureRecord) -> bool {
-        self.names == other.names
-            && self.key == other.key
-            && self.short == other.short
-            && self.has_long == other.has_long
-            && self.kinds == other.kinds
+        self.names == other.names && self.kinds == other.kinds
     }
 }
 

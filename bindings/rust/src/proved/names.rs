@@ -1,6 +1,9 @@
 // What bindings/rust/erase.py leaves of crates/getopts/src/names.rt: change that file, not this one.
 //! Names of options: which pairs are lawful.
 
+/// What shifts a number by one byte.
+const ONE_BYTE: u64 = 1 << 8;
+
 /// What shifts a number by four bytes.
 const FOUR_BYTES: u64 = 1 << 32;
 
@@ -56,7 +59,12 @@ pub(crate) fn key_of(text: &str) -> u64 {
 /// zero, with zeros in the place of those that are missing.
 fn seven_of(bytes: &[u8]) -> u64 {
     match bytes {
-        [a, b, c, .., d, e, f, g] => u64::from_be_bytes([*a, *b, *c, *d, *e, *f, *g, 0]),
+        [a, b, c, .., d, e, f, g] => {
+            // Each half is one read of memory.
+            let front = u32::from_be_bytes([*a, *b, *c, 0]) as u64;
+            let back = u32::from_be_bytes([*d, *e, *f, *g]) as u64;
+            front * FOUR_BYTES + back * ONE_BYTE
+        }
         bytes => up_to_six(bytes),
     }
 }

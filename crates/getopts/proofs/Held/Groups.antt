@@ -1,10 +1,10 @@
 -- Signatures and groups by what is held of them: which stands at a place, what one more adds, and
 -- when two lists are the same.
-use Rattle.std.proofs.Common.{◌≡◌, ◌&&◌, ℕ, zero, suc, ◌-◌, ◌<◌, List, [], ◌∷◌, map, ◌++◌}
-use Rattle.std.proofs.Common.{not, length, get_or, drop, slice_get, Some, refl, ap}
+use Rattle.std.proofs.Common.{Bool, ◌≡◌, ◌&&◌, ℕ, zero, suc, ◌-◌, ◌<◌, List, [], ◌∷◌, map, ◌++◌}
+use Rattle.std.proofs.Common.{length, get_or, drop, slice_get, Some, refl, ap}
 use Rattle.std.proofs.Common.{sym, ◌∙◌, subst, arith}
 use Rattle.std.specs.Bool.{Decides}
-use Rattle.std.specs.Cmp.{booleans_Decides}
+use Rattle.std.specs.Ordering.{on, eq_of_both}
 use Rattle.std.specs.Cmp.Lexicographic.{pointwise, pointwise_decides}
 use Rattle.std.specs.Str.{IsUtf8, bytes_eq}
 use Rattle.std.proofs.lemmas.Bool.Decides.{Decides-and, Decides-like, Decides-eqb}
@@ -13,7 +13,7 @@ use Rattle.std.proofs.lemmas.List.{length-map, map-append}
 use Rattle.std.proofs.lemmas.List.Elements.{All-nil, All-take, All-drop}
 use Rattle.std.proofs.lemmas.Option.{same_Some}
 use Rattle.std.proofs.lemmas.Slice.Eq.{bytes_eq-Decides}
-use Rattle.getopts.specs.Names.{Text, Names, IsLawfullyNamed, is_empty, main_name}
+use Rattle.getopts.specs.Names.{Text, IsLawfullyNamed, main_name}
 use Rattle.getopts.specs.Options.{Signature, Group, MayBeDeclared, signatures_of}
 use Rattle.getopts.specs.Held.Pieces.{IsWellCut, IsOfBytes}
 use Rattle.getopts.specs.Same.{same_signature, same_group}
@@ -21,7 +21,6 @@ use Rattle.getopts.specs.Held.Names.{names_at, HaveNamesOfBytes}
 use Rattle.getopts.specs.Held.Groups.{signature_with, kinds_of, same_kinds, same_record, same_ends}
 use Rattle.getopts.specs.Held.Groups.{names_in, text_ends, signatures_with}
 use Rattle.getopts.specs.Held.Groups.{AreLawfulSignatures, HasKeys, HaveKeys}
-use Rattle.getopts.specs.Held.Names.{key_of, short_code}
 use Rattle.getopts.specs.Held.Help.{groups_with, groups_view, HoldGroups}
 use Rattle.std.specs.String.{string_bytes}
 use Rattle.getopts.specs.Canon.{main_at}
@@ -286,40 +285,41 @@ twos-groups (first ∷ signatures) (two ∷ twos) as_many =
     ap (λ (more : List (Text × Text)). two ∷ more)
     (twos-groups signatures twos (omega (arith, as_many)))
 
--- records are told by the ends of names, and by the kinds of the groups
-records_told : (text other : Text) (start other_start : ℕ) (records others : List SignatureRecord)
-    → HaveKeys records (signatures_from text start records)
-    → HaveKeys others (signatures_from other other_start others)
+-- what the names and kinds rest on, of each record
+abbrev plain : List SignatureRecord → List (Ends × Kinds)
+plain records = map (λ r. (r.names, r.kinds)) records
+
+-- signatures by that
+abbrev signatures_by : Text → ℕ → List (Ends × Kinds) → List Signature
+signatures_by text start [] = []
+signatures_by text start (p ∷ more) =
+    signature_with p.1 (between text start p.0.first) (between text p.0.first p.0.second)
+    ∷ signatures_by text p.0.second more
+
+signatures_by-plain : (text : Text) (start : ℕ) (records : List SignatureRecord)
+    → signatures_from text start records ≡ signatures_by text start (plain records)
+signatures_by-plain text start [] = refl
+signatures_by-plain text start (r ∷ records) =
+    ap (λ (more : List Signature). signature_by text start r ∷ more)
+    (signatures_by-plain text r.names.second records)
+
+-- it is told by the ends of names, and by the kinds of the groups
+plain_told : (text other : Text) (start other_start : ℕ) (records others : List SignatureRecord)
     → ends_in records ≡ ends_in others
     → signatures_from text start records ≡ signatures_from other other_start others
-    → records ≡ others
-records_told text other start other_start [] [] keyed others_keyed ends same = refl
-records_told text other start other_start [] (o ∷ others) keyed others_keyed ends same = cc ends
-records_told text other start other_start (r ∷ records) [] keyed others_keyed ends same = cc ends
-records_told text other start other_start (r ∷ records) (o ∷ others) keyed others_keyed ends same =
+    → plain records ≡ plain others
+plain_told text other start other_start [] [] ends same = refl
+plain_told text other start other_start [] (o ∷ others) ends same = cc ends
+plain_told text other start other_start (r ∷ records) [] ends same = cc ends
+plain_told text other start other_start (r ∷ records) (o ∷ others) ends same =
     let names : r.names ≡ o.names = cc ends in
     let more_ends : ends_in records ≡ ends_in others = cc ends in
     let first : signature_by text start r ≡ signature_by other other_start o = cc same in
     let kinds : r.kinds ≡ o.kinds = ap kinds_of first in
-    let texts : (signature_by text start r).names ≡ (signature_by other other_start o).names =
-    ap (λ (s : Signature). s.names) first in
-    let key : r.key ≡ o.key = keyed.0.key ∙ ap (λ (n : Names). key_of (main_name n)) texts
-    ∙ sym others_keyed.0.key in
-    let short : r.short ≡ o.short = keyed.0.short ∙ ap (λ (n : Names). short_code n.short) texts
-    ∙ sym others_keyed.0.short in
-    let long : r.has_long ≡ o.has_long = keyed.0.has_long
-    ∙ ap (λ (n : Names). not (is_empty n.long)) texts ∙ sym others_keyed.0.has_long in
     let more : signatures_from text r.names.second records
     ≡ signatures_from other o.names.second others = cc same in
-    let rest = records_told text other r.names.second o.names.second records others keyed.1
-    others_keyed.1 more_ends more in
-    λ i. record {
-      names = names i;
-      key = key i;
-      short = short i;
-      has_long = long i;
-      kinds = kinds i;
-    } ∷ rest i
+    let rest = plain_told text other r.names.second o.names.second records others more_ends more in
+    λ i. (names i, kinds i) ∷ rest i
 
 same_kinds-decides : (a b : Kinds) → Decides (same_kinds a b) (a ≡ b)
 same_kinds-decides a b = Decides-like (same_kinds a b) (λ e. ap kinds_of e)
@@ -333,53 +333,50 @@ same_ends-decides a b = Decides-like (same_ends a b)
     (λ e. (ap (λ x. x.first) e, ap (λ x. x.second) e))
     (Decides-and _ _ (Decides-eqb a.first b.first) (Decides-eqb a.second b.second))
 
--- so does that of two records
-same_record-decides : (a b : SignatureRecord) → Decides (same_record a b) (a ≡ b)
-same_record-decides a b = Decides-like (same_record a b)
-    (λ h. λ i. record {
-      names = h.0 i;
-      key = h.1.0 i;
-      short = h.1.1.0 i;
-      has_long = h.1.1.1.0 i;
-      kinds = h.1.1.1.1 i;
-    })
-    (λ e. (
-      ap (λ r. r.names) e,
-      (
-        ap (λ r. r.key) e,
-        (ap (λ r. r.short) e, (ap (λ r. r.has_long) e, ap (λ r. r.kinds) e)),
-      ),
-    ))
-    (Decides-and _ _ (same_ends-decides a.names b.names)
-    (Decides-and _ _ (Decides-eqb a.key b.key)
-    (Decides-and _ _ (Decides-eqb a.short b.short)
-    (Decides-and _ _ (booleans_Decides a.has_long b.has_long)
-    (same_kinds-decides a.kinds b.kinds)))))
+-- the test of what two records rest on
+abbrev same_plain : Ends × Kinds → Ends × Kinds → Bool
+same_plain = eq_of_both (on (λ p. p.0) same_ends) (on (λ p. p.1) same_kinds)
+
+same_plain-decides : (a b : Ends × Kinds) → Decides (same_plain a b) (a ≡ b)
+same_plain-decides a b = Decides-like (same_plain a b) (λ h. λ i. (h.0 i, h.1 i))
+    (λ e. (ap (λ p. p.0) e, ap (λ p. p.1) e))
+    (Decides-and _ _ (same_ends-decides a.0 b.0) (same_kinds-decides a.1 b.1))
+
+-- it is that of the records
+pointwise-plain : (records others : List SignatureRecord)
+    → pointwise same_record records others ≡ pointwise same_plain (plain records) (plain others)
+pointwise-plain [] [] = refl
+pointwise-plain [] (o ∷ others) = refl
+pointwise-plain (r ∷ records) [] = refl
+pointwise-plain (r ∷ records) (o ∷ others) =
+    ap (λ b. same_record r o && b) (pointwise-plain records others)
 
 -- signatures are the same where their records and the text of all names are
 pub same_signatures : (text other : Text) (records others : List SignatureRecord)
     → IsWellCut text (text_ends (ends_in records)) → IsWellCut other (text_ends (ends_in others))
-    → HaveKeys records (signatures_from text 0 records)
-    → HaveKeys others (signatures_from other 0 others)
     → (bytes_eq text other && pointwise same_record records others)
     ≡ pointwise same_signature (signatures_from text 0 records) (signatures_from other 0 others)
-same_signatures text other records others cut other_cut keyed others_keyed =
-    let by_parts : Decides (bytes_eq text other && pointwise same_record records others)
-    ((text ≡ other) × (records ≡ others)) =
+same_signatures text other records others cut other_cut =
+    let by_parts : Decides (bytes_eq text other && pointwise same_plain (plain records) (plain others))
+    ((text ≡ other) × (plain records ≡ plain others)) =
     Decides-and _ _ (bytes_eq-Decides text other)
-    (pointwise_decides same_record-decides records others) in
+    (pointwise_decides same_plain-decides (plain records) (plain others)) in
     let as_many = λ (text : Text) (records : List SignatureRecord).
     length-twos_from text 0 (ends_in records)
     ∙ length-map records (λ (r : SignatureRecord). r.names) in
     let told : signatures_from text 0 records ≡ signatures_from other 0 others → (text ≡ other)
-    × (records ≡ others) = λ e.
+    × (plain records ≡ plain others) = λ e.
     let parts = twos_told text other (ends_in records) (ends_in others) cut other_cut
     (sym (twos-signatures records (twos_from text 0 (ends_in records)) (as_many text records))
     ∙ ap (map (λ (s : Signature). (s.names.short, s.names.long))) e
     ∙ twos-signatures others (twos_from other 0 (ends_in others)) (as_many other others)) in
-    (parts.0, records_told text other 0 0 records others keyed others_keyed parts.1 e) in
-    same_from_decides _ _
-    (Decides-like _ (λ same i. signatures_from (same.0 i) 0 (same.1 i)) told by_parts)
+    (parts.0, plain_told text other 0 0 records others parts.1 e) in
+    let alike : (text ≡ other) × (plain records ≡ plain others)
+    → signatures_from text 0 records ≡ signatures_from other 0 others = λ same.
+    signatures_by-plain text 0 records ∙ (λ i. signatures_by (same.0 i) 0 (same.1 i))
+    ∙ sym (signatures_by-plain other 0 others) in
+    ap (λ b. bytes_eq text other && b) (pointwise-plain records others)
+    ∙ same_from_decides _ _ (Decides-like _ alike told by_parts)
     (pointwise_decides same_signature-decides (signatures_from text 0 records)
     (signatures_from other 0 others))
 

@@ -1,6 +1,5 @@
 -- What is seen of the names and kinds of groups that are held or borrowed.
 use Rattle.std.specs.Prelude.{◌≡◌, ◌==◌, ℕ, Bool, not, List, [], ◌∷◌, map}
-use Rattle.std.specs.Bool.{beq}
 use Rattle.std.specs.List.{AllByRecursion, AllZip}
 use Rattle.std.specs.Ordering.{on, eq_of_both}
 use Rattle.std.specs.Str.{IsUtf8}
@@ -92,11 +91,9 @@ pub record HoldSignatures (inside : Inside) : Type 0 where
 abbrev pub same_ends : Ends → Ends → Bool
 same_ends = eq_of_both (on (λ e. e.first) ◌==◌) (on (λ e. e.second) ◌==◌)
 
--- whether all parts of two records are the same
+-- whether the ends and the kinds of two records are the same; the names tell the rest
 abbrev pub same_record : SignatureRecord → SignatureRecord → Bool
-same_record = eq_of_both (on (λ group. group.names) same_ends)
-    (eq_of_both (on (λ group. group.key) ◌==◌) (eq_of_both (on (λ group. group.short) ◌==◌)
-    (eq_of_both (on (λ group. group.has_long) beq) (on (λ group. group.kinds) same_kinds))))
+same_record = eq_of_both (on (λ group. group.names) same_ends) (on (λ group. group.kinds) same_kinds)
 
 -- the signature of a borrowed group
 abbrev pub signature_view : HeldSignature → Signature

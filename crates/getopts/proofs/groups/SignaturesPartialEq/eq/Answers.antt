@@ -7,8 +7,7 @@ returns-then-eq c =
     rw (
       ← c.self.view_is,
       ← c.other.view_is,
-      ← same_signatures _ _ _ _ c.self.invariant.cut c.other.invariant.cut c.self.invariant.keyed
-          c.other.invariant.keyed,
+      ← same_signatures _ _ _ _ c.self.invariant.cut c.other.invariant.cut,
       ← c.eq.ensures,
       c.if-eq.true,
     ) c.eq-then-eq.ensures
@@ -18,8 +17,7 @@ returns-else-eq c =
     rw (
       ← c.self.view_is,
       ← c.other.view_is,
-      ← same_signatures _ _ _ _ c.self.invariant.cut c.other.invariant.cut c.self.invariant.keyed
-          c.other.invariant.keyed,
+      ← same_signatures _ _ _ _ c.self.invariant.cut c.other.invariant.cut,
       ← c.eq.ensures,
       c.if-eq.false,
     )
