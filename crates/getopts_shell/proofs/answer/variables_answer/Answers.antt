@@ -5,12 +5,12 @@ use Rattle.getopts_shell.specs.Program.{asked_fault, refused, variables}
 use Rattle.getopts_shell.proofs.Asked.{asked_sets, rows_read}
 use Rattle.getopts_shell.proofs.answer.variables_answer.Goals as goal
 
-pub returns-in_ok-variables_code-in-Ok : goal.returns-in_ok-variables_code-in-Ok
-returns-in_ok-variables_code-in-Ok c =
+pub returns-in_ok-matched_code-in-Ok : goal.returns-in_ok-matched_code-in-Ok
+returns-in_ok-matched_code-in-Ok c =
     let asked = asked_of c.args.script.asked.now in
     let rows = c.args.script.rows.now in
     let table = c.args.script.table.now in
-    rw c.in_ok-variables_code-in-Ok.ensures
+    rw c.in_ok-matched_code-in-Ok.ensures
     (variables c.args.prefix.now c.in-Ok.matches c.requires.asked c.requires.counted c.requires.prefix
     c.in-Ok.ensures.accepted
     (asked_sets asked table c.args.prefix.now (entries_of rows) c.in-Ok.matches c.requires.prefix
