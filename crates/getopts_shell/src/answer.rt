@@ -704,9 +704,8 @@ fn kept_answer(
     ensures { IfOk result (λ outcome. AnswersScript (asked_of script.entry.asked.now) script.entry.name.now
         script.entry.options.now (entries_of script.entry.rows.now) (texts words.now) (answer_of outcome)) }
 {
-    let kept = keep_counts(script.rows, matches);
     match &script.asked.variables {
-        Some(prefix) if kept => Ok(Outcome {
+        Some(prefix) if keep_counts(script.rows, matches) => Ok(Outcome {
             text: matched_code(alloc, script, prefix.as_str(), matches)?,
             status: DONE,
         }),
