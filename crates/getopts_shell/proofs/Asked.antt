@@ -4,7 +4,7 @@ use Rattle.std.proofs.Common.{subst, ◌∙◌, map, ◌<◌, zero, suc, add-one
 use Rattle.std.specs.Option.{option_map_or}
 use Rattle.getopts.specs.Accessors.{found_in}
 use Rattle.getopts.specs.Matches.{FitsCount, KeepsCounts, Matched, MatchedGroup, matched}
-use Rattle.getopts.specs.Names.{Text, Names}
+use Rattle.getopts.specs.Names.{AreTexts, Text, Names}
 use Rattle.getopts.specs.Options.{Declared, Group, Signature, names_of, signatures_of}
 use Rattle.getopts.specs.Parse.{HasReading}
 use Rattle.getopts.specs.Reading.{Occurrence}
@@ -14,7 +14,7 @@ use Rattle.getopts_shell.specs.Held.{entries_of, entry_of_row, group_of_row, gro
 use Rattle.getopts_shell.specs.Program.{Asked, SetsMatched, asked_fault, read_groups}
 use Rattle.getopts_shell.specs.Table.{Entry, shown_group}
 use Rattle.getopts_shell.specs.declared.row.Row.{Row}
-use Rattle.getopts_shell.specs.Variables.{first_fault, Given, given_from, HaveOwnVariables, is_prefix, option_lines}
+use Rattle.getopts_shell.specs.Variables.{HoldTexts, first_fault, Given, given_from, HaveOwnVariables, is_prefix, option_lines}
 use Rattle.getopts_shell.specs.Variables.{prefix_fault, VariableFault, arrays_only}
 use Rattle.getopts_shell.proofs.Assignments.{own_variables}
 use Rattle.getopts_shell.proofs.Written.{code_sets}
@@ -45,11 +45,15 @@ given_names place (entry ∷ entries) held =
 -- the code for options that make their own variables sets these
 pub asked_sets : (asked : Asked) (table prefix : Text) (entries : List Entry) (matches : Matched)
     → asked.variables ≡ Some prefix → asked_fault asked table (read_groups entries) ≡ None
+    → HoldTexts (given_from 0 entries matches.groups) → AreTexts matches.free
     → SetsMatched prefix asked entries matches
-asked_sets asked table prefix entries matches given none =
-    code_sets prefix asked.arrays (given_from 0 entries matches.groups) matches.free
-    (subst (HaveOwnVariables prefix []) (sym (given_names 0 entries matches.groups))
-    (asked_own asked table prefix (read_groups entries) given none))
+asked_sets asked table prefix entries matches given none values free = record {
+  sets = code_sets prefix asked.arrays (given_from 0 entries matches.groups) matches.free
+      (subst (HaveOwnVariables prefix []) (sym (given_names 0 entries matches.groups))
+      (asked_own asked table prefix (read_groups entries) given none));
+  values = values;
+  free = free;
+}
 
 -- the groups of rows are those of their entries
 pub rows_read : (rows : List Row) → groups_of rows ≡ read_groups (entries_of rows)

@@ -10,7 +10,7 @@ ghost use Rattle.std.specs.String.{string_bytes};
 ghost use Rattle.getopts.specs.Accessors.{is_present};
 ghost use Rattle.getopts.specs.Fail.{Fault, Tells, fault_of, fault_text};
 ghost use Rattle.getopts.specs.Matches.{FitsCount, KeepsCounts, Matched};
-ghost use Rattle.getopts.specs.Names.{Text, texts};
+ghost use Rattle.getopts.specs.Names.{AreTexts, Text, texts};
 ghost use Rattle.getopts.specs.Options.{signatures_of, with_group};
 ghost use Rattle.getopts.specs.Parse.{HasReading, IsAccepted, IsRefused};
 ghost use Rattle.getopts_shell.specs.Held.{entry_of_row, entries_of, group_of_row, groups_as, groups_of};
@@ -20,7 +20,7 @@ ghost use Rattle.getopts_shell.specs.Program.{own_groups, own_options, script_op
 ghost use Rattle.getopts_shell.specs.Program.{code_for};
 ghost use Rattle.getopts_shell.specs.Program.{table_fault_line, fault_line, refused_text};
 ghost use Rattle.getopts_shell.specs.Program.{IsHelp, help_code, AskHelp, is_no, offers_help, last_word};
-ghost use Rattle.getopts_shell.specs.Variables.{line_code};
+ghost use Rattle.getopts_shell.specs.Variables.{HoldTexts, given_from, line_code};
 ghost use Rattle.getopts_shell.specs.Program.{Asked, asked_by, ReadsWords, AnswersScript, AppendsFront, ShowsFront};
 ghost use Rattle.getopts_shell.specs.Program.{AnswersTable, AnswersFree, IsAnswer, IsOutput, IsStatus, ShowsAnswer};
 ghost use Rattle.getopts_shell.specs.Program.{AnswersOffer};
@@ -720,8 +720,10 @@ fn matched_code(
     prefix: &str,
     matches: &Matches,
 ) -> Result<String, AllocError>
-    ensures { IfOk result (λ text. string_bytes text ≡ code_for prefix.now (asked_of script.entry.asked.now)
+    ensures text { IfOk result (λ text. string_bytes text ≡ code_for prefix.now (asked_of script.entry.asked.now)
         (entries_of script.entry.rows.now) matches.now) }
+    ensures values { OnOk result (HoldTexts (given_from 0 (entries_of script.entry.rows.now) matches.now.groups)) }
+    ensures free { OnOk result (AreTexts matches.now.free) }
 {
     let variables = Variables {
         prefix,

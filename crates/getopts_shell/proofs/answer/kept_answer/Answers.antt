@@ -19,8 +19,9 @@ returns-in_ok-matched_code-in-Some c =
     let table = c.args.script.table.now in
     let prefix : asked.variables ≡ Some c.as_str.result.now =
     ap (option_map string_bytes) c.in-Some.is ∙ ap Some (sym c.as_str.ensures.value) in
-    rw c.in_ok-matched_code-in-Some.ensures
+    rw c.in_ok-matched_code-in-Some.ensures.text
     (variables c.as_str.result.now c.args.matches.now c.requires.asked c.requires.counted prefix
     (record { read = c.requires.read; counts = c.keep_counts.ensures c.if-keep_counts.true })
     (asked_sets asked table c.as_str.result.now (entries_of rows) c.args.matches.now prefix
-    (ap (λ (groups : List Group). asked_fault asked table groups) (sym (rows_read rows)) ∙ c.requires.variables)))
+    (ap (λ (groups : List Group). asked_fault asked table groups) (sym (rows_read rows)) ∙ c.requires.variables)
+    c.in_ok-matched_code-in-Some.ensures.values c.in_ok-matched_code-in-Some.ensures.free))

@@ -10,11 +10,12 @@ returns-in_ok-matched_code-in-Ok c =
     let asked = asked_of c.args.script.asked.now in
     let rows = c.args.script.rows.now in
     let table = c.args.script.table.now in
-    rw c.in_ok-matched_code-in-Ok.ensures
+    rw c.in_ok-matched_code-in-Ok.ensures.text
     (variables c.args.prefix.now c.in-Ok.matches c.requires.asked c.requires.counted c.requires.prefix
     c.in-Ok.ensures.accepted
     (asked_sets asked table c.args.prefix.now (entries_of rows) c.in-Ok.matches c.requires.prefix
-    (ap (λ (groups : List Group). asked_fault asked table groups) (sym (rows_read rows)) ∙ c.requires.variables)))
+    (ap (λ (groups : List Group). asked_fault asked table groups) (sym (rows_read rows)) ∙ c.requires.variables)
+    c.in_ok-matched_code-in-Ok.ensures.values c.in_ok-matched_code-in-Ok.ensures.free))
 
 pub returns-in_ok-refusal-in-Err : goal.returns-in_ok-refusal-in-Err
 returns-in_ok-refusal-in-Err c =
