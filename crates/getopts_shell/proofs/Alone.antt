@@ -34,18 +34,6 @@ use Rattle.getopts_shell.proofs.Plain.{MayStand, entries_stand, plain_main}
 
 -- ---- the first row
 
--- where no row stands alone, none is found
-none_marked : (rows : List Row) (matches : Matched)
-    → list_any (λ (row : Row). stands_alone row.mark) rows ≡ false
-    → find (is_alone matches) (entries_of rows) ≡ None
-none_marked [] matches none = refl
-none_marked (row ∷ rows) matches none =
-    let entry = entry_of_row row in
-    let parts = or_parts (stands_alone row.mark) (list_any (λ (row : Row). stands_alone row.mark) rows) none in
-    ap (λ (b : Bool). cond (b && is_present matches.groups (main_name entry.signature.names)) (Some entry)
-    (find (is_alone matches) (entries_of rows))) parts.0
-    ∙ none_marked rows matches parts.1
-
 -- the rows from a place on
 rows_from : (rows : List Row) (at : ℕ) (row : Row) → at < length rows → row ≡ get_or rows at row
     → drop at rows ≡ row ∷ drop (at + 1) rows
@@ -64,13 +52,6 @@ found_from rows matches at row test below row_is is =
     (find (is_alone matches) (entries_of (drop (at + 1) rows)))) is
 
 -- ---- whether words ask for one option alone
-
--- no words ask for one where no row stands alone
-pub never_marked : (options : Declared) (words : List Text) (rows : List Row)
-    → list_any (λ (row : Row). stands_alone row.mark) rows ≡ false
-    → (entry : Entry) → ¬ (AskAlone options (entries_of rows) words entry)
-never_marked options words rows none entry is =
-    let both : None ≡ Some entry = sym (none_marked rows is.matches none) ∙ is.first in cc
 
 -- words that have a reading ask for what is found in it
 pub asked_alone_is : (options : Declared) (words : List Text) (rows : List Row) (matches : Matched) (result : Option Row)

@@ -5,7 +5,7 @@ use Rattle.std.specs.List.{flat_map, fold}
 use Rattle.std.specs.Prelude.{Option, unwrap_or}
 use Rattle.std.proofs.lemmas.Bool.{eqb-true}
 use Rattle.getopts.specs.Names.{Text}
-use Rattle.getopts_shell.specs.Quote.{done, outside, quoting, read_byte, words_read}
+use Rattle.getopts_shell.specs.Quote.{outside, quoting, read_byte, words_read}
 use Rattle.getopts_shell.specs.Quote.{shell_words, quoted_byte, quoted, spaced, quoted_words}
 use Rattle.getopts_shell.specs.Quote.{words_after}
 
@@ -44,54 +44,27 @@ read_quoted words word more =
     ap (fold read_byte (quoting words [])) (append_assoc (flat_map quoted_byte word) (39 ∷ []) more)
     ∙ read_quoted_bytes words [] word (39 ∷ more)
 
--- what parts words ends the last word, and begins none
-abbrev Ends : Text → Type 0
-Ends end = (words : List Text) (word : Option Text)
-    → words_read (fold read_byte (outside words word) end) ≡ Some (done words word)
-
 -- words in quotes, after a space each, are read as these words
-read_spaced : (words : List Text) (word : Text) (others : List Text) (end : Text) → Ends end
-    → words_read (fold read_byte (outside words (Some word)) (flat_map spaced others ++ end))
-    ≡ Some (words ++ word ∷ others)
-read_spaced words word [] end ends = ends words (Some word)
-read_spaced words word (other ∷ others) end ends =
-    ap (λ (text : Text). words_read (fold read_byte (outside words (Some word)) text))
-    (append_assoc (spaced other) (flat_map spaced others) end)
-    ∙ ap words_read (read_quoted (words ++ word ∷ []) other (flat_map spaced others ++ end))
-    ∙ read_spaced (words ++ word ∷ []) other others end ends
+read_spaced : (words : List Text) (word : Text) (others : List Text)
+    → words_read (fold read_byte (outside words (Some word)) (flat_map spaced others)) ≡ Some (words ++ word ∷ others)
+read_spaced words word [] = refl
+read_spaced words word (other ∷ others) =
+    ap words_read (read_quoted (words ++ word ∷ []) other (flat_map spaced others))
+    ∙ read_spaced (words ++ word ∷ []) other others
     ∙ ap Some (append_assoc words (word ∷ []) (other ∷ others))
 
--- the same after words that were read
-read_words : (before line : List Text) (end : Text) → Ends end
-    → words_read (fold read_byte (outside before None) (quoted_words line ++ end)) ≡ Some (before ++ line)
-read_words before [] end ends = ends before None
-read_words before (word ∷ words) end ends =
-    ap (λ (text : Text). words_read (fold read_byte (outside before None) text))
-    (append_assoc (quoted word) (flat_map spaced words) end)
-    ∙ ap words_read (read_quoted before word (flat_map spaced words ++ end))
-    ∙ read_spaced before word words end ends
-
--- words in quotes are read as the same words
-read_alone : (words : List Text)
-    → words_read (fold read_byte (outside [] None) (quoted_words words)) ≡ Some words
-read_alone words =
-    ap (λ (text : Text). words_read (fold read_byte (outside [] None) text)) (sym (append-nil (quoted_words words)))
-    ∙ read_words [] words [] (λ words word. refl)
+-- a shell makes of words in quotes the same words
+pub words_same : (words : List Text) → shell_words (quoted_words words) ≡ Some words
+words_same [] = refl
+words_same (word ∷ words) =
+    ap words_read (read_quoted [] word (flat_map spaced words)) ∙ read_spaced [] word words
 
 -- words that are written alike are the same
 pub words_only : (words others : List Text) → quoted_words words ≡ quoted_words others → words ≡ others
 words_only words others alike =
-    let same : Some words ≡ Some others = sym (read_alone words)
-    ∙ ap (λ (text : Text). words_read (fold read_byte (outside [] None) text)) alike ∙ read_alone others in
-    cc
+    let same : Some words ≡ Some others = sym (words_same words) ∙ ap shell_words alike ∙ words_same others in cc
 
--- ---- what a shell makes of it
-
--- a shell makes of words in quotes the same words
-pub words_same : (words : List Text) → shell_words (quoted_words words) ≡ Some words
-words_same words = read_alone words
-
--- and of one word in quotes, also where a word has begun, that word
+-- of one word in quotes a shell makes that word, also where a word has begun
 pub word_same : (begun : Option Text) (word : Text) → unwrap_or begun [] ≡ []
     → words_after begun (quoted word) ≡ Some (word ∷ [])
 word_same begun word none =

@@ -1,7 +1,7 @@
 -- What a shell makes of the bytes that are written.
 use Rattle.std.proofs.Common.{◌≡◌, ℕ, ◌<◌, ◌%◌, ◌/◌, zero, suc, Bool, true, false, eqb, List, [], ◌∷◌, ◌++◌, Option, Some, None}
 use Rattle.std.proofs.Common.{refl, sym, ap, subst, ◌∙◌, length, map, string_bytes, arith, append_assoc}
-use Rattle.std.specs.Prelude.{decimal}
+use Rattle.std.specs.Prelude.{MatchOption, decimal, ⊤}
 use Rattle.std.specs.declared.alloc.Global.{Global}
 use Rattle.std.specs.declared.string.String.{String}
 use Rattle.std.specs.Fmt.{digits, digits_onto, digit_glyph}
@@ -20,7 +20,7 @@ use Rattle.getopts_bytes.specs.Marks.{bytes_of}
 use Rattle.getopts_shell.specs.Program.{IsOneWord}
 use Rattle.getopts_shell.specs.Quote.{quoted, quoted_words, words_after}
 use Rattle.getopts_shell.specs.Variables.{begins_variable, CodeSetsVariables, found_in_bytes, Given}
-use Rattle.getopts_shell.specs.Variables.{HaveOwnVariables, held_value, HoldTexts, in_bytes}
+use Rattle.getopts_shell.specs.Variables.{AreTextValues, HaveOwnVariables, held_value, HoldTexts, in_bytes}
 use Rattle.getopts_shell.specs.Variables.{is_variable_byte, line_code, many, one, option_code, own_variable, RunsTo}
 use Rattle.getopts_shell.specs.Variables.{Runs, SetsWords, texts_found, unset_line, Value, value_line}
 use Rattle.getopts_shell.proofs.Quoting.{word_same}
@@ -73,17 +73,6 @@ last_in_bytes : (texts : List Text) (before : Option Text)
 last_in_bytes [] before = refl
 last_in_bytes (text ∷ texts) before = last_in_bytes texts (Some text)
 
--- the last of texts is a text
-last_text : (texts : List Text) (text : Text) → AreTexts texts → last_or None texts ≡ Some text → IsUtf8 text
-last_text texts text are is = from texts None are (λ _ none. absurd cc) text is
-  where
-    from : (texts : List Text) (before : Option Text) → AreTexts texts
-        → ((text : Text) → before ≡ Some text → IsUtf8 text) → (text : Text) → last_or before texts ≡ Some text
-        → IsUtf8 text
-    from [] before are first text is = first text is
-    from (other ∷ texts) before are first text is =
-        from texts (Some other) are.1 (λ text same. subst IsUtf8 (cc) are.0) text is
-
 -- ---- the text
 
 -- `NAME=CODE` and a line end
@@ -108,7 +97,7 @@ one_gives name text ascii utf8 = line_gives name (quoted text) (quoted (bytes_of
 
 -- the line of an option that takes an argument
 argument_gives : (name : Text) (arrays all : Bool) (founds : List Found) → IsOfAscii name
-    → AreTexts (texts_found founds)
+    → AreTextValues Yes all founds
     → Gives (value_line name (held_value arrays Yes all founds))
     (value_line name (held_value arrays Yes all (map found_in_bytes founds)))
 argument_gives name true true founds ascii are =
@@ -121,21 +110,21 @@ argument_gives name false true founds ascii are =
     (whole.bytes_are ∙ ap quoted_words (sym (texts_in_bytes founds)))
     (one_gives name (quoted_words (texts_found founds)) ascii whole.utf8)
 argument_gives name arrays false founds ascii are =
-    subst (λ (last : Option Text). Gives (value_line name (option_map {U = Value} (λ text. one text) (last_or None (texts_found founds))))
+    subst
+    (λ (last : Option Text).
+    Gives (value_line name (option_map {U = Value} (λ text. one text) (last_or None (texts_found founds))))
     (value_line name (option_map {U = Value} (λ text. one text) last)))
     (sym (last_in_bytes (texts_found founds) None) ∙ ap (last_or None) (sym (texts_in_bytes founds)))
-    (by_last (last_or None (texts_found founds)) (last_text (texts_found founds)) refl)
+    (by_last (last_or None (texts_found founds)) are)
   where
-    by_last : (last : Option Text)
-        → ((text : Text) → AreTexts (texts_found founds) → last_or None (texts_found founds) ≡ Some text → IsUtf8 text)
-        → last_or None (texts_found founds) ≡ last
+    by_last : (last : Option Text) → MatchOption last ⊤ IsUtf8
         → Gives (value_line name (option_map {U = Value} (λ text. one text) last))
         (value_line name (option_map {U = Value} (λ text. one text) (option_map bytes_of last)))
-    by_last None texts is = ascii_gives [] tt
-    by_last (Some text) texts is = one_gives name text ascii (texts text are is)
+    by_last None utf8 = ascii_gives [] tt
+    by_last (Some text) utf8 = one_gives name text ascii utf8
 
 value_gives : (name : Text) (arrays all : Bool) (kind : HasArg) (founds : List Found) → IsOfAscii name
-    → AreTexts (texts_found founds)
+    → AreTextValues kind all founds
     → Gives (value_line name (held_value arrays kind all founds))
     (value_line name (held_value arrays kind all (map found_in_bytes founds)))
 value_gives name arrays all No founds ascii are =

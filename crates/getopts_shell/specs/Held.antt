@@ -5,7 +5,7 @@ use Rattle.std.specs.Option.{option_map}
 use Rattle.std.specs.String.{string_bytes}
 use Rattle.getopts.specs.Matches.{MatchedGroup, matched}
 use Rattle.getopts.specs.Names.{Text, main_name}
-use Rattle.getopts.specs.Options.{Declared, Group, group_of, signatures_of, with_group}
+use Rattle.getopts.specs.Options.{Declared, Group, Signature, group_of, signatures_of, with_group}
 use Rattle.getopts.specs.Parse.{Reads}
 use Rattle.getopts.specs.Reading.{Occurrence, Reading, holds_equals}
 use Rattle.getopts_shell.specs.Program.{Answer, Asked, own_groups}
@@ -90,6 +90,10 @@ HaveReading options words = (reading : Reading) × Reads options words reading
 abbrev pub with_groups : Declared → List Group → Declared
 with_groups options [] = options
 with_groups options (group ∷ groups) = with_groups (with_group options group) groups
+
+-- what reading asks of each group that matches hold
+abbrev pub held_signatures : List MatchedGroup → List Signature
+held_signatures groups = map (λ group. group.signature) groups
 
 -- the fault that an error of variables tells
 abbrev pub variable_fault_told : VariableError → VariableFault

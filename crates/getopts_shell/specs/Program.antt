@@ -10,7 +10,7 @@ use Rattle.getopts.specs.Canon.{HasCanonicalLine, canonical_word}
 use Rattle.getopts.specs.CanonAnswers.{IsWritten}
 use Rattle.getopts.specs.Fail.{Fault, fault_text}
 use Rattle.getopts.specs.Matches.{Matched}
-use Rattle.getopts.specs.Names.{Text, main_name}
+use Rattle.getopts.specs.Names.{AreTexts, Text, main_name}
 use Rattle.getopts.specs.Only.{IsTheOnly}
 use Rattle.getopts.specs.Options.{Group, Declared, group_of, names_of}
 use Rattle.getopts.specs.Parse.{HasReading, IsAccepted, IsRefused}
@@ -28,7 +28,7 @@ use Rattle.getopts_shell.specs.declared.row.Mark.TheVariants.{Alone}
 use Rattle.getopts_shell.specs.Table.{Entry, group_of_entry, shown_group, DeclaresOptions, IsTableFault, TableFault}
 use Rattle.getopts_shell.specs.Table.{no_option, name_twice}
 use Rattle.getopts_shell.specs.Table.{reason_of}
-use Rattle.getopts_shell.specs.Variables.{SetsVariables, SetsWords, VariableFault, arrays_only, given_from, line_code}
+use Rattle.getopts_shell.specs.Variables.{HoldTexts, SetsVariables, SetsWords, VariableFault, arrays_only, given_from, line_code}
 use Rattle.getopts_shell.specs.Variables.{no_prefix, no_variable, prefix_fault, variable_twice, variables_code}
 
 -- ---- the program's own options
@@ -255,10 +255,11 @@ abbrev pub code_for : Text → Asked → List Entry → Matched → Text
 code_for prefix asked entries matches =
     variables_code prefix asked.arrays (given_from 0 entries matches.groups) matches.free
 
--- a shell that runs it holds that
-abbrev pub SetsMatched : Text → Asked → List Entry → Matched → Type 0
-SetsMatched prefix asked entries matches =
-    SetsVariables prefix asked.arrays (given_from 0 entries matches.groups) matches.free
+-- A shell that runs it holds that, and the values are UTF-8, so one that runs its bytes holds their bytes.
+pub record SetsMatched (prefix : Text) (asked : Asked) (entries : List Entry) (matches : Matched) : Type 0 where
+  pub sets : SetsVariables prefix asked.arrays (given_from 0 entries matches.groups) matches.free
+  pub values : HoldTexts (given_from 0 entries matches.groups)
+  pub free : AreTexts matches.free
 
 -- The answer to words that ask for one option alone: the code of its line, or the code that sets variables to what
 -- its one word gives, whatever its counts.

@@ -1,11 +1,11 @@
 -- Options as variables: what a shell does with a text of commands, and the text that is written.
 use Rattle.std.specs.Prelude.{◌≡◌, ◌≢◌, ◌==◌, ◌||◌, ◌&&◌, not, ⊤, ℕ, ◌+◌, ◌-◌, Bool, true, false, List, [], ◌∷◌}
 use Rattle.std.specs.Prelude.{◌++◌, Option, Some, None, codes, decimal, drop, if◌then◌else◌, is_some, length, map}
-use Rattle.std.specs.Prelude.{slice_index, take}
+use Rattle.std.specs.Prelude.{MatchOption, slice_index, take}
 use Rattle.std.specs.Char.{is_ascii_alphanumeric, is_ascii_digit}
 use Rattle.std.specs.List.{AllByRecursion, flat_map, last_or, list_all, list_any, starts_with}
 use Rattle.std.specs.Option.{option_and_then, option_map, option_or, unwrap_or}
-use Rattle.std.specs.Str.{bytes_eq}
+use Rattle.std.specs.Str.{IsUtf8, bytes_eq}
 use Rattle.getopts.specs.Accessors.{each_value, found_in}
 use Rattle.getopts.specs.Matches.{Found, MatchedGroup}
 use Rattle.getopts.specs.Names.{AreTexts, Text, Names, is_empty, main_name}
@@ -251,9 +251,14 @@ found_in_bytes found = record found { value = option_map bytes_of found.value }
 abbrev pub in_bytes : Given → Given
 in_bytes option = record option { found = map found_in_bytes option.found }
 
--- the values of options are UTF-8
+-- what a variable holds of an option is UTF-8
+abbrev pub AreTextValues : HasArg → Bool → List Found → Type 0
+AreTextValues No all founds = ⊤
+AreTextValues kind true founds = AreTexts (texts_found founds)
+AreTextValues kind false founds = MatchOption (last_or None (texts_found founds)) ⊤ IsUtf8
+
 abbrev pub HoldTexts : List Given → Type 0
-HoldTexts options = AllByRecursion (λ option. AreTexts (texts_found option.found)) options
+HoldTexts options = AllByRecursion (λ option. AreTextValues option.kind option.all option.found) options
 
 -- A shell that runs the command holds these words; and one that runs its bytes holds the bytes of the words.
 pub record SetsWords (words : List Text) : Type 0 where

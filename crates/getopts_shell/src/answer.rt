@@ -9,17 +9,18 @@ ghost use Rattle.std.specs.Str.{IsUtf8, bytes_eq};
 ghost use Rattle.std.specs.String.{string_bytes};
 ghost use Rattle.getopts.specs.Accessors.{is_present};
 ghost use Rattle.getopts.specs.Fail.{Fault, Tells, fault_of, fault_text};
-ghost use Rattle.getopts.specs.Matches.{Matched};
-ghost use Rattle.getopts.specs.Names.{Text, texts};
-ghost use Rattle.getopts.specs.Options.{Group, with_group};
-ghost use Rattle.getopts.specs.Parse.{IsAccepted, IsRefused};
+ghost use Rattle.getopts.specs.Matches.{FitsCount, KeepsCounts, Matched};
+ghost use Rattle.getopts.specs.Names.{AreTexts, Text, texts};
+ghost use Rattle.getopts.specs.Options.{signatures_of, with_group};
+ghost use Rattle.getopts.specs.Parse.{HasReading, IsAccepted, IsRefused};
 ghost use Rattle.getopts_shell.specs.Held.{entry_of_row, entries_of, group_of_row, groups_as, groups_of};
-ghost use Rattle.getopts_shell.specs.Held.{fault_told, answer_of, HasOwnGroups};
+ghost use Rattle.getopts_shell.specs.Held.{fault_told, answer_of, HasOwnGroups, held_signatures};
 ghost use Rattle.getopts_shell.specs.Held.{ArePlainlyNamed, HaveReading, asked_of, variable_fault_told};
 ghost use Rattle.getopts_shell.specs.Program.{own_groups, own_options, script_options, done, misused, brief_text, shown_options};
+ghost use Rattle.getopts_shell.specs.Program.{code_for};
 ghost use Rattle.getopts_shell.specs.Program.{table_fault_line, fault_line, refused_text};
 ghost use Rattle.getopts_shell.specs.Program.{IsHelp, help_code, AskHelp, is_no, offers_help, last_word};
-ghost use Rattle.getopts_shell.specs.Variables.{line_code};
+ghost use Rattle.getopts_shell.specs.Variables.{HoldTexts, given_from, line_code};
 ghost use Rattle.getopts_shell.specs.Program.{Asked, asked_by, ReadsWords, AnswersScript, AppendsFront, ShowsFront};
 ghost use Rattle.getopts_shell.specs.Program.{AnswersTable, AnswersFree, IsAnswer, IsOutput, IsStatus, ShowsAnswer};
 ghost use Rattle.getopts_shell.specs.Program.{AnswersOffer};
@@ -633,8 +634,7 @@ fn last_offers(alloc: Global, script: Script<'_>, words: &[&str]) -> Result<Stri
     offers(alloc, options, long_only, script.rows, before, word)
 }
 
-/// The answer to the words of a script: the code that prints its help where they ask for it, the code of the one
-/// option that they ask for alone, and else what they are.
+/// The answer to the words of a script. They are read once, whatever their counts.
 fn words_answer(alloc: Global, script: Script<'_>, words: &[&str]) -> Result<Outcome, AllocError>
     requires asked { ReadsWords (asked_of script.asked.now) }
     requires rows { script.options.now.groups ≡ groups_of script.rows.now }
@@ -643,34 +643,117 @@ fn words_answer(alloc: Global, script: Script<'_>, words: &[&str]) -> Result<Out
     ensures { IfOk result (λ outcome. AnswersScript (asked_of script.entry.asked.now) script.entry.name.now
         script.entry.options.now (entries_of script.entry.rows.now) (texts words.now) (answer_of outcome)) }
 {
-    let asked = asks_help(alloc, script, words)?;
-    if asked {
+    let found = read_words(alloc, script.options, words)?;
+    match found {
+        Some(matches) => read_answer(alloc, script, words, &matches),
+        None => counted_answer(alloc, script, words),
+    }
+}
+
+/// The answer to words with these matches: the code that prints the help where they ask for it, the code of the one
+/// option that they ask for alone, and else what they are.
+fn read_answer(
+    alloc: Global,
+    script: Script<'_>,
+    words: &[&str],
+    matches: &Matches,
+) -> Result<Outcome, AllocError>
+    requires read { HasReading script.options.now (texts words.now) matches.now }
+    requires asked { ReadsWords (asked_of script.asked.now) }
+    requires rows { script.options.now.groups ≡ groups_of script.rows.now }
+    requires declared { DeclaresOptions script.table.now (entries_of script.rows.now) }
+    requires variables { asked_fault (asked_of script.asked.now) script.table.now (groups_of script.rows.now) ≡ None }
+    ensures { IfOk result (λ outcome. AnswersScript (asked_of script.entry.asked.now) script.entry.name.now
+        script.entry.options.now (entries_of script.entry.rows.now) (texts words.now) (answer_of outcome)) }
+{
+    if asks_help(script.rows, matches) {
         return Ok(Outcome {
             text: help_code(alloc, script)?,
             status: DONE,
         });
     }
-    let alone = asked_alone(alloc, script, words)?;
+    let alone = first_alone(script.rows, matches);
     match alone {
         Some(row) => alone_answer(alloc, script, row),
-        None => counted_answer(alloc, script, words),
+        None => kept_answer(alloc, script, words, matches),
     }
 }
 
-/// Whether the words ask for help.
-fn asks_help(alloc: Global, script: Script<'_>, words: &[&str]) -> Result<bool, AllocError>
-    requires { script.options.now.groups ≡ groups_of script.rows.now }
-    ensures { IfOk result (λ asked.
-        (asked ≡ true) ↔ AskHelp script.entry.options.now (texts words.now)) }
+/// Whether matches ask for a help that one of the rows offers.
+fn asks_help(rows: &[Row<'_>], matches: &Matches) -> bool
+    ensures { result ≡ (list_any (λ row. bytes_eq row.long.now (codes "help") && is_no row.kind) rows.now
+        && is_present matches.now.groups (codes "help")) }
 {
-    let offered = offers_help(script.rows);
-    if !offered {
-        return Ok(false);
+    offers_help(rows) && is_given(matches, "help")
+}
+
+/// The answer to words with these matches, whose counts are checked: the code that sets variables where they keep them,
+/// or what they are.
+fn kept_answer(
+    alloc: Global,
+    script: Script<'_>,
+    words: &[&str],
+    matches: &Matches,
+) -> Result<Outcome, AllocError>
+    requires read { HasReading script.options.now (texts words.now) matches.now }
+    requires counted { AreCounted script.options.now (entries_of script.rows.now) (texts words.now) }
+    requires asked { ReadsWords (asked_of script.asked.now) }
+    requires rows { script.options.now.groups ≡ groups_of script.rows.now }
+    requires declared { DeclaresOptions script.table.now (entries_of script.rows.now) }
+    requires variables { asked_fault (asked_of script.asked.now) script.table.now (groups_of script.rows.now) ≡ None }
+    ensures { IfOk result (λ outcome. AnswersScript (asked_of script.entry.asked.now) script.entry.name.now
+        script.entry.options.now (entries_of script.entry.rows.now) (texts words.now) (answer_of outcome)) }
+{
+    match &script.asked.variables {
+        Some(prefix) if keep_counts(script.rows, matches) => Ok(Outcome {
+            text: matched_code(alloc, script, prefix.as_str(), matches)?,
+            status: DONE,
+        }),
+        _ => counted_answer(alloc, script, words),
     }
-    let found = read_words(alloc, script.options, words)?;
-    match found {
-        Some(matches) => Ok(is_given(&matches, "help")),
-        None => Ok(false),
+}
+
+/// The code that sets variables to what matches hold.
+fn matched_code(
+    alloc: Global,
+    script: Script<'_>,
+    prefix: &str,
+    matches: &Matches,
+) -> Result<String, AllocError>
+    ensures text { IfOk result (λ text. string_bytes text ≡ code_for prefix.now (asked_of script.entry.asked.now)
+        (entries_of script.entry.rows.now) matches.now) }
+    ensures values { OnOk result (HoldTexts (given_from 0 (entries_of script.entry.rows.now) matches.now.groups)) }
+    ensures free { OnOk result (AreTexts matches.now.free) }
+{
+    let variables = Variables {
+        prefix,
+        arrays: script.asked.arrays,
+    };
+    variables_code(alloc, variables, script.rows, matches)
+}
+
+/// Whether matches keep the counts of these rows.
+fn keep_counts(rows: &[Row<'_>], matches: &Matches) -> bool
+    requires { held_signatures matches.now.groups ≡ signatures_of (groups_of rows.now) }
+    ensures { result ≡ true → KeepsCounts matches.now.groups }
+{
+    for place in 0..rows.len() {
+        let row = rows[place];
+        if !keeps_count(row.occurrence, matches.occurrences_at(place).len()) {
+            return false;
+        }
+    }
+    true
+}
+
+/// Whether an option may come so many times.
+fn keeps_count(occurrence: Occur, count: usize) -> bool
+    ensures { result ≡ true → FitsCount occurrence count }
+{
+    match occurrence {
+        Occur::Req => count == 1,
+        Occur::Optional => count <= 1,
+        Occur::Multi => true,
     }
 }
 
@@ -680,37 +763,6 @@ fn offers_help(rows: &[Row<'_>]) -> bool
 {
     rows.iter()
         .any(|row| row.long == "help" && matches!(row.kind, HasArg::No))
-}
-
-/// The option that words ask for alone, where they don't ask for help: the first row that stands alone and that they
-/// give, whatever counts they have.
-fn asked_alone<'s>(
-    alloc: Global,
-    script: Script<'s>,
-    words: &[&str],
-) -> Result<Option<Row<'s>>, AllocError>
-    requires rows { script.options.now.groups ≡ groups_of script.rows.now }
-    requires no_help { ¬ (AskHelp script.options.now (texts words.now)) }
-    ensures { IfOk result (λ found. MatchOption found
-        ((entry : Entry) → ¬ (AskAlone script.entry.options.now (entries_of script.entry.rows.now) (texts words.now) entry))
-        (λ row. AskAlone script.entry.options.now (entries_of script.entry.rows.now) (texts words.now) (entry_of_row row))) }
-{
-    let marked = any_stands_alone(script.rows);
-    if !marked {
-        return Ok(None);
-    }
-    let found = read_words(alloc, script.options, words)?;
-    match found {
-        Some(matches) => Ok(first_alone(script.rows, &matches)),
-        None => Ok(None),
-    }
-}
-
-/// Whether one of the rows stands alone.
-fn any_stands_alone(rows: &[Row<'_>]) -> bool
-    ensures { result ≡ list_any (λ row. stands_alone row.mark) rows.now }
-{
-    rows.iter().any(|row| stands_alone(row.mark))
 }
 
 /// Whether an option with this mark stands alone.
@@ -782,15 +834,11 @@ fn alone_variables(
     ensures { IfOk result (λ outcome. AnswersAlone (asked_of script.entry.asked.now)
         script.entry.options.now (entries_of script.entry.rows.now) (entry_of_row row.entry) (answer_of outcome)) }
 {
-    let variables = Variables {
-        prefix,
-        arrays: script.asked.arrays,
-    };
     let word = main_word(alloc, row)?;
     let found = read_words(alloc, script.options, &[word.as_str()])?;
     match found {
         Some(matches) => Ok(Outcome {
-            text: variables_code(alloc, variables, script.rows, &matches)?,
+            text: matched_code(alloc, script, prefix, &matches)?,
             status: DONE,
         }),
         None => unreachable!(),
@@ -874,13 +922,9 @@ fn variables_answer(
     ensures { IfOk result (λ outcome. AnswersScript (asked_of script.entry.asked.now) script.entry.name.now
         script.entry.options.now (entries_of script.entry.rows.now) (texts words.now) (answer_of outcome)) }
 {
-    let variables = Variables {
-        prefix,
-        arrays: script.asked.arrays,
-    };
     match script.options.parse_words(alloc, words) {
         Ok(matches) => Ok(Outcome {
-            text: variables_code(alloc, variables, script.rows, &matches)?,
+            text: matched_code(alloc, script, prefix, &matches)?,
             status: DONE,
         }),
         Err(fail) => Ok(Outcome {

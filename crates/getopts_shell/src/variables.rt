@@ -1,12 +1,12 @@
 //! Options as variables of a script: the code that sets them, and why a table has none.
 
 ghost use Rattle.std.specs.Prelude.{◌≡◌, ◌++◌, [], codes, map, IfOk, OnOk};
-ghost use Rattle.std.specs.Prelude.{decimal, slice_index, get_or, None, Some};
+ghost use Rattle.std.specs.Prelude.{decimal, slice_index, get_or, None, Some, MatchOption, true, false, ⊤};
 ghost use Rattle.std.specs.Option.{option_map};
 ghost use Rattle.std.specs.List.{flat_map, last_or, list_all, list_any};
 ghost use Rattle.std.specs.String.{string_bytes};
-ghost use Rattle.std.specs.Str.{bytes_eq};
-ghost use Rattle.getopts.specs.Names.{Text, main_name};
+ghost use Rattle.std.specs.Str.{IsUtf8, bytes_eq};
+ghost use Rattle.getopts.specs.Names.{AreTexts, Text, main_name};
 ghost use Rattle.getopts.specs.Options.{names_of};
 ghost use Rattle.getopts.specs.Wrap.{lines_of, parting};
 ghost use Rattle.getopts_shell.specs.Held.{entries_of, group_of_row, groups_of, variable_fault_told};
@@ -53,9 +53,11 @@ pub(crate) fn variables_code(
     rows: &[Row<'_>],
     matches: &Matches,
 ) -> Result<String, AllocError>
-    ensures { IfOk result (λ text. string_bytes text
+    ensures text { IfOk result (λ text. string_bytes text
         ≡ Spec.variables_code variables.entry.prefix.now variables.entry.arrays
         (Spec.given_from 0 (entries_of rows.now) matches.now.groups) matches.now.free) }
+    ensures values { OnOk result (Spec.HoldTexts (Spec.given_from 0 (entries_of rows.now) matches.now.groups)) }
+    ensures free { OnOk result (AreTexts matches.now.free) }
 {
     let mut text = String::new(alloc);
     for (place, row) in rows.iter().enumerate() {
@@ -79,13 +81,15 @@ fn push_option(
     row: Row<'_>,
     given: &Occurrences<'_>,
 ) -> Result<(), AllocError>
-    ensures { OnOk result (string_bytes text.new ≡ string_bytes text.old
+    ensures text { OnOk result (string_bytes text.new ≡ string_bytes text.old
         ++ Spec.option_code variables.entry.prefix.now variables.entry.arrays record {
           names = (group_of_row row.entry).signature.names;
           kind = row.entry.kind;
           all = Spec.holds_all row.entry.mark row.entry.occurrence;
           found = given.now;
         }) }
+    ensures values { OnOk result (Spec.AreTextValues row.entry.kind
+        (Spec.holds_all row.entry.mark row.entry.occurrence) given.now) }
 {
     let name = main_name(row);
     text.push_str("\\unset -v ")?;
@@ -102,11 +106,13 @@ fn push_setting(
     row: Row<'_>,
     given: &Occurrences<'_>,
 ) -> Result<(), AllocError>
-    ensures { OnOk result (string_bytes text.new ≡ string_bytes text.old
+    ensures text { OnOk result (string_bytes text.new ≡ string_bytes text.old
         ++ Spec.value_line
         (Spec.variable_of variables.entry.prefix.now (group_of_row row.entry).signature.names)
         (Spec.held_value variables.entry.arrays row.entry.kind
         (Spec.holds_all row.entry.mark row.entry.occurrence) given.now)) }
+    ensures values { OnOk result (Spec.AreTextValues row.entry.kind
+        (Spec.holds_all row.entry.mark row.entry.occurrence) given.now) }
 {
     let name = main_name(row);
     match (row.kind, row.mark, row.occurrence) {
@@ -150,9 +156,10 @@ fn push_last(
     name: &str,
     given: &Occurrences<'_>,
 ) -> Result<(), AllocError>
-    ensures { OnOk result (string_bytes text.new ≡ string_bytes text.old
+    ensures text { OnOk result (string_bytes text.new ≡ string_bytes text.old
         ++ Spec.value_line (Spec.variable prefix.now name.now)
         (option_map one (last_or None (Spec.texts_found given.now)))) }
+    ensures values { OnOk result (MatchOption (last_or None (Spec.texts_found given.now)) ⊤ IsUtf8) }
 {
     let count = given.len();
     if count == 0 {
@@ -180,9 +187,10 @@ fn push_values(
     name: &str,
     given: &Occurrences<'_>,
 ) -> Result<(), AllocError>
-    ensures { OnOk result (string_bytes text.new ≡ string_bytes text.old
+    ensures text { OnOk result (string_bytes text.new ≡ string_bytes text.old
         ++ Spec.value_line (Spec.variable variables.entry.prefix.now name.now)
         (Some (Spec.all_values variables.entry.arrays given.now))) }
+    ensures values { OnOk result (AreTexts (Spec.texts_found given.now)) }
 {
     if variables.arrays {
         push_array(text, variables.prefix, name, given)
@@ -199,9 +207,10 @@ fn push_words(
     name: &str,
     given: &Occurrences<'_>,
 ) -> Result<(), AllocError>
-    ensures { OnOk result (string_bytes text.new ≡ string_bytes text.old
+    ensures text { OnOk result (string_bytes text.new ≡ string_bytes text.old
         ++ Spec.value_line (Spec.variable prefix.now name.now)
         (Some (one (quoted_words (Spec.texts_found given.now))))) }
+    ensures values { OnOk result (AreTexts (Spec.texts_found given.now)) }
 {
     let mut words = String::new(alloc);
     push_texts(&mut words, given)?;
@@ -216,9 +225,10 @@ fn push_array(
     name: &str,
     given: &Occurrences<'_>,
 ) -> Result<(), AllocError>
-    ensures { OnOk result (string_bytes text.new ≡ string_bytes text.old
+    ensures text { OnOk result (string_bytes text.new ≡ string_bytes text.old
         ++ Spec.value_line (Spec.variable prefix.now name.now)
         (Some (many (Spec.texts_found given.now)))) }
+    ensures values { OnOk result (AreTexts (Spec.texts_found given.now)) }
 {
     push_variable(text, prefix, name)?;
     text.push_str("=(${")?;
@@ -230,8 +240,9 @@ fn push_array(
 
 /// Adds the values of occurrences as words in quotes, with the empty text for one that has none.
 fn push_texts(text: &mut String, given: &Occurrences<'_>) -> Result<(), AllocError>
-    ensures { OnOk result (string_bytes text.new ≡ string_bytes text.old
+    ensures text { OnOk result (string_bytes text.new ≡ string_bytes text.old
         ++ quoted_words (Spec.texts_found given.now)) }
+    ensures values { OnOk result (AreTexts (Spec.texts_found given.now)) }
 {
     for nth in 0..given.len() {
         push_word(text, nth > 0, text_at(given, nth))?;

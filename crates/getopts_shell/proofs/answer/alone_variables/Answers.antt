@@ -20,7 +20,8 @@ returns c =
     let table = c.args.script.table.now in
     let read = subst (λ (word : Text). HasReading c.args.script.options.now (word ∷ []) c.in-Some.matches)
     (c.as_str.ensures.value ∙ c.in_ok-word.ensures) (rw c.in-Some.is at c.in_ok-found.ensures) in
-    rw c.in_ok-variables_code-in-Some.ensures
+    rw c.in_ok-matched_code-in-Some.ensures.text
     (as_variables c.args.prefix.now c.in-Some.matches c.requires.prefix read
     (asked_sets asked table c.args.prefix.now (entries_of rows) c.in-Some.matches c.requires.prefix
-    (ap (λ (groups : List Group). asked_fault asked table groups) (sym (rows_read rows)) ∙ c.requires.variables)))
+    (ap (λ (groups : List Group). asked_fault asked table groups) (sym (rows_read rows)) ∙ c.requires.variables)
+    c.in_ok-matched_code-in-Some.ensures.values c.in_ok-matched_code-in-Some.ensures.free))

@@ -5,16 +5,17 @@ use Rattle.getopts_shell.specs.Program.{asked_fault, refused, variables}
 use Rattle.getopts_shell.proofs.Asked.{asked_sets, rows_read}
 use Rattle.getopts_shell.proofs.answer.variables_answer.Goals as goal
 
-pub returns-in_ok-variables_code-in-Ok : goal.returns-in_ok-variables_code-in-Ok
-returns-in_ok-variables_code-in-Ok c =
+pub returns-in_ok-matched_code-in-Ok : goal.returns-in_ok-matched_code-in-Ok
+returns-in_ok-matched_code-in-Ok c =
     let asked = asked_of c.args.script.asked.now in
     let rows = c.args.script.rows.now in
     let table = c.args.script.table.now in
-    rw c.in_ok-variables_code-in-Ok.ensures
+    rw c.in_ok-matched_code-in-Ok.ensures.text
     (variables c.args.prefix.now c.in-Ok.matches c.requires.asked c.requires.counted c.requires.prefix
     c.in-Ok.ensures.accepted
     (asked_sets asked table c.args.prefix.now (entries_of rows) c.in-Ok.matches c.requires.prefix
-    (ap (λ (groups : List Group). asked_fault asked table groups) (sym (rows_read rows)) ∙ c.requires.variables)))
+    (ap (λ (groups : List Group). asked_fault asked table groups) (sym (rows_read rows)) ∙ c.requires.variables)
+    c.in_ok-matched_code-in-Ok.ensures.values c.in_ok-matched_code-in-Ok.ensures.free))
 
 pub returns-in_ok-refusal-in-Err : goal.returns-in_ok-refusal-in-Err
 returns-in_ok-refusal-in-Err c =

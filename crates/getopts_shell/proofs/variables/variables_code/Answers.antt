@@ -1,12 +1,14 @@
-use Rattle.std.proofs.Common.{◌≡◌, ◌++◌, ◌+◌, ℕ, [], ◌∷◌, List, ap, ◌∙◌, sym, take, append-nil, arith}
-use Rattle.std.specs.List.{flat_map}
+use Rattle.std.proofs.Common.{◌≡◌, ◌++◌, ◌+◌, ℕ, [], ◌∷◌, List, ap, ◌∙◌, subst, sym, take, append-nil, arith}
+use Rattle.std.specs.List.{AllByRecursion, flat_map}
+use Rattle.getopts.proofs.Lists.{AllByRecursion-append}
 use Rattle.std.proofs.lemmas.List.Concat.{flat_map-append}
 use Rattle.getopts.specs.Accessors.{found_in}
-use Rattle.getopts.specs.Matches.{Found}
-use Rattle.getopts.specs.Names.{Text}
+use Rattle.getopts.specs.Matches.{Found, Matched}
+use Rattle.getopts.specs.Names.{AreTexts, Text}
 use Rattle.getopts_shell.specs.Held.{entries_of}
-use Rattle.getopts_shell.specs.Variables.{given_from, option_code}
+use Rattle.getopts_shell.specs.Variables.{AreTextValues, Given, given_from, option_code}
 use Rattle.getopts_shell.proofs.Assignments.{given_more, given_row}
+use Rattle.getopts_shell.proofs.Written.{strings_are_texts}
 use Rattle.getopts_shell.proofs.variables.variables_code.Goals as goal
 
 pub loop-place-preserved : goal.loop-place-preserved
@@ -20,10 +22,22 @@ loop-place-preserved c =
     let at : 0 + place ≡ place = omega arith in
     let found : c.occurrences_at.result ≡ found_in held (0 + place) =
     c.occurrences_at.ensures ∙ ap (λ (n : ℕ). found_in held n) (sym at) in
-    c.in_ok-push_option.ensures
-    ∙ ap (λ (text : Text). text ++ code (given_row row c.occurrences_at.result)) c.loop-place.invariant
-    ∙ ap (λ (found : List Found). flat_map code before ++ code (given_row row found)) found
-    ∙ sym (ap (flat_map code) (given_more 0 place rows held row c.loop-place-test.true c.index-rows-place.is)
-    ∙ flat_map-append code before (given_row row (found_in held (0 + place)) ∷ [])
-    ∙ ap (λ (text : Text). flat_map code before ++ text)
-    (append-nil (code (given_row row (found_in held (0 + place))))))
+    let more = given_more 0 place rows held row c.loop-place-test.true c.index-rows-place.is in
+    let texts = λ (option : Given). AreTextValues option.kind option.all option.found in
+    let own = given_row row (found_in held (0 + place)) in (
+      c.in_ok-push_option.ensures.text
+          ∙ ap (λ (text : Text). text ++ code (given_row row c.occurrences_at.result)) c.loop-place.invariant.0
+          ∙ ap (λ (found : List Found). flat_map code before ++ code (given_row row found)) found
+          ∙ sym (ap (flat_map code) (more)
+          ∙ flat_map-append code before (given_row row (found_in held (0 + place)) ∷ [])
+          ∙ ap (λ (text : Text). flat_map code before ++ text)
+          (append-nil (code (given_row row (found_in held (0 + place)))))),
+      subst (AllByRecursion texts) (sym more)
+          (AllByRecursion-append texts before (own ∷ []) c.loop-place.invariant.1
+          (subst (λ (found : List Found). AreTextValues own.kind own.all found) found c.in_ok-push_option.ensures.values, tt)),
+    )
+
+pub returns-clause-free : goal.returns-clause-free
+returns-clause-free c =
+    subst AreTexts (ap (λ (matches : Matched). matches.free) c.matches.view_is)
+    (strings_are_texts c.matches.inside.free.items)
