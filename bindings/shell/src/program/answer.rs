@@ -492,33 +492,89 @@ fn last_offers(alloc: Global, script: Script<'_>, words: &[&str]) -> Result<Stri
     offers(alloc, options, long_only, script.rows, before, word)
 }
 
-/// The answer to the words of a script: the code that prints its help where they ask for it, the code of the one
-/// option that they ask for alone, and else what they are.
+/// The answer to the words of a script. They are read once, whatever their counts.
 fn words_answer(alloc: Global, script: Script<'_>, words: &[&str]) -> Result<Outcome, AllocError> {
-    let asked = asks_help(alloc, script, words)?;
-    if asked {
+    let found = read_words(alloc, script.options, words)?;
+    match found {
+        Some(matches) => read_answer(alloc, script, words, &matches),
+        None => counted_answer(alloc, script, words),
+    }
+}
+
+/// The answer to words with these matches: the code that prints the help where they ask for it, the code of the one
+/// option that they ask for alone, and else what they are.
+fn read_answer(
+    alloc: Global,
+    script: Script<'_>,
+    words: &[&str],
+    matches: &Matches,
+) -> Result<Outcome, AllocError> {
+    if asks_help(script.rows, matches) {
         return Ok(Outcome {
             text: help_code(alloc, script)?,
             status: DONE,
         });
     }
-    let alone = asked_alone(alloc, script, words)?;
+    let alone = first_alone(script.rows, matches);
     match alone {
         Some(row) => alone_answer(alloc, script, row),
-        None => counted_answer(alloc, script, words),
+        None => kept_answer(alloc, script, words, matches),
     }
 }
 
-/// Whether the words ask for help.
-fn asks_help(alloc: Global, script: Script<'_>, words: &[&str]) -> Result<bool, AllocError> {
-    let offered = offers_help(script.rows);
-    if !offered {
-        return Ok(false);
+/// Whether matches ask for a help that one of the rows offers.
+fn asks_help(rows: &[Row<'_>], matches: &Matches) -> bool {
+    offers_help(rows) && is_given(matches, "help")
+}
+
+/// The answer to words with these matches, whose counts are checked: the code that sets variables where they keep them,
+/// or what they are.
+fn kept_answer(
+    alloc: Global,
+    script: Script<'_>,
+    words: &[&str],
+    matches: &Matches,
+) -> Result<Outcome, AllocError> {
+    match &script.asked.variables {
+        Some(prefix) if keep_counts(script.rows, matches) => Ok(Outcome {
+            text: matched_code(alloc, script, prefix.as_str(), matches)?,
+            status: DONE,
+        }),
+        _ => counted_answer(alloc, script, words),
     }
-    let found = read_words(alloc, script.options, words)?;
-    match found {
-        Some(matches) => Ok(is_given(&matches, "help")),
-        None => Ok(false),
+}
+
+/// The code that sets variables to what matches hold.
+fn matched_code(
+    alloc: Global,
+    script: Script<'_>,
+    prefix: &str,
+    matches: &Matches,
+) -> Result<String, AllocError> {
+    let variables = Variables {
+        prefix,
+        arrays: script.asked.arrays,
+    };
+    variables_code(alloc, variables, script.rows, matches)
+}
+
+/// Whether matches keep the counts of these rows.
+fn keep_counts(rows: &[Row<'_>], matches: &Matches) -> bool {
+    for place in 0..rows.len() {
+        let row = rows[place];
+        if !keeps_count(row.occurrence, matches.occurrences_at(place).len()) {
+            return false;
+        }
+    }
+    true
+}
+
+/// Whether an option may come so many times.
+fn keeps_count(occurrence: Occur, count: usize) -> bool {
+    match occurrence {
+        Occur::Req => count == 1,
+        Occur::Optional => count <= 1,
+        Occur::Multi => true,
     }
 }
 
@@ -526,29 +582,6 @@ fn asks_help(alloc: Global, script: Script<'_>, words: &[&str]) -> Result<bool, 
 fn offers_help(rows: &[Row<'_>]) -> bool {
     rows.iter()
         .any(|row| row.long == "help" && matches!(row.kind, HasArg::No))
-}
-
-/// The option that words ask for alone, where they don't ask for help: the first row that stands alone and that they
-/// give, whatever counts they have.
-fn asked_alone<'s>(
-    alloc: Global,
-    script: Script<'s>,
-    words: &[&str],
-) -> Result<Option<Row<'s>>, AllocError> {
-    let marked = any_stands_alone(script.rows);
-    if !marked {
-        return Ok(None);
-    }
-    let found = read_words(alloc, script.options, words)?;
-    match found {
-        Some(matches) => Ok(first_alone(script.rows, &matches)),
-        None => Ok(None),
-    }
-}
-
-/// Whether one of the rows stands alone.
-fn any_stands_alone(rows: &[Row<'_>]) -> bool {
-    rows.iter().any(|row| stands_alone(row.mark))
 }
 
 /// Whether an option with this mark stands alone.
@@ -597,15 +630,11 @@ fn alone_variables(
     prefix: &str,
     row: Row<'_>,
 ) -> Result<Outcome, AllocError> {
-    let variables = Variables {
-        prefix,
-        arrays: script.asked.arrays,
-    };
     let word = main_word(alloc, row)?;
     let found = read_words(alloc, script.options, &[word.as_str()])?;
     match found {
         Some(matches) => Ok(Outcome {
-            text: variables_code(alloc, variables, script.rows, &matches)?,
+            text: matched_code(alloc, script, prefix, &matches)?,
             status: DONE,
         }),
         None => unreachable!(),
@@ -663,13 +692,9 @@ fn variables_answer(
     prefix: &str,
     words: &[&str],
 ) -> Result<Outcome, AllocError> {
-    let variables = Variables {
-        prefix,
-        arrays: script.asked.arrays,
-    };
     match script.options.parse_words(alloc, words) {
         Ok(matches) => Ok(Outcome {
-            text: variables_code(alloc, variables, script.rows, &matches)?,
+            text: matched_code(alloc, script, prefix, &matches)?,
             status: DONE,
         }),
         Err(fail) => Ok(Outcome {
