@@ -344,12 +344,7 @@ impl Signatures {
 
     /// Adds those of a group as the last. An error leaves them as they were.
     #[inline]
-    pub(crate) fn push(
-        &mut self,
-        short: &str,
-        long: &str,
-        kinds: Kinds,
-    ) -> Result<(), AllocError>
+    pub(crate) fn push(&mut self, short: &str, long: &str, kinds: Kinds) -> Result<(), AllocError>
         requires { AreLawful short.now long.now }
         ensures ok { OnOk result
             (self.new ≡ self.old ++ signature_with kinds short.now long.now ∷ []) }
