@@ -45,7 +45,8 @@ signature_by text start r =
 
 -- signatures by their records, where the names of the first start here
 abbrev pub signatures_from : Text → ℕ → List SignatureRecord → List Signature
-signatures_from text start records = signatures_with records (twos_from text start (ends_in records))
+signatures_from text start records =
+    signatures_with records (twos_from text start (ends_in records))
 
 -- ---- signatures at a place
 

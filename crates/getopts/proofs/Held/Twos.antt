@@ -1,4 +1,5 @@
--- Texts that are held as one, two by two: which stand at a place, what two more add, and what tells them.
+-- Texts that are held as one, two by two: which stand at a place, what two more add, and what tells
+-- them.
 use Rattle.std.proofs.Common.{◌≡◌, ℕ, zero, suc, ◌-◌, ◌≤◌, ◌*◌, List, [], ◌∷◌, map, ◌++◌, length}
 use Rattle.std.proofs.Common.{get_or, take, drop, slice_get, Some, refl, sym, ap, ◌∙◌, subst, arith}
 use Rattle.std.specs.List.{All}

@@ -70,7 +70,7 @@ pub record AreLawfulSignatures (signatures : List Signature) : Type 0 where
   pub named : AllByRecursion (λ signature. IsLawfullyNamed signature.names) signatures
   pub shorts : AllByRecursion (λ signature. IsUtf8 signature.names.short) signatures
 
--- a record has the key of the main name, the byte of the short name, and whether there is a long one
+-- a record has the key of the main name, the byte of the short one, and whether there is a long one
 pub record HasKeys (group : SignatureRecord) (names : Names) : Type 0 where
   pub key : group.key ≡ key_of (main_name names)
   pub short : group.short ≡ short_code names.short
@@ -78,7 +78,8 @@ pub record HasKeys (group : SignatureRecord) (names : Names) : Type 0 where
 
 -- each record has those of its names
 abbrev pub HaveKeys : List SignatureRecord → List Signature → Type 0
-HaveKeys groups signatures = AllZip (λ group signature. HasKeys group signature.names) groups signatures
+HaveKeys groups signatures =
+    AllZip (λ group signature. HasKeys group signature.names) groups signatures
 
 -- the one text is cut where names end, which are lawful
 pub record HoldSignatures (inside : Inside) : Type 0 where
@@ -93,7 +94,8 @@ same_ends = eq_of_both (on (λ e. e.first) ◌==◌) (on (λ e. e.second) ◌==�
 
 -- whether the ends and the kinds of two records are the same; the names tell the rest
 abbrev pub same_record : SignatureRecord → SignatureRecord → Bool
-same_record = eq_of_both (on (λ group. group.names) same_ends) (on (λ group. group.kinds) same_kinds)
+same_record = eq_of_both (on (λ group. group.names) same_ends)
+    (on (λ group. group.kinds) same_kinds)
 
 -- the signature of a borrowed group
 abbrev pub signature_view : HeldSignature → Signature
