@@ -18,15 +18,16 @@
  * briefs are UTF-8 below U+10FF80: the characters from there on stand for bytes. There is no global state. Two threads
  * may call functions on one struct getopts at a time, unless one of them reads or deletes it.
  *
- * A statically linked program grows by 120 KB at most. */
+ * A statically linked program grows by 85 KB at most. */
 #ifndef GETOPTS_H
 #define GETOPTS_H
 
-#include "getopts_c.h"
+#include <stdbool.h>
+#include <stddef.h>
 
-/* The version of this layer. A program that was compiled for it works with each later one of the same first
+/* The version of this library. A program that was compiled for it works with each later one of the same first
  * number. */
-#define GETOPTS_VERSION "1.0.0"
+#define GETOPTS_VERSION "2.0.0"
 
 /* The version of the Rust crate getopts that it behaves as. */
 #define GETOPTS_CRATE_VERSION "0.2.24"
@@ -35,20 +36,45 @@
 extern "C" {
 #endif
 
+/* What a call returns. */
+enum {
+    GETOPTS_OK,
+    GETOPTS_ARGUMENT_MISSING,    /* a fault, as the next four */
+    GETOPTS_UNRECOGNIZED_OPTION,
+    GETOPTS_OPTION_MISSING,
+    GETOPTS_OPTION_DUPLICATED,
+    GETOPTS_UNEXPECTED_ARGUMENT,
+    GETOPTS_NO_MEMORY,           /* out of memory */
+    GETOPTS_BAD                  /* the table is wrong, or a word is NULL */
+};
+
+/* The kind of an option: whether it takes an argument, and how often it may come. Add one of each; what may be left
+ * out is 0, so 0 is a plain flag. */
+enum getopts_kind {
+    GETOPTS_NO = 0,       /* it takes no argument */
+    GETOPTS_YES = 1,      /* it needs an argument, in the same word or the next */
+    GETOPTS_MAYBE = 2,    /* it may have an argument. Unlike with getopt_long, a short option takes the next word
+                           * too, unless that is an option: `-O f` gives f to O; `--opt f` gives nothing to opt */
+    GETOPTS_OPTIONAL = 0, /* it comes at most once */
+    GETOPTS_REQ = 4,      /* it comes exactly once */
+    GETOPTS_MULTI = 8     /* it comes any number of times */
+};
+
 /* A row of a table. In the last row of a table both names are NULL. */
 struct getopts_option {
     const char *short_name;  /* of one byte; "" or NULL for none */
     const char *long_name;   /* of more than one byte; "" or NULL for none */
     const char *hint;        /* the argument's name in usage texts; "" or NULL for none */
     const char *description; /* for the usage text; "" or NULL for none */
-    enum getopts_kind kind;  /* such as GETOPTS_YES + GETOPTS_REQ, see getopts_c.h; 0 is a plain flag */
+    enum getopts_kind kind;  /* such as GETOPTS_YES + GETOPTS_REQ; 0 is a plain flag */
 };
 
-/* How words are read: one of these, or both modes added. */
+/* How words are read: one of these, or both modes added. No kind has their numbers, and getopts_new refuses a mode
+ * that is added to a kind, and a kind that is added to modes. */
 enum getopts_modes {
-    GETOPTS_ORDINARY = 0, /* neither of the two */
-    GETOPTS_STOP = 1,     /* all words from the first free one on are free */
-    GETOPTS_LONG_ONLY = 2 /* long names follow one dash or two, and no short names are joined */
+    GETOPTS_ORDINARY = 0,  /* neither of the two */
+    GETOPTS_STOP = 16,     /* all words from the first free one on are free */
+    GETOPTS_LONG_ONLY = 32 /* long names follow one dash or two, and no short names are joined */
 };
 
 /* Options, and what the last reading gave. */
@@ -73,9 +99,10 @@ int getopts_read(struct getopts *options, int count, char *const *words);
  * was read and the table is right. The text is valid until the next reading. */
 const char *getopts_message(const struct getopts *options);
 
-/* The next calls take any name of an option, and nth counts from 0. If nothing was read, if no option has that name
- * (none is named NULL), or if it was given less often, they return false, 0, -1 and NULL; getopts_long_value alone
- * returns true then. */
+/* The next calls take any name of an option, and nth counts from 0; GETOPTS_LAST is the last time that the option was
+ * given. If nothing was read, if no option has that name (none is named NULL), or if it was given less often, they
+ * return false, 0, -1 and NULL; getopts_long_value alone returns true then. */
+#define GETOPTS_LAST ((size_t)-1)
 
 /* Whether an option has this name. */
 bool getopts_defined(const struct getopts *options, const char *name);
@@ -83,11 +110,15 @@ bool getopts_defined(const struct getopts *options, const char *name);
 /* How often the option was given. */
 size_t getopts_count(const struct getopts *options, const char *name);
 
-/* Where it was given, the first time (nth is 0) or a later one: the index of the word. */
+/* Where it was given then: the index of the word. */
 int getopts_position(const struct getopts *options, const char *name, size_t nth);
 
 /* The value that it was given with then, or NULL if it was given without. Valid until the next reading. */
 const char *getopts_value(const struct getopts *options, const char *name, size_t nth);
+
+/* All its values: as many as getopts_count says, of which one is NULL if it was given without, and NULL after the
+ * last. It never returns NULL. Valid until the next reading. */
+const char *const *getopts_values(const struct getopts *options, const char *name);
 
 /* Stores that value in *value if it is a decimal number that fits a long. Returns false, and stores nothing, if
  * it isn't. If there is no value, it stores nothing and returns true, so that a default stays: also where no option

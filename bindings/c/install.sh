@@ -1,21 +1,23 @@
-#!/usr/bin/env bash
-# Installs the library for C and C++ programs, or removes it:
+#!/bin/sh
+# Builds the library for C and C++ programs by cargo and installs it, or removes it:
 #
 #     bindings/c/install.sh [--uninstall] PREFIX
 #
-# - PREFIX/lib: libgetopts.a, and libgetopts.so, which exports the functions of getopts.h alone
-# - PREFIX/include: getopts.h and getopts_c.h
+# - PREFIX/lib: libgetopts.a, and on Linux libgetopts.so, which both export the functions of getopts.h alone
+# - PREFIX/include: getopts.h
 # - PREFIX/lib/pkgconfig: getopts.pc, and getopts-static.pc for a program that holds the library itself
 # - PREFIX/share/man/man3: getopts.3, also by the name of each function
 # - PREFIX/share/doc/getopts: README.md, head.c and the licences
 #
-# It uses CC, AR, CFLAGS and LDFLAGS, and writes its files below DESTDIR. It needs a C compiler and ar, for x86-64 or
-# aarch64 Linux, such as CC=aarch64-linux-gnu-gcc or CC=musl-gcc.
-set -euo pipefail
+# It needs cargo with Rust 1.68 or later, a C compiler and binutils, and runs by any POSIX shell, also busybox's. It
+# takes unicode-width from Debian's librust-unicode-width-dev where that is installed, and else cargo fetches it. For
+# another target name it and its compiler: CARGO_BUILD_TARGET=aarch64-unknown-linux-gnu CC=aarch64-linux-gnu-gcc. It
+# uses CARGO, CARGO_FLAGS, CC, AR, CFLAGS and LDFLAGS, and writes its files below DESTDIR.
+set -eu
 unset CDPATH
 here=$(cd "$(dirname "$0")" && pwd)
 top=$here/../..
-read -ra compiler <<<"${CC:-cc}"
+cargo=${CARGO:-cargo} cc=${CC:-cc} target=${CARGO_BUILD_TARGET:-}
 
 fail() {
     echo "bindings/c/install.sh: $1" >&2
@@ -33,81 +35,68 @@ case ${1:-} in
     shift
     ;;
 esac
-if [ $# != 1 ] || [[ $1 = -* ]] || [ -z "$1" ]; then
+if [ $# != 1 ] || [ -z "$1" ] || [ "${1#-}" != "$1" ]; then
     fail "usage: bindings/c/install.sh [--uninstall] PREFIX"
 fi
-prefix=$(realpath -ms -- "$1")
-root=
-[ -z "${DESTDIR:-}" ] || root=$(realpath -ms -- "$DESTDIR")
-to=$root$prefix
 
-# The version of the layer. Programs that were linked with one work with each later one of the same first number.
+# absolute PATH: the path from the root, without a slash at its end.
+absolute() {
+    case $1 in
+    /*) printf '%s\n' "$1" ;;
+    *) printf '%s\n' "$PWD/$1" ;;
+    esac | sed 's,//*$,,'
+}
+prefix=$(absolute "$1")
+to=$(absolute "${DESTDIR:-/}")$prefix
+
+# The version of the library. Programs that were linked with one work with each later one of the same first number.
 version=$(sed -n 's/^#define GETOPTS_VERSION "\(.*\)"/\1/p' "$here/getopts.h")
 soname=libgetopts.so.${version%%.*}
 shared=libgetopts.so.$version
-mapfile -t functions < <(sed -n 's/^[a-z].*[ *]\(getopts_[a-z_]*\)(.*/\1/p' "$here/getopts.h")
+functions=$(sed -n 's/^[a-z].*[ *]\(getopts_[a-z_]*\)(.*/\1/p' "$here/getopts.h")
 
-# Each installed file: from where, and its place below PREFIX, with a tab between them.
-files() {
-    local file
-    printf '%s\t%s\n' "$here/getopts.h" include/getopts.h "$here/getopts_c.h" include/getopts_c.h \
-        "$here/getopts.3" share/man/man3/getopts.3
-    for file in "${functions[@]}"; do
-        printf '%s\t%s\n' "$room/page.3" "share/man/man3/$file.3"
-    done
-    for file in "$here/README.md" "$here/head.c" "$top"/{LICENSE-MIT,LICENSE-APACHE,NOTICE}; do
-        printf '%s\t%s\n' "$file" "share/doc/getopts/$(basename "$file")"
-    done
-    for file in libgetopts.a "$shared" pkgconfig/getopts.pc pkgconfig/getopts-static.pc; do
-        printf '%s\t%s\n' "$room/$(basename "$file")" "lib/$file"
-    done
-}
-room=$(mktemp -d)
-trap 'rm -rf "$room"' EXIT
-
-# Another version's library goes too.
 if [ -n "$remove" ]; then
-    while IFS=$'\t' read -r _ place; do
-        rm -f "$to/$place"
-    done < <(files)
-    rm -f "$to/lib/$soname" "$to/lib/$soname".* "$to/lib/libgetopts.so"
-    rmdir "$to/share/doc/getopts" 2>/dev/null || true
+    rm -f "$to/include/getopts.h" "$to/lib/libgetopts.a" "$to/lib/libgetopts.so" "$to/lib/$soname" "$to/lib/$soname".* \
+        "$to/lib/pkgconfig/getopts.pc" "$to/lib/pkgconfig/getopts-static.pc" "$to/share/man/man3/getopts.3"
+    for function in $functions; do
+        rm -f "$to/share/man/man3/$function.3"
+    done
+    rm -rf "$to/share/doc/getopts"
     echo "removed from $to"
     exit
 fi
 
-command -v "${compiler[0]}" >/dev/null || fail "there is no ${compiler[0]}"
-target=$("${compiler[@]}" -dumpmachine)
-case $target in
-x86_64-*linux-*x32 | aarch64_be-*) processor=none ;;
-x86_64-*linux* | aarch64-*linux*) processor=${target%%-*} ;;
-*) processor=none ;;
-esac
-archive=$here/native/$processor/libgetopts_c.a
-[ -f "$archive" ] || fail "there is no archive for $target, only for Linux on $(cd "$here/native" && echo *)"
-# The archiver of that compiler, if there is one.
-ar=$target-ar
-command -v "$ar" >/dev/null || ar="ar"
-read -ra ar <<<"${AR:-$ar}"
-command -v "${ar[0]}" >/dev/null || fail "there is no ${ar[0]}"
+command -v "$cargo" >/dev/null ||
+    fail "there is no $cargo: install Rust 1.68 or later (Debian's package cargo, or rustup.rs)"
+command -v "${cc%% *}" >/dev/null ||
+    fail "there is no ${cc%% *}: install a C compiler (Debian's package gcc), or name one by CC"
+[ -z "$target" ] || [ -n "${CC:-}" ] || fail "CC has to name the C compiler for $target"
+room=$(mktemp -d)
+trap 'rm -rf "$room"' EXIT
 
-for part in heap getopts; do
-    # shellcheck disable=SC2086
-    "${compiler[@]}" -std=c11 -O2 -fPIC ${CFLAGS:-} -c "$here/$part.c" -o "$room/$part.o"
+# A copy of the source, so that nothing is written beside it.
+mkdir "$room/c" "$room/rust" "$room/c/.cargo"
+cp -R "$here/Cargo.toml" "$here/src" "$room/c"
+cp -R "$top/bindings/rust/Cargo.toml" "$top/bindings/rust/src" "$room/rust"
+offline=
+for crate in /usr/share/cargo/registry/unicode-width-*; do
+    if [ -d "$crate" ]; then
+        offline=--offline
+        printf '[source]\ncrates-io.replace-with = "debian"\ndebian.directory = "%s"\n' "${crate%/*}" >"$room/c/.cargo/config.toml"
+    fi
 done
-cp "$archive" "$room/libgetopts.a"
-chmod u+w "$room/libgetopts.a"
-"${ar[@]}" rs "$room/libgetopts.a" "$room/heap.o" "$room/getopts.o" 2>/dev/null
-# The shared library exports what getopts.h declares.
-{
-    echo "{ global:"
-    printf '%s;\n' "${functions[@]}"
-    echo "local: *; };"
-} >"$room/exports"
 # shellcheck disable=SC2086
-"${compiler[@]}" -shared ${CFLAGS:-} ${LDFLAGS:-} -Wl,-soname,"$soname" -Wl,--version-script="$room/exports" -Wl,-z,defs -Wl,-z,text \
-    "$room/getopts.o" "$room/heap.o" "$archive" -o "$room/$shared"
+(cd "$room/c" && CARGO_TARGET_DIR=$room/target "$cargo" build --release --quiet $offline ${CARGO_FLAGS:-}) ||
+    fail "cargo can't build it. It needs Rust 1.68 or later with the target's standard library, and the crate
+unicode-width: without a network Debian's package librust-unicode-width-dev"
+built=$room/target/${target:+$target/}release/libgetopts.a
+[ -f "$built" ] || fail "cargo left no libgetopts.a for $target"
 
+put() {
+    mkdir -p "$(dirname "$to/$2")"
+    cp "$1" "$to/$2"
+    chmod "${3:-644}" "$to/$2"
+}
 # describe LIBS: a file for pkg-config.
 describe() {
     cat <<END
@@ -123,17 +112,46 @@ Libs: $1
 Cflags: "-I\${includedir}"
 END
 }
-# shellcheck disable=SC2016
-describe '"-L${libdir}" -lgetopts' >"$room/getopts.pc"
+
+rm -f "$to/lib/$soname".*
+case $($cc -dumpmachine) in
+*linux*)
+    # One object that exports the functions of getopts.h and nothing else.
+    keep='' roots=''
+    for function in $functions; do
+        keep="$keep --keep-global-symbol=$function"
+        roots="$roots -u $function"
+    done
+    # tool NAME: the program of the compiler's binutils.
+    tool() { $cc -print-prog-name="$1"; }
+    # shellcheck disable=SC2086
+    "$(tool ld)" -r --gc-sections $roots -o "$room/all.o" "$built"
+    # shellcheck disable=SC2086
+    "$(tool objcopy)" --strip-debug $keep "$room/all.o" "$room/getopts.o"
+    "${AR:-$(tool ar)}" rcs "$room/libgetopts.a" "$room/getopts.o"
+    built=$room/libgetopts.a
+    # shellcheck disable=SC2086
+    $cc -shared ${CFLAGS:-} ${LDFLAGS:-} -Wl,-soname,"$soname" -Wl,-z,defs -Wl,-z,text "$room/getopts.o" \
+        -o "$room/$shared"
+    put "$room/$shared" "lib/$shared" 755
+    ln -sf "$shared" "$to/lib/$soname"
+    ln -sf "$soname" "$to/lib/libgetopts.so"
+    # shellcheck disable=SC2016
+    describe '"-L${libdir}" -lgetopts' >"$room/getopts.pc"
+    put "$room/getopts.pc" lib/pkgconfig/getopts.pc
+    ;;
+esac
 # shellcheck disable=SC2016
 describe '"${libdir}/libgetopts.a"' >"$room/getopts-static.pc"
-
 echo '.so man3/getopts.3' >"$room/page.3"
-rm -f "$to/lib/$soname".*
-while IFS=$'\t' read -r from place; do
-    install -D -m 644 "$from" "$to/$place"
-done < <(files)
-chmod 755 "$to/lib/$shared"
-ln -sf "$shared" "$to/lib/$soname"
-ln -sf "$soname" "$to/lib/libgetopts.so"
+put "$built" lib/libgetopts.a
+put "$room/getopts-static.pc" lib/pkgconfig/getopts-static.pc
+put "$here/getopts.h" include/getopts.h
+put "$here/getopts.3" share/man/man3/getopts.3
+for function in $functions; do
+    put "$room/page.3" "share/man/man3/$function.3"
+done
+for file in "$here/README.md" "$here/head.c" "$top/LICENSE-MIT" "$top/LICENSE-APACHE" "$top/NOTICE"; do
+    put "$file" "share/doc/getopts/$(basename "$file")"
+done
 echo "installed in $to"

@@ -6,17 +6,26 @@
 Writes the Rust of each crate to the folder that CRATES names. With --check it writes nothing, and status 1 says that
 what stands there is not what it would write. It needs `rustfmt`, which lays the Rust out.
 
-It reads a crate's files as tokens. It deletes whole constructs that mean nothing when a program runs:
+It reads a crate's files as tokens, by this grammar, and stops at whatever else stands there, with the file, the line
+and the word. What is marked by * means nothing when a program runs, and is deleted.
 
-- clauses, `requires` and `ensures`
-- `ghost` imports, members, fields and arguments
-- impls of `Model`, which hold `ghost` members alone, and the import of that trait
-- impls of `Drop` that only take a value apart, `Drop` as a bound, and in a `derive`
-- `tactic` attributes
-- the modules of laws, which state theorems, and what is exported of them; modules of tests
+    file      item..
+    item      attribute.. ( ghost* | law* | use | mod NAME ; | const | type | struct | enum | function | impl )
+    ghost*    ghost use .. ;
+    law*      mod laws ; | pub use laws:: .. ; | #[cfg(test)] mod tests ; | use std::marker::Model ;
+    function  pub fn NAME generics ( .. ) -> .. clause.. { body }
+    clause*   requires NAME { .. } | ensures NAME { .. }, with no comment inside
+    struct    struct NAME generics { field.. }, where ghost* NAME : { .. } , may stand among the fields
+    impl      impl generics .. { member.. } | impl* .. Model for .. { ghost.. } | impl* Drop for .. { takes it apart }
+    member    attribute.. ( ghost* | ghost* NAME = { .. } ; | const | type | function )
+    generics  < .. >, where Drop* may stand as a bound
+    attribute #[derive(..)], in which Drop* may stand | #[tactic(..)]* | those of ATTRIBUTES
 
-It renames by the tables below. Whatever else is not Rust stops it, with the file, the line and the word.
-`same_tokens.py` checks what it wrote, and shares no code with it.
+A module of laws has functions that return nothing and lend all that they take, and is left out. The names of Rust that
+a source uses are in SAME and IMPORTS: each means in Rust what Rattle's contract of it says, which is trusted.
+
+It renames by the tables below; no source has a name of those that it gives. `same_tokens.py` checks what it wrote, and
+shares neither code nor tables with it.
 """
 
 import functools
@@ -35,6 +44,7 @@ CALLS = {
     "reserve": "try_grow",
     "reserve_exact": "try_grow_exact",
     "sort_by": "try_sort_by",
+    "extend_from_slice": "try_extend_from_slice",
     "with_capacity": "of_capacity",
     "String::new": "String::empty",
     "String::from_str": "String::copy_of",
@@ -50,15 +60,20 @@ DISPLAY = {
 }
 # Where the library's names are in Rust.
 LIBRARY = {
+    "mod matches;": "pub(crate) mod matches;",
     "crate::": "super::",
+    "std::": "core::",
     "std::alloc": "crate::alloc",
     "std::convert": "crate::convert",
+    "std::error": "crate::error",
+    "std::vec": "crate::heap::vec",
+    "str::from_utf8": "core::str::from_utf8",
     "unicode_width": "crate::width",
 }
 # The calls and names of the program for shell scripts, by those of its `host.rs`.
 HOST = {
     "resize": "try_resize",
-    "extend_from_slice": "try_extend_from_slice",
+    "trim_ascii": "trimmed_ascii",
     "format!": "text!",
     "write!": "add!",
     "writeln!": "add_line!",
@@ -66,7 +81,7 @@ HOST = {
     "std::env": "crate::host::env",
     "std::io": "crate::host::io",
     "getopts::": "crate::getopts::",
-    "getopts_bytes::": "crate::getopts_bytes::",
+    "getopts_bytes::": "::getopts::bytes::",
     "crate::": "super::",
     "str::from_utf8": "std::str::from_utf8",
     "fn main": "pub fn main",
@@ -74,12 +89,29 @@ HOST = {
 # Each crate: where its Rust goes, the module that has the calls above, and the names besides them.
 CRATES = {
     "getopts": ("bindings/rust/src/proved", "fallible", LIBRARY),
-    "getopts_bytes": ("bindings/shell/src/getopts_bytes", "host", HOST),
+    "getopts_bytes": ("bindings/rust/src/bytes", "fallible", LIBRARY),
     "getopts_shell": ("bindings/shell/src/program", "host", HOST),
 }
 LEFT_OUT = ["laws", "tests"]
-# Words that Rust doesn't have, or has for something else.
-NOT_RUST = {"requires", "ensures", "ghost", "tactic", "Model", "Drop"}
+# Words that may stand in no signature, body or type.
+STRANGE = set("""requires ensures ghost tactic Model Drop mod use fn impl trait struct enum union static extern
+    unsafe macro_rules async await dyn where crate""".split())
+ATTRIBUTES = {"inline", "cold", "must_use"}
+DERIVED = {"Clone", "Copy", "Debug", "PartialEq", "Eq", "Drop"}
+# What is imported of Rust, or of what stands in its place.
+IMPORTS = set("""std::alloc std::cmp::Ordering std::convert::AsStr std::env std::error::Error std::fmt std::io
+    std::process::ExitCode std::str::FromStr std::vec unicode_width""".split())
+# Functions, methods and macros of Rust, or of what stands in their place.
+SAME = set("""all alloc allocator any arg as_bytes as_slice as_str binary_search_by binary_search_by_key
+    capacity chars checked_add clone cmp contains count dedup_by encode_utf8 ends_with enumerate
+    extend_from_slice first flush format get into_iter is_ascii is_ascii_alphanumeric is_ascii_digit is_empty
+    is_none is_some iter iter_mut kind len len_utf8 lines map_or matches max min next ok_or parse push push_reserved
+    push_str reserve reserve_exact resize rev rsplit_once saturating_add saturating_mul saturating_sub size_hint
+    sort_by split split_at split_at_mut split_once split_whitespace starts_with stderr strip_prefix strip_suffix
+    then_some trim_ascii truncate unreachable unwrap_or vec width write writeln Err FnMut Ok Some bytes""".split())
+# Those of them that are called of a type, as in `u32::from(..)`.
+OF_TYPES = set("""Error::from String::new String::from_str String::with_capacity Vec::new Vec::with_capacity
+    ExitCode::from char::from_u32 io::writer str::from_utf8 u32::from u32::from_be_bytes u64::from_be_bytes""".split())
 
 TOKEN = re.compile(
     r"""(?P<lead>(?:\s+|//[^\n]*)*)
@@ -93,6 +125,13 @@ SIGNS = set("{}()[]<>;:,.=+-*/%&|^!?#@$")
 BRACKETS = {"{": "}", "(": ")", "[": "]"}
 # The comment lines right above a token, with its own line's white space.
 ABOVE = re.compile(r"(\n *//(?!!)[^\n]*)*\n *\Z")
+
+
+KEYWORDS = set("""as break const continue crate else enum fn for if impl in let loop match mod move mut pub ref
+    return self struct super type use while""".split())
+# The names that renaming gives, which no source may have.
+GIVEN = {word for name in CALLS.values() for word in re.findall(r"\w+", name) if word.startswith("try_")}
+GIVEN |= {"of_capacity", "copy_of", "TryClone", "try_resize", "trimmed_ascii"}
 
 
 class NotRust(Exception):
@@ -126,11 +165,11 @@ class Eraser:
     """The tokens of one file, of which constructs are deleted and renamed."""
 
     def __init__(self, name, source):
-        self.name, self.tokens = name, tokens_of(source)
+        self.file, self.tokens = name, tokens_of(source)
 
     def stop(self, at, why):
         token = self.tokens[min(at, len(self.tokens) - 1)]
-        raise NotRust(f"{self.name}:{token.line}: '{token.text}': {why}")
+        raise NotRust(f"{self.file}:{token.line}: '{token.text}': {why}")
 
     def text(self, at):
         return self.tokens[at].text if at < len(self.tokens) else ""
@@ -168,77 +207,301 @@ class Eraser:
         self.tokens[end].lead = before + after
         del self.tokens[start:end]
 
-    def construct(self, at):
-        """The place after the construct that begins here and has no meaning when a program runs, if one does."""
-        text = self.text(at)
-        if text in ("requires", "ensures"):
-            start = at + 1 if self.has(at + 1, "{") else at + 2
-            if not self.has(start, "{"):
-                self.stop(at, "no clause follows it")
-            return self.close(start)
-        if text == "ghost":
-            return self.after(at, ";,")
-        if text == "impl":
-            return self.implemented(at)
-        for law in LEFT_OUT:
-            for pattern in (f"mod {law};", f"#[cfg(test)] mod {law};", f"pub use {law}::"):
-                if self.has(at, pattern):
-                    return self.after(at + len(words(pattern)) - 1, ";")
-        return self.after(at, ";") if self.has(at, "use std::marker::Model;") else None
+    # ---- the grammar: each of these goes from `at` to what follows
 
-    def implemented(self, at):
-        named, depth = at + 1, 0
-        while self.has(named, "<") or depth:
-            depth += {"<": 1, ">": -1}.get(self.text(named), 0)
-            named += 1
-        if not (self.has(named, "Model for") or self.has(named, "Drop for")):
-            return None
-        body = named
-        while not self.has(body, "{"):
-            body += 1
-        end, inside = self.close(body), body + 1
-        if self.has(named, "Model"):
-            while inside < end - 1:
-                if not self.has(inside, "ghost"):
-                    self.stop(inside, "it isn't `ghost` in an impl of `Model`")
-                inside = self.after(inside, ";")
+    def expect(self, pattern):
+        if not self.has(self.at, pattern):
+            self.stop(self.at, f"'{pattern}' has to stand here")
+        self.at += len(words(pattern))
+
+    def name(self):
+        if not re.fullmatch(r"[A-Za-z_]\w*", self.text(self.at)) or self.text(self.at) in STRANGE:
+            self.stop(self.at, "a name has to stand here")
+        self.at += 1
+
+    def erase(self, start):
+        """Deletes what began at a place, with the comments right above it."""
+        self.tokens[start].lead = ABOVE.sub("\n", self.tokens[start].lead)
+        self.delete(start, self.at)
+        self.at = start
+
+    def plain(self, ends):
+        """Goes to the next of these signs that stands in no brackets, through types, or the tokens of a body."""
+        while self.text(self.at) not in ends:
+            end = self.close(self.at) if self.text(self.at) in BRACKETS else self.at + 1
+            for at in range(self.at, end):
+                crate = self.has(at, "crate::") or self.has(at - 2, "pub(crate)")
+                if self.text(at) in STRANGE and not crate or self.text(at) in ("#", ""):
+                    self.stop(at, "it may not stand here")
+            self.at = end
+
+    def braces(self):
+        """`{ .. }`"""
+        self.expect("{")
+        self.plain(["}"])
+        self.at += 1
+
+    def generics(self):
+        """`< .. >`, of whose bounds those of `Drop` are deleted."""
+        depth = 0
+        while self.at < len(self.tokens):
+            text, before, after = self.text(self.at), self.text(self.at - 1), self.text(self.at + 1)
+            if text == "Drop" and (before == "+" or before == ":" and after in (">", ",")):
+                self.delete(self.at - 1, self.at + 1)
+                self.at -= 1
+            elif text in STRANGE:
+                self.stop(self.at, "it is no bound")
+            elif text in BRACKETS:
+                self.at = self.close(self.at)
+            else:
+                depth += (text == "<") - (text == ">" and before != "-")
+                self.at += 1
+                if depth == 0:
+                    return
+        self.stop(self.at, "nothing closes it")
+
+    def items(self, one, end=""):
+        while self.text(self.at) != end:
+            start = self.at
+            tested = self.attributes()
+            one(start, tested)
+
+    def attributes(self):
+        """Attributes, of which those that mean nothing in Rust are deleted. Whether one is `#[cfg(test)]`."""
+        tested = False
+        while self.text(self.at) == "#":
+            start, inner = self.at, self.has(self.at + 1, "!")
+            self.at += 2 if inner else 1
+            end, name = self.close(self.at), self.text(self.at + 1)
+            if self.has(start, "#[cfg(test)]"):
+                tested = True
+            elif name == "derive":
+                derived = [token.text for token in self.tokens[self.at + 3 : end - 2] if token.text != ","]
+                if set(derived) - DERIVED or inner:
+                    self.stop(start, "something else is derived")
+                if derived == ["Drop"]:
+                    self.at = end
+                    self.delete(start, end)
+                    end = start
+                elif "Drop" in derived:
+                    at = next(at for at in range(self.at, end) if self.text(at) == "Drop")
+                    self.delete(*(at - 1, at + 1) if self.text(at - 1) == "," else (at, at + 2))
+                    end -= 2
+            elif name == "tactic":
+                self.delete(start, end)
+                end = start
+            elif name not in ATTRIBUTES or inner:
+                self.stop(start, "no attribute of this name is known")
+            self.at = end
+        return tested
+
+    def ghost(self, start):
+        """`ghost use .. ;`"""
+        self.expect("ghost use")
+        self.at = self.after(self.at, ";")
+        self.erase(start)
+
+    def item(self, start, tested):
+        for law in ("mod laws;", "pub use laws::", "use std::marker::Model;", *(["mod tests;"] if tested else [])):
+            if self.has(self.at, law):
+                self.at = self.after(self.at, ";")
+                return self.erase(start)
+        if tested:
+            self.stop(start, "what is built for tests alone is a module `tests`")
+        if self.text(self.at) == "ghost":
+            return self.ghost(start)
+        self.visibility()
+        kind = self.text(self.at)
+        if kind == "impl":
+            self.implementation(start)
+        elif kind == "use":
+            self.imported()
+        elif kind == "mod":
+            self.at += 1
+            self.name()
+            self.expect(";")
+        elif kind in ("struct", "enum"):
+            self.at += 1
+            self.name()
+            if self.has(self.at, "<"):
+                self.generics()
+            if kind == "struct" and self.has(self.at, "{"):
+                return self.fields()
+            if self.has(self.at, "{"):
+                return self.braces()
+            self.plain([";"])
+            self.at += 1
         else:
-            # Its body is `let NAME { field: _, .. } = self;`.
-            drop = " ".join(token.text for token in self.tokens[inside : end - 1])
-            if not re.fullmatch(r"fn drop \( self \) { let \w+ { (\w+ : _ , )*(\w+ : _ )?} = self ; }", drop):
-                self.stop(named, "its impl does more than to take a value apart")
+            self.member(start, False)
+
+    def fields(self):
+        """`{ field.. }`, of which those that are ghost are deleted."""
+        self.at += 1
+        while not self.has(self.at, "}"):
+            start = self.at
+            if self.has(self.at, "ghost"):
+                self.at += 1
+                self.name()
+                self.expect(":")
+                self.at = self.clause_end()
+                self.expect(",")
+                self.erase(start)
+            else:
+                self.plain([",", "}"])
+                self.at += self.has(self.at, ",")
+        self.at += 1
+
+    def visibility(self):
+        if self.has(self.at, "pub"):
+            self.at = self.close(self.at + 1) if self.has(self.at + 1, "(") else self.at + 1
+
+    def member(self, start, tested):
+        """What may stand in an impl."""
+        if tested:
+            self.stop(start, "no member is for tests alone")
+        if self.has(self.at, "ghost use"):
+            return self.ghost(start)
+        if self.has(self.at, "ghost"):
+            self.at += 1
+            self.name()
+            self.expect("=")
+            self.at = self.clause_end()
+            self.expect(";")
+            return self.erase(start)
+        self.visibility()
+        if self.text(self.at) in ("const", "type"):
+            self.at += 1
+            self.name()
+            self.plain([";"])
+            self.at += 1
+        else:
+            self.function()
+
+    def function(self):
+        self.expect("fn")
+        self.name()
+        if self.has(self.at, "<"):
+            self.generics()
+        if not self.has(self.at, "("):
+            self.stop(self.at, "parameters have to stand here")
+        self.plain(["-", "{", "requires", "ensures"])
+        if self.has(self.at, "->"):
+            self.at += 2
+            self.plain(["{", "requires", "ensures"])
+        while self.text(self.at) in ("requires", "ensures"):
+            self.clause()
+        self.braces()
+
+    def clause(self):
+        start = self.at
+        self.at += 1
+        if not self.has(self.at, "{"):
+            self.name()
+        self.at = self.clause_end()
+        self.erase(start)
+
+    def clause_end(self):
+        """The place after `{ .. }` of the logic, in which nothing may stand that hides a bracket."""
+        if not self.has(self.at, "{"):
+            self.stop(self.at, "'{' has to stand here")
+        end = self.close(self.at)
+        for at in range(self.at + 1, end):
+            token, after = self.tokens[at], self.tokens[at + 1]
+            comment = token.text + after.text in ("--", "{-", "-}", "/*") and not after.lead
+            if comment or "//" in token.lead or token.text.lstrip("b")[:1] == "'":
+                self.stop(at, "no comment, and no character, may stand in a clause")
         return end
 
-    def attribute(self, at):
-        """The place after an attribute that has no meaning when a program runs, if one begins here."""
-        bracket = at + 2 if self.has(at + 1, "!") else at + 1
-        if not self.has(bracket, "["):
-            self.stop(at, "no attribute follows it")
-        erased = self.has(bracket, "[tactic") or self.has(bracket, "[derive(Drop)]")
-        return self.close(bracket) if erased else None
+    def imported(self):
+        """`use .. ;`, of this crate, of another of this repository, or of what IMPORTS has."""
+        self.at += 1
+        start = self.at
+        self.at = self.after(self.at, ";")
+        tree = "".join(token.text for token in self.tokens[start : self.at - 1])
+        path, _, names = tree.partition("::{")
+        if tree.startswith(("std::", "core::", "alloc::")):
+            every = [f"{path}::{name}" for name in names.rstrip("}").split(",")] if names else [path]
+            for one in every:
+                if not any(one == known or one.startswith(known + "::") for known in IMPORTS):
+                    self.stop(start, f"{one} isn't among what may be imported")
 
-    def bound(self, at):
-        """Where `+ Drop` and `, Drop` begin, `Drop,` of a derive, and `: Drop` where it is the only bound."""
-        before, after = self.text(at - 1), self.text(at + 1)
-        if before == "+" or before == ":" and after in (">", ",") or before == "," and after in (")", ","):
-            return at - 1
-        if before == "(" and after == ",":
-            return at
-        self.stop(at, "it is neither a bound nor derived")
+    def implementation(self, start):
+        self.at += 1
+        if self.has(self.at, "<"):
+            self.generics()
+        if self.text(self.at) in ("Model", "Drop") and self.has(self.at + 1, "for"):
+            model, named = self.has(self.at, "Model"), self.at
+            self.at += 1
+            self.plain(["{"])
+            inside, end = self.at + 1, self.close(self.at)
+            if model:
+                self.at = inside
+                while self.at < end - 1:
+                    if not self.has(self.at, "ghost"):
+                        self.stop(self.at, "it isn't `ghost` in an impl of `Model`")
+                    before = len(self.tokens)
+                    self.member(self.at, False)
+                    end -= before - len(self.tokens)
+            else:
+                # Its body is `let NAME { field: _, .. } = self;`.
+                drop = " ".join(token.text for token in self.tokens[inside : end - 1])
+                if not re.fullmatch(r"fn drop \( self \) { let \w+ { (\w+ : _ , )*(\w+ : _ )?} = self ; }", drop):
+                    self.stop(named, "its impl does more than to take a value apart")
+            self.at = end
+            return self.erase(start)
+        self.plain(["{"])
+        self.at += 1
+        self.items(self.member, "}")
+        self.at += 1
 
-    def erase(self):
+    def law(self, start, tested):
+        """What may stand in a module of laws."""
+        if self.has(self.at, "ghost"):
+            return self.ghost(start)
+        if self.has(self.at, "use"):
+            return self.imported()
+        self.visibility()
+        begin = self.at
+        self.function()
+        head = next(at for at in range(begin, self.at) if self.text(at) == "{")
+        if any(self.text(at) == "mut" or self.has(at, "->") for at in range(begin, head)):
+            self.stop(begin, "a law returns nothing, and changes nothing")
+
+    def read(self, one):
+        """Reads the whole file."""
+        for at, token in enumerate(self.tokens):
+            if token.text == "/" and self.text(at + 1) in ("*", "/") and not self.tokens[at + 1].lead:
+                self.stop(at, "it begins a block comment")
+            if token.text in GIVEN:
+                self.stop(at, "it is a name that renaming gives")
         at = 0
         while at < len(self.tokens):
-            if end := self.construct(at):
-                self.tokens[at].lead = ABOVE.sub("\n", self.tokens[at].lead)
-                self.delete(at, end)
-            elif self.has(at, "#") and (end := self.attribute(at)):
-                self.delete(at, end)
-            elif self.has(at, "Drop"):
-                at = self.bound(at)
-                self.delete(at, at + 2)
-            else:
-                at += 1
+            at = self.close(at) if self.text(at) in BRACKETS else at + 1
+        self.at = 0
+        self.items(one)
+
+    def calls(self, known, values):
+        """Stops at calls and names of functions that aren't of this repository, and aren't known of Rust."""
+        imported = 0
+        for at, token in enumerate(self.tokens):
+            text, after = token.text, self.text(at + 1)
+            if token.strange:
+                self.stop(at, "it isn't Rust")
+            if text == "use":
+                imported = self.after(at, ";")
+            named = self.text(at - 1) == "fn" or self.has(at - 2, "#[") or at < imported
+            if not re.fullmatch(r"[A-Za-z_]\w*", text) or text in KEYWORDS or named:
+                continue
+            macro = after == "!" and not self.has(at + 1, "!=")
+            called = after == "(" or macro or self.has(at + 1, "::<")
+            if self.has(at - 2, "::") and (called or text[0].islower()) and not self.has(at + 1, "::"):
+                of = self.text(at - 3)
+                ours = text in known and (of in known or of in ("crate", "super", ">"))
+                if not ours and f"{of}::{text}" not in OF_TYPES:
+                    self.stop(at, f"{of}::{text} isn't among the calls that may be used")
+            elif called and text not in SAME and (macro or text not in known):
+                if macro or self.text(at - 1) == "." or text not in values:
+                    self.stop(at, "it isn't among the calls that may be used")
 
     def rename(self, names):
         """Renames by a table, the longest name first, and returns whether any call was renamed."""
@@ -256,23 +519,33 @@ class Eraser:
             at += 1
         return called
 
-    def check(self):
-        """Stops at what is left and isn't Rust."""
-        at = 0
-        while at < len(self.tokens):
-            at = self.close(at) if self.text(at) in BRACKETS else at + 1
-        for at, token in enumerate(self.tokens):
-            if token.text in NOT_RUST or token.strange:
-                self.stop(at, "it isn't Rust")
-            if token.text == "in" and self.text(at - 2) == "!" and self.text(at - 3) != "text":
-                self.stop(at, "no macro of this name takes an allocator")
 
-
-def rust_of(path, module, names):
+def read(path, one="item"):
+    """A file, with what means nothing when a program runs deleted."""
     eraser = Eraser(path.relative_to(TOP), path.read_text(encoding="utf-8"))
-    eraser.erase()
+    eraser.read(getattr(eraser, one))
+    return eraser
+
+
+def defined(eraser):
+    """The names that a file defines, of functions, types, variants and modules; and of what may hold a function."""
+    text, names, values = eraser.text, {"Self"}, set()
+    for at in range(len(eraser.tokens)):
+        if text(at - 1) in ("fn", "struct", "enum", "type", "const", "mod"):
+            names.add(text(at))
+        if text(at - 1) in ("let", "mut") or text(at + 1) == ":" and text(at + 2) != ":":
+            values.add(text(at))
+        if text(at) == "enum":
+            body = next(place for place in range(at, len(eraser.tokens)) if text(place) == "{")
+            names |= {text(place) for place in range(body, eraser.close(body)) if text(place)[:1].isupper()}
+    return names, values
+
+
+def rust_of(path, eraser, module, names):
     called = eraser.rename(names)
-    eraser.check()
+    for at, token in enumerate(eraser.tokens):
+        if token.text == "in" and eraser.text(at - 2) == "!" and eraser.text(at - 3) != "text":
+            eraser.stop(at, "no macro of this name takes an allocator")
     text = "".join(token.lead + token.text for token in eraser.tokens)
     # What is shown is Rattle, which Rust's tests of examples wouldn't compile.
     text = re.sub(r"(//[/!] ```)\n((?:.*\n)*?.*//[/!] ```\n)", r"\1text\n\2", text)
@@ -285,16 +558,32 @@ def rust_of(path, module, names):
     return laid_out.stdout
 
 
+def sources():
+    """The files of each crate, read, and the names that all of them define."""
+    crates, known, values = {}, set(CRATES), set()
+    for name in CRATES:
+        paths = sorted((TOP / "crates" / name / "src").glob("*.rt"))
+        laws = [read(path, "law") for path in paths if path.stem == "laws"]
+        crates[name] = {path: read(path) for path in paths if path.stem not in LEFT_OUT}
+        for eraser in [*crates[name].values(), *laws]:
+            names, held = defined(eraser)
+            known, values = known | names, values | held
+    for files in crates.values():
+        for eraser in files.values():
+            eraser.calls(known, values)
+    return crates
+
+
 def main(arguments):
     if arguments not in ([], ["--check"]):
         print("usage: bindings/rust/erase.py [--check]", file=sys.stderr)
         return 2
-    status = 0
+    status, crates = 0, sources()
     for name, (folder, module, names) in CRATES.items():
         folder, files = TOP / folder, {}
-        for path in sorted((TOP / "crates" / name / "src").glob("*.rt")):
-            if path.stem not in LEFT_OUT:
-                files["mod.rs" if path.stem in ("lib", "main") else path.stem + ".rs"] = rust_of(path, module, names)
+        for path, eraser in crates[name].items():
+            file = "mod.rs" if path.stem in ("lib", "main") else path.stem + ".rs"
+            files[file] = rust_of(path, eraser, module, names)
         there = {path.name: path.read_text(encoding="utf-8") for path in folder.glob("*.rs")}
         for file in sorted(files.keys() | there.keys()):
             if files.get(file) == there.get(file):

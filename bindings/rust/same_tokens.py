@@ -4,8 +4,9 @@
     bindings/rust/same_tokens.py SOURCE FOLDER
 
 The tokens of FOLDER/X.rs have to be those of SOURCE/X.rt in order, but for the renames below and for constructs that
-mean nothing when a program runs: each begins with a word of `WHOLE`, and goes to the end that stands beside it. Comments,
-white space and a comma before a bracket that closes aren't looked at.
+mean nothing when a program runs: each begins with a word of `WHOLE`, and goes to the end that stands beside it.
+Comments, white space and a comma before a bracket that closes aren't looked at. A source may hold nothing that Rattle
+and Rust read apart (`odd`).
 """
 
 import re
@@ -15,21 +16,44 @@ from pathlib import Path
 # What begins a construct, and what ends it: brackets that close, or a sign outside brackets.
 WHOLE = [(r"(requires|ensures)( \w+)? {", "}"), (r"ghost", ";,"), (r"impl (< .*? > )?(Model|Drop) for .*? {", "}")]
 WHOLE += [(r"# (! )?\[ (tactic|derive \( Drop \) \])", "]"), (r"use std :: marker :: Model", ";")]
-WHOLE += [(r"(# \[ cfg \( test \) \] mod tests|mod laws|pub use laws)", ";"), (r"[+:,] Drop(?= [>,)])", ""), (r"Drop ,", ""), (r",(?= \))", ",")]
-CALLS = "push push_str sort_by clone".split()
+WHOLE += [(r"(# \[ cfg \( test \) \] mod tests|mod laws|pub use laws)", ";"), (r"[+:,] Drop(?= [>,)])", "")]
+WHOLE += [(r"Drop ,", ""), (r",(?= \))", ",")]
+CALLS = "push push_str sort_by clone extend_from_slice".split()
 RENAMED = {word: "try_" + word for word in CALLS}
 RENAMED |= {"reserve": "try_grow", "reserve_exact": "try_grow_exact", "with_capacity": "of_capacity"}
 RENAMED |= {"String :: new": "String :: empty", "Vec :: new": "Vec :: empty", "String :: from_str": "String :: copy_of"}
-RENAMED |= {"vec ! [ in alloc ; 0 ; room ]": "Vec :: filled ( alloc , 0 , room )", "impl Clone for": "impl TryClone for"}
+RENAMED |= {"vec ! [ in alloc ; 0 ; room ]": "Vec :: filled ( alloc , 0 , room )"}
+RENAMED |= {"impl Clone for": "impl TryClone for"}
 RENAMED |= {"fmt < W : fmt :: Write >": "fmt", "fmt :: Formatter < W >": "fmt :: Formatter < '_ >"}
-PATHS = {"crate ::": "super ::", "std :: alloc": "crate :: alloc", "unicode_width": "crate :: width"}
-PATHS |= {"std :: convert": "crate :: convert"}
+PATHS = {"mod matches": "pub ( crate ) mod matches", "crate ::": "super ::", "std :: alloc": "crate :: alloc"}
+PATHS |= {"unicode_width": "crate :: width"}
+PATHS |= {"std :: convert": "crate :: convert", "std :: error": "crate :: error", "std :: vec": "crate :: heap :: vec"}
+PATHS |= {"std ::": "core ::", "str :: from_utf8": "core :: str :: from_utf8"}
 # Of the crates but the library.
-HOST = {"resize": "try_resize", "extend_from_slice": "try_extend_from_slice", "str :: from_utf8": "std :: str :: from_utf8"}
+HOST = {"resize": "try_resize", "trim_ascii": "trimmed_ascii", "str :: from_utf8": "std :: str :: from_utf8"}
 HOST |= {"format !": "text !", "write !": "add !", "writeln !": "add_line !", "fn main": "pub fn main"}
 HOST |= {f"std :: {name}": f"crate :: host :: {name}" for name in ("alloc", "env", "io")} | {"crate ::": "super ::"}
-HOST |= {f"{name} ::": f"crate :: {name} ::" for name in ("getopts", "getopts_bytes")}
+HOST |= {"getopts ::": "crate :: getopts ::", "getopts_bytes ::": ":: getopts :: bytes ::"}
 TOKEN = r"""//.*|r#"[\s\S]*?"#|b?"(?:\\[\s\S]|[^"\\])*"|b?'(?:\\.[^']*|[^\\'])'|'\w+|\w+|::|\S"""
+
+
+# Words that Rust and Rattle read apart, or that no source needs.
+ODD = set("size_of size_of_val align_of align_of_val unsafe static extern macro_rules union trait dyn async".split())
+ODD |= {"of_capacity", "copy_of", "TryClone", "trimmed_ascii"}
+# What stands behind a sign in an attribute, what is derived, and what is imported of Rust.
+DERIVED = r"derive \( ((Clone|Copy|Debug|PartialEq|Eq|Drop) (, )?)+\)"
+SIGNED = rf"# (! )?\[ (inline|cold|must_use|tactic|{DERIVED}|cfg \( test \) \] mod tests)"
+TAKEN = r"use (?!std)|use std :: (alloc|cmp|convert|env|error|fmt|io|marker|process|str|vec) "
+# Calls of Rust that no source defines.
+CALLED = set("""all alloc allocator any arg as_bytes as_slice as_str binary_search_by binary_search_by_key bytes
+    capacity chars checked_add clone cmp contains count dedup_by encode_utf8 ends_with enumerate
+    extend_from_slice first flush from from_be_bytes from_str from_u32 from_utf8 get into_iter is_ascii
+    is_ascii_alphanumeric is_ascii_digit is_empty is_none is_some iter iter_mut kind len len_utf8 lines map_or max min
+    next new ok_or parse push push_reserved push_str reserve reserve_exact resize rev rsplit_once saturating_add
+    saturating_mul saturating_sub size_hint sort_by split split_at split_at_mut split_once split_whitespace
+    starts_with stderr strip_prefix strip_suffix then_some trim_ascii truncate unwrap_or width with_capacity
+    write writer Err FnMut Ok Some format matches unreachable vec writeln inline derive cfg tactic if in let for
+    match pub return while""".split())
 
 
 def tokens(path):
@@ -44,6 +68,36 @@ def end_of(source, at, end):
         if depth == 0 and source[place] in end:
             return place + 1
     return len(source)
+
+
+def odd(path, defined):
+    """What a source holds that Rattle and Rust may read apart, if it does."""
+    words, at = re.findall(TOKEN, path.read_text(encoding="utf-8")), 0
+    while at < len(words):
+        word, ahead, before = words[at], " ".join(words[at : at + 40]) + " ", words[at - 1] if at else ";"
+        behind = " ".join(words[max(0, at - 12) : at])
+        bound = before in "+:" and re.match("Drop [,>]", ahead) or re.match("Drop for", ahead)
+        called = re.match(r"[A-Za-z_]\w* (\(|! [^=]|:: <)", ahead) and before != "fn"
+        if (
+            word in ODD or word.startswith("try_") or re.match(r"/ [*]|mod \w+ [{]", ahead)
+            or word == "#" and not re.match(SIGNED, ahead)
+            or word == "use" and not re.match(TAKEN, ahead)
+            or word == "ghost" and before not in "; { } , ]".split() and before[:2] != "//"
+            or word == "Drop" and not bound and not re.search(r"derive \([\w ,]*$", behind)
+            or called and word not in CALLED and word not in defined
+        ):
+            return ahead
+        whole = next((end for start, end in WHOLE[:2] if re.match(start + r"(?!\w)", ahead)), "")
+        whole = "]" if re.match(r"# (! )?\[ tactic", ahead) else whole
+        end = end_of(words, at, whole) if whole else at + 1
+        logic = words[at:end] if whole and whole != "]" else []
+        hidden = any(word[:2] == "//" or word.lstrip("b")[:1] == "'" for word in logic)
+        if hidden or re.search("- -|[{] -|- }", " ".join(logic)):
+            return ahead
+        at = end
+    if path.stem == "laws" and re.search(r"\) - >| (mut|impl|struct|enum|const|type) ", " ".join(words)):
+        return "laws that do more"
+    return None
 
 
 def differs(source, rust, names, imports):
@@ -71,12 +125,23 @@ def differs(source, rust, names, imports):
 
 
 def main(source, folder):
-    library = Path(source).resolve().parent.name == "getopts"
+    library = Path(source).resolve().parent.name in ("getopts", "getopts_bytes")
     names = {**RENAMED, **(PATHS if library else HOST)}
     imports = f"use crate :: {'fallible' if library else 'host'} :: * ;".split()
     paths = sorted(Path(folder).glob("*.rs"))
     there = {path.stem for path in Path(source).glob("*.rt")} - {"lib", "main", "laws", "tests"} | {"mod"}
     wrong = len(there ^ {path.stem for path in paths})
+    # A source may call what it or another crate here defines, of functions, variants and closures.
+    every = Path(source).resolve().parents[1].glob("*/src/*.rt")
+    text = " ".join(" ".join(tokens(path)) for path in every)
+    defined = set(re.findall(r"(?:fn|struct|type|const|let|let mut) (\w+)", text))
+    defined |= set(re.findall(r"(\w+) : [^:]", text))
+    for body in re.findall(r"enum \w+ (?:< .*? > )?{(.*?)}", text):
+        defined |= set(re.findall(r"[A-Z]\w*", body))
+    for path in sorted(Path(source).glob("*.rt")):
+        if path.stem != "tests" and (what := odd(path, defined)):
+            wrong += 1
+            print(f"{path}: it may mean something else in Rust at '{what}'")
     for path in paths:
         of = path.with_suffix(".rt").name if path.stem != "mod" else "main.rt"
         of = Path(source) / of if (Path(source) / of).exists() else Path(source) / "lib.rt"

@@ -3,20 +3,15 @@
  *
  * It is linked with --wrap=main: the C library calls __wrap_main, and __real_main is the proved program's. */
 #define _DEFAULT_SOURCE
-#include "../c/getopts_c.h"
+#include "start.h"
 
 #include <errno.h>
 #include <signal.h>
 #include <string.h>
 #include <sys/mman.h>
-#include <sys/types.h>
 
 int __real_main(void);
 int __wrap_main(int count, char **words);
-ssize_t rattle_arg(size_t nth, unsigned char *buffer, size_t len);
-int rattle_errno(void);
-void rattle_set_errno(int error);
-void (*__sysv_signal(int number, void (*handler)(int)))(int);
 
 static size_t given;
 static char **given_words;
@@ -27,8 +22,6 @@ int __wrap_main(int count, char **words) {
     return __real_main();
 }
 
-/* Puts a word at the start of a buffer and returns its length: -1 if there is no such word, and -2 if it doesn't fit,
- * and then the buffer is full. */
 ssize_t rattle_arg(size_t nth, unsigned char *buffer, size_t len) {
     if (nth >= given)
         return -1;
@@ -86,11 +79,11 @@ static struct head *taken(size_t class) {
     return head;
 }
 
-struct getopts_block rattle_alloc(size_t size, size_t align) {
+struct block rattle_alloc(size_t size, size_t align) {
     static const char nothing;
     size_t class = 64 - (size_t)__builtin_clzl((size != 0 ? size : align) + sizeof(struct head) - 1);
     struct head *head = class < 63 ? taken(class) : NULL;
-    return (struct getopts_block){ head != NULL, head != NULL ? head + 1 : (void *)&nothing };
+    return (struct block){ head != NULL, head != NULL ? head + 1 : (void *)&nothing };
 }
 
 void rattle_dealloc(void *block) {
@@ -99,11 +92,11 @@ void rattle_dealloc(void *block) {
     freed[head->class] = head;
 }
 
-struct getopts_block rattle_realloc(void *block, size_t kept, size_t size, size_t align) {
+struct block rattle_realloc(void *block, size_t kept, size_t size, size_t align) {
     struct head *head = (struct head *)block - 1;
     if (size <= ((size_t)1 << head->class) - sizeof *head)
-        return (struct getopts_block){ true, block };
-    struct getopts_block moved = rattle_alloc(size, align);
+        return (struct block){ true, block };
+    struct block moved = rattle_alloc(size, align);
     if (moved.ok) {
         memcpy(moved.block, block, kept);
         rattle_dealloc(block);

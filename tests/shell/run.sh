@@ -17,14 +17,14 @@ if [ ! -x "$program" ]; then
     exit 1
 fi
 if [ -f "$top/crates/getopts_shell/out/getopts_shell" ]; then
-    check "the programs are of the proved source" bash "$here/program.sh" check
+    check "the programs are of the proved source" "$top/bindings/build.py" --check shell
 else
     skip "whether the programs are of the proved source: 'rt ci' has not built it here"
 fi
 check "the shells" python3 "$top/tests/shell/run.py" "$program" && cat "$room/said"
 check "completion in terminals" python3 "$top/tests/shell/complete.py" "$program" && cat "$room/said"
 if has valgrind; then
-    check "the instructions of a run" bash "$top/bench/shell.sh" "$program" && cat "$room/said"
+    check "the instructions of a run" "$top/bench/bench.py" --shell "$program" && cat "$room/said"
 else
     skip "the instructions of a run: there is no valgrind"
 fi

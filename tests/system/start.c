@@ -1,20 +1,16 @@
 /* Tests bindings/shell/start.c: that each of its functions does what Rattle's crates `os` and `libc` declare of it. It is
  * linked with --wrap=main, as a program is, and run with the words "" and "three". */
 #define _DEFAULT_SOURCE
-#include "../../bindings/c/getopts_c.h"
+#include "../../bindings/shell/start.h"
 
 #include <errno.h>
 #include <signal.h>
+#include <stdint.h>
 #include <stdio.h>
 #include <stdlib.h>
 #include <string.h>
-#include <sys/types.h>
 #include <unistd.h>
 
-ssize_t rattle_arg(size_t nth, unsigned char *buffer, size_t len);
-int rattle_errno(void);
-void rattle_set_errno(int error);
-void (*__sysv_signal(int number, void (*handler)(int)))(int);
 
 static int failed;
 
@@ -81,7 +77,7 @@ static void turn(void) {
         return;
     }
     size_t kept = old == NULL ? 0 : blocks[nth].size < size ? blocks[nth].size : size;
-    struct getopts_block got = old == NULL ? rattle_alloc(size, 16) : rattle_realloc(old, kept, size, 16);
+    struct block got = old == NULL ? rattle_alloc(size, 16) : rattle_realloc(old, kept, size, 16);
     expect(got.ok && (uintptr_t)got.block % 16 == 0, "a block");
     if (!got.ok)
         return;
@@ -93,10 +89,10 @@ static void turn(void) {
 /* What can't be had is refused, and leaves the block as it was. */
 static void too_much(void) {
     static const size_t sizes[] = { (size_t)1 << 47, ((size_t)1 << 62) - 16, (size_t)1 << 62, SIZE_MAX / 2 };
-    struct getopts_block block = rattle_alloc(10, 1);
+    struct block block = rattle_alloc(10, 1);
     memset(block.block, 'x', 10);
     for (size_t nth = 0; nth < sizeof sizes / sizeof *sizes; nth++) {
-        struct getopts_block none = rattle_alloc(sizes[nth], 16), same = rattle_realloc(block.block, 10, sizes[nth], 16);
+        struct block none = rattle_alloc(sizes[nth], 16), same = rattle_realloc(block.block, 10, sizes[nth], 16);
         expect(!none.ok && none.block != NULL && !same.ok && same.block != NULL, "more than there is");
         expect(is_filled(block.block, 'x', 10), "the block that couldn't grow");
     }
@@ -111,7 +107,7 @@ int main(void) {
     too_much();
     /* What was freed serves again: otherwise this would take a terabyte. */
     for (size_t nth = 0; nth < 1000000; nth++) {
-        struct getopts_block block = rattle_alloc(1000000, 1);
+        struct block block = rattle_alloc(1000000, 1);
         expect(block.ok, "a block that was freed");
         rattle_dealloc(block.block);
     }

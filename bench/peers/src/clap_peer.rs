@@ -10,10 +10,12 @@ pub fn turn(input: &Input) -> usize {
     let matches = command(&input.options).get_matches_from(&input.words);
     let mut sum = lengths(&matches, FREE).sum::<usize>();
     for option in &input.options {
-        if option.is_flag {
+        if option.is_flag() {
             sum += usize::from(matches.get_count(option.id));
         } else {
-            sum += lengths(&matches, option.id).map(|length| 1 + length).sum::<usize>();
+            sum += lengths(&matches, option.id)
+                .map(|length| 1 + length)
+                .sum::<usize>();
         }
     }
     sum
@@ -29,7 +31,7 @@ fn command(options: &[Named]) -> Command {
 }
 
 fn argument(option: &Named) -> Arg {
-    let mut argument = Arg::new(option.id).action(if option.is_flag {
+    let mut argument = Arg::new(option.id).action(if option.is_flag() {
         ArgAction::Count
     } else {
         ArgAction::Append

@@ -1,6 +1,6 @@
 //! The Rust crate `getopts`.
 
-use crate::input::{numbered_options, thousand_of, thousand_options, Input, Named};
+use crate::input::{Input, Kind, Named};
 use crate::turns;
 use getopts::{Matches, Options};
 use std::hint::black_box;
@@ -8,18 +8,21 @@ use std::hint::black_box;
 const BRIEF: &str = "Usage: getopts_show [options] FILE";
 
 /// The sum of a job's turns.
-pub fn run(job: &str, times: usize) -> Option<usize> {
-    if let Some(count) = job.strip_prefix("defined-") {
-        return Some(defined(count.parse().ok()?, times));
+pub fn run(job: &str, input: &Input, times: usize) -> Option<usize> {
+    if job == "whole" || job == "copied" {
+        return Some(whole(input, times));
     }
-    if let Some(line) = job.strip_prefix("read-") {
-        return Some(read(&Input::of(line)?, times));
-    }
+    let options = declared(&input.options);
     match job {
-        "equal" => Some(equal(times)),
-        "usage" => Some(usage(times)),
-        "memory" => Some(read(&Input::of_memory(), times)),
-        _ => Some(whole(&Input::of(job.strip_prefix("copied-").unwrap_or(job))?, times)),
+        "read" => Some(turns(times, || {
+            matches_of(&options, &input.words).free.len()
+        })),
+        "equal" => Some(equal(&options, &input.words, times)),
+        "usage" => Some(turns(times, || options.usage(BRIEF).len())),
+        "defined" => Some(counted(&options, input, times, Matches::opt_defined)),
+        "asked" => Some(counted(&options, input, times, Matches::opt_present)),
+        "held" => Some(held(&options, &input.words, times)),
+        _ => None,
     }
 }
 
@@ -30,56 +33,51 @@ fn whole(input: &Input, times: usize) -> usize {
     })
 }
 
-fn read(input: &Input, times: usize) -> usize {
-    let options = declared(&input.options);
-    turns(times, || matches_of(&options, &input.words).free.len())
-}
-
-fn equal(times: usize) -> usize {
-    let options = declared(&thousand_options());
-    let matches = matches_of(&options, &thousand_of("-ab"));
-    let others = matches_of(&options, &thousand_of("-ba"));
-    turns(times, || usize::from(black_box(&matches) == black_box(&others)))
-}
-
-fn usage(times: usize) -> usize {
-    let options = described_options();
-    turns(times, || options.usage(BRIEF).len())
-}
-
-fn defined(count: usize, times: usize) -> usize {
-    let named = numbered_options(count);
-    let matches = matches_of(&declared(&named), &[]);
+fn equal(options: &Options, words: &[String], times: usize) -> usize {
+    let (first, second) = words.split_at(words.len() / 2);
+    let (matches, others) = (matches_of(options, first), matches_of(options, second));
     turns(times, || {
-        named
+        usize::from(black_box(&matches) == black_box(&others))
+    })
+}
+
+/// How many names the call answers with yes.
+fn counted(
+    options: &Options,
+    input: &Input,
+    times: usize,
+    call: fn(&Matches, &str) -> bool,
+) -> usize {
+    let matches = matches_of(options, &input.words);
+    turns(times, || {
+        input
+            .options
             .iter()
-            .filter(|option| matches.opt_defined(option.main()))
+            .filter(|option| call(&matches, option.main()))
             .count()
     })
 }
 
-/// Options by these names, which may come any number of times.
+fn held(options: &Options, words: &[String], times: usize) -> usize {
+    let mut kept = Vec::with_capacity(times);
+    turns(times, || {
+        let matches = matches_of(options, words);
+        let count = matches.free.len();
+        kept.push(matches);
+        count
+    })
+}
+
+/// Options by these names, which may come any number of times but for the last kind.
 fn declared(named: &[Named]) -> Options {
     let mut options = Options::new();
     for option in named {
-        if option.is_flag {
-            options.optflagmulti(option.short, option.long, "d");
-        } else {
-            options.optmulti(option.short, option.long, "d", "H");
-        }
+        match option.kind {
+            Kind::Flag => options.optflagmulti(option.short, option.long, option.desc),
+            Kind::Argument => options.optmulti(option.short, option.long, option.desc, option.hint),
+            Kind::Maybe => options.optflagopt(option.short, option.long, option.desc, option.hint),
+        };
     }
-    options
-}
-
-/// Options with descriptions, as the program `getopts_show` has them.
-fn described_options() -> Options {
-    let mut options = Options::new();
-    options
-        .optopt("o", "output", "set output file name", "NAME")
-        .optflag("h", "help", "print this help menu")
-        .optflagmulti("v", "verbose", "say more")
-        .optmulti("L", "", "add a folder", "DIR")
-        .optflagopt("c", "color", "colour the output", "WHEN");
     options
 }
 

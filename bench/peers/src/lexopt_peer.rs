@@ -16,7 +16,7 @@ pub fn turn(input: &Input) -> usize {
         match place_of(&input.options, &argument) {
             Some(place) => {
                 counts[place] += 1;
-                if !input.options[place].is_flag {
+                if !input.options[place].is_flag() {
                     values[place].push(text(parser.value().expect("there is a value")));
                 }
             }

@@ -1,9 +1,9 @@
 //! Runs the jobs of `getopts_bench` on other libraries, and prints the same sums.
 //!
-//! usage: peers PEER JOB TIMES
+//! usage: peers PEER JOB ROWS TIMES
 //!
-//! PEER is `getopts` (the Rust crate, or what stands in for it), `lexopt`, `pico-args` or `clap`. The jobs are
-//! those of `getopts_bench`: `small`, `long` and `many` of each peer, and of `getopts` the others too, but for
+//! PEER is `getopts` (the Rust crate, or what stands in for it), `lexopt`, `pico-args` or `clap`. The jobs and
+//! the rows are those of `getopts_bench`: `whole` of each peer, and of `getopts` the others too, but for
 //! `canonical`, which the crate has not. The status is 2 where the peer doesn't do the job.
 
 mod clap_peer;
@@ -23,7 +23,7 @@ fn main() -> ExitCode {
             ExitCode::SUCCESS
         }
         None => {
-            eprintln!("peers: arguments are PEER JOB TIMES, where the peer does the job");
+            eprintln!("peers: arguments are PEER JOB ROWS TIMES, where the peer does the job");
             ExitCode::from(2)
         }
     }
@@ -31,23 +31,18 @@ fn main() -> ExitCode {
 
 /// The sum of the job that the words name.
 fn sum_of(words: &[String]) -> Option<usize> {
-    let [peer, job, times] = words else {
+    let [peer, job, rows, times] = words else {
         return None;
     };
+    let input = Input::of(rows)?;
     let times = times.parse().ok()?;
-    match peer.as_str() {
-        "getopts" => getopts_peer::run(job, times),
-        "lexopt" => whole(job, times, lexopt_peer::turn),
-        "pico-args" => whole(job, times, pico_peer::turn),
-        "clap" => whole(job, times, clap_peer::turn),
+    match (peer.as_str(), job.as_str()) {
+        ("getopts", _) => getopts_peer::run(job, &input, times),
+        ("lexopt", "whole") => Some(turns(times, || lexopt_peer::turn(&input))),
+        ("pico-args", "whole") => Some(turns(times, || pico_peer::turn(&input))),
+        ("clap", "whole") => Some(turns(times, || clap_peer::turn(&input))),
         _ => None,
     }
-}
-
-/// Turns that declare, read and take on one line.
-fn whole(line: &str, times: usize, turn: fn(&Input) -> usize) -> Option<usize> {
-    let input = Input::of(line)?;
-    Some(turns(times, || turn(&input)))
 }
 
 /// The sum of what the turns give. The sum wraps.

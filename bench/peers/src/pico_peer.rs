@@ -10,7 +10,7 @@ pub fn turn(input: &Input) -> usize {
     let mut arguments = Arguments::from_vec(words);
     let mut sum = 0;
     for option in &input.options {
-        if option.is_flag {
+        if option.is_flag() {
             while is_next(&mut arguments, option) {
                 sum += 1;
             }
@@ -20,7 +20,11 @@ pub fn turn(input: &Input) -> usize {
             }
         }
     }
-    sum + arguments.finish().iter().map(|word| word.len()).sum::<usize>()
+    sum + arguments
+        .finish()
+        .iter()
+        .map(|word| word.len())
+        .sum::<usize>()
 }
 
 /// Whether the flag is there once more. It is taken.

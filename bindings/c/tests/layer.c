@@ -1,5 +1,4 @@
-/* What the layer says of wrong tables, of counts that aren't kept, and of numbers; and that it calls those tables
- * wrong that the archive calls bad. */
+/* What the calls of getopts.h say of wrong tables, of counts that aren't kept, of numbers, and of words of any bytes. */
 #include "../getopts.h"
 
 #include <errno.h>
@@ -7,6 +6,8 @@
 #include <stdio.h>
 #include <stdlib.h>
 #include <string.h>
+
+#define LEN_38 "12345678901234567890123456789012345678"
 
 static int failed;
 
@@ -29,6 +30,17 @@ static void wrong_rows_are_named(void) {
         { { "", NULL, NULL, NULL, GETOPTS_NO }, "table[1]: both names are empty" },
         { { "a", NULL, NULL, NULL, (enum getopts_kind)7 }, "table[1]: 7 is no kind" },
         { { "a", NULL, NULL, NULL, (enum getopts_kind)12 }, "table[1]: 12 is no kind" },
+        { { "a", NULL, NULL, NULL, (enum getopts_kind)(GETOPTS_YES + GETOPTS_STOP) }, "table[1]: 17 is no kind" },
+        { { "a", NULL, NULL, NULL, (enum getopts_kind)GETOPTS_LONG_ONLY }, "table[1]: 32 is no kind" },
+        { { "a", NULL, NULL, NULL, (enum getopts_kind)-1 }, "table[1]: 4294967295 is no kind" },
+        /* At most 40 bytes of a name are shown, and no character of it is cut. */
+        { { LEN_38 "\u00e9", NULL, NULL, NULL, GETOPTS_NO }, "table[1]: short name '" LEN_38 "\u00e9' has 40 bytes" },
+        { { LEN_38 "\u00e9x", NULL, NULL, NULL, GETOPTS_NO }, "table[1]: short name '" LEN_38 "\u00e9' has 41 bytes" },
+        { { LEN_38 "x\u00e9", NULL, NULL, NULL, GETOPTS_NO }, "table[1]: short name '" LEN_38 "x' has 41 bytes" },
+        { { LEN_38 "\u65e5", NULL, NULL, NULL, GETOPTS_NO }, "table[1]: short name '" LEN_38 "' has 41 bytes" },
+        { { LEN_38 "x\u65e5", NULL, NULL, NULL, GETOPTS_NO }, "table[1]: short name '" LEN_38 "x' has 42 bytes" },
+        { { LEN_38 "\U0001f600", NULL, NULL, NULL, GETOPTS_NO }, "table[1]: short name '" LEN_38 "' has 42 bytes" },
+        { { LEN_38 "xxyy", NULL, NULL, NULL, GETOPTS_NO }, "table[1]: short name '" LEN_38 "xx' has 42 bytes" },
         { { "\xc3\xa9", NULL, NULL, NULL, GETOPTS_NO }, "table[1]: short name '\u00e9' has 2 bytes" },
         { { "\xff", NULL, NULL, NULL, GETOPTS_NO }, "table[1]: the short name isn't UTF-8 below U+10FF80" },
         { { "a", "\xff\xff", NULL, NULL, GETOPTS_NO }, "table[1]: the long name isn't UTF-8 below U+10FF80" },
@@ -61,10 +73,21 @@ static void wrong_rows_are_named(void) {
 
 static void modes_are_checked(void) {
     static const struct getopts_option table[] = { { NULL, NULL, NULL, NULL, GETOPTS_NO } };
-    struct getopts *options = getopts_new(table, (enum getopts_modes)4);
-    expect(strcmp(getopts_message(options), "4 is no sum of modes") == 0, "no mode");
-    expect(getopts_read(options, 0, NULL) == GETOPTS_BAD, "a reading with no mode");
-    getopts_delete(options);
+    static const struct {
+        int modes;
+        const char *message;
+    } rows[] = {
+        { 4, "4 is no sum of modes" }, { GETOPTS_STOP + GETOPTS_YES, "17 is no sum of modes" },
+        { GETOPTS_LONG_ONLY + GETOPTS_MULTI, "40 is no sum of modes" }, { 64, "64 is no sum of modes" },
+        { GETOPTS_ORDINARY, "" }, { GETOPTS_STOP + GETOPTS_LONG_ONLY, "" },
+    };
+    for (size_t nth = 0; nth < sizeof rows / sizeof *rows; nth++) {
+        struct getopts *options = getopts_new(table, (enum getopts_modes)rows[nth].modes);
+        int wanted = rows[nth].message[0] != '\0' ? GETOPTS_BAD : GETOPTS_OK;
+        expect(strcmp(getopts_message(options), rows[nth].message) == 0, rows[nth].message);
+        expect(getopts_read(options, 0, NULL) == wanted, "a reading with a sum of modes");
+        getopts_delete(options);
+    }
 }
 
 /* A table and a brief that are NULL are wrong, words are read only if none is NULL, and no option is named NULL. */
@@ -85,6 +108,7 @@ static void null_is_bad(void) {
     expect(getopts_position(options, NULL, 0) == -1 && getopts_value(options, NULL, 0) == NULL, "what it was given");
     expect(getopts_usage(options, NULL) == NULL && getopts_short_usage(options, NULL) == NULL, "a brief that is NULL");
     expect(getopts_read(options, 1, NULL) == GETOPTS_BAD, "words that are NULL");
+    expect(getopts_read(options, 1, words + 1) == GETOPTS_BAD, "a first word that is NULL");
     expect(getopts_read(options, 0, NULL) == GETOPTS_OK && getopts_read(options, -1, NULL) == GETOPTS_OK, "no words");
     expect(strcmp(getopts_message(options), "") == 0 && getopts_count(options, "v") == 0, "nothing after no words");
     free(usage);
@@ -131,6 +155,17 @@ static void counts_are_no_reason_to_forget(void) {
     getopts_delete(options);
 }
 
+/* A reading whose texts take as many bytes as its words and its message. */
+static void all_texts_stay(void) {
+    char *words[] = { "first", "second", "third", NULL };
+    struct getopts *options = getopts_new(required, GETOPTS_ORDINARY);
+    expect(getopts_read(options, 3, words) == GETOPTS_OPTION_MISSING && getopts_free_count(options) == 3, "free words alone");
+    for (size_t nth = 0; nth < 3; nth++)
+        expect(strcmp(getopts_free_words(options)[nth], words[nth]) == 0, "each of them");
+    expect(strcmp(getopts_message(options), "Required option 'output' missing") == 0, "the message before them");
+    getopts_delete(options);
+}
+
 static void numbers_are_checked(void) {
     static const struct {
         const char *text;
@@ -138,8 +173,13 @@ static void numbers_are_checked(void) {
         long value;
     } rows[] = {
         { "0", true, 0 }, { "7", true, 7 }, { "-7", true, -7 }, { "+7", true, 7 }, { "007", true, 7 },
+#if LONG_MAX > 2147483647
         { "9223372036854775807", true, LONG_MAX }, { "-9223372036854775808", true, LONG_MIN },
         { "9223372036854775808", false, 0 }, { "-9223372036854775809", false, 0 }, { "", false, 0 },
+#else
+        { "2147483647", true, LONG_MAX }, { "-2147483648", true, LONG_MIN },
+        { "2147483648", false, 0 }, { "-2147483649", false, 0 }, { "", false, 0 },
+#endif
         { "2x", false, 0 }, { " 2", false, 0 }, { "2 ", false, 0 }, { "x", false, 0 }, { "-", false, 0 },
         { "- 2", false, 0 }, { "0x10", false, 0 }, { "1.5", false, 0 }, { "\t2", false, 0 },
     };
@@ -188,51 +228,47 @@ static void bytes_come_back(void) {
     getopts_delete(options);
 }
 
-/* Random tables, as the layer and the archive call them. */
-static size_t random_tables(size_t count) {
-    /* The first six are right in most places. */
-    static const char *const texts[] = {
-        "", "", "a", "a", "ab", "verbose", "\u00e9", "\xff", "\xc3", "\xa9", "a\xff", "\xed\xa0\x80", "\u65e5",
-        "\xf4\x8f\xbf\xbf",
+/* The list of all values is that of each. */
+static void values_are_listed(void) {
+    static const struct getopts_option table[] = {
+        { "d", "data", NULL, NULL, GETOPTS_MAYBE + GETOPTS_MULTI }, { "v", NULL, NULL, NULL, GETOPTS_NO + GETOPTS_MULTI },
+        { NULL, NULL, NULL, NULL, GETOPTS_NO },
     };
-    size_t bad = 0;
-    for (unsigned long nth = 1, state = 88172645463325252; nth <= count; nth++) {
-        const char *of[4];
-        uint8_t kind, joined[64];
-        size_t lens[4], len = 0;
-        struct getopts_sizes sizes;
-        for (int text = 0; text < 4; text++) {
-            state ^= state << 13, state ^= state >> 7, state ^= state << 17;
-            of[text] = texts[state % (state >> 40 & 7 ? 6 : sizeof texts / sizeof *texts)];
-            lens[text] = strlen(of[text]);
-            memcpy(joined + len, of[text], lens[text]);
-            len += lens[text];
-        }
-        kind = (uint8_t)(state >> 32) % 12;
-        uint32_t status = getopts_c_short_usage(joined, len, lens, 4, &kind, 1, NULL, 0, NULL, 0, &sizes);
-        const struct getopts_option table[] = {
-            { of[0], of[1], of[2], of[3], (enum getopts_kind)kind }, { NULL, NULL, NULL, NULL, GETOPTS_NO },
-        };
-        struct getopts *options = getopts_new(table, GETOPTS_ORDINARY);
-        expect((getopts_message(options)[0] != '\0') == (status == GETOPTS_BAD), getopts_message(options));
-        getopts_delete(options);
-        bad += status == GETOPTS_BAD;
+    char *words[] = { "-da", "--data", "-vv", "x", "--data=", "-d\xff", "-d", NULL };
+    static const char *const wanted[] = { "a", NULL, "", "\xff", NULL };
+    struct getopts *options = getopts_new(table, GETOPTS_ORDINARY);
+    expect(getopts_values(options, "d")[0] == NULL, "no values before a reading");
+    expect(getopts_value(options, "d", GETOPTS_LAST) == NULL, "no last value before a reading");
+    expect(getopts_read(options, 7, words) == GETOPTS_OK && getopts_count(options, "d") == 5, "values");
+    const char *const *values = getopts_values(options, "data");
+    for (size_t nth = 0; nth < 5; nth++) {
+        expect((values[nth] == NULL) == (wanted[nth] == NULL), "a value that is there");
+        expect(values[nth] == NULL || strcmp(values[nth], wanted[nth]) == 0, "a value of the list");
+        expect(values[nth] == getopts_value(options, "d", nth), "one pointer");
     }
-    return bad;
+    expect(getopts_value(options, "d", 5) == NULL && getopts_position(options, "d", 5) == -1, "no more values");
+    expect(getopts_position(options, "data", GETOPTS_LAST) == 6 && getopts_position(options, "v", GETOPTS_LAST) == 2,
+        "the last positions");
+    expect(getopts_read(options, 6, words) == GETOPTS_OK, "values again");
+    expect(strcmp(getopts_value(options, "data", GETOPTS_LAST), "\xff") == 0, "the last value");
+    expect(getopts_value(options, "x", GETOPTS_LAST) == NULL, "the last value of no option");
+    values = getopts_values(options, "data");
+    expect(values[4] == NULL && getopts_values(options, "v")[2] == NULL, "NULL after the last");
+    expect(getopts_values(options, "x")[0] == NULL && getopts_values(options, NULL)[0] == NULL, "no values of no option");
+    getopts_delete(options);
 }
 
 int main(void) {
-    enum { TABLES = 20000 };
     wrong_rows_are_named();
     modes_are_checked();
     null_is_bad();
     no_kind_is_a_flag();
     counts_are_no_reason_to_forget();
+    all_texts_stay();
     numbers_are_checked();
     bytes_come_back();
-    size_t bad = random_tables(TABLES);
-    expect(bad > 0 && bad < TABLES, "random tables of both sorts");
+    values_are_listed();
     if (!failed)
-        printf("%d random tables, %zu wrong, alike in the layer and the archive\n", TABLES, bad);
+        printf("all as getopts.h says\n");
     return failed;
 }

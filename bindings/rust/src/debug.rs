@@ -1,5 +1,6 @@
 //! `{:?}` of options and matches, which reads as that of the crate getopts.
 
+use crate::proved::matches::MatchedGroups;
 use crate::{HasArg, Occur, proved};
 use std::fmt::{Debug, Formatter, Result};
 
@@ -12,31 +13,34 @@ pub struct Group<'a> {
     pub occur: Occur,
 }
 
-/// The groups of what holds them; their type has no name here.
-macro_rules! shown {
-    ($groups:expr) => {{
-        let groups = $groups;
-        let shown = |place| {
-            let group = groups.get(place);
-            Group {
-                names: [group.signature.names.short, group.signature.names.long],
-                hint: group.hint,
-                desc: group.desc,
-                hasarg: group.signature.kinds.kind,
-                occur: group.signature.kinds.occurrence,
-            }
-        };
-        (0..groups.len()).map(shown).collect()
-    }};
-}
-
 pub fn groups_of(options: &proved::Options) -> Vec<Group<'_>> {
-    shown!(options.groups())
+    let groups = options.groups();
+    let shown = |place| {
+        let group = groups.get(place);
+        Group {
+            names: [group.signature.names.short, group.signature.names.long],
+            hint: group.hint,
+            desc: group.desc,
+            hasarg: group.signature.kinds.kind,
+            occur: group.signature.kinds.occurrence,
+        }
+    };
+    (0..groups.len()).map(shown).collect()
 }
 
-pub fn opts_of(matches: &proved::Matches) -> Vec<Opt<'_>> {
-    let groups: Vec<_> = shown!(matches.held.groups());
-    groups.into_iter().map(Opt).collect()
+pub(crate) fn opts_of(matches: &MatchedGroups) -> Vec<Opt<'_>> {
+    let signatures = matches.signatures();
+    let shown = |place| {
+        let signature = signatures.get(place);
+        Opt(Group {
+            names: [signature.names.short, signature.names.long],
+            hint: "",
+            desc: "",
+            hasarg: signature.kinds.kind,
+            occur: signature.kinds.occurrence,
+        })
+    };
+    (0..signatures.len()).map(shown).collect()
 }
 
 impl Debug for Group<'_> {

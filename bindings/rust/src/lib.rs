@@ -18,16 +18,29 @@
 //! assert!(options.usage("Usage: copy FILE").contains("-o, --output NAME"));
 //! ```
 //!
+//! A program's own words are `std::env::args_os().skip(1)`: the first is the program's name. `std::env::args()` panics where
+//! a word isn't UTF-8; `parse` refuses such a word, and `parse_os` reads it.
+//!
 //! `README.md` says what differs from the crate, what is proved and what it costs. The feature `proved` makes the proved
 //! source itself public, for who wants calls that report refused memory.
+#![cfg_attr(feature = "bare", no_std)]
 #![forbid(unsafe_code)]
 #![warn(missing_docs)]
 
+extern crate alloc as heap;
+
 mod convert;
+#[cfg(not(feature = "bare"))]
 mod debug;
+mod error;
+#[cfg(not(feature = "bare"))]
 mod fail;
+#[cfg(not(feature = "bare"))]
 mod matches;
+#[cfg(not(feature = "bare"))]
 mod options;
+#[cfg(not(feature = "bare"))]
+mod os;
 mod width;
 
 /// Declares the modules that the feature `proved` makes public.
@@ -38,16 +51,24 @@ macro_rules! modules {
         // The source has laws, which do nothing, parts that this crate doesn't use, and Rattle's forms.
         #[allow(unused_variables, unused_labels, unused_imports, dead_code, missing_docs, clippy::all)]
         $seen mod proved;
+        // What is left of `getopts_bytes`: words of any bytes as texts.
+        #[allow(dead_code, clippy::all)]
+        $seen mod bytes;
     };
 }
-#[cfg(feature = "proved")]
+#[cfg(any(feature = "proved", feature = "bare"))]
 modules!(pub);
-#[cfg(not(feature = "proved"))]
+#[cfg(not(any(feature = "proved", feature = "bare")))]
 modules!(pub(crate));
 
+#[cfg(not(feature = "bare"))]
 pub use fail::{Fail, Result};
+#[cfg(not(feature = "bare"))]
 pub use matches::Matches;
+#[cfg(not(feature = "bare"))]
 pub use options::Options;
+#[cfg(not(feature = "bare"))]
+pub use os::OsMatches;
 pub use proved::{HasArg, Occur, ParsingStyle};
 
 /// The examples of the README are tested.

@@ -4,46 +4,116 @@ use crate::alloc::Global;
 use crate::debug;
 use crate::fail::granted;
 use crate::fallible::TryClone;
-use crate::proved;
+use crate::proved::matches::MatchedGroups;
+use crate::proved::{self, Occurrences};
 use std::fmt;
 use std::result::Result;
 use std::str::FromStr;
 
 /// What an accepted line gave: the options by name, and the words that are no option.
-#[derive(PartialEq, Eq)]
 pub struct Matches {
     /// The free words, in the order of the line.
     pub free: Vec<String>,
-    /// What was proved of the line, without the free words.
-    proved: proved::Matches,
+    /// What was proved of the line.
+    held: MatchedGroups,
+    trailing_start: Option<usize>,
 }
 
 impl Clone for Matches {
     fn clone(&self) -> Matches {
         Matches {
             free: self.free.clone(),
-            proved: granted(self.proved.try_clone()),
+            held: granted(self.held.try_clone()),
+            trailing_start: self.trailing_start,
         }
     }
 }
 
+impl PartialEq for Matches {
+    fn eq(&self, other: &Matches) -> bool {
+        self.held.same(&other.held)
+            && self.free == other.free
+            && self.trailing_start == other.trailing_start
+    }
+}
+
+impl Eq for Matches {}
+
 impl Matches {
-    pub(crate) fn of(mut proved: proved::Matches) -> Matches {
+    #[inline]
+    pub(crate) fn of(proved: proved::Matches) -> Matches {
         Matches {
-            free: std::mem::take(&mut proved.free),
-            proved,
+            free: proved.free,
+            held: proved.held,
+            trailing_start: proved.trailing_start,
         }
     }
 
-    fn given(&self, name: &str) -> proved::Occurrences<'_> {
-        match self.proved.opt_place(name) {
-            Some(place) => self.proved.occurrences_at(place),
+    /// The place of the option that has a name.
+    #[inline]
+    pub(crate) fn place(&self, name: &str) -> usize {
+        match self.held.place_of(name) {
+            Some(place) => place,
             None => panic!("No option '{name}' defined"),
         }
     }
 
-    fn value(&self, name: &str) -> Option<&str> {
+    #[inline]
+    fn given(&self, name: &str) -> Occurrences<'_> {
+        self.held.occurrences_at(self.place(name))
+    }
+
+    /// What each option was given with.
+    pub(crate) fn every_option(
+        &self,
+    ) -> impl Iterator<Item = impl Iterator<Item = (usize, Option<&str>)> + '_> + '_ {
+        let places = 0..self.held.signatures().len();
+        places.map(|place| self.held.occurrences_at(place).into_iter())
+    }
+
+    /// The value of an option's first occurrence, lent. The crate getopts has no such call.
+    ///
+    /// ```
+    /// let mut options = getopts::Options::new();
+    /// options.optopt("o", "output", "set the output file", "NAME");
+    /// assert_eq!(options.parse(["-ofile"]).unwrap().value("output"), Some("file"));
+    /// ```
+    ///
+    /// # Panics
+    /// Where no option has the name.
+    pub fn value(&self, name: &str) -> Option<&str> {
         self.given(name).first_value()
+    }
+
+    /// The values of an option's occurrences, in the order of the line, lent. The crate getopts has no such call.
+    ///
+    /// ```
+    /// let mut options = getopts::Options::new();
+    /// options.optmulti("L", "", "add a folder", "DIR");
+    /// let matches = options.parse(["-La", "-L", "b"]).unwrap();
+    /// assert!(matches.values("L").eq(["a", "b"]));
+    /// ```
+    ///
+    /// # Panics
+    /// Where no option has the name.
+    pub fn values(&self, name: &str) -> impl Iterator<Item = &str> + '_ {
+        self.occurrences(name).filter_map(|(_, value)| value)
+    }
+
+    /// The positions and values of an option's occurrences, in the order of the line, lent. The crate getopts has no such
+    /// call.
+    ///
+    /// ```
+    /// let mut options = getopts::Options::new();
+    /// options.optflagopt("c", "color", "colour the output", "WHEN");
+    /// let matches = options.parse(["in.txt", "--color=auto"]).unwrap();
+    /// assert_eq!(matches.occurrences("c").next(), Some((1, Some("auto"))));
+    /// ```
+    ///
+    /// # Panics
+    /// Where no option has the name.
+    pub fn occurrences(&self, name: &str) -> impl Iterator<Item = (usize, Option<&str>)> + '_ {
+        self.given(name).into_iter()
     }
 
     /// Whether some option has this name. The other calls that take a name panic where none has.
@@ -55,7 +125,7 @@ impl Matches {
     /// assert!(matches.opt_defined("quiet") && !matches.opt_defined("loud"));
     /// ```
     pub fn opt_defined(&self, name: &str) -> bool {
-        self.proved.opt_defined(name)
+        self.held.place_of(name).is_some()
     }
 
     /// Whether an option was given, by any of its names.
@@ -65,6 +135,9 @@ impl Matches {
     /// options.optflag("q", "quiet", "say less");
     /// assert!(options.parse(["-q"]).unwrap().opt_present("quiet"));
     /// ```
+    ///
+    /// # Panics
+    /// Where no option has the name.
     pub fn opt_present(&self, name: &str) -> bool {
         !self.given(name).is_empty()
     }
@@ -76,6 +149,9 @@ impl Matches {
     /// options.optflagmulti("v", "verbose", "say more");
     /// assert_eq!(options.parse(["-vv", "--verbose"]).unwrap().opt_count("v"), 3);
     /// ```
+    ///
+    /// # Panics
+    /// Where no option has the name.
     pub fn opt_count(&self, name: &str) -> usize {
         self.given(name).len()
     }
@@ -88,6 +164,9 @@ impl Matches {
     /// let matches = options.parse(["-v", "-o", "x", "-vv"]).unwrap();
     /// assert_eq!(matches.opt_positions("v"), [0, 3, 3]);
     /// ```
+    ///
+    /// # Panics
+    /// Where no option has the name.
     pub fn opt_positions(&self, name: &str) -> Vec<usize> {
         granted(self.given(name).positions(Global))
     }
@@ -101,7 +180,8 @@ impl Matches {
     /// assert!(options.parse(["-b"]).unwrap().opts_present(&names));
     /// ```
     pub fn opts_present(&self, names: &[String]) -> bool {
-        self.proved.opts_present(names)
+        let given = |name: &String| !self.held.occurrences_of(name).is_empty();
+        names.iter().any(given)
     }
 
     /// Whether the option of some name in the list was given. Names are looked at up to that one.
@@ -111,6 +191,9 @@ impl Matches {
     /// options.optflag("a", "", "").optflag("b", "", "");
     /// assert!(options.parse(["-b"]).unwrap().opts_present_any(["a", "b"]));
     /// ```
+    ///
+    /// # Panics
+    /// Where no option has a name that is looked at.
     pub fn opts_present_any<C: IntoIterator>(&self, names: C) -> bool
     where
         C::Item: AsRef<str>,
@@ -128,6 +211,9 @@ impl Matches {
     /// let names = ["a", "b"].map(String::from);
     /// assert_eq!(options.parse(["-bx"]).unwrap().opts_str(&names).unwrap(), "x");
     /// ```
+    ///
+    /// # Panics
+    /// Where no option has a name that is looked at.
     pub fn opts_str(&self, names: &[String]) -> Option<String> {
         names.iter().find_map(|name| self.opt_str(name))
     }
@@ -141,6 +227,9 @@ impl Matches {
     /// let matches = options.parse(["-bx"]).unwrap();
     /// assert_eq!(matches.opts_str_first(["a", "b"]).unwrap(), "x");
     /// ```
+    ///
+    /// # Panics
+    /// Where no option has a name that is looked at.
     pub fn opts_str_first<C: IntoIterator>(&self, names: C) -> Option<String>
     where
         C::Item: AsRef<str>,
@@ -157,6 +246,9 @@ impl Matches {
     /// options.optmulti("L", "", "add a folder", "DIR");
     /// assert_eq!(options.parse(["-La", "-L", "b"]).unwrap().opt_strs("L"), ["a", "b"]);
     /// ```
+    ///
+    /// # Panics
+    /// Where no option has the name.
     pub fn opt_strs(&self, name: &str) -> Vec<String> {
         let given = self.given(name);
         let (count, mut values) = (given.len(), Vec::new());
@@ -178,6 +270,9 @@ impl Matches {
     /// let values = options.parse(["-L", "a", "-Lb"]).unwrap().opt_strs_pos("L");
     /// assert_eq!(values, [(0, "a".to_string()), (2, "b".to_string())]);
     /// ```
+    ///
+    /// # Panics
+    /// Where no option has the name.
     pub fn opt_strs_pos(&self, name: &str) -> Vec<(usize, String)> {
         granted(self.given(name).pairs(Global))
     }
@@ -189,6 +284,9 @@ impl Matches {
     /// options.optopt("o", "output", "set the output file", "NAME");
     /// assert_eq!(options.parse(["-ofile"]).unwrap().opt_str("output").unwrap(), "file");
     /// ```
+    ///
+    /// # Panics
+    /// Where no option has the name.
     pub fn opt_str(&self, name: &str) -> Option<String> {
         self.value(name).map(str::to_string)
     }
@@ -202,6 +300,9 @@ impl Matches {
     /// let matches = options.parse(["--color"]).unwrap();
     /// assert_eq!(matches.opt_default("color", "auto").unwrap(), "auto");
     /// ```
+    ///
+    /// # Panics
+    /// Where no option has the name.
     pub fn opt_default(&self, name: &str, def: &str) -> Option<String> {
         let value = self.given(name).first_value_or(def);
         value.map(str::to_string)
@@ -217,6 +318,9 @@ impl Matches {
     ///
     /// # Errors
     /// Where the value can't be read as a `T`.
+    ///
+    /// # Panics
+    /// Where no option has the name.
     pub fn opt_get<T: FromStr>(&self, name: &str) -> Result<Option<T>, T::Err> {
         self.value(name).map(str::parse).transpose()
     }
@@ -232,6 +336,9 @@ impl Matches {
     ///
     /// # Errors
     /// Where the value can't be read as a `T`.
+    ///
+    /// # Panics
+    /// Where no option has the name.
     pub fn opt_get_default<T: FromStr>(&self, name: &str, def: T) -> Result<T, T::Err> {
         self.value(name).map_or(Ok(def), str::parse)
     }
@@ -243,22 +350,17 @@ impl Matches {
     /// assert_eq!(options.parse(["a", "--", "b"]).unwrap().free_trailing_start(), Some(1));
     /// ```
     pub fn free_trailing_start(&self) -> Option<usize> {
-        self.proved.free_trailing_start()
+        self.trailing_start
     }
 }
 
 impl fmt::Debug for Matches {
     fn fmt(&self, f: &mut fmt::Formatter<'_>) -> fmt::Result {
-        let opts = debug::opts_of(&self.proved);
+        let opts = debug::opts_of(&self.held);
         let given = |(position, value)| (position, debug::Given(value));
-        let vals: Vec<Vec<_>> = (0..opts.len())
-            .map(|place| {
-                self.proved
-                    .occurrences_at(place)
-                    .into_iter()
-                    .map(given)
-                    .collect()
-            })
+        let vals: Vec<Vec<_>> = self
+            .every_option()
+            .map(|given_of| given_of.map(given).collect())
             .collect();
         f.debug_struct("Matches")
             .field("opts", &opts)

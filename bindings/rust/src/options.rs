@@ -141,6 +141,9 @@ impl Options {
     /// options.optflag("q", "quiet", "say less");
     /// assert!(options.parse(["--quiet"]).unwrap().opt_present("q"));
     /// ```
+    ///
+    /// # Panics
+    /// Where the short name has more than one byte, or the long name has just one.
     pub fn optflag(&mut self, short: &str, long: &str, desc: &str) -> &mut Options {
         self.opt(short, long, desc, "", HasArg::No, Occur::Optional)
     }
@@ -152,6 +155,9 @@ impl Options {
     /// options.optflagmulti("v", "verbose", "say more");
     /// assert_eq!(options.parse(["-vv", "--verbose"]).unwrap().opt_count("v"), 3);
     /// ```
+    ///
+    /// # Panics
+    /// Where the short name has more than one byte, or the long name has just one.
     pub fn optflagmulti(&mut self, short: &str, long: &str, desc: &str) -> &mut Options {
         self.opt(short, long, desc, "", HasArg::No, Occur::Multi)
     }
@@ -163,6 +169,9 @@ impl Options {
     /// options.optflagopt("c", "color", "colour the output", "WHEN");
     /// assert_eq!(options.parse(["--color"]).unwrap().opt_default("c", "auto").unwrap(), "auto");
     /// ```
+    ///
+    /// # Panics
+    /// Where the short name has more than one byte, or the long name has just one.
     pub fn optflagopt(&mut self, short: &str, long: &str, desc: &str, hint: &str) -> &mut Options {
         self.opt(short, long, desc, hint, HasArg::Maybe, Occur::Optional)
     }
@@ -174,6 +183,9 @@ impl Options {
     /// options.optmulti("L", "", "add a folder", "DIR");
     /// assert_eq!(options.parse(["-La", "-L", "b"]).unwrap().opt_strs("L"), ["a", "b"]);
     /// ```
+    ///
+    /// # Panics
+    /// Where the short name has more than one byte, or the long name has just one.
     pub fn optmulti(&mut self, short: &str, long: &str, desc: &str, hint: &str) -> &mut Options {
         self.opt(short, long, desc, hint, HasArg::Yes, Occur::Multi)
     }
@@ -185,6 +197,9 @@ impl Options {
     /// options.optopt("o", "output", "set the output file", "NAME");
     /// assert_eq!(options.parse(["--output=a"]).unwrap().opt_str("o").unwrap(), "a");
     /// ```
+    ///
+    /// # Panics
+    /// Where the short name has more than one byte, or the long name has just one.
     pub fn optopt(&mut self, short: &str, long: &str, desc: &str, hint: &str) -> &mut Options {
         self.opt(short, long, desc, hint, HasArg::Yes, Occur::Optional)
     }
@@ -196,6 +211,9 @@ impl Options {
     /// options.reqopt("i", "input", "read this file", "NAME");
     /// assert!(options.parse(["free"]).is_err());
     /// ```
+    ///
+    /// # Panics
+    /// Where the short name has more than one byte, or the long name has just one.
     pub fn reqopt(&mut self, short: &str, long: &str, desc: &str, hint: &str) -> &mut Options {
         self.opt(short, long, desc, hint, HasArg::Yes, Occur::Req)
     }
@@ -208,7 +226,7 @@ impl Options {
     }
 
     /// The proved options. Panics where an option has two empty names, which no line can be read by.
-    fn named(&self) -> &proved::Options {
+    pub(crate) fn named(&self) -> &proved::Options {
         if !self.nameless.is_empty() {
             panic!("this long-format option was given no name");
         }
@@ -226,6 +244,9 @@ impl Options {
     /// let fail = options.parse(["--output"]).unwrap_err();
     /// assert_eq!(fail.to_string(), "Argument to option 'output' missing");
     /// ```
+    ///
+    /// A program's own words are `std::env::args_os().skip(1)`; `std::env::args()` panics where one isn't UTF-8. All items
+    /// are taken before the first is read.
     ///
     /// # Errors
     /// A [`Fail`] says why the words were refused.
@@ -281,7 +302,7 @@ impl Options {
         let options = self.named();
         let args: Vec<C::Item> = args.into_iter().collect();
         // Few words take no list of references.
-        let (mut few, mut many) = ([""; 8], Vec::new());
+        let (mut few, mut many) = ([""; 16], Vec::new());
         let words = if args.len() <= few.len() {
             &mut few[..args.len()]
         } else {
@@ -335,6 +356,9 @@ impl Options {
     /// options.reqopt("i", "input", "", "NAME").optflag("q", "quiet", "");
     /// assert_eq!(options.short_usage("copy"), "Usage: copy -i NAME [-q]");
     /// ```
+    ///
+    /// # Panics
+    /// Where an option has two empty names.
     pub fn short_usage(&self, program_name: &str) -> String {
         granted(self.named().short_usage(Global, program_name))
     }
@@ -347,6 +371,9 @@ impl Options {
     /// let text = options.usage("Usage: copy FILE");
     /// assert_eq!(text, "Usage: copy FILE\n\nOptions:\n    -h, --help          print this\n");
     /// ```
+    ///
+    /// # Panics
+    /// Where an option has two empty names.
     pub fn usage(&self, brief: &str) -> String {
         granted(self.named().usage(Global, brief))
     }
@@ -359,6 +386,9 @@ impl Options {
     /// let text = options.usage_with_format(|rows| rows.collect::<Vec<_>>().join("\n"));
     /// assert_eq!(text, "    -h, --help          print this");
     /// ```
+    ///
+    /// # Panics
+    /// Where an option has two empty names.
     pub fn usage_with_format<F: FnMut(&mut dyn Iterator<Item = String>) -> String>(
         &self,
         mut formatter: F,

@@ -1,18 +1,17 @@
 //! The columns of texts: with the feature `unicode` those of the crate `unicode-width`, else bytes.
 
-#[cfg(feature = "unicode")]
-pub use unicode_width::UnicodeWidthStr;
-
 /// Texts that have columns.
-#[cfg(not(feature = "unicode"))]
 pub trait UnicodeWidthStr {
-    /// How many columns a text takes.
+    /// How many columns a text takes. Printable ASCII takes as many as it has bytes.
     fn width(&self) -> usize;
 }
 
-#[cfg(not(feature = "unicode"))]
 impl UnicodeWidthStr for str {
     fn width(&self) -> usize {
+        #[cfg(feature = "unicode")]
+        if !self.bytes().all(|byte| matches!(byte, b' '..=b'~')) {
+            return unicode_width::UnicodeWidthStr::width(self);
+        }
         self.len()
     }
 }

@@ -205,22 +205,22 @@ fn of_memory<T>(result: Result<T, Fail>) -> Result<T, Fail> {
 fn each_refused_request_of_reading_is_told() {
     for more in [0, 30] {
         let options = options(more);
-        assert!(each_refused_of(&options, |o| of_memory(o.parse_words(Global, &WORDS))) > 9);
+        assert!(each_refused_of(&options, |o| of_memory(o.parse_words(Global, &WORDS))) > 8);
         assert!(
             each_refused_of(&options, |o| of_memory(
                 o.parse(Global, WORDS.iter().copied())
-            )) > 9
+            )) > 8
         );
         assert!(
             each_refused_of(&options, |o| of_memory(
                 o.parse_ignoring_counts(Global, &WORDS)
-            )) > 9
+            )) > 8
         );
-        assert!(each_refused_of(&options, |o| of_memory(o.canonical_words(Global, &WORDS))) > 9);
+        assert!(each_refused_of(&options, |o| of_memory(o.canonical_words(Global, &WORDS))) > 8);
         assert!(
             each_refused_of(&options, |o| of_memory(
                 o.canonical(Global, WORDS.iter().copied())
-            )) > 9
+            )) > 8
         );
     }
     let many = ["-vofile", "free"].repeat(2000);

@@ -100,24 +100,29 @@ fn bytes_of(word: OsString) -> Vec<u8> {
     word.into_string().expect("words are UTF-8").into_bytes()
 }
 
+/// Texts without the ASCII white space at both ends. Rust's own call of the name is there from 1.80 on.
+#[allow(dead_code)]
+pub trait TrimAscii {
+    /// The text between.
+    fn trimmed_ascii(&self) -> &str;
+}
+
+impl TrimAscii for str {
+    fn trimmed_ascii(&self) -> &str {
+        self.trim_matches(|character: char| character.is_ascii_whitespace())
+    }
+}
+
 /// Lists of bytes, and of what else is copied bit by bit.
 pub trait TryExtend<T: Copy> {
     /// The items, cut or filled to so many with this one.
     fn try_resize(&mut self, len: usize, item: T) -> Result<(), AllocError>;
-    /// The items, and then these.
-    fn try_extend_from_slice(&mut self, items: &[T]) -> Result<(), AllocError>;
 }
 
 impl<T: Copy> TryExtend<T> for Vec<T> {
     fn try_resize(&mut self, len: usize, item: T) -> Result<(), AllocError> {
         self.try_grow(len.saturating_sub(self.len()))?;
         self.resize(len, item);
-        Ok(())
-    }
-
-    fn try_extend_from_slice(&mut self, items: &[T]) -> Result<(), AllocError> {
-        self.try_grow(items.len())?;
-        self.extend_from_slice(items);
         Ok(())
     }
 }

@@ -1,6 +1,6 @@
 //! Reads a shell script's words by a table of options, and writes them as code that the script runs.
 //!
-//! The program is the proved source with its contracts erased, in `program` and `getopts_bytes`, over that of the library.
+//! The program is the proved source with its contracts erased, in `program`, over that of the library.
 //! What the system does for it is in `host`.
 #![forbid(unsafe_code)]
 
@@ -13,8 +13,6 @@ mod getopts {
     pub fn names_resolve(_options: &Options) {}
 }
 
-#[allow(unused, clippy::all)]
-mod getopts_bytes;
 #[allow(unused, clippy::all)]
 mod program;
 

@@ -18,3 +18,5 @@ pub mod Canonical
 pub mod MainTheorem
 -- descriptions in rows, and usage texts
 pub mod Wrapping
+-- what computes on a line that is written out
+pub mod OnLiterals

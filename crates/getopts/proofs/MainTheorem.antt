@@ -3,3 +3,4 @@ pub mod Plain
 pub mod Callers
 pub mod Theorem
 pub mod FirstFault
+pub mod Results

@@ -87,8 +87,8 @@ first_value_among groups [] = None
 first_value_among groups (name ∷ names) =
     option_or (first_value (found_of groups name)) (first_value_among groups names)
 
--- What a value is read as: where there is one, a value or an error that this reading gives for it;
--- else nothing.
+-- Where there is no value, it is read as nothing.
+-- A value is read as what this way of reading gives for it: a value or an error.
 abbrev pub IsReadAs : {T E : Type 0} → (Text → Result T E → Type 0)
     → Option Text → Result (Option T) E → Type 0
 IsReadAs gives value answer =

@@ -78,8 +78,8 @@ pub record IsCountKeeping (options : Declared) (reading : Reading) (words : List
   pub reads : IsReading (grammar_of options) reading words
   pub keeps : KeepsCounts (matches_of options reading).groups
 
--- The words are accepted with this content: they have one reading, which keeps the counts, and the
--- content is what it says.
+-- The words have one reading, which keeps the counts and says the content.
+-- The words are accepted with this content.
 pub record IsAcceptedWith (options : Declared) (words : List Text) (content : Content)
     : Type 0 where
   pub reading : Reading
@@ -87,8 +87,8 @@ pub record IsAcceptedWith (options : Declared) (words : List Text) (content : Co
   pub counts : KeepsCounts (matches_of options reading).groups
   pub content_is : content ≡ content_of options reading
 
--- A line says a content: in some style and mode it has a reading with this content that keeps the
--- counts.
+-- In some style and mode the line has a reading with this content that keeps the counts.
+-- A line says a content.
 pub record Says (options : Declared) (words : List Text) (content : Content) : Type 0 where
   pub style : ParsingStyle
   pub long_only : Bool
@@ -96,16 +96,16 @@ pub record Says (options : Declared) (words : List Text) (content : Content) : T
   pub reads : IsCountKeeping (with_setting options style long_only) reading words
   pub content_is : content ≡ content_of (with_setting options style long_only) reading
 
--- The canonical line of a content reads back: its canonical reading keeps the counts and has that
--- content.
+-- The canonical reading keeps the counts and has the content.
+-- The canonical line of a content reads back.
 pub record ReadsBack (options : Declared) (content : Content) : Type 0 where
   pub reads : IsCountKeeping options (canonical_reading options.groups content)
       (canonical_line options.groups content)
   pub same : content_of options (canonical_reading options.groups content) ≡ content
 
--- The laws of the canonical line of a content that is plain and that some line says. The content is
--- sound; the line reads back in both styles and both modes; it says that content alone; and of sound
--- and plain contents it is that of this one only.
+-- The content is sound; its line reads back in both styles and both modes; it says that content
+-- alone; and of sound and plain contents it is that of this one only.
+-- These are the laws of the canonical line of a content that is plain and that some line says.
 pub record HasCanonicalLine (options : Declared) (content : Content) : Type 0 where
   pub sound : IsSound options.groups content
   pub reads_back : (style : ParsingStyle) (long_only : Bool)
@@ -117,8 +117,8 @@ pub record HasCanonicalLine (options : Declared) (content : Content) : Type 0 wh
       → (canonical_line options.groups other ≡ canonical_line options.groups content)
       ↔ (other ≡ content)
 
--- in neither style and neither mode is the canonical word of this mention the first word of a
--- lawful item with just this mention
+-- This is so in both styles and both modes.
+-- The canonical word of a mention is the first word of no lawful item with just that mention.
 abbrev pub HasNoItem : Declared → Mention → Type 0
 HasNoItem options m = (style : ParsingStyle) (long_only : Bool) (item : Item)
     → IsLawfulItem (grammar_of (with_setting options style long_only)) item

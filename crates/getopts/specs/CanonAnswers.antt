@@ -16,8 +16,8 @@ pub record IsWritten (options : Declared) (words line : List Text) : Type 0 wher
   pub plain : IsPlain options.groups content
   pub line_is : line ≡ canonical_line options.groups content
 
--- The words are accepted with a content that is sound and isn't plain: some mention of it can't be
--- written.
+-- The words are accepted with a content that is sound and isn't plain.
+-- Some mention of the content can't be written.
 pub record IsUnwritable (options : Declared) (words : List Text) : Type 0 where
   pub content : Content
   pub accepted : IsAcceptedWith options words content

@@ -1,5 +1,5 @@
 -- The faults that a line may have, and their printed texts.
-use Rattle.std.specs.Prelude.{Option, Some, None, ◌++◌, codes, MatchOption, ⊤}
+use Rattle.std.specs.Prelude.{ℕ, Option, Some, None, ◌++◌, codes, MatchOption, ⊤}
 use Rattle.std.specs.Option.{option_map_or}
 use Rattle.std.specs.String.{string_bytes}
 use Rattle.getopts.specs.Names.{Text}
@@ -13,6 +13,22 @@ pub data Fault : Type 0 where
   option_missing : Text → Fault
   option_duplicated : Text → Fault
   unexpected_argument : Text → Fault
+
+-- a number for each kind of fault
+abbrev pub fault_index : Fault → ℕ
+fault_index (argument_missing name) = 1
+fault_index (unrecognized_option name) = 2
+fault_index (option_missing name) = 3
+fault_index (option_duplicated name) = 4
+fault_index (unexpected_argument name) = 5
+
+-- the name that a fault tells
+abbrev pub fault_name : Fault → Text
+fault_name (argument_missing name) = name
+fault_name (unrecognized_option name) = name
+fault_name (option_missing name) = name
+fault_name (option_duplicated name) = name
+fault_name (unexpected_argument name) = name
 
 -- the fault of a refusal; out of memory has none
 abbrev pub fault_of : Fail → Option Fault

@@ -2,8 +2,12 @@
 
 -- lists and texts cut at places
 pub mod Pieces
--- groups, by their records
+-- names by their places, and their keys
+pub mod Names
+-- names and kinds of groups, by their records
 pub mod Groups
+-- groups with their hints and descriptions
+pub mod Help
 -- the table of names
 pub mod Table
 -- where the occurrences of groups stand

@@ -1,5 +1,5 @@
 -- What accepted matches hold of the names that the options declare.
-use Rattle.std.specs.Prelude.{◌≡◌, ◌<◌, List, length, map, Some, IsSome}
+use Rattle.std.specs.Prelude.{◌≡◌, ◌<◌, ℕ, List, ◌∷◌, ◌++◌, drop, length, map, Some, IfSome, IsSome}
 use Rattle.std.specs.List.{AllByRecursion}
 use Rattle.std.specs.Borrow.{Bor}
 use Rattle.getopts.specs.Names.{Text, texts}
@@ -7,7 +7,7 @@ use Rattle.getopts.specs.Options.{Declared, Declares, signatures_of, kind_of, oc
 use Rattle.getopts.specs.Matches.{Matched, MatchedGroup, KeepsCounts}
 use Rattle.getopts.specs.Parse.{IsAccepted}
 use Rattle.getopts.specs.Accessors.{IsDefined, found_of, first_value}
-use Rattle.getopts.specs.Reading.{FitsKind}
+use Rattle.getopts.specs.Reading.{FitsKind, stop_word}
 use Rattle.getopts.specs.ReadingLaws.{HavePositionsInOrder, HavePositionsBelow, EndIn}
 use Rattle.getopts.specs.declared.groups.HasArg.TheVariants.{Yes}
 use Rattle.getopts.specs.declared.groups.Occur.TheVariants.{Req}
@@ -23,9 +23,9 @@ HaveValuesByKind groups =
     AllByRecursion (λ group. AllByRecursion (λ found. FitsKind group.signature.kind found.value)
     group.found) groups
 
--- What matches hold of the declared options: their groups are those of the options, with occurrences that
--- stand in order and have values that fit their kinds. Each declared name is defined, and each option that
--- needs an argument and was given has a value.
+-- The groups are those of the options, with occurrences that stand in order and have values that fit
+-- their kinds. An option that needs an argument and was given has a value.
+-- Matches hold what is declared: each declared name is defined.
 pub record HoldGiven (options : Declared) (groups : List MatchedGroup) : Type 0 where
   pub same_groups : AreGroupsOf options groups
   pub positions_in_order : HavePositionsInOrder groups
@@ -34,7 +34,7 @@ pub record HoldGiven (options : Declared) (groups : List MatchedGroup) : Type 0 
   pub needed : (name : Text) → kind_of options.groups name ≡ Some Yes
       → 0 < length (found_of groups name) → IsSome (first_value (found_of groups name))
 
--- What accepted matches hold of them besides: they keep the counts, so each required option was given once.
+-- Accepted matches keep the counts besides, so each required option was given once.
 pub record HoldDeclared (options : Declared) (groups : List MatchedGroup) : Type 0 where
   pub given : HoldGiven options groups
   pub counts_kept : KeepsCounts groups
@@ -45,10 +45,19 @@ pub record HoldDeclared (options : Declared) (groups : List MatchedGroup) : Type
 abbrev pub HaveLastWordsFree : Declared → List Text → List Text → Type 0
 HaveLastWordsFree options words free = options.style ≡ StopAtFirstFree → EndIn words free
 
--- The options accept the words with these matches, whose positions are indexes of words; and under
--- `StopAtFirstFree` the words end in the free words.
+-- There is one free word at least from the trailing start on.
+-- The words are some words, `--`, and the free words from the trailing start on.
+pub record EndsInTrailing (words : List Text) (matches : Matched) (start : ℕ) : Type 0 where
+  pub below : start < length matches.free
+  pub before : List Text
+  pub words_are : words ≡ before ++ stop_word ∷ drop start matches.free
+
+-- Positions are indexes of words; under `StopAtFirstFree` the words end in the free words, and where
+-- there is a trailing start, in those from there on, after `--`.
+-- The options accept the words with these matches.
 pub record Accepts (options : Declared) (words : List (Bor Text)) (matches : Matched)
     : Type 0 where
   pub accepted : IsAccepted options (texts words) matches
   pub positions_below : HavePositionsBelow (length words) matches.groups
   pub free_last : HaveLastWordsFree options (texts words) matches.free
+  pub trailing : IfSome matches.trailing_start (EndsInTrailing (texts words) matches)

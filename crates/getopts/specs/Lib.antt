@@ -24,6 +24,8 @@ pub mod Holds
 pub mod Canon
 -- the results of `canonical`
 pub mod CanonAnswers
+-- the results, computed
+pub mod Results
 -- the main theorem
 pub mod Theorem
 -- when options, matches and refusals are equal

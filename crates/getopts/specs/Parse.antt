@@ -20,14 +20,14 @@ pub record HasReading (options : Declared) (words : List Text) (matches : Matche
   pub only : IsTheOnly (Reads options words) reading
   pub matches_are : matches ≡ matches_of options reading
 
--- The words are accepted with these matches: they have one reading, and what it gives keeps the
--- counts.
+-- The words have one reading, and what it gives keeps the counts.
+-- The words are accepted with these matches.
 pub record IsAccepted (options : Declared) (words : List Text) (matches : Matched) : Type 0 where
   pub read : HasReading options words matches
   pub counts : KeepsCounts matches.groups
 
--- The words have one reading, what it gives breaks the counts, and the fault is that of the first
--- group that breaks its count.
+-- The words have one reading, and what it gives breaks the counts.
+-- The fault is that of the first group that breaks its count.
 pub record BreaksCounts (options : Declared) (words : List Text) (fault : Fault) : Type 0 where
   pub matches : Matched
   pub read : HasReading options words matches
@@ -42,8 +42,8 @@ pub record HasNoReading (options : Declared) (words : List Text) (fault : Fault)
 abbrev pub IsRefused : Declared → List Text → Fault → Type 0
 IsRefused options words fault = HasNoReading options words fault ⊎ BreaksCounts options words fault
 
--- The laws of readings by a grammar: other spellings of one line, lines one after the other, and
--- where free words and occurrences stand.
+-- Other spellings of one line, lines one after the other, where free words and occurrences stand:
+-- these are the laws of readings by a grammar.
 pub record KeepsReadingLaws (grammar : Grammar) : Type 0 where
   pub long_argument : LongAttachedOrSeparate grammar
   pub short_argument : ShortAttachedOrSeparate grammar

@@ -39,8 +39,8 @@ one_higher_after position other = if nat_le other position then other else other
 abbrev pub AreHigherAfter : ℕ → List ℕ → List ℕ → Type 0
 AreHigherAfter position old new = new ≡ map (one_higher_after position) old
 
--- The new reading is one of the words that it spells, it has the old one's mentions, free words and
--- trailing start, and its positions are to the old one's as `Alike` says.
+-- The new reading has the old one's mentions, free words and trailing start.
+-- The new reading is one of what it spells, and its positions are to the old one's as `Alike` says.
 pub record ReadsAlike (grammar : Grammar) (Alike : List ℕ → List ℕ → Type 0) (old new : Reading)
     : Type 0 where
   pub reads : IsReading grammar new (spelled_words new)
@@ -49,32 +49,33 @@ pub record ReadsAlike (grammar : Grammar) (Alike : List ℕ → List ℕ → Typ
   pub trailing : trailing_start new ≡ trailing_start old
   pub positions : Alike (positions_in grammar old) (positions_in grammar new)
 
--- wherever the item stands in a reading of a line, the reading with the others in its place is
--- alike, where `Alike` may ask for the item's position
+-- `Alike` may ask for the item's position.
+-- Wherever the item stands in a reading, the reading with the others in its place is alike.
 abbrev pub Respells : Grammar → Item → List Item → (ℕ → List ℕ → List ℕ → Type 0) → Type 0
 Respells grammar item others Alike = (front back : List Item) (tail : Tail) (words : List Text)
     → IsReading grammar (reading_of front (item ∷ []) back tail) words
     → ReadsAlike grammar (Alike (word_count front))
     (reading_of front (item ∷ []) back tail) (reading_of front others back tail)
 
--- either item may stand for the other, but that positions of later items are one higher with the
--- longer
+-- Positions of later items are one higher with the longer one.
+-- Either item may stand for the other.
 pub record AreOneWordApart (grammar : Grammar) (shorter longer : Item) : Type 0 where
   pub to_longer : Respells grammar shorter (longer ∷ []) AreHigherAfter
   pub to_shorter : Respells grammar longer (shorter ∷ [])
       (λ position old new. AreHigherAfter position new old)
 
--- A long argument attached or separate: `--name=argument` and `--name`, `argument` read alike,
--- where the name's kind is Yes, but that positions of later items are one higher with the latter.
+-- `--name=argument` and `--name`, `argument` read alike, where the name's kind is Yes, but that
+-- positions of later items are one higher with the latter.
+-- A long argument may be attached or separate.
 pub record LongAttachedOrSeparate (grammar : Grammar) : Type 0 where
   pub either : (dashes : Dashes) (name argument : Text)
       → grammar.kind name ≡ Some Yes
       → AreOneWordApart grammar
       (long dashes name (attached argument)) (long dashes name (separate argument))
 
--- A short argument attached or separate: `-xargument` and `-x`, `argument` read alike, also after
--- flags, where the kind of `x` is Yes, but that positions of later items are one higher with the
--- latter; an argument that is empty can't be attached.
+-- `-xargument` and `-x`, `argument` read alike, also after flags, where the kind of `x` is Yes, but
+-- that positions of later items are one higher with the latter.
+-- A short argument may be attached or separate; one that is empty can't be attached.
 pub record ShortAttachedOrSeparate (grammar : Grammar) : Type 0 where
   pub either : (bytes : List ℕ) (option : ℕ) (argument : Text)
       → grammar.kind (option ∷ []) ≡ Some Yes
@@ -82,8 +83,8 @@ pub record ShortAttachedOrSeparate (grammar : Grammar) : Type 0 where
       → AreOneWordApart grammar (cluster bytes (ends_in option (attached argument)))
       (cluster bytes (ends_in option (separate argument)))
 
--- A cluster splits: `-xs` and `-x`, `-s` read alike but for positions, where `x` is a flag and `s`
--- isn't empty and doesn't begin with `-`.
+-- This asks that `x` is a flag, and that `s` isn't empty and doesn't begin with `-`.
+-- A cluster splits: `-xs` and `-x`, `-s` read alike but for positions.
 pub record ClusterSplits (grammar : Grammar) : Type 0 where
   pub after_flag : (flag : ℕ) (bytes : List ℕ) (end : End)
       → bytes ++ end_text end ≢ []
@@ -91,8 +92,8 @@ pub record ClusterSplits (grammar : Grammar) : Type 0 where
       → Respells grammar (cluster (flag ∷ bytes) end)
       (cluster (flag ∷ []) flags ∷ cluster bytes end ∷ []) (λ position old new. ⊤)
 
--- One dash or two: in long-only mode `-name` and `--name` read alike, positions too, where the name
--- doesn't begin with `-`.
+-- This asks that the name doesn't begin with `-`.
+-- One dash or two: in long-only mode `-name` and `--name` read alike, positions too.
 pub record OneDashOrTwo (grammar : Grammar) : Type 0 where
   pub other_dashes : (dashes other : Dashes) (name : Text) (argument : Argument)
       → grammar.long_only ≡ true
@@ -113,9 +114,9 @@ pub record HasContentOfBoth (grammar : Grammar) (first second whole : Reading) :
   pub mentions : mentions_of grammar whole ≡ mentions_of grammar first ++ mentions_of grammar second
   pub free : free_words whole ≡ free_words first ++ free_words second
 
--- Lines compose, in both styles: where a first line is read to its end by items of which the last
--- isn't a bare cluster, and a second line has a reading, the readings joined are one of the lines
--- joined, and each reading of these has the content of both.
+-- The first line is read to its end by items of which the last isn't a bare cluster, and the second
+-- has a reading. Then the readings joined are one of the lines joined.
+-- Lines compose, in both styles: each reading of the lines joined has the content of both.
 pub record LinesCompose (grammar : Grammar) : Type 0 where
   pub of_both : (first second : Reading) (words more : List Text)
       → IsReading grammar first words
@@ -131,8 +132,8 @@ pub record IsAfterStop (reading : Reading) (start : ℕ) : Type 0 where
   pub below : start < length (free_words reading)
   pub tail_is : reading.tail ≡ stop (drop start (free_words reading))
 
--- The trailing start: where there is one, it is a place among the free words, and these are from
--- there on the words after the stop.
+-- A trailing start is a place among the free words.
+-- From the trailing start on, the free words are the words after the stop.
 pub record TrailingStartIsAfterStop (grammar : Grammar) : Type 0 where
   pub after_stop : (reading : Reading) (words : List Text) (start : ℕ)
       → IsReading grammar reading words
@@ -155,8 +156,9 @@ abbrev pub HavePositionsInOrder : List MatchedGroup → Type 0
 HavePositionsInOrder groups =
     AllByRecursion (λ group. IsNonDecreasingBy (λ found. found.position) group.found) groups
 
--- An occurrence stands in an item: it is one of the item's mentions, and its position is the number
--- of words that the items before spell; the word there is the item's first.
+-- The position is the number of words that the items before spell; the word there is the item's
+-- first.
+-- An occurrence stands in an item: it is one of the item's mentions.
 pub record StandsInItem (grammar : Grammar) (reading : Reading) (words : List Text)
     (occurrence : Occurrence) : Type 0 where
   pub before : List Item
@@ -167,8 +169,8 @@ pub record StandsInItem (grammar : Grammar) (reading : Reading) (words : List Te
       Contains (map (at_position (word_count before)) (mentions grammar item)) occurrence
   pub first_word : slice_get words occurrence.position ≡ slice_get (item_words item) 0
 
--- Positions are indexes of words: each occurrence of a reading stands in an item, at its first
--- word.
+-- Each occurrence of a reading stands in an item, at its first word.
+-- Positions are indexes of words.
 pub record PositionsAreWords (grammar : Grammar) : Type 0 where
   pub of_occurrence : (reading : Reading) (words : List Text) (occurrence : Occurrence)
       → IsReading grammar reading words

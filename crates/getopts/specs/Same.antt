@@ -6,7 +6,7 @@ use Rattle.std.specs.Option.{option_eq}
 use Rattle.std.specs.Ordering.{on, eq_of_both}
 use Rattle.getopts.specs.Names.{Names}
 use Rattle.getopts.specs.Options.{Signature, Group, Declared}
-use Rattle.getopts.specs.Fail.{fail_text}
+use Rattle.getopts.specs.Fail.{Fault, fault_index, fault_name, fault_of}
 use Rattle.getopts.specs.Matches.{Found, MatchedGroup, Matched}
 use Rattle.getopts.specs.declared.fail.Fail.{Fail}
 use Rattle.getopts.specs.declared.groups.HasArg.{HasArg}
@@ -56,9 +56,13 @@ same_options = eq_of_both (on (λ options. options.groups) (pointwise same_group
     (eq_of_both (on (λ options. style_index options.style) ◌==◌)
     (on (λ options. options.long_only) beq))
 
--- whether two refusals print the same text
+-- whether two faults are of one kind, with the same name
+abbrev pub same_fault : Fault → Fault → Bool
+same_fault = eq_of_both (on fault_index ◌==◌) (on fault_name (pointwise ◌==◌))
+
+-- whether two refusals are the same
 abbrev pub same_fail : Fail → Fail → Bool
-same_fail = on fail_text (pointwise ◌==◌)
+same_fail = on fault_of (option_eq same_fault)
 
 -- whether the positions and the values of two occurrences are the same
 abbrev pub same_found : Found → Found → Bool

@@ -1,15 +1,16 @@
 -- The main theorem: what `parse` answers to which words, and when two canonical lines are equal.
-use Rattle.std.specs.Prelude.{◌≡◌, ◌↔◌, ◌⊎◌, List, Result}
+use Rattle.std.specs.Prelude.{◌≡◌, ◌↔◌, ◌⊎◌, List}
 use Rattle.getopts.specs.Accessors.{found_of, each_value}
-use Rattle.getopts.specs.Only.{IsTheOnly, AtMostOne}
+use Rattle.getopts.specs.Only.{AtMostOne}
 use Rattle.getopts.specs.Names.{Text, AreTexts}
 use Rattle.getopts.specs.Options.{Declared, grammar_of}
 use Rattle.getopts.specs.Fail.{Fault}
 use Rattle.getopts.specs.Reading.{Reading, IsScanFault}
 use Rattle.getopts.specs.Matches.{Matched, matches_of, IsCountFault}
-use Rattle.getopts.specs.Parse.{Reads, IsAccepted, IsRefused}
+use Rattle.getopts.specs.Parse.{Reads, HasReading, IsAccepted, IsRefused}
 use Rattle.getopts.specs.Canon.{Content, content_of, IsPlain, canonical_line, IsCountKeeping, Says}
-use Rattle.getopts.specs.CanonAnswers.{IsParseAnswer}
+use Rattle.getopts.specs.CanonAnswers.{IsWritten}
+use Rattle.getopts.specs.Results.{HasResults}
 
 -- words have one reading at most
 abbrev pub OneReading : Declared → Type 0
@@ -22,8 +23,8 @@ AcceptedExactlyWhen options = (words : List Text) (matches : Matched)
     ↔ ((reading : Reading) × IsCountKeeping options reading words
     × (matches ≡ matches_of options reading))
 
--- Words are refused exactly when no reading of them keeps the counts, with the first fault: their
--- scan fault, or the count fault of a reading of them.
+-- Words are refused exactly when no reading of them keeps the counts.
+-- The fault is the first: their scan fault, or the count fault of a reading of them.
 abbrev pub RefusedExactlyWhen : Declared → Type 0
 RefusedExactlyWhen options = (words : List Text) (fault : Fault) → AreTexts words
     → IsRefused options words fault
@@ -32,13 +33,12 @@ RefusedExactlyWhen options = (words : List Text) (fault : Fault) → AreTexts wo
     ⊎ ((reading : Reading) × Reads options words reading
     × IsCountFault (matches_of options reading).groups fault)))
 
--- `parse` has one answer to any words, and no other: matches, or a fault
-abbrev pub HaveOneAnswer : Declared → Type 0
-HaveOneAnswer options = (words : List Text) → AreTexts words
-    → (answer : Result Matched Fault) × IsTheOnly (IsParseAnswer options words) answer
+-- any words have one result of each call, and no other
+abbrev pub HaveResults : Declared → Type 0
+HaveResults options = (words : List Text) → AreTexts words → HasResults options words
 
--- two matches hold the same but for positions: each occurrence of each name has the same value, or
--- none in both, and the free words are the same
+-- Each occurrence of each name has the same value, or none in both, and free words are the same.
+-- Two matches hold the same, but for positions.
 pub record HoldSame (matches other : Matched) : Type 0 where
   pub values : (name : Text)
       → each_value (found_of other.groups name) ≡ each_value (found_of matches.groups name)
@@ -54,8 +54,19 @@ OneContentHoldsSame options = (words others : List Text) (reading other : Readin
     → IsAccepted options others (matches_of options other)
     × HoldSame matches (matches_of options other)
 
--- Two plain contents that lines say, in styles and modes that may differ, have equal canonical
--- lines exactly if they are equal.
+-- A line is accepted, with matches that hold the same as these.
+pub record ReadAgain (options : Declared) (line : List Text) (matches : Matched) : Type 0 where
+  pub again : Matched
+  pub accepted : IsAccepted options line again
+  pub same : HoldSame matches again
+
+-- A canonical line of words, read again, gives matches that hold the same as theirs.
+abbrev pub LinesReadAgain : Declared → Type 0
+LinesReadAgain options = (words line : List Text) (matches : Matched) → IsWritten options words line
+    → HasReading options words matches → ReadAgain options line matches
+
+-- The styles and modes, by which lines say the contents, may differ.
+-- Two plain contents have equal canonical lines exactly if they are equal.
 abbrev pub OneLineOneContent : Declared → Type 0
 OneLineOneContent options = (words others : List Text) (content other : Content)
     → Says options words content → IsPlain options.groups content

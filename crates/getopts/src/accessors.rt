@@ -29,6 +29,7 @@ impl Matches {
     ///
     /// Names of one group have the same place. The result is `None` where `opt_defined` is false. The
     /// Rust has no such call.
+    #[inline]
     pub fn opt_place(&self, name: &str) -> Option<usize>
         ensures place { result ≡ Spec.place_of self.now.groups name.now }
         ensures lawful { Spec.AreHeldLawfully self.now.groups }
@@ -42,6 +43,7 @@ impl Matches {
     /// `opt_place` returns the place of a name. There are none where the option wasn't given, nor past
     /// the last group. After `-v -o x` by `optopt("o",..)` and `optflag("v",..)` those at 0 are one of
     /// position 1 and value `x`. The Rust crate has no such call.
+    #[inline]
     pub fn occurrences_at(&self, place: usize) -> Occurrences<'_>
         ensures { result ≡ Spec.found_in self.now.groups place }
     {

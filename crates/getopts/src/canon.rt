@@ -2,18 +2,20 @@
 
 ghost use Rattle.std.specs.Prelude.{◌≡◌, ◌<◌, length, map, IfOk, IfErr, IfSome, IfNone, OnOk, not};
 ghost use Rattle.std.specs.List.{AllByRecursion, list_all};
-ghost use Rattle.std.specs.Option.{option_copied};
+ghost use Rattle.std.specs.Option.{option_copied, option_map};
 ghost use Rattle.std.specs.String.{string_bytes};
 ghost use Rattle.getopts.specs.Reading as Scan;
 ghost use Rattle.getopts.specs.Canon as Spec;
 ghost use Rattle.getopts.specs.Fail.{Tells};
-ghost use Rattle.getopts.specs.Held.Matches.{IsOfGroups};
+ghost use Rattle.getopts.specs.Held.Matches.{IsOfSignatures};
 ghost use Rattle.getopts.specs.Names.{texts};
+ghost use Rattle.getopts.specs.Options.{signatures_of};
 ghost use Rattle.getopts.specs.Held.Line.{line_content};
 
 use crate::fail::Fail;
-use crate::groups::Groups;
+use crate::help::Groups;
 use crate::matches::ReadLine;
+use crate::occurrences::LineOccurrences;
 use crate::options::Options;
 use crate::parse::words_from;
 use crate::scan::Line;
@@ -28,7 +30,7 @@ fn holds_equals(text: &str) -> bool
 
 /// Whether no group with an occurrence has a main name that holds `=`.
 fn are_plain(groups: &Groups, read: &ReadLine) -> bool
-    requires { IsOfGroups groups.now read.now }
+    requires { IsOfSignatures (signatures_of groups.now) read.now }
     ensures { result
         ≡ list_all (λ o. not (Scan.holds_equals (Spec.main_at groups.now o.mention.group)))
         read.now.line.found }
@@ -57,6 +59,26 @@ fn canonical_word(alloc: Global, main: &str, value: Option<&str>) -> Result<Stri
     Ok(word)
 }
 
+/// The words of the occurrences, with capacity for so many words more.
+fn option_words(
+    alloc: Global,
+    groups: &Groups,
+    found: &LineOccurrences,
+    more: usize,
+) -> Result<Vec<String>, AllocError>
+    requires { AllByRecursion (λ o. o.mention.group < length groups.now) found.now }
+    ensures { IfOk result (λ words. map string_bytes words.items
+        ≡ map (Spec.canonical_word groups.now) (map (λ o. o.mention) found.now)) }
+{
+    let mut words = Vec::with_capacity(alloc, found.len().saturating_add(more))?;
+    for place in 0..found.len() {
+        let occurrence = found.at(place);
+        let value = occurrence.value;
+        words.push(canonical_word(alloc, groups.main(occurrence.group), value)?)?;
+    }
+    Ok(words)
+}
+
 /// The words of the occurrences, then `--`, then the free words.
 fn canonical_line(alloc: Global, groups: &Groups, line: Line) -> Result<Vec<String>, AllocError>
     requires { AllByRecursion (λ o. o.mention.group < length groups.now) line.found }
@@ -64,12 +86,7 @@ fn canonical_line(alloc: Global, groups: &Groups, line: Line) -> Result<Vec<Stri
         ≡ Spec.canonical_line groups.now (line_content line)) }
 {
     let Line { found, free, .. } = line;
-    let room = found.len().saturating_add(free.len()).saturating_add(1);
-    let mut words = Vec::with_capacity(alloc, room)?;
-    for place in 0..found.len() {
-        let (group, (_, value)) = found.at(place);
-        words.push(canonical_word(alloc, groups.main(group), value)?)?;
-    }
+    let mut words = option_words(alloc, groups, &found, free.len().saturating_add(1))?;
     words.push(String::from_str(alloc, "--")?)?;
     for word in free {
         words.push(word)?;
@@ -81,7 +98,9 @@ impl Options {
     ghost use Rattle.std.specs.Iterator.{IsFinite};
     ghost use Rattle.std.specs.Iterator.Runs.{WholeRun};
     ghost use Rattle.getopts.specs.Parse.{IsRefused};
+    ghost use Rattle.getopts.specs.Results.{GivesAs, canonical_result};
     ghost use Rattle.getopts.specs.CanonAnswers.{IsWritten, IsUnwritable, KeepsLineLaws};
+    ghost use Rattle.getopts.specs.Theorem.{LinesReadAgain};
 
     /// Writes an accepted line again with main names alone, for a program that logs, compares or caches
     /// by command lines.
@@ -113,7 +132,11 @@ impl Options {
             (λ run. IsUnwritable self.now (texts run.items)))) }
         ensures refused { IfErr result (λ fail. Tells fail (λ fault. WholeRun I.next_gives args
             (λ run. IsRefused self.now (texts run.items) fault))) }
+        ensures result { GivesAs (option_map (λ line. map string_bytes line.items)) result
+            (λ answer. WholeRun I.next_gives args
+            (λ run. canonical_result self.now (texts run.items) ≡ answer)) }
         ensures laws { OnOk result (KeepsLineLaws self.now) }
+        ensures read_again { OnOk result (LinesReadAgain self.now) }
     {
         let words = words_from(alloc, args)?;
         self.canonical_words(alloc, &words)
@@ -134,7 +157,10 @@ impl Options {
             (IsUnwritable self.now (texts words.now))) }
         ensures refused { IfErr result (λ fail. Tells fail
             (IsRefused self.now (texts words.now))) }
+        ensures result { GivesAs (option_map (λ line. map string_bytes line.items)) result
+            (λ answer. canonical_result self.now (texts words.now) ≡ answer) }
         ensures laws { OnOk result (KeepsLineLaws self.now) }
+        ensures read_again { OnOk result (LinesReadAgain self.now) }
     {
         let accepted = self.accepted_line(alloc, words)?;
         let groups = self.groups();

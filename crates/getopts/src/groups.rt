@@ -1,27 +1,27 @@
-//! Option groups: their kinds, and the texts and kinds of many held together.
+//! Option groups: their kinds, and the names and kinds of many held together.
 
 ghost use Rattle.std.specs.Prelude.{◌≡◌, ◌++◌, ◌∷◌, [], Some, ◌+◌, ◌*◌, ◌≤◌, ◌<◌, ◌^◌, length, map};
-ghost use Rattle.std.specs.Prelude.{get_or, slice_get, OnOk, OnErr};
+ghost use Rattle.std.specs.Prelude.{not, get_or, slice_get, OnOk, OnErr};
 ghost use Rattle.std.specs.Option.{option_map};
 ghost use Rattle.std.specs.String.{string_bytes, string_len, string_capacity};
 ghost use Rattle.std.specs.Cmp.Lexicographic.{pointwise};
 ghost use Rattle.std.specs.Cmp.Rules.{comparing};
 ghost use Rattle.std.proofs.Common.{rules};
-ghost use Rattle.getopts.specs.Names.{AreLawful};
-ghost use Rattle.getopts.specs.Options.{MayBeDeclared, group_of, signatures_of, names_of};
-ghost use Rattle.getopts.specs.Canon.{main_at};
-ghost use Rattle.getopts.specs.Held.Groups.{signature_view, names_view};
-ghost use Rattle.getopts.specs.Held.Table.{names_at, name_at, HaveNamesOfBytes};
+ghost use Rattle.getopts.specs.Names.{AreLawful, is_empty, main_name};
+ghost use Rattle.getopts.specs.Held.Groups.{signature_view, names_view, names_in, signature_with};
+ghost use Rattle.getopts.specs.Held.Groups.{AreLawfulSignatures};
+ghost use Rattle.getopts.specs.Held.Names as Keys;
+ghost use Rattle.getopts.specs.Held.Names.{names_at, name_at, HaveNamesOfBytes};
 
-use crate::names::{Names, is_of_bytes};
+use crate::names::{Names, is_of_bytes, key_of, short_byte};
 use std::alloc::{AllocError, Global};
 use std::marker::Model;
 
 /// The capacity once a first group is added: so many groups need no second request.
-const FIRST_GROUPS: usize = 8;
+pub(crate) const FIRST_GROUPS: usize = 8;
 
-/// The bytes of their texts, likewise.
-const FIRST_BYTES: usize = 256;
+/// The bytes of their names, likewise.
+const FIRST_NAMES: usize = 128;
 
 /// What the first free word does to the words after it.
 #[derive(Debug, Clone, Copy, PartialEq, Eq)]
@@ -94,55 +94,69 @@ impl<'g> PartialEq for Signature<'g> {
     }
 }
 
-/// A group with its texts for usage, borrowed.
-#[derive(Clone, Copy)]
-pub(crate) struct Group<'g> {
-    pub signature: Signature<'g>,
-    pub hint: &'g str,
-    pub desc: &'g str,
+/// Where two texts end that stand one after the other in a text.
+#[derive(Debug, Clone, Copy)]
+pub(crate) struct Ends {
+    pub first: usize,
+    pub second: usize,
 }
 
-/// A group among others: where its texts end in the text of all, and its kinds.
+impl PartialEq for Ends {
+    ghost use Rattle.getopts.specs.Held.Groups.{same_ends};
+
+    ghost eq = { same_ends };
+
+    ghost laws = { Prim.search (comparing, rules) depth 12 };
+
+    fn eq(&self, other: &Ends) -> bool {
+        self.first == other.first && self.second == other.second
+    }
+}
+
+/// A group among others: where its names end in the text of all names, what they are looked up by, and
+/// its kinds.
 #[derive(Debug, Clone, Copy)]
-struct GroupRecord {
-    short_end: usize,
-    long_end: usize,
-    hint_end: usize,
-    desc_end: usize,
+struct SignatureRecord {
+    names: Ends,
+    /// The key of the main name.
+    key: u64,
+    /// The byte of the short name, or `NO_BYTE`.
+    short: u16,
+    has_long: bool,
     kinds: Kinds,
 }
 
-impl PartialEq for GroupRecord {
+impl PartialEq for SignatureRecord {
     ghost use Rattle.getopts.specs.Held.Groups.{same_record};
 
     ghost eq = { same_record };
 
     ghost laws = { Prim.search (comparing, rules) depth 14 };
 
-    fn eq(&self, other: &GroupRecord) -> bool {
-        self.short_end == other.short_end
-            && self.long_end == other.long_end
-            && self.hint_end == other.hint_end
-            && self.desc_end == other.desc_end
+    fn eq(&self, other: &SignatureRecord) -> bool {
+        self.names == other.names
+            && self.key == other.key
+            && self.short == other.short
+            && self.has_long == other.has_long
             && self.kinds == other.kinds
     }
 }
 
-/// Where the texts of the groups before a place end.
+/// Where the names of the groups before a place end.
 #[inline(always)]
-fn start_of(records: &[GroupRecord], place: usize) -> usize
+fn names_start(records: &[SignatureRecord], place: usize) -> usize
     requires { place ≤ length records.now }
-    ensures { result ≡ get_or (0 ∷ map (λ r. r.desc_end) records.now) place 0 }
+    ensures { result ≡ get_or (0 ∷ map (λ r. r.names.second) records.now) place 0 }
 {
     if place == 0 {
         return 0;
     }
-    records[place - 1].desc_end
+    records[place - 1].names.second
 }
 
 /// Adds a text that there is room for, and returns where it ends.
 #[inline(always)]
-fn push_reserved(texts: &mut String, text: &str) -> usize
+pub(crate) fn push_reserved(texts: &mut String, text: &str) -> usize
     requires { string_len texts.old + length text.now ≤ string_capacity texts.old }
     ensures bytes { string_bytes texts.new ≡ string_bytes texts.old ++ text.now }
     ensures end { result ≡ length (string_bytes texts.new) }
@@ -157,49 +171,49 @@ fn push_reserved(texts: &mut String, text: &str) -> usize
     }
 }
 
-/// Lawfully named groups: one text of all their texts, for each group the short name, the long name,
-/// the hint and the description, and a record of each group.
+/// What reading asks of lawfully named groups: one text of all their names, of each group the short
+/// and the long one, and a record of each group.
 #[derive(Debug)]
-pub(crate) struct Groups {
+pub(crate) struct Signatures {
     text: String,
-    records: Vec<GroupRecord>,
+    records: Vec<SignatureRecord>,
 }
 
-impl Drop for Groups {
+impl Drop for Signatures {
     fn drop(self) {
-        let Groups {
+        let Signatures {
             text: _,
             records: _,
         } = self;
     }
 }
 
-impl Model for Groups {
+impl Model for Signatures {
     ghost use Rattle.std.specs.Prelude.{List};
-    ghost use Rattle.getopts.specs.Options.{Group};
-    ghost use Rattle.getopts.specs.Held.Groups.{groups_view, HoldGroups};
+    ghost use Rattle.getopts.specs.Options.{Signature};
+    ghost use Rattle.getopts.specs.Held.Groups.{signatures_view, HoldSignatures};
 
-    ghost Value = { List Group };
+    ghost Value = { List Signature };
 
-    ghost view = { groups_view };
+    ghost view = { signatures_view };
 
-    ghost invariant = { HoldGroups };
+    ghost invariant = { HoldSignatures };
 }
 
-impl Groups {
-    ghost use Rattle.getopts.specs.Held.Groups.{group_view, kinds_of};
-    ghost use Rattle.getopts.specs.Same.{same_signature};
+impl Signatures {
+    ghost use Rattle.getopts.specs.Held.Groups.{kinds_of};
 
-    /// No groups. Takes no memory.
-    pub(crate) fn new(alloc: Global) -> Groups
+    /// Of no groups. Takes no memory.
+    pub(crate) fn new(alloc: Global) -> Signatures
         ensures { result ≡ [] }
     {
-        Groups {
+        Signatures {
             text: String::new(alloc),
             records: Vec::new(alloc),
         }
     }
 
+    #[inline]
     pub(crate) fn len(&self) -> usize
         ensures len { result ≡ length self.now }
         ensures small { 2 * result < 2 ^ 64 }
@@ -208,8 +222,8 @@ impl Groups {
     }
 
     /// The groups may be declared: a law to cite, of which nothing is left once built.
-    pub(crate) fn may_be_declared(&self)
-        ensures { MayBeDeclared self.now }
+    pub(crate) fn are_lawful(&self)
+        ensures { AreLawfulSignatures self.now }
     {
         let _records = &self.records;
     }
@@ -218,168 +232,166 @@ impl Groups {
     #[inline(always)]
     pub(crate) fn kinds_at(&self, place: usize) -> Kinds
         requires { place < length self.now }
-        ensures { Some result
-            ≡ option_map (λ group. kinds_of group.signature) (slice_get self.now place) }
+        ensures { Some result ≡ option_map kinds_of (slice_get self.now place) }
     {
         self.records[place].kinds
     }
 
-    /// The main name of the group at a place.
-    pub(crate) fn main(&self, place: usize) -> &str
+    /// The short name of the group at a place. It starts where the names of the group before it end.
+    #[inline(always)]
+    pub(crate) fn short(&self, place: usize) -> &str
         requires { place < length self.now }
-        ensures { result.now ≡ main_at self.now place }
+        ensures { result.now ≡ (names_at (names_in self.now) place).short }
     {
-        self.signature(place).names.main()
+        let start = names_start(&self.records, place);
+        &self.text[start..self.records[place].names.first]
+    }
+
+    /// The long name of the group at a place.
+    #[inline(always)]
+    pub(crate) fn long(&self, place: usize) -> &str
+        requires { place < length self.now }
+        ensures { result.now ≡ (names_at (names_in self.now) place).long }
+    {
+        let group = self.records[place];
+        &self.text[group.names.first..group.names.second]
+    }
+
+    /// The key of the main name of the group at a place.
+    #[inline(always)]
+    pub(crate) fn key_at(&self, place: usize) -> u64
+        requires { place < length self.now }
+        ensures { result ≡ Keys.key_of (main_name (names_at (names_in self.now) place)) }
+    {
+        self.records[place].key
+    }
+
+    /// The byte of the short name of the group at a place, or `NO_BYTE`.
+    #[inline(always)]
+    pub(crate) fn short_at(&self, place: usize) -> u16
+        requires { place < length self.now }
+        ensures { result ≡ Keys.short_code (names_at (names_in self.now) place).short }
+    {
+        self.records[place].short
+    }
+
+    /// Whether the group at a place has a long name.
+    #[inline(always)]
+    pub(crate) fn has_long(&self, place: usize) -> bool
+        requires { place < length self.now }
+        ensures { result ≡ not (is_empty (names_at (names_in self.now) place).long) }
+    {
+        self.records[place].has_long
     }
 
     /// The two names of the group at a place.
     #[inline]
     pub(crate) fn names(&self, place: usize) -> Names<'_>
         requires { place < length self.now }
-        ensures { names_view result ≡ names_at (names_of self.now) place }
+        ensures { names_view result ≡ names_at (names_in self.now) place }
     {
-        self.signature(place).names
+        Names {
+            short: self.short(place),
+            long: self.long(place),
+        }
+    }
+
+    /// The main name of the group at a place.
+    #[inline]
+    pub(crate) fn main(&self, place: usize) -> &str
+        requires { place < length self.now }
+        ensures { result.now ≡ main_name (names_at (names_in self.now) place) }
+    {
+        if self.has_long(place) {
+            self.long(place)
+        } else {
+            self.short(place)
+        }
     }
 
     /// The name of this number, where each group in turn has two, the short one first. Past the last
     /// it is empty: the calls that sort and search a table want closures which take every entry.
     pub(crate) fn name(&self, number: usize) -> &str
-        ensures { result.now ≡ name_at (names_of self.now) number }
+        ensures { result.now ≡ name_at (names_in self.now) number }
     {
         let place = number / 2;
         if place >= self.len() {
-            return "";
-        }
-        let names = self.names(place);
-        if number % 2 == 0 {
-            names.short
+            ""
+        } else if number % 2 == 0 {
+            self.short(place)
         } else {
-            names.long
+            self.long(place)
         }
     }
 
     /// Each name is of bytes: a law to cite, of which nothing is left once built.
     pub(crate) fn are_of_bytes(&self)
-        ensures { HaveNamesOfBytes (names_of self.now) }
+        ensures { HaveNamesOfBytes (names_in self.now) }
     {
         is_of_bytes(&self.text);
     }
 
-    /// What reading asks of the group at a place: its texts start where those of the one before it end.
-    #[inline]
-    pub(crate) fn signature(&self, place: usize) -> Signature<'_>
+    /// What reading asks of the group at a place.
+    #[inline(always)]
+    pub(crate) fn get(&self, place: usize) -> Signature<'_>
         requires { place < length self.now }
-        ensures { Some (signature_view result)
-            ≡ option_map (λ group. group.signature) (slice_get self.now place) }
+        ensures { Some (signature_view result) ≡ slice_get self.now place }
     {
-        let group = self.records[place];
-        let start = start_of(&self.records, place);
-        let short = &self.text[start..group.short_end];
-        let long = &self.text[group.short_end..group.long_end];
-        let names = Names { short, long };
-        let kinds = group.kinds;
-        Signature { names, kinds }
-    }
-
-    /// The group at a place.
-    pub(crate) fn get(&self, place: usize) -> Group<'_>
-        requires { place < length self.now }
-        ensures { Some (group_view result) ≡ slice_get self.now place }
-    {
-        let group = self.records[place];
-        let signature = self.signature(place);
-        let hint = &self.text[group.long_end..group.hint_end];
-        let desc = &self.text[group.hint_end..group.desc_end];
-        Group {
-            signature,
-            hint,
-            desc,
+        Signature {
+            names: self.names(place),
+            kinds: self.kinds_at(place),
         }
     }
 
-    /// Whether the names and the kinds of each group in order are the same, whatever their help.
-    pub(crate) fn same_signatures(&self, other: &Groups) -> bool
-        ensures { result ≡ pointwise same_signature
-            (signatures_of self.now) (signatures_of other.now) }
-    {
-        self == other || self.same_each(other)
-    }
-
-    /// The same, group by group.
-    #[cold]
-    fn same_each(&self, other: &Groups) -> bool
-        ensures { result ≡ pointwise same_signature
-            (signatures_of self.now) (signatures_of other.now) }
-    {
-        if self.len() != other.len() {
-            return false;
-        }
-        for place in 0..self.len() {
-            if self.signature(place) != other.signature(place) {
-                return false;
-            }
-        }
-        true
-    }
-
-    /// Adds a group as the last. An error leaves the groups as they were.
+    /// Adds those of a group as the last. An error leaves them as they were.
     #[inline]
-    pub(crate) fn push(
-        &mut self,
-        short: &str,
-        long: &str,
-        hint: &str,
-        desc: &str,
-        kinds: Kinds,
-    ) -> Result<(), AllocError>
+    pub(crate) fn push(&mut self, short: &str, long: &str, kinds: Kinds) -> Result<(), AllocError>
         requires { AreLawful short.now long.now }
-        ensures ok { OnOk result (self.new ≡ self.old
-            ++ group_of short.now long.now desc.now hint.now kinds.kind kinds.occurrence ∷ []) }
+        ensures ok { OnOk result
+            (self.new ≡ self.old ++ signature_with kinds short.now long.now ∷ []) }
         ensures err { OnErr result (self.new ≡ self.old) }
     {
-        let names = short.len().saturating_add(long.len());
-        let bytes = names.saturating_add(hint.len()).saturating_add(desc.len());
+        let bytes = short.len().saturating_add(long.len());
         if self.records.is_empty() {
             self.records.reserve(FIRST_GROUPS)?;
-            self.text.reserve(bytes.max(FIRST_BYTES))?;
+            self.text.reserve(bytes.max(FIRST_NAMES))?;
         } else {
             self.records.reserve(1)?;
             self.text.reserve(bytes)?;
         }
-        let short_end = push_reserved(&mut self.text, short);
-        let long_end = push_reserved(&mut self.text, long);
-        let hint_end = push_reserved(&mut self.text, hint);
-        let desc_end = push_reserved(&mut self.text, desc);
-        self.records.push_reserved(GroupRecord {
-            short_end,
-            long_end,
-            hint_end,
-            desc_end,
+        let first = push_reserved(&mut self.text, short);
+        let second = push_reserved(&mut self.text, long);
+        let key = key_of(Names { short, long }.main());
+        self.records.push_reserved(SignatureRecord {
+            names: Ends { first, second },
+            key,
+            short: short_byte(short),
+            has_long: !long.is_empty(),
             kinds,
         });
         Ok(())
     }
 }
 
-impl Clone for Groups {
+impl Clone for Signatures {
     ghost is_clone = { λ a b. b ≡ a };
 
-    fn clone(&self) -> Result<Groups, AllocError> {
-        Ok(Groups {
+    fn clone(&self) -> Result<Signatures, AllocError> {
+        Ok(Signatures {
             text: self.text.clone()?,
             records: self.records.clone()?,
         })
     }
 }
 
-impl PartialEq for Groups {
-    ghost use Rattle.getopts.specs.Same.{same_group};
+impl PartialEq for Signatures {
+    ghost use Rattle.getopts.specs.Same.{same_signature};
 
-    ghost eq = { pointwise same_group };
+    ghost eq = { pointwise same_signature };
 
     ghost laws = { Prim.search (comparing, rules) depth 12 };
 
-    fn eq(&self, other: &Groups) -> bool {
+    fn eq(&self, other: &Signatures) -> bool {
         self.text == other.text && self.records == other.records
     }
 }

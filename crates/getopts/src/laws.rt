@@ -7,12 +7,14 @@ ghost use Rattle.std.specs.Prelude.{List, Bool};
 ghost use Rattle.getopts.specs.Accessors.{held_names};
 ghost use Rattle.getopts.specs.CanonAnswers.{IsParseAnswer, IsCanonicalAnswer};
 ghost use Rattle.getopts.specs.CanonAnswers.{KeepsLineLaws};
+ghost use Rattle.getopts.specs.Results.{HasResults};
+ghost use Rattle.getopts.specs.Names.{AreTexts};
 ghost use Rattle.getopts.specs.Names.{Text, MainNameResolves, OneByteIsShort, EmptyResolvesNot};
 ghost use Rattle.getopts.specs.Only.{AtMostOne};
 ghost use Rattle.getopts.specs.Options.{Declared, MayBeDeclared, names_of, grammar_of};
 ghost use Rattle.getopts.specs.Parse.{KeepsReadingLaws};
 ghost use Rattle.getopts.specs.Theorem.{OneReading, AcceptedExactlyWhen, RefusedExactlyWhen};
-ghost use Rattle.getopts.specs.Theorem.{HaveOneAnswer, OneContentHoldsSame};
+ghost use Rattle.getopts.specs.Theorem.{HaveResults, OneContentHoldsSame, LinesReadAgain};
 ghost use Rattle.getopts.specs.Theorem.{OneLineOneContent};
 
 use crate::matches::Matches;
@@ -29,13 +31,13 @@ use crate::options::Options;
 pub fn one_reading_one_canonical_line(options: &Options)
     // Words have one reading at most, in each style and each mode. They are accepted exactly when it is
     // there and keeps the counts, and else refused with the first fault: of three cases one holds, and
-    // no two.
+    // no two. `parse_result` and its kin compute which.
     ensures one_reading { OneReading options.now }
     ensures one_reading_in_each { (style : ParsingStyle) (long_only : Bool)
         → OneReading (with_setting options.now style long_only) }
     ensures accepted { AcceptedExactlyWhen options.now }
     ensures refused { RefusedExactlyWhen options.now }
-    ensures one_answer { HaveOneAnswer options.now }
+    ensures results { HaveResults options.now }
 
     // Words that say the same give matches that are the same but for positions.
     ensures holds_same { OneContentHoldsSame options.now }
@@ -48,6 +50,7 @@ pub fn one_reading_one_canonical_line(options: &Options)
         → Says options.now words content → IsPlain options.now.groups content
         → HasCanonicalLine options.now content }
     ensures line_laws { KeepsLineLaws options.now }
+    ensures read_again { LinesReadAgain options.now }
 
     // Other spellings of a line, lines one after the other, and where free words and occurrences stand.
     ensures reading_laws { KeepsReadingLaws (grammar_of options.now) }
@@ -104,4 +107,10 @@ pub fn equal_input_equal_answers()
         → AtMostOne (IsParseAnswer options words) }
     ensures canonical { (options : Declared) (words : List Text)
         → AtMostOne (IsCanonicalAnswer options words) }
+{}
+
+/// The results, computed: a law to cite, which does nothing.
+pub fn results_are_computed()
+    ensures { (options : Declared) (words : List Text) → MayBeDeclared options.groups
+        → AreTexts words → HasResults options words }
 {}

@@ -3,8 +3,10 @@
 
 // Which pairs of names are lawful.
 mod names;
-// Option groups, held together: their texts as one, and a record of each.
+// Names and kinds of option groups, held together: their names as one text, and a record of each.
 mod groups;
+// Groups as they are declared, with their hints and descriptions.
+mod help;
 // The groups that a caller declares, with a style and a mode, and the calls that declare them.
 mod options;
 // Why a line is refused.
@@ -38,7 +40,7 @@ pub use fail::Fail;
 pub use groups::{HasArg, Occur, ParsingStyle};
 pub use laws::{
     declared_options_keep_laws, equal_input_equal_answers, held_names_resolve, names_resolve,
-    one_reading_one_canonical_line,
+    one_reading_one_canonical_line, results_are_computed,
 };
 pub use matches::Matches;
 pub use names::names_lawful;

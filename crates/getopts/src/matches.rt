@@ -7,10 +7,9 @@ ghost use Rattle.std.specs.String.{string_bytes};
 ghost use Rattle.std.proofs.Common.{rules};
 ghost use Rattle.getopts.specs.Accessors as Spec;
 ghost use Rattle.getopts.specs.Matches.{matched};
-ghost use Rattle.getopts.specs.Options.{signatures_of};
-ghost use Rattle.getopts.specs.Held.Matches.{IsOfGroups};
+ghost use Rattle.getopts.specs.Held.Matches.{IsOfSignatures};
 
-use crate::groups::Groups;
+use crate::groups::Signatures;
 use crate::index::Index;
 use crate::occurrences::{LineOccurrences, Occurrences};
 use crate::scan::Line;
@@ -52,10 +51,11 @@ impl Model for Matches {
 
 impl Matches {
     /// What a line gives to groups.
-    pub(crate) fn of_line(groups: Groups, read: ReadLine) -> Matches
-        requires { IsOfGroups groups read }
+    #[inline(always)]
+    pub(crate) fn of_line(signatures: Signatures, read: ReadLine) -> Matches
+        requires { IsOfSignatures signatures read }
         ensures { result ≡ record {
-          groups = matched 0 (signatures_of groups) read.line.found;
+          groups = matched 0 signatures read.line.found;
           free = map string_bytes read.line.free.items;
           trailing_start = read.line.trailing_start;
         } }
@@ -69,7 +69,7 @@ impl Matches {
         Matches {
             free,
             held: MatchedGroups {
-                groups,
+                signatures,
                 table,
                 found,
                 index,
@@ -133,7 +133,7 @@ impl Eq for Matches {
 /// Groups, and what a line gave to each of them.
 #[derive(Debug)]
 pub(crate) struct MatchedGroups {
-    groups: Groups,
+    signatures: Signatures,
     table: Table,
     found: LineOccurrences,
     index: Index,
@@ -142,7 +142,7 @@ pub(crate) struct MatchedGroups {
 impl Drop for MatchedGroups {
     fn drop(self) {
         let MatchedGroups {
-            groups: _,
+            signatures: _,
             table: _,
             found: _,
             index: _,
@@ -165,25 +165,26 @@ impl Model for MatchedGroups {
 impl MatchedGroups {
     ghost use Rattle.getopts.specs.Same.{same_matched_group};
 
-    /// The groups.
-    pub(crate) fn groups(&self) -> &Groups
-        ensures { map (λ group. group.signature) self.now ≡ signatures_of result.now }
+    /// The names and kinds of the groups.
+    pub(crate) fn signatures(&self) -> &Signatures
+        ensures { map (λ group. group.signature) self.now ≡ result.now }
     {
-        &self.groups
+        &self.signatures
     }
 
     /// The place of the group that a name resolves to.
+    #[inline]
     pub(crate) fn place_of(&self, name: &str) -> Option<usize>
         ensures { result ≡ Spec.place_of self.now name.now }
     {
-        self.table.resolve(&self.groups, name)
+        self.table.resolve(&self.signatures, name)
     }
 
     /// The groups are lawfully named: a law to cite, of which nothing is left once built.
     pub(crate) fn are_lawful(&self)
         ensures { Spec.AreHeldLawfully self.now }
     {
-        self.groups.may_be_declared();
+        self.signatures.are_lawful();
     }
 
     /// The occurrences of the group at a place.
@@ -208,10 +209,10 @@ impl MatchedGroups {
     pub(crate) fn same(&self, other: &MatchedGroups) -> bool
         ensures { result ≡ pointwise same_matched_group self.now other.now }
     {
-        if !self.groups.same_signatures(&other.groups) {
+        if self.signatures != other.signatures {
             return false;
         }
-        for place in 0..self.groups.len() {
+        for place in 0..self.signatures.len() {
             if !self
                 .occurrences_at(place)
                 .same(&other.occurrences_at(place))
@@ -228,7 +229,7 @@ impl Clone for MatchedGroups {
 
     fn clone(&self) -> Result<MatchedGroups, AllocError> {
         Ok(MatchedGroups {
-            groups: self.groups.clone()?,
+            signatures: self.signatures.clone()?,
             table: self.table.clone()?,
             found: self.found.clone()?,
             index: self.index.clone()?,

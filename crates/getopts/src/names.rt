@@ -1,8 +1,19 @@
 //! Names of options: which pairs are lawful.
 
-ghost use Rattle.std.specs.Prelude.{◌≡◌, ◌↔◌, IsTrue};
+ghost use Rattle.std.specs.Prelude.{◌≡◌, ◌↔◌, ◌+◌, ◌*◌, ◌^◌, ◌<◌, ◌∷◌, [], IsTrue, length};
+ghost use Rattle.std.specs.Int.{from_be_bytes, w64};
 ghost use Rattle.getopts.specs.Names.{AreLawful};
+ghost use Rattle.getopts.specs.Held.Names.{key_of, key_bytes, short_code};
 ghost use Rattle.getopts.specs.Held.Pieces.{IsOfBytes};
+
+/// What shifts a number by four bytes.
+const FOUR_BYTES: u64 = 1 << 32;
+
+/// What shifts it by seven.
+const SEVEN_BYTES: u64 = 1 << 56;
+
+/// What stands in the place of a short name's byte where there is no short name.
+pub(crate) const NO_BYTE: u16 = 256;
 
 /// Whether an option group may have these two names.
 ///
@@ -45,3 +56,74 @@ impl<'g> Names<'g> {
 pub(crate) fn is_of_bytes(text: &str)
     ensures { IsOfBytes text.now }
 {}
+
+/// Seven bytes of a text as one number, and in its lowest byte the length, up to eight: texts of less
+/// than eight bytes with one key are the same. Many tables have names that begin alike, and some have
+/// names that end alike, so a key has bytes of both ends.
+#[inline]
+pub(crate) fn key_of(text: &str) -> u64
+    ensures { result ≡ key_of text.now }
+{
+    let bytes = text.as_bytes();
+    seven_of(bytes) + bytes.len().min(8) as u64
+}
+
+/// All of up to seven bytes, and else the first three and the last four, as one number before a byte of
+/// zero, with zeros in the place of those that are missing.
+fn seven_of(bytes: &[u8]) -> u64
+    ensures worth { result ≡ from_be_bytes w64 (key_bytes bytes.now) }
+    ensures below { result + 8 < 2 ^ 64 }
+{
+    match bytes {
+        [a, b, c, .., d, e, f, g] => u64::from_be_bytes([*a, *b, *c, *d, *e, *f, *g, 0]),
+        bytes => up_to_six(bytes),
+    }
+}
+
+/// Up to six bytes as one number, likewise.
+fn up_to_six(bytes: &[u8]) -> u64
+    requires { length bytes.now < 7 }
+    ensures worth { result ≡ from_be_bytes w64 bytes.now }
+    ensures below { result + 8 < 2 ^ 64 }
+{
+    match bytes {
+        [a, b, c, d, rest @ ..] => {
+            u32::from_be_bytes([*a, *b, *c, *d]) as u64 * FOUR_BYTES + short_key(rest)
+        }
+        bytes => short_key(bytes) * FOUR_BYTES,
+    }
+}
+
+/// Less than four bytes as one number of four, with zeros in the place of those that are missing.
+fn short_key(bytes: &[u8]) -> u64
+    requires { length bytes.now < 4 }
+    ensures below { result + 8 < 2 ^ 32 }
+    ensures worth { result * 2 ^ 32 ≡ from_be_bytes w64 bytes.now }
+{
+    match bytes {
+        [] => 0,
+        [a] => u32::from_be_bytes([*a, 0, 0, 0]) as u64,
+        [a, b] => u32::from_be_bytes([*a, *b, 0, 0]) as u64,
+        [a, b, c, ..] => u32::from_be_bytes([*a, *b, *c, 0]) as u64,
+    }
+}
+
+/// The key of a name of one byte.
+#[inline(always)]
+pub(crate) fn byte_key(byte: u16) -> u64
+    requires { byte < 256 }
+    ensures { result ≡ key_of (byte ∷ []) }
+{
+    byte as u64 * SEVEN_BYTES + 1
+}
+
+/// The byte of a short name, if there is one.
+#[inline(always)]
+pub(crate) fn short_byte(short: &str) -> u16
+    ensures { result ≡ short_code short.now }
+{
+    match short.as_bytes() {
+        [] => NO_BYTE,
+        [byte, ..] => *byte as u16,
+    }
+}

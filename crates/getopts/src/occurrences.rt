@@ -44,6 +44,15 @@ impl OccurrenceRecord {
     }
 }
 
+/// One option that a line gives, borrowed: the place of its group, the index of its item's first word, and its
+/// value if it has one.
+#[derive(Clone, Copy)]
+pub(crate) struct Occurrence<'l> {
+    pub group: usize,
+    pub position: usize,
+    pub value: Option<&'l str>,
+}
+
 /// Where the values of the options before a place end.
 #[inline(always)]
 fn values_start(records: &[OccurrenceRecord], place: usize) -> usize
@@ -139,19 +148,27 @@ impl LineOccurrences {
         self.records.len()
     }
 
-    /// The occurrence at a place: its group, and its position and value.
+    /// The occurrence at a place.
     #[inline(always)]
-    pub(crate) fn at(&self, place: usize) -> (usize, (usize, Option<&str>))
+    pub(crate) fn at(&self, place: usize) -> Occurrence<'_>
         requires { place < length self.now }
-        ensures { slice_get self.now place ≡ Some (at_position result.1.0
-            (record { group = result.0; value = option_copied result.1.1 })) }
+        ensures { slice_get self.now place ≡ Some (at_position result.position
+            (record { group = result.group; value = option_copied result.value })) }
     {
         let held = self.records[place];
         if !held.has_value() {
-            return (held.group, (held.position, None));
+            return Occurrence {
+                group: held.group,
+                position: held.position,
+                value: None,
+            };
         }
         let value = &self.values[values_start(&self.records, place)..held.values_end()];
-        (held.group, (held.position, Some(value)))
+        Occurrence {
+            group: held.group,
+            position: held.position,
+            value: Some(value),
+        }
     }
 
     /// Adds an occurrence as the last.
@@ -233,6 +250,7 @@ impl<'m> Occurrences<'m> {
     }
 
     /// Whether there are none.
+    #[inline]
     pub fn is_empty(&self) -> bool
         ensures { IsTrue result ↔ (self.now ≡ []) }
     {
@@ -258,7 +276,8 @@ impl<'m> Occurrences<'m> {
         requires { nth < length self.now }
         ensures { slice_get self.now nth ≡ Some (Spec.held_found result) }
     {
-        self.found.at(self.places[nth]).1
+        let occurrence = self.found.at(self.places[nth]);
+        (occurrence.position, occurrence.value)
     }
 
     pub(crate) fn positions(&self, alloc: Global) -> Result<Vec<usize>, AllocError>
@@ -335,6 +354,7 @@ impl<'m> IntoIterator for Occurrences<'m> {
 
     ghost into_iter_gives = { λ occurrences iterator. iterator ≡ occurrences };
 
+    #[inline]
     fn into_iter(self) -> OccurrencesIter<'m> {
         OccurrencesIter {
             occurrences: self,
@@ -366,6 +386,7 @@ impl<'m> Iterator for OccurrencesIter<'m> {
 
     ghost remaining = { item_count (λ rest. rest) };
 
+    #[inline]
     fn next(&mut self) -> Option<(usize, Option<&'m str>)> {
         if self.next >= self.occurrences.len() {
             return None;

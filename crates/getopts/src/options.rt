@@ -9,7 +9,8 @@ ghost use Rattle.std.proofs.Common.{rules};
 ghost use Rattle.getopts.specs.Names.{AreLawful};
 ghost use Rattle.getopts.specs.Options.{group_of, with_group, signatures_of, MayBeDeclared};
 
-use crate::groups::{Group, Groups, HasArg, Kinds, Occur, ParsingStyle};
+use crate::groups::{HasArg, Kinds, Occur, ParsingStyle, Signatures};
+use crate::help::{Group, Groups};
 use std::alloc::{AllocError, Global};
 use std::marker::Model;
 
@@ -312,6 +313,14 @@ impl Options {
     {
         self.groups.may_be_declared();
         &self.groups
+    }
+
+    /// What reading asks of the groups.
+    pub(crate) fn signatures(&self) -> &Signatures
+        ensures signatures { result.now ≡ signatures_of self.now.groups }
+        ensures declared { MayBeDeclared self.now.groups }
+    {
+        self.groups().signatures()
     }
 }
 

@@ -1,16 +1,15 @@
 //! Reading a line: its words are scanned, and then its counts are checked.
 
-ghost use Rattle.std.specs.Prelude.{◌≡◌, ◌↔◌, IsTrue, IfOk, IfErr, OnOk, length};
+ghost use Rattle.std.specs.Prelude.{◌≡◌, ◌↔◌, IsTrue, IfOk, IfErr, IfSome, OnOk, length};
 ghost use Rattle.std.specs.Iterator.{IsFinite};
 ghost use Rattle.std.specs.Iterator.Runs.{WholeRun};
 ghost use Rattle.getopts.specs.Matches as Spec;
 ghost use Rattle.getopts.specs.Fail.{Tells};
 ghost use Rattle.getopts.specs.Names.{texts};
-ghost use Rattle.getopts.specs.Options.{signatures_of};
-ghost use Rattle.getopts.specs.Held.Matches.{IsOfGroups};
+ghost use Rattle.getopts.specs.Held.Matches.{IsOfSignatures};
 
 use crate::fail::Fail;
-use crate::groups::{Groups, Occur};
+use crate::groups::{Occur, Signatures};
 use crate::index::Index;
 use crate::matches::{Matches, ReadLine};
 use crate::options::Options;
@@ -23,7 +22,10 @@ impl Options {
     ghost use Rattle.getopts.specs.ReadingLaws.{HavePositionsBelow};
     ghost use Rattle.getopts.specs.Parse.{IsAccepted, IsRefused, HasReading, HasNoReading};
     ghost use Rattle.getopts.specs.Parse.{KeepsReadingLaws};
+    ghost use Rattle.getopts.specs.Results.{Gives, GivesResult, HasResults, parse_result};
+    ghost use Rattle.getopts.specs.Results.{read_result};
     ghost use Rattle.getopts.specs.Holds.{HoldDeclared, HoldGiven, HaveLastWordsFree, Accepts};
+    ghost use Rattle.getopts.specs.Holds.{EndsInTrailing};
     ghost use Rattle.getopts.specs.Held.Matches.{IsReadLine, IsAcceptedLine};
 
     /// Reads the words of a line, without the program's own name.
@@ -43,6 +45,7 @@ impl Options {
         ensures accepted { IfOk result (IsAccepted self.now (texts words.now)) }
         ensures refused { IfErr result (λ fail. Tells fail
             (IsRefused self.now (texts words.now))) }
+        ensures result { GivesResult result (parse_result self.now (texts words.now)) }
 
         // What was found of each declared option is as it is declared.
         ensures declared { IfOk result (λ matches. HoldDeclared self.now matches.groups) }
@@ -50,13 +53,15 @@ impl Options {
             HavePositionsBelow (length words.now) matches.groups) }
         ensures free_last { IfOk result (λ matches.
             HaveLastWordsFree self.now (texts words.now) matches.free) }
+        ensures trailing { IfOk result (λ matches. IfSome matches.trailing_start
+            (EndsInTrailing (texts words.now) matches)) }
 
         // By these options: other spellings of a line, lines one after the other, and where free words and
         // occurrences stand.
         ensures laws { OnOk result (KeepsReadingLaws (grammar_of self.now)) }
     {
         let accepted = self.accepted_line(alloc, words)?;
-        Ok(Matches::of_line(self.groups().clone()?, accepted))
+        Ok(Matches::of_line(self.signatures().clone()?, accepted))
     }
 
     /// Reads the words of a line, as `parse_words` does, whatever their counts.
@@ -70,10 +75,13 @@ impl Options {
         ensures read { IfOk result (HasReading self.now (texts words.now)) }
         ensures refused { IfErr result (λ fail. Tells fail
             (HasNoReading self.now (texts words.now))) }
+        ensures result { GivesResult result (read_result self.now (texts words.now)) }
         ensures given { IfOk result (λ matches. HoldGiven self.now matches.groups) }
+        ensures trailing { IfOk result (λ matches. IfSome matches.trailing_start
+            (EndsInTrailing (texts words.now) matches)) }
     {
         let read = self.read_line(alloc, words)?;
-        Ok(Matches::of_line(self.groups().clone()?, read))
+        Ok(Matches::of_line(self.signatures().clone()?, read))
     }
 
     /// Reads the words of a line, as `parse_words` does, over the items of an iterator.
@@ -92,6 +100,8 @@ impl Options {
             (λ run. Accepts self.now run.items matches)) }
         ensures refused { IfErr result (λ fail. Tells fail (λ fault. WholeRun I.next_gives args
             (λ run. IsRefused self.now (texts run.items) fault))) }
+        ensures result { Gives result (λ answer. WholeRun I.next_gives args
+            (λ run. parse_result self.now (texts run.items) ≡ answer)) }
         ensures declared { IfOk result (λ matches. HoldDeclared self.now matches.groups) }
         ensures laws { OnOk result (KeepsReadingLaws (grammar_of self.now)) }
     {
@@ -100,31 +110,35 @@ impl Options {
     }
 
     /// Reads a line, and checks its counts.
+    #[inline(always)]
     pub(crate) fn accepted_line(&self, alloc: Global, words: &[&str]) -> Result<ReadLine, Fail>
         ensures accepted { IfOk result (IsAcceptedLine self.now (texts words.now)) }
         ensures refused { IfErr result (λ fail. Tells fail
             (IsRefused self.now (texts words.now))) }
+        ensures results { HasResults self.now (texts words.now) }
     {
         let read = self.read_line(alloc, words)?;
-        check_counts(alloc, self.groups(), &read)?;
+        check_counts(alloc, self.signatures(), &read)?;
         Ok(read)
     }
 
     /// Reads a line, whatever its counts.
+    #[inline(always)]
     fn read_line(&self, alloc: Global, words: &[&str]) -> Result<ReadLine, Fail>
         ensures read { IfOk result (IsReadLine self.now (texts words.now)) }
         ensures refused { IfErr result (λ fail. Tells fail
             (HasNoReading self.now (texts words.now))) }
+        ensures results { HasResults self.now (texts words.now) }
     {
         are_texts(words);
-        let groups = self.groups();
-        let table = Table::of(alloc, groups)?;
+        let signatures = self.signatures();
+        let table = Table::of(alloc, signatures)?;
         let scanner = Scanner {
             options: self,
             table: &table,
         };
         let line = scanner.scan(alloc, words)?;
-        let index = Index::of(alloc, groups.len(), &line.found)?;
+        let index = Index::of(alloc, signatures.len(), &line.found)?;
         Ok(ReadLine { table, line, index })
     }
 }
@@ -147,23 +161,25 @@ pub(crate) fn words_from<'a, I: Iterator<Item = &'a str> + Drop>(
 }
 
 /// Checks how often the options of a line came, group by group in order of definition.
-fn check_counts(alloc: Global, groups: &Groups, read: &ReadLine) -> Result<(), Fail>
-    requires { IsOfGroups groups.now read.now }
+#[inline(always)]
+fn check_counts(alloc: Global, signatures: &Signatures, read: &ReadLine) -> Result<(), Fail>
+    requires { IsOfSignatures signatures.now read.now }
     ensures ok { OnOk result
-        (Spec.KeepsCounts (Spec.matched 0 (signatures_of groups.now) read.now.line.found)) }
+        (Spec.KeepsCounts (Spec.matched 0 signatures.now read.now.line.found)) }
     ensures err { IfErr result (λ fail. Tells fail
-        (Spec.IsCountFault (Spec.matched 0 (signatures_of groups.now) read.now.line.found))) }
+        (Spec.IsCountFault (Spec.matched 0 signatures.now read.now.line.found))) }
 {
-    for place in 0..groups.len() {
+    for place in 0..signatures.len() {
         let count = read.index.count(place);
-        if !fits_count(groups.kinds_at(place).occurrence, count) {
-            return Err(count_fault(alloc, groups.main(place), count));
+        if !fits_count(signatures.kinds_at(place).occurrence, count) {
+            return Err(count_fault(alloc, signatures.main(place), count));
         }
     }
     Ok(())
 }
 
 /// Whether an option may come so many times.
+#[inline(always)]
 fn fits_count(occurrence: Occur, count: usize) -> bool
     ensures { IsTrue result ↔ Spec.FitsCount occurrence count }
 {

@@ -2,9 +2,11 @@
 ghost use Rattle.std.specs.Prelude.{◌≡◌, ◌++◌, string_bytes, OnOk};
 ghost use Rattle.getopts.specs.Wrap as Wrap;
 ghost use Rattle.getopts.specs.Usage as Spec;
-ghost use Rattle.getopts.specs.Held.Groups.{names_view, group_view};
+ghost use Rattle.getopts.specs.Held.Groups.{names_view};
+ghost use Rattle.getopts.specs.Held.Help.{group_view};
 
-use crate::groups::{Group, HasArg, Signature};
+use crate::groups::{HasArg, Signature};
+use crate::help::Group;
 use crate::names::Names;
 use crate::wrap::push_description;
 use std::alloc::AllocError;

@@ -222,9 +222,9 @@ impl<'o> Scanner<'o> {
             (λ option. (grammar.place name.now ≡ Some option.0)
             × (grammar.kind name.now ≡ Some option.1)) }
     {
-        let groups = self.options.groups();
-        let place = self.table.resolve(groups, name)?;
-        Some((place, groups.kinds_at(place).kind))
+        let signatures = self.options.signatures();
+        let place = self.table.resolve(signatures, name)?;
+        Some((place, signatures.kinds_at(place).kind))
     }
 
     /// Reads an item in long form, by its text after the dashes and the words after its first. Adds
@@ -265,25 +265,23 @@ impl<'o> Scanner<'o> {
         Ok(used)
     }
 
-    /// The option that the byte at a place in a cluster names, with that name; only names of one byte
-    /// resolve there.
-    fn option_at<'t>(&self, text: &'t str, at: usize) -> Option<(&'t str, usize, HasArg)>
-        requires lawful { IsLawfulScanner self.now }
-        requires within { at < length text.now }
-        requires boundary { IsCharBoundary text.now at }
+    /// The place and the kind of argument of the option that a byte in a cluster names; only names of one
+    /// byte resolve there, and one that isn't ASCII is no text.
+    #[inline(always)]
+    fn option_at(&self, byte: u8) -> Option<(usize, HasArg)>
+        requires { IsLawfulScanner self.now }
         ensures option { let grammar = scanner_grammar self.now in
-            let name = slice_index text.now at ∷ [] in
-            MatchOption result (grammar.kind name ≡ None)
-            (λ option. (option.0.now ≡ name) × (grammar.place name ≡ Some option.1)
-            × (grammar.kind name ≡ Some option.2)) }
-        ensures ascii { OnSome result (slice_index text.now at < 128) }
+            MatchOption result (grammar.kind (byte ∷ []) ≡ None)
+            (λ option. (grammar.place (byte ∷ []) ≡ Some option.0)
+            × (grammar.kind (byte ∷ []) ≡ Some option.1)) }
+        ensures ascii { OnSome result (byte < 128) }
     {
-        if !text.as_bytes()[at].is_ascii() {
+        if !byte.is_ascii() {
             return None;
         }
-        let name = &text[at..at + 1];
-        let (group, kind) = self.option(name)?;
-        Some((name, group, kind))
+        let signatures = self.options.signatures();
+        let place = self.table.resolve_byte(signatures, byte)?;
+        Some((place, signatures.kinds_at(place).kind))
     }
 
     /// Reads a cluster, by its text after the dash and the words after its first. Adds its occurrences,
@@ -306,13 +304,14 @@ impl<'o> Scanner<'o> {
             cluster_turn grammar [] text.now (texts after.now) ≡ faults fault)) }
     {
         'names: for at in 0..text.len() {
-            match self.option_at(text, at) {
+            match self.option_at(text.as_bytes()[at]) {
                 None => {
                     let name = first_character(&text[at..]);
                     return Err(Fail::unrecognized_option(alloc, name));
                 }
-                Some((_, group, HasArg::No)) => found.push(group, position, None)?,
-                Some((name, group, kind)) => {
+                Some((group, HasArg::No)) => found.push(group, position, None)?,
+                Some((group, kind)) => {
+                    let name = &text[at..at + 1];
                     let (value, used) = ending(alloc, kind, name, &text[at + 1..], after)?;
                     found.push(group, position, value)?;
                     return Ok(used);

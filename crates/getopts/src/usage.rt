@@ -1,14 +1,16 @@
 //! Usage texts: the line of all options, and the rows of options with their descriptions.
 ghost use Rattle.std.specs.Prelude.{◌≡◌, ◌++◌, List, codes, map, string_bytes, IfOk, OnOk};
 ghost use Rattle.std.specs.Iterator.{YieldsFirstBy, item_count};
-ghost use Rattle.getopts.specs.Held.Groups.{names_view, group_view};
+ghost use Rattle.getopts.specs.Held.Groups.{names_view};
+ghost use Rattle.getopts.specs.Held.Help.{group_view};
 ghost use Rattle.getopts.specs.Names.{Text};
 ghost use Rattle.getopts.specs.Only.{IsTheOnly};
 ghost use Rattle.getopts.specs.Usage.{AddsRows, AreUsageRows, IsUsageText, any_short};
 ghost use Rattle.getopts.specs.Usage.{option_name, option_text, short_usage_text};
 ghost use Rattle.getopts.specs.Wrap.{joined};
 
-use crate::groups::{Group, HasArg, Occur, Signature};
+use crate::groups::{HasArg, Occur, Signature};
+use crate::help::Group;
 use crate::names::Names;
 use crate::options::Options;
 use crate::row::{Layout, push_argument, push_row};
@@ -203,7 +205,7 @@ impl Options {
         let groups = self.groups();
         let mut any_short = false;
         for place in 0..groups.len() {
-            any_short |= !groups.signature(place).names.short.is_empty();
+            any_short |= !groups.get(place).signature.names.short.is_empty();
         }
         Layout {
             long_only: self.is_long_only(),

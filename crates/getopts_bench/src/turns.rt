@@ -1,10 +1,11 @@
-//! The turns of a job, and what they add up to. The turns of each job stay a function of their own, so that
-//! no job is built otherwise for the sake of another.
+//! The turns of a job, and what they add up to. The turns of each job stay a function of their own,
+//! so that no job is built otherwise for the sake of another.
 
 ghost use Rattle.getopts.specs.Accessors.{IsDefined};
 
-use crate::input::{Named, THOUSAND, input_of};
+use crate::input::{Input, Named};
 use crate::job::Job;
+use crate::trouble::Trouble;
 use getopts::{Fail, Matches, Occurrences, Options};
 use std::alloc::{AllocError, Global};
 
@@ -12,44 +13,40 @@ use std::alloc::{AllocError, Global};
 const BRIEF: &str = "Usage: getopts_show [options] FILE";
 
 /// Does a job a number of turns, and answers the sum of what they took. The sum wraps.
-pub fn run(alloc: Global, job: Job, times: usize) -> Result<usize, Fail> {
-    let input = input_of(alloc, job)?;
-    let options = declared_before(alloc, job, &input.options)?;
-    let words = lent(alloc, &input.words)?;
-    turns(alloc, job, times, &input.options, &options, &words)
-}
-
-/// The options that are declared before a job's turns: none where each turn declares them itself.
-fn declared_before(alloc: Global, job: Job, named: &[Named]) -> Result<Options, AllocError> {
+pub fn run(alloc: Global, job: Job, times: usize, input: &Input<'_>) -> Result<usize, Trouble> {
     match job {
-        Job::Whole(_) | Job::Copied(_) => Ok(Options::new(alloc)),
-        _ => declared(alloc, named),
+        Job::Whole => Ok(whole(alloc, &input.options, &input.words, times)?),
+        Job::Copied => Ok(copied(alloc, &input.options, &input.words, times)?),
+        _ => {
+            let options = declared(alloc, &input.options)?;
+            Ok(turns(alloc, job, times, &input.options, &options, &input.words)?)
+        }
     }
 }
 
-/// The turns of a job with the options that were declared before them, and these words.
+/// The turns of a job with options that were declared before them, and these words.
 fn turns(
     alloc: Global,
     job: Job,
     times: usize,
-    named: &[Named],
+    named: &[Named<'_>],
     options: &Options,
     words: &[&str],
 ) -> Result<usize, Fail> {
     match job {
-        Job::Whole(_) => whole(alloc, named, words, times),
-        Job::Copied(_) => copied(alloc, named, words, times),
-        Job::Read(_) | Job::Memory => read(alloc, options, words, times),
-        Job::Canonical(_) => canonical(alloc, options, words, times),
-        Job::Equal => equal(alloc, options, times),
-        Job::Usage => usage(alloc, times),
-        Job::Defined(_) => defined(alloc, named, options, words, times),
+        Job::Canonical => canonical(alloc, options, words, times),
+        Job::Equal => equal(alloc, options, words, times),
+        Job::Usage => usage(alloc, options, times),
+        Job::Defined => Ok(defined(&options.parse_words(alloc, words)?, named, times)),
+        Job::Asked => Ok(asked(&options.parse_words(alloc, words)?, named, times)),
+        Job::Held => held(alloc, options, words, times),
+        _ => read(alloc, options, words, times),
     }
 }
 
 /// Turns that declare the options, read the words, and take what the matches give.
 #[inline(never)]
-fn whole(alloc: Global, named: &[Named], words: &[&str], times: usize) -> Result<usize, Fail> {
+fn whole(alloc: Global, named: &[Named<'_>], words: &[&str], times: usize) -> Result<usize, Fail> {
     let mut sum = 0usize;
     for _ in 0..times {
         let options = declared(alloc, named)?;
@@ -59,9 +56,10 @@ fn whole(alloc: Global, named: &[Named], words: &[&str], times: usize) -> Result
     Ok(sum)
 }
 
-/// Turns that do so by the calls that the Rust crate has: an iterator is read, and values are copied.
+/// Turns that do so by the calls that the Rust crate has: an iterator is read, and values are
+/// copied.
 #[inline(never)]
-fn copied(alloc: Global, named: &[Named], words: &[&str], times: usize) -> Result<usize, Fail> {
+fn copied(alloc: Global, named: &[Named<'_>], words: &[&str], times: usize) -> Result<usize, Fail> {
     let mut sum = 0usize;
     for _ in 0..times {
         let options = declared(alloc, named)?;
@@ -96,11 +94,12 @@ fn canonical(
     Ok(sum)
 }
 
-/// Turns that compare the matches of clusters that say the same in another order. Each adds 1 where
-/// they are equal.
-fn equal(alloc: Global, options: &Options, times: usize) -> Result<usize, Fail> {
-    let matches = clusters(alloc, options, "-ab")?;
-    let others = clusters(alloc, options, "-ba")?;
+/// Turns that compare the matches of the first half of the words with those of the second. Each
+/// adds 1 where they are equal.
+fn equal(alloc: Global, options: &Options, words: &[&str], times: usize) -> Result<usize, Fail> {
+    let half = words.len() / 2;
+    let matches = options.parse_words(alloc, &words[..half])?;
+    let others = options.parse_words(alloc, &words[half..])?;
     Ok(equal_turns(&matches, &others, times))
 }
 
@@ -118,9 +117,7 @@ fn equal_turns(matches: &Matches, others: &Matches, times: usize) -> usize {
 
 /// Turns that write the usage text. Each adds its length.
 #[inline(never)]
-fn usage(alloc: Global, times: usize) -> Result<usize, Fail> {
-    let mut options = Options::new(alloc);
-    describe(&mut options)?;
+fn usage(alloc: Global, options: &Options, times: usize) -> Result<usize, Fail> {
     let mut sum = 0usize;
     for _ in 0..times {
         sum = sum.wrapping_add(options.usage(alloc, BRIEF)?.len());
@@ -130,52 +127,45 @@ fn usage(alloc: Global, times: usize) -> Result<usize, Fail> {
 
 /// Turns that ask for each name whether it is defined. Each adds how many are.
 #[inline(never)]
-fn defined(
-    alloc: Global,
-    named: &[Named],
-    options: &Options,
-    words: &[&str],
-    times: usize,
-) -> Result<usize, Fail> {
-    let matches = options.parse_words(alloc, words)?;
+fn defined(matches: &Matches, named: &[Named<'_>], times: usize) -> usize {
     let mut sum = 0usize;
     for _ in 0..times {
-        sum = sum.wrapping_add(defined_count(&matches, named));
+        sum = sum.wrapping_add(defined_count(matches, named));
+    }
+    sum
+}
+
+/// Turns that ask of each option whether it was given. Each adds how many were.
+#[inline(never)]
+fn asked(matches: &Matches, named: &[Named<'_>], times: usize) -> usize {
+    let mut sum = 0usize;
+    for _ in 0..times {
+        sum = sum.wrapping_add(given_count(matches, named));
+    }
+    sum
+}
+
+/// Turns that read the words, and keep the matches until the end. Each adds how many words are
+/// free.
+#[inline(never)]
+fn held(alloc: Global, options: &Options, words: &[&str], times: usize) -> Result<usize, Fail> {
+    let mut kept = Vec::with_capacity(alloc, times)?;
+    let mut sum = 0usize;
+    for _ in 0..times {
+        let matches = options.parse_words(alloc, words)?;
+        sum = sum.wrapping_add(matches.free.len());
+        kept.push(matches)?;
     }
     Ok(sum)
 }
 
 /// Options by these names, which may come any number of times.
-fn declared(alloc: Global, named: &[Named]) -> Result<Options, AllocError> {
+fn declared(alloc: Global, named: &[Named<'_>]) -> Result<Options, AllocError> {
     let mut options = Options::new(alloc);
     for option in named {
         option.declare(&mut options)?;
     }
     Ok(options)
-}
-
-/// Adds options with descriptions, as the program `getopts_show` has them.
-fn describe(options: &mut Options) -> Result<(), AllocError> {
-    options.optopt("o", "output", "set output file name", "NAME")?;
-    options.optflag("h", "help", "print this help menu")?;
-    options.optflagmulti("v", "verbose", "say more")?;
-    options.optmulti("L", "", "add a folder", "DIR")?;
-    options.optflagopt("c", "color", "colour the output", "WHEN")?;
-    Ok(())
-}
-
-/// The words, lent.
-fn lent(alloc: Global, words: &[String]) -> Result<Vec<&str>, AllocError> {
-    let mut lent = Vec::with_capacity(alloc, words.len())?;
-    for word in words {
-        lent.push(word.as_str())?;
-    }
-    Ok(lent)
-}
-
-/// The matches of a thousand such words.
-fn clusters(alloc: Global, options: &Options, word: &str) -> Result<Matches, Fail> {
-    options.parse_words(alloc, &[word; THOUSAND])
 }
 
 /// How many of the words are free.
@@ -193,7 +183,7 @@ fn canonical_length(alloc: Global, options: &Options, words: &[&str]) -> Result<
 }
 
 /// How many of the options are defined.
-fn defined_count(matches: &Matches, named: &[Named]) -> usize {
+fn defined_count(matches: &Matches, named: &[Named<'_>]) -> usize {
     let mut count = 0usize;
     for option in named {
         if matches.opt_defined(option.main()) {
@@ -203,9 +193,28 @@ fn defined_count(matches: &Matches, named: &[Named]) -> usize {
     count
 }
 
+/// How many of the options were given.
+fn given_count(matches: &Matches, named: &[Named<'_>]) -> usize {
+    let mut count = 0usize;
+    for option in named {
+        if was_given(matches, option.main()) {
+            count = count.wrapping_add(1);
+        }
+    }
+    count
+}
+
+/// Whether the option of this name was given.
+fn was_given(matches: &Matches, name: &str) -> bool {
+    match matches.opt_place(name) {
+        Some(place) => !matches.occurrences_at(place).is_empty(),
+        None => false,
+    }
+}
+
 /// What matches give, added up: for each option its count and the lengths of its values, and the
 /// lengths of the free words.
-fn taken(matches: &Matches, named: &[Named]) -> usize {
+fn taken(matches: &Matches, named: &[Named<'_>]) -> usize {
     let mut sum = total_length(&matches.free);
     for option in named {
         if let Some(place) = matches.opt_place(option.main()) {
@@ -219,7 +228,11 @@ fn taken(matches: &Matches, named: &[Named]) -> usize {
 }
 
 /// What matches give, added up, with the values copied.
-fn taken_as_copies(alloc: Global, matches: &Matches, named: &[Named]) -> Result<usize, AllocError> {
+fn taken_as_copies(
+    alloc: Global,
+    matches: &Matches,
+    named: &[Named<'_>],
+) -> Result<usize, AllocError> {
     let mut sum = total_length(&matches.free);
     for option in named {
         let name = option.main();

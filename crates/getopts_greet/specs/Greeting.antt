@@ -1,14 +1,16 @@
 -- The greeter's options, and what a line asks for.
-use Rattle.std.specs.Prelude.{◌≡◌, ⊤, ℕ, Bool, true, false, List, [], ◌∷◌, codes, Some, Ok, Err}
+use Rattle.std.specs.Prelude.{◌≡◌, ⊤, if◌then◌else◌, ℕ, false, List, [], ◌∷◌, codes}
+use Rattle.std.specs.Prelude.{Option, Some, None, Result, Ok, Err}
+use Rattle.std.specs.Result.{result_map_both}
 use Rattle.std.specs.Str.Parse.{ParsesUnsigned}
 use Rattle.std.specs.String.{string_bytes}
 use Rattle.std.specs.declared.num.ParseIntError.{ParseIntError}
 use Rattle.getopts.specs.Accessors.{IsReadAs, first_value, found_of, is_present}
-use Rattle.getopts.specs.Fail.{Tells}
+use Rattle.getopts.specs.Fail.{Fault, Tells}
 use Rattle.getopts.specs.Matches.{Matched}
 use Rattle.getopts.specs.Names.{Text}
 use Rattle.getopts.specs.Options.{Declared, group_of}
-use Rattle.getopts.specs.Parse.{HasReading, IsAccepted, IsRefused}
+use Rattle.getopts.specs.Results.{read_result, parse_result}
 use Rattle.getopts.specs.declared.groups.HasArg.TheVariants.{No, Yes}
 use Rattle.getopts.specs.declared.groups.Occur.TheVariants.{Optional, Req}
 use Rattle.getopts.specs.declared.groups.ParsingStyle.TheVariants.{FloatingFrees}
@@ -30,30 +32,30 @@ greeter_options = record {
   long_only = false;
 }
 
--- Whether the line asks for help. A required option may be missing.
-pub record AsksForHelp (words : List Text) (asks : Bool) : Type 0 where
-  pub matches : Matched
-  pub read : HasReading greeter_options words matches
-  pub help : asks ≡ is_present matches.groups (codes "help")
+-- A line's fault, or its matches, or none where it asks for help: then an option may be missing or come too
+-- often. The two results are those of the line with its counts ignored, and with them kept.
+abbrev pub asked_of : Result Matched Fault → Result Matched Fault → Result (Option Matched) Fault
+asked_of (Err fault) line = Err fault
+asked_of (Ok read) line = if is_present read.groups (codes "help") then Ok None
+    else result_map_both Some (λ fault. fault) line
 
--- The line is accepted, and gives this name, and this number or none.
-pub record IsGreetingOf (words : List Text) (greeting : Greeting) : Type 0 where
-  pub matches : Matched
-  pub accepted : IsAccepted greeter_options words matches
+-- the same of words
+abbrev pub asked_result : List Text → Result (Option Matched) Fault
+asked_result words = asked_of (read_result greeter_options words) (parse_result greeter_options words)
+
+-- The matches give this name, and this number or none.
+pub record IsGreetingOf (matches : Matched) (greeting : Greeting) : Type 0 where
   pub name : first_value (found_of matches.groups (codes "name")) ≡ Some (string_bytes greeting.name)
   pub times : IsReadAs {E = ParseIntError} (ParsesUnsigned 32 10)
       (first_value (found_of matches.groups (codes "times"))) (Ok greeting.times)
 
--- what the line asks for
-abbrev pub IsAskedBy : List Text → Asked → Type 0
-IsAskedBy words Help = AsksForHelp words true
-IsAskedBy words (Greet greeting) = AsksForHelp words false × IsGreetingOf words greeting
-
--- Why the line asks for nothing: it is refused with this fault, or it is accepted and its number can't be
--- read. Out of memory says nothing of the line.
-abbrev pub IsRefusalOf : List Text → Refusal → Type 0
-IsRefusalOf words (Line fail) = Tells fail (IsRefused greeter_options words)
-IsRefusalOf words (Number error) = (matches : Matched) × IsAccepted greeter_options words matches
-    × IsReadAs {T = ℕ} (ParsesUnsigned 32 10)
+-- What a line asks for, or why it asks for nothing: its fault, or a number that can't be read. Out of memory
+-- says nothing of the line.
+abbrev pub IsAskedBy : Result (Option Matched) Fault → Result Asked Refusal → Type 0
+IsAskedBy asked (Err OutOfMemory) = ⊤
+IsAskedBy asked (Err (Line fail)) = Tells fail (λ fault. asked ≡ Err fault)
+IsAskedBy (Ok None) (Ok Help) = ⊤
+IsAskedBy (Ok (Some matches)) (Ok (Greet greeting)) = IsGreetingOf matches greeting
+IsAskedBy (Ok (Some matches)) (Err (Number error)) = IsReadAs {T = ℕ} (ParsesUnsigned 32 10)
     (first_value (found_of matches.groups (codes "times"))) (Err error)
-IsRefusalOf words OutOfMemory = ⊤
+IsAskedBy asked result = ⊥

@@ -1,12 +1,16 @@
 //! What a line asks of the greeter.
 
-ghost use Rattle.std.specs.Prelude.{◌≡◌, IfErr, IfOk};
+ghost use Rattle.std.specs.Prelude.{◌≡◌, IfOk, IfSome};
+ghost use Rattle.std.specs.Str.Parse.{ParsesUnsigned};
+ghost use Rattle.getopts.specs.Accessors.{IsDefined, IsReadAs, first_value, found_of};
+ghost use Rattle.getopts.specs.Holds.{HoldDeclared};
 ghost use Rattle.getopts.specs.Names.{texts};
-ghost use Rattle.getopts_greet.specs.Greeting.{AsksForHelp, IsAskedBy, IsGreetingOf, IsRefusalOf};
-ghost use Rattle.getopts_greet.specs.Greeting.{greeter_options};
-ghost use Rattle.getopts_greet.specs.declared.greeting.Refusal.TheVariants.{Line, Number, OutOfMemory};
+ghost use Rattle.getopts.specs.Results.{GivesResult};
+ghost use Rattle.getopts_greet.specs.Greeting.{IsAskedBy, asked_result, greeter_options};
+ghost use Rattle.getopts_greet.specs.declared.greeting.Refusal.TheVariants.{Line, Number};
+ghost use Rattle.getopts_greet.specs.declared.greeting.Refusal.TheVariants.{OutOfMemory};
 
-use getopts::{Fail, Options};
+use getopts::{Fail, Matches, Options};
 use std::alloc::{AllocError, Global};
 use std::num::ParseIntError;
 
@@ -73,35 +77,36 @@ pub fn options(alloc: Global) -> Result<Options, AllocError>
 
 /// What a line asks for. Faults come first, then help, then what is missing.
 pub fn read(alloc: Global, words: &[&str]) -> Result<Asked, Refusal>
-    ensures asked { IfOk result (IsAskedBy (texts words.now)) }
-    ensures refused { IfErr result (IsRefusalOf (texts words.now)) }
+    ensures { IsAskedBy (asked_result (texts words.now)) result }
+{
+    let Some(matches) = matches_of(alloc, words)? else {
+        return Ok(Asked::Help);
+    };
+    Ok(Asked::Greet(Greeting {
+        name: matches.opt_str(alloc, "name")?.unwrap(),
+        times: number(&matches, "times")?,
+    }))
+}
+
+/// The matches of a line, or none where it asks for help. A required option may then be missing.
+fn matches_of(alloc: Global, words: &[&str]) -> Result<Option<Matches>, Fail>
+    ensures asked { GivesResult result (asked_result (texts words.now)) }
+    ensures declared { IfOk result (λ asked. IfSome asked (λ matches.
+        HoldDeclared greeter_options matches.groups)) }
 {
     let options = options(alloc)?;
-    if asks_for_help(alloc, &options, words)? {
-        return Ok(Asked::Help);
+    let read = options.parse_ignoring_counts(alloc, words)?;
+    if read.opt_present("help") {
+        return Ok(None);
     }
-    Ok(Asked::Greet(read_greeting(alloc, &options, words)?))
+    Ok(Some(options.parse_words(alloc, words)?))
 }
 
-/// Whether a line asks for help. A required option may be missing.
-fn asks_for_help(alloc: Global, options: &Options, words: &[&str]) -> Result<bool, Refusal>
-    requires { options.now ≡ greeter_options }
-    ensures asks { IfOk result (λ asks. AsksForHelp (texts words.now) asks) }
-    ensures refused { IfErr result (IsRefusalOf (texts words.now)) }
+/// The number of an option, if it was given.
+fn number(matches: &Matches, name: &str) -> Result<Option<u32>, ParseIntError>
+    requires { IsDefined matches.now.groups name.now }
+    ensures { IsReadAs (ParsesUnsigned 32 10)
+        (first_value (found_of matches.now.groups name.now)) result }
 {
-    let matches = options.parse_ignoring_counts(alloc, words)?;
-    Ok(matches.opt_present("help"))
-}
-
-/// The greeting of a line.
-fn read_greeting(alloc: Global, options: &Options, words: &[&str]) -> Result<Greeting, Refusal>
-    requires { options.now ≡ greeter_options }
-    ensures greeting { IfOk result (IsGreetingOf (texts words.now)) }
-    ensures refused { IfErr result (IsRefusalOf (texts words.now)) }
-{
-    let matches = options.parse_words(alloc, words)?;
-    Ok(Greeting {
-        name: matches.opt_str(alloc, "name")?.unwrap(),
-        times: matches.opt_get("times")?,
-    })
+    matches.opt_get(name)
 }

@@ -1,2 +1,1 @@
-mod OneText
 mod ShowLemmas

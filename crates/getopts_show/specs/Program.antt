@@ -1,17 +1,16 @@
 -- The program: its options, and the text and the status that words have.
 use Rattle.std.specs.Prelude.{◌≡◌, ◌⊎◌, ℕ, Bool, true, false, Option, List, [], ◌∷◌, ◌++◌, length}
-use Rattle.std.specs.Prelude.{codes, decimal}
+use Rattle.std.specs.Prelude.{codes, decimal, Result, Ok, Err}
 use Rattle.std.specs.List.{flat_map}
 use Rattle.std.specs.Io.KnownBytes.{Appends}
 use Rattle.getopts.specs.Accessors.{found_of, is_present, pairs_of, positions_of}
-use Rattle.getopts.specs.Canon.{Content, canonical_line}
-use Rattle.getopts.specs.CanonAnswers.{IsAcceptedWith}
+use Rattle.getopts.specs.Canon.{Content, canonical_line, content_of}
 use Rattle.getopts.specs.Fail.{Fault, fault_text}
-use Rattle.getopts.specs.Matches.{Found, Matched, MatchedGroup, matched}
+use Rattle.getopts.specs.Matches.{Found, Matched, MatchedGroup, matched, matches_of}
 use Rattle.getopts.specs.Names.{Text, main_name}
 use Rattle.getopts.specs.Options.{Group, Declared, group_of, signatures_of, with_group}
-use Rattle.getopts.specs.Reading.{Occurrence}
-use Rattle.getopts.specs.Parse.{IsAccepted, IsRefused}
+use Rattle.getopts.specs.Reading.{Occurrence, Reading}
+use Rattle.getopts.specs.Results.{line_result}
 use Rattle.getopts.specs.Only.{IsTheOnly}
 use Rattle.getopts.specs.Usage.{IsUsageText}
 use Rattle.getopts.specs.declared.groups.HasArg.TheVariants.{Yes, No, Maybe}
@@ -92,7 +91,7 @@ fault_line fault = codes "getopts_show: " ++ (fault_text fault ++ newline)
 
 -- words are accepted by the program's options
 abbrev pub AreAccepted : List Text → Type 0
-AreAccepted words = (matches : Matched) × IsAccepted program_options words matches
+AreAccepted words = (reading : Reading) × (line_result program_options words ≡ Ok reading)
 
 -- whether matches ask for help
 abbrev pub asks_help : Matched → Bool
@@ -106,17 +105,22 @@ help_brief = codes "Usage: getopts_show [options] FILE"
 abbrev pub IsHelpText : Text → Type 0
 IsHelpText text = IsTheOnly (IsUsageText program_options help_brief) text
 
--- The text and the status of words. Where they are accepted, and the matches ask for help, that is
--- the program's help; where the matches don't, the text of the matches and of the content that the
--- words are accepted with. Where they are refused, it is the line of the fault.
-pub data IsProgramText (words : List Text) : Text → ℕ → Type 0 where
-  helped : (matches : Matched) (text : Text) → IsAccepted program_options words matches
-      → asks_help matches ≡ true → IsHelpText text → IsProgramText words text 0
-  shown : (matches : Matched) (content : Content) → IsAccepted program_options words matches
-      → asks_help matches ≡ false → IsAcceptedWith program_options words content
-      → IsProgramText words (matches_text matches ++ content_text content) 0
-  refused : (fault : Fault) → IsRefused program_options words fault
-      → IsProgramText words (fault_line fault) 2
+-- the text of accepted words, by their reading and whether it asks for help: the program's help, or
+-- the text of the reading's matches and of its content
+abbrev pub IsReadingText : Bool → Reading → Text → Type 0
+IsReadingText true reading text = IsHelpText text
+IsReadingText false reading text = text
+    ≡ matches_text (matches_of program_options reading) ++ content_text (content_of program_options reading)
+
+-- the text and the status of the result of words: of their reading 0, of their fault its line and 2
+abbrev pub IsResultText : Result Reading Fault → Text → ℕ → Type 0
+IsResultText (Ok reading) text status =
+    IsReadingText (asks_help (matches_of program_options reading)) reading text × (status ≡ 0)
+IsResultText (Err fault) text status = (text ≡ fault_line fault) × (status ≡ 2)
+
+-- the text and the status of words
+abbrev pub IsProgramText : List Text → Text → ℕ → Type 0
+IsProgramText words text status = IsResultText (line_result program_options words) text status
 
 -- the statuses: 0 where the program's help or what accepted words say was shown, 2 where the fault
 -- of refused words was, 3 where memory was refused, 4 where a write or the flush failed
@@ -127,14 +131,8 @@ IsStatus status = (status ≡ 0) ⊎ (status ≡ 2) ⊎ (status ≡ 3) ⊎ (stat
 abbrev pub IsDone : ℕ → Type 0
 IsDone status = (status ≡ 0) ⊎ (status ≡ 2)
 
--- the words have no other text, and no other status
-abbrev pub IsOnlyText : List Text → Text → ℕ → Type 0
-IsOnlyText words text status = (other : Text) (another : ℕ)
-    → IsProgramText words other another → (other ≡ text) × (another ≡ status)
-
--- what a writer holds has grown by the one text of these words, which have this status
+-- what a writer holds has grown by the text of these words, which have this status
 pub record ShowsText (old new : Option (List ℕ)) (words : List Text) (status : ℕ) : Type 0 where
   pub text : Text
   pub is_text : IsProgramText words text status
-  pub only : IsOnlyText words text status
   pub written : Appends old new text

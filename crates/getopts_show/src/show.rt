@@ -1,21 +1,23 @@
 //! The program's work over words and a writer.
 
-ghost use Rattle.std.specs.Prelude.{◌≡◌, ◌++◌, ℕ, List, codes, true, false, map, IfOk, OnOk, Some};
+ghost use Rattle.std.specs.Prelude.{◌≡◌, ◌++◌, codes, true, false, map, IfOk, OnOk, Some};
 ghost use Rattle.std.specs.List.{flat_map};
 ghost use Rattle.std.specs.String.{string_bytes};
 ghost use Rattle.std.specs.Io.KnownBytes.{Appends};
 ghost use Rattle.getopts.specs.Accessors.{AreDefined, IsDefined, pairs_of, positions_of};
 ghost use Rattle.getopts.specs.Fail.{Fault, fault_of};
-ghost use Rattle.getopts.specs.Names.{Text, texts};
-ghost use Rattle.getopts.specs.Parse.{IsAccepted};
-ghost use Rattle.getopts.specs.CanonAnswers.{IsWritten};
-ghost use Rattle.getopts_show.specs.Program.{AreAccepted, IsProgramText, IsOnlyText};
+ghost use Rattle.getopts.specs.Names.{texts};
+ghost use Rattle.std.specs.Prelude.{Ok};
+ghost use Rattle.getopts.specs.Canon.{canonical_line, content_of};
+ghost use Rattle.getopts.specs.Reading.{Reading};
+ghost use Rattle.getopts.specs.Results.{line_result, parse_result};
+ghost use Rattle.getopts_show.specs.Program.{AreAccepted, IsProgramText, content_text};
 ghost use Rattle.getopts_show.specs.Program.{HasProgramGroups, IsStatus, IsDone, ShowsText};
 ghost use Rattle.getopts_show.specs.Program.{asks_help, count_line, fault_line, matches_text};
 ghost use Rattle.getopts_show.specs.Program.{named_lines, position_mark, program_groups};
 ghost use Rattle.getopts_show.specs.Program.{program_options, value_line, with_groups, word_line};
 
-use getopts::{Fail, Matches, Occurrences, Options, equal_input_equal_answers};
+use getopts::{Fail, Matches, Occurrences, Options};
 use std::alloc::{AllocError, Global};
 use std::io;
 use std::io::Write;
@@ -58,7 +60,6 @@ pub fn show<W: Write>(alloc: Global, words: &[&str], out: &mut W) -> u8
         → ShowsText (W.contents out.old) (W.contents out.new) (texts words.now) result }
     ensures nothing_written { result ≡ 3 → out.new ≡ out.old }
 {
-    words_have_one_text();
     match answer_to(alloc, words) {
         Ok(answer) => match print(out, answer.text.as_str()) {
             Ok(()) => answer.status,
@@ -66,15 +67,6 @@ pub fn show<W: Write>(alloc: Global, words: &[&str], out: &mut W) -> u8
         },
         Err(_) => NO_MEMORY,
     }
-}
-
-/// Words have one text and one status. It is for the proofs alone: once built, nothing
-/// is left of it.
-fn words_have_one_text()
-    ensures { (words : List Text) (text : Text) (status : ℕ)
-        → IsProgramText words text status → IsOnlyText words text status }
-{
-    equal_input_equal_answers();
 }
 
 /// Writes a text, and flushes it.
@@ -112,7 +104,7 @@ fn accepted_text(
     matches: &Matches,
 ) -> Result<String, AllocError>
     requires program { options.now ≡ program_options }
-    requires accepted { IsAccepted program_options (texts words.now) matches.now }
+    requires accepted { parse_result program_options (texts words.now) ≡ Ok matches.now }
     ensures { IfOk result (λ text. IsProgramText (texts words.now) (string_bytes text) 0) }
 {
     if matches.opt_present("help") {
@@ -131,7 +123,7 @@ fn shown_text(
     matches: &Matches,
 ) -> Result<String, AllocError>
     requires program { options.now ≡ program_options }
-    requires accepted { IsAccepted program_options (texts words.now) matches.now }
+    requires accepted { parse_result program_options (texts words.now) ≡ Ok matches.now }
     requires no_help { asks_help matches.now ≡ false }
     ensures { IfOk result (λ text. IsProgramText (texts words.now) (string_bytes text) 0) }
 {
@@ -149,9 +141,10 @@ fn push_canonical(
 ) -> Result<(), AllocError>
     requires program { options.now ≡ program_options }
     requires accepted { AreAccepted (texts words.now) }
-    ensures { OnOk result ((line : List Text) × IsWritten program_options (texts words.now) line
-        × (string_bytes text.new
-        ≡ string_bytes text.old ++ flat_map (word_line (codes "line")) line)) }
+    ensures { OnOk result ((reading : Reading)
+        → line_result program_options (texts words.now) ≡ Ok reading
+        → string_bytes text.new
+        ≡ string_bytes text.old ++ content_text (content_of program_options reading)) }
 {
     let line = canonical_line(alloc, options, words)?;
     push_words(text, "line", &line)
@@ -166,10 +159,11 @@ fn canonical_line(
 ) -> Result<Vec<String>, AllocError>
     requires program { options.now ≡ program_options }
     requires accepted { AreAccepted (texts words.now) }
-    ensures { IfOk result (λ line.
-        IsWritten program_options (texts words.now) (map string_bytes line.items)) }
+    ensures { IfOk result (λ line. (reading : Reading)
+        → line_result program_options (texts words.now) ≡ Ok reading
+        → map string_bytes line.items
+        ≡ canonical_line program_groups (content_of program_options reading)) }
 {
-    equal_input_equal_answers();
     match options.canonical_words(alloc, words) {
         Ok(Some(line)) => Ok(line),
         Ok(None) => unreachable!(),

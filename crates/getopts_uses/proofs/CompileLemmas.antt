@@ -5,7 +5,7 @@ use Rattle.getopts.specs.Reading.{Item, two}
 use Rattle.getopts.specs.ReadingLaws.{AreHigherAfter, Respells, LongAttachedOrSeparate}
 use Rattle.getopts.specs.ReadingLaws.{ShortAttachedOrSeparate}
 use Rattle.getopts.specs.Theorem.{OneContentHoldsSame}
-use Rattle.getopts.proofs.MainTheorem.Callers.{each_value-first, each_value-values}
+use Rattle.getopts.proofs.MainTheorem.Callers.{same_first, same_values}
 use Rattle.getopts_uses.specs.Compile.{compile_options, GivesTheSameJob, OutputsMayBeAttached}
 
 module _ (holds_same : OneContentHoldsSame compile_options) where
@@ -20,9 +20,9 @@ module _ (holds_same : OneContentHoldsSame compile_options) where
       record {
         matches = _;
         accepted = held.0;
-        input = each_value-first _ _ (held.1.values (codes "input")) ∙ is.input;
-        outputs = is.outputs ∙ sym (each_value-values _ _ (held.1.values (codes "output")));
-        folders = is.folders ∙ sym (each_value-values _ _ (held.1.values (codes "L")));
+        input = same_first _ _ held.1 (codes "input") ∙ is.input;
+        outputs = is.outputs ∙ sym (same_values _ _ held.1 (codes "output"));
+        folders = is.folders ∙ sym (same_values _ _ held.1 (codes "L"));
       }
 
   pub OutputsMayBeAttached_lem : LongAttachedOrSeparate (grammar_of compile_options)

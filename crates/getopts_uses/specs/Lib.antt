@@ -1,6 +1,5 @@
-pub mod Cache
 pub mod Command
 pub mod Compile
-pub mod Lists
 pub mod Log
-pub mod Search
+pub mod Peek
+pub mod Wrapper

@@ -1,17 +1,11 @@
 //! Names that come at run time, and lists of them.
 
-ghost use Rattle.std.specs.Prelude.{◌≡◌, ◌↔◌, [], ◌∷◌, None, length, codes, IfErr, IfOk, IfSome};
-ghost use Rattle.std.specs.Prelude.{IsSome, IsTrue};
+ghost use Rattle.std.specs.Prelude.{◌≡◌, ◌↔◌, [], None, length, IfSome, IsSome, IsTrue};
 ghost use Rattle.std.specs.List.{list_any};
 ghost use Rattle.getopts.specs.Accessors.{IsDefined, AreDefined, place_of, found_of, is_present};
-ghost use Rattle.getopts.specs.Fail.{Tells};
 ghost use Rattle.getopts.specs.Names.{texts};
-ghost use Rattle.getopts.specs.Options.{Declares};
-ghost use Rattle.getopts.specs.Parse.{IsRefused};
-ghost use Rattle.getopts_uses.specs.Lists.{IsLevelOf};
 
-use getopts::{Fail, Matches, Options, held_names_resolve};
-use std::alloc::Global;
+use getopts::{Matches, held_names_resolve};
 
 /// How often an option was given, if the name is one of the options.
 pub fn count_of(matches: &Matches, name: &str) -> Option<usize>
@@ -35,25 +29,6 @@ pub fn place_named(matches: &Matches, line: &str) -> Option<usize>
     matches.opt_place(line)
 }
 
-/// How much is said.
-fn level(matches: &Matches) -> usize
-    requires { IsDefined matches.now.groups (codes "verbose") }
-    ensures { result ≡ length (found_of matches.now.groups (codes "verbose")) }
-{
-    matches.opt_count("verbose")
-}
-
-/// The level of a line.
-pub fn level_of(alloc: Global, options: &Options, words: &[&str]) -> Result<usize, Fail>
-    requires { Declares options.now (codes "verbose") }
-    ensures level { IfOk result (IsLevelOf options.now (texts words.now)) }
-    ensures refused { IfErr result (λ fail.
-        Tells fail (IsRefused options.now (texts words.now))) }
-{
-    let matches = options.parse_words(alloc, words)?;
-    Ok(level(&matches))
-}
-
 /// Whether all names are defined.
 fn all_defined(matches: &Matches, names: &[&str]) -> bool
     ensures { IsTrue result ↔ AreDefined matches.now.groups (texts names.now) }
@@ -75,14 +50,4 @@ pub fn any_given(matches: &Matches, names: &[&str]) -> Option<bool>
     } else {
         None
     }
-}
-
-/// Whether help or the version was asked for.
-pub fn asks_only(matches: &Matches) -> bool
-    requires help { IsDefined matches.now.groups (codes "help") }
-    requires version { IsDefined matches.now.groups (codes "version") }
-    ensures { result ≡ list_any (is_present matches.now.groups)
-        (codes "help" ∷ codes "version" ∷ []) }
-{
-    matches.opts_present_any(&["help", "version"])
 }

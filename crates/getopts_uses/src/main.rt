@@ -6,17 +6,19 @@
 //! types, and faults under any format.
 #![tactic(auto)]
 
-mod cache;
 mod compile;
+mod flag;
 mod lists;
 mod log;
+mod logged;
 mod output;
+mod peek;
 mod plugin;
 mod required;
 mod row;
 mod rows;
-mod search;
 mod subcommand;
+mod wrapper;
 
 use std::{env, io};
 

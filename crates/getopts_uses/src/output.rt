@@ -1,5 +1,8 @@
 //! An optional argument: copied, and lent.
 
+ghost use Rattle.std.specs.Prelude.{◌≡◌, true, codes};
+ghost use Rattle.getopts.specs.Accessors.{IsDefined};
+
 use getopts::{Fail, Matches, Options};
 use std::alloc::Global;
 
@@ -15,7 +18,9 @@ pub fn output_of(alloc: Global, words: &[&str]) -> Result<Option<String>, Fail> 
 }
 
 /// Whether one of the outputs is the standard output.
-pub fn writes_out(matches: &Matches) -> bool {
+pub fn writes_out(matches: &Matches) -> bool
+    ensures { result ≡ true → IsDefined matches.now.groups (codes "output") }
+{
     let Some(place) = matches.opt_place("output") else {
         return false;
     };

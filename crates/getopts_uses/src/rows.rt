@@ -8,10 +8,12 @@ mod wrapped;
 
 use crate::compile::read_job;
 use crate::log::read_log;
+use crate::logged::log_line;
 use crate::output::output_of;
-use crate::required::{input_count, input_itself, input_of, verbose_count};
-use crate::search::{help_rows, help_text, read_settings};
+use crate::peek::{help_text, read_request};
+use crate::required::{input_count, input_of};
 use crate::subcommand::read_command;
+use crate::wrapper::handed_on;
 use std::alloc::{AllocError, Global};
 use std::fmt::Debug;
 
@@ -44,17 +46,16 @@ fn push_caller(
     words: &[&str],
 ) -> Result<(), AllocError> {
     match caller {
-        "search" => push(text, &read_settings(alloc, words)),
-        "search_help" => push(text, &help_text(alloc)),
-        "search_rows" => push(text, &help_rows(alloc)),
+        "peek" => push(text, &read_request(alloc, words)),
+        "peek_help" => push(text, &help_text(alloc)),
+        "logged" => push(text, &log_line(alloc, words)),
+        "wrapper" => push(text, &handed_on(alloc, words)),
         "compile" => push(text, &read_job(alloc, words)),
         "command" => push(text, &read_command(alloc, words)),
-        "log" => push(text, &read_log(alloc, words)),
+        "log" => push(text, &read_log(alloc, words).map(|matches| matches.free)),
         "output" => push(text, &output_of(alloc, words)),
         "input" => push(text, &input_of(alloc, words)),
-        "input_itself" => push(text, &input_itself(alloc, words)),
         "input_count" => push(text, &input_count(alloc, words)),
-        "verbose_count" => push(text, &verbose_count(alloc, words)),
         "fault" => faults::push_faults(alloc, text, words),
         "unreadable" => values::push_unreadable(alloc, text, words),
         "closures" => closures::push_texts(alloc, text),

@@ -5,18 +5,18 @@ ghost use Rattle.std.specs.String.{string_bytes};
 ghost use Rattle.getopts.specs.Accessors.{AreDefined, IsDefined};
 ghost use Rattle.getopts.specs.Names.{texts};
 
-use crate::form::Answer;
+use crate::form::{Answer, Field, field_at, lent};
 use crate::stop::{Stop, WRONG_FIELDS};
 use getopts::{Matches, Occurrences};
 use std::alloc::Global;
 
 /// Answers that words were accepted, as a line: where the words after `--` begin, and the free
 /// words.
-pub fn accepted(alloc: Global, matches: &Matches, answer: &mut Answer) -> Result<(), Stop> {
-    answer.word("accepted")?;
-    answer.place(alloc, matches.free_trailing_start())?;
-    answer.texts(&matches.free)?;
-    answer.end()
+pub fn accepted(matches: &Matches, answer: &mut Answer) {
+    answer.word("accepted");
+    matches.free_trailing_start().put(answer);
+    matches.free.put(answer);
+    answer.end();
 }
 
 /// Whether a line with this word asks of what words gave.
@@ -29,23 +29,20 @@ pub fn has(word: &str) -> bool {
 }
 
 /// Answers what a line asks of what words gave.
-pub fn ask(
-    alloc: Global,
-    matches: &Matches,
-    word: &str,
-    fields: &[String],
-    answer: &mut Answer,
-) -> Result<(), Stop> {
-    match (word, fields) {
-        ("any", names) => any(alloc, matches, names, answer),
-        ("occurrences_at", [place, nth]) => {
-            occurrences_at(alloc, matches, place.as_str(), nth.as_str(), answer)
+pub fn ask(alloc: Global, matches: &Matches, word: &str, fields: &[String], answer: &mut Answer) {
+    match word {
+        "any" => any(alloc, matches, fields, answer),
+        "occurrences_at" => occurrences_at(
+            matches,
+            field_at(fields, 0),
+            field_at(fields, 1),
+            answer,
+        ),
+        _ => {
+            let name = field_at(fields, 0);
+            answer.field(name);
+            ask_by_name(alloc, matches, word, name, field_at(fields, 1), answer);
         }
-        (_, [name, rest @ ..]) => {
-            answer.text(name.as_str())?;
-            ask_by_name(alloc, matches, word, name.as_str(), rest, answer)
-        }
-        _ => Err(WRONG_FIELDS),
     }
 }
 
@@ -55,18 +52,16 @@ fn ask_by_name(
     matches: &Matches,
     word: &str,
     name: &str,
-    fields: &[String],
+    default: &str,
     answer: &mut Answer,
-) -> Result<(), Stop> {
+) {
     match word {
-        "opt_defined" => answer.truth(matches.opt_defined(name)),
-        "opt_place" => answer.place(alloc, matches.opt_place(name)),
-        _ if !matches.opt_defined(name) => answer.text("undefined"),
-        _ => match fields {
-            [] => ask_of_option(alloc, matches, word, name, answer),
-            [default] => ask_or(alloc, matches, word, name, default.as_str(), answer),
-            _ => Err(WRONG_FIELDS),
-        },
+        "opt_defined" => matches.opt_defined(name).put(answer),
+        "opt_place" => matches.opt_place(name).put(answer),
+        _ if matches.opt_defined(name) => ask_of_option(
+            alloc, matches, word, name, default, answer,
+        ),
+        _ => answer.field("undefined"),
     }
 }
 
@@ -76,75 +71,25 @@ fn ask_of_option(
     matches: &Matches,
     word: &str,
     name: &str,
+    default: &str,
     answer: &mut Answer,
-) -> Result<(), Stop>
+)
     requires { IsDefined matches.now.groups name.now }
 {
     match word {
-        "opt_present" => answer.truth(matches.opt_present(name)),
-        "opt_count" => answer.number(alloc, matches.opt_count(name)),
-        "opt_str" => str_of(alloc, matches, name, answer),
-        "opt_strs" => strs_of(alloc, matches, name, answer),
-        "opt_positions" => positions_of(alloc, matches, name, answer),
-        "opt_strs_pos" => pairs_of(alloc, matches, name, answer),
-        "positions" => positions(alloc, matches, name, answer),
-        _ => Err(WRONG_FIELDS),
+        "opt_present" => matches.opt_present(name).put(answer),
+        "opt_count" => matches.opt_count(name).put(answer),
+        "opt_str" => answer.given(matches.opt_str(alloc, name)),
+        "opt_strs" => answer.given(matches.opt_strs(alloc, name)),
+        "opt_positions" => answer.given(matches.opt_positions(alloc, name)),
+        "opt_strs_pos" => answer.given(matches.opt_strs_pos(alloc, name)),
+        "positions" => {
+            answer.given(matches.opt_positions(alloc, name));
+            answer.next("pairs");
+            answer.given(matches.opt_strs_pos(alloc, name));
+        }
+        _ => ask_or(alloc, matches, word, name, default, answer),
     }
-}
-
-/// Answers where an option was given, and where its values.
-fn positions(alloc: Global, matches: &Matches, name: &str, answer: &mut Answer) -> Result<(), Stop>
-    requires { IsDefined matches.now.groups name.now }
-{
-    positions_of(alloc, matches, name, answer)?;
-    answer.next("pairs")?;
-    pairs_of(alloc, matches, name, answer)
-}
-
-/// Answers the value of the first occurrence of an option.
-fn str_of(alloc: Global, matches: &Matches, name: &str, answer: &mut Answer) -> Result<(), Stop>
-    requires { IsDefined matches.now.groups name.now }
-{
-    answer.optional(matches.opt_str(alloc, name)?.as_deref())
-}
-
-/// Answers the value of the first occurrence of an option, or the default.
-fn default_of(
-    alloc: Global,
-    matches: &Matches,
-    name: &str,
-    default: &str,
-    answer: &mut Answer,
-) -> Result<(), Stop>
-    requires { IsDefined matches.now.groups name.now }
-{
-    answer.optional(matches.opt_default(alloc, name, default)?.as_deref())
-}
-
-/// Answers the values of an option.
-fn strs_of(alloc: Global, matches: &Matches, name: &str, answer: &mut Answer) -> Result<(), Stop>
-    requires { IsDefined matches.now.groups name.now }
-{
-    answer.texts(&matches.opt_strs(alloc, name)?)
-}
-
-/// Answers the positions of an option.
-fn positions_of(
-    alloc: Global,
-    matches: &Matches,
-    name: &str,
-    answer: &mut Answer,
-) -> Result<(), Stop>
-    requires { IsDefined matches.now.groups name.now }
-{
-    answer.numbers(alloc, &matches.opt_positions(alloc, name)?)
-}
-
-/// Answers the positions and the values of an option.
-fn pairs_of(alloc: Global, matches: &Matches, name: &str, answer: &mut Answer) -> Result<(), Stop>
-    requires { IsDefined matches.now.groups name.now }
-{
-    answer.pairs(alloc, &matches.opt_strs_pos(alloc, name)?)
 }
 
 /// Answers what a line asks of an option or else of a default.
@@ -155,126 +100,113 @@ fn ask_or(
     name: &str,
     default: &str,
     answer: &mut Answer,
-) -> Result<(), Stop>
+)
     requires { IsDefined matches.now.groups name.now }
 {
     match word {
         "opt_default" => {
-            answer.text(default)?;
-            default_of(alloc, matches, name, default, answer)
+            answer.field(default);
+            answer.given(matches.opt_default(alloc, name, default));
         }
         "option" => option(alloc, matches, name, default, answer),
-        "number" => number(alloc, matches, name, default, answer),
+        "number" => number(matches, name, default, answer),
         "truth" => truth(matches, name, default, answer),
-        _ => Err(WRONG_FIELDS),
+        _ => answer.stop(WRONG_FIELDS),
     }
 }
 
 /// Answers what was given of an option: whether, how often, and its values.
-fn option(
-    alloc: Global,
-    matches: &Matches,
-    name: &str,
-    default: &str,
-    answer: &mut Answer,
-) -> Result<(), Stop>
+fn option(alloc: Global, matches: &Matches, name: &str, default: &str, answer: &mut Answer)
     requires { IsDefined matches.now.groups name.now }
 {
-    let present = matches.opt_present(name);
-    answer.text(if present { "present" } else { "absent" })?;
-    answer.number(alloc, matches.opt_count(name))?;
-    str_of(alloc, matches, name, answer)?;
-    default_of(alloc, matches, name, default, answer)?;
-    answer.next("strs")?;
-    strs_of(alloc, matches, name, answer)?;
-    answer.next("pairs")?;
-    answer.texts_of(&matches.opt_strs_pos(alloc, name)?)
+    answer.field(if matches.opt_present(name) {
+        "present"
+    } else {
+        "absent"
+    });
+    matches.opt_count(name).put(answer);
+    answer.given(matches.opt_str(alloc, name));
+    answer.given(matches.opt_default(alloc, name, default));
+    answer.next("strs");
+    answer.given(matches.opt_strs(alloc, name));
+    answer.next("pairs");
+    match matches.opt_strs_pos(alloc, name) {
+        Ok(pairs) => answer.texts_of(&pairs),
+        Err(_) => answer.stop(Stop::NoMemory),
+    }
 }
 
 /// Answers the value of an option as a number.
-fn number(
-    alloc: Global,
-    matches: &Matches,
-    name: &str,
-    default: &str,
-    answer: &mut Answer,
-) -> Result<(), Stop>
+fn number(matches: &Matches, name: &str, default: &str, answer: &mut Answer)
     requires { IsDefined matches.now.groups name.now }
 {
-    let Ok(default) = default.parse::<i64>() else {
-        return Err(WRONG_FIELDS);
-    };
     match matches.opt_get::<i64>(name) {
-        Ok(Some(number)) => answer.optional(Some(number.to_string(alloc)?.as_str()))?,
-        Ok(None) => answer.optional(None)?,
-        Err(_) => answer.text("error")?,
+        Ok(Some(number)) => answer.number("=", number),
+        Ok(None) => answer.field("-"),
+        Err(_) => answer.field("error"),
     }
-    match matches.opt_get_default(name, default) {
-        Ok(number) => answer.text(number.to_string(alloc)?.as_str()),
-        Err(_) => answer.text("error"),
+    match default.parse::<i64>() {
+        Ok(default) => match matches.opt_get_default(name, default) {
+            Ok(number) => answer.number("", number),
+            Err(_) => answer.field("error"),
+        },
+        Err(_) => answer.stop(WRONG_FIELDS),
     }
 }
 
 /// Answers the value of an option as a truth.
-fn truth(matches: &Matches, name: &str, default: &str, answer: &mut Answer) -> Result<(), Stop>
+fn truth(matches: &Matches, name: &str, default: &str, answer: &mut Answer)
     requires { IsDefined matches.now.groups name.now }
 {
-    let Ok(default) = default.parse::<bool>() else {
-        return Err(WRONG_FIELDS);
-    };
     match matches.opt_get::<bool>(name) {
-        Ok(Some(truth)) => answer.optional(Some(if truth { "true" } else { "false" }))?,
-        Ok(None) => answer.optional(None)?,
-        Err(_) => answer.text("error")?,
+        Ok(Some(truth)) => Some(if truth { "true" } else { "false" }).put(answer),
+        Ok(None) => answer.field("-"),
+        Err(_) => answer.field("error"),
     }
-    match matches.opt_get_default(name, default) {
-        Ok(truth) => answer.truth(truth),
-        Err(_) => answer.text("error"),
+    match default.parse::<bool>() {
+        Ok(default) => match matches.opt_get_default(name, default) {
+            Ok(truth) => truth.put(answer),
+            Err(_) => answer.field("error"),
+        },
+        Err(_) => answer.stop(WRONG_FIELDS),
     }
 }
 
 /// Answers how many occurrences are at a place, and one of them.
-fn occurrences_at(
-    alloc: Global,
-    matches: &Matches,
-    place: &str,
-    nth: &str,
-    answer: &mut Answer,
-) -> Result<(), Stop> {
-    let (Ok(place), Ok(nth)) = (place.parse::<usize>(), nth.parse::<usize>()) else {
-        return Err(WRONG_FIELDS);
-    };
-    answer.number(alloc, place)?;
-    answer.number(alloc, nth)?;
-    occurrence(alloc, &matches.occurrences_at(place), nth, answer)
+fn occurrences_at(matches: &Matches, place: &str, nth: &str, answer: &mut Answer) {
+    match (place.parse::<usize>(), nth.parse::<usize>()) {
+        (Ok(place), Ok(nth)) => {
+            place.put(answer);
+            nth.put(answer);
+            occurrence(&matches.occurrences_at(place), nth, answer);
+        }
+        _ => answer.stop(WRONG_FIELDS),
+    }
 }
 
 /// Answers how many occurrences there are, and one of them.
-fn occurrence(
-    alloc: Global,
-    occurrences: &Occurrences<'_>,
-    nth: usize,
-    answer: &mut Answer,
-) -> Result<(), Stop> {
-    answer.number(alloc, occurrences.len())?;
+fn occurrence(occurrences: &Occurrences<'_>, nth: usize, answer: &mut Answer) {
+    occurrences.len().put(answer);
     match occurrences.get(nth) {
         Some((position, value)) => {
-            answer.number(alloc, position)?;
-            answer.optional(value)
+            position.put(answer);
+            value.put(answer);
         }
-        None => answer.text("none"),
+        None => answer.field("none"),
     }
 }
 
 /// Answers whether some option of a list was given, and the first value of them.
-fn any(
-    alloc: Global,
-    matches: &Matches,
-    names: &[String],
-    answer: &mut Answer,
-) -> Result<(), Stop> {
-    let borrowed: Vec<&str> = names.iter().map(|name| name.as_str()).collect(alloc)?;
-    any_of(alloc, matches, names, &borrowed, answer)
+fn any(alloc: Global, matches: &Matches, names: &[String], answer: &mut Answer) {
+    matches.opts_present(names).put(answer);
+    if are_defined(matches, names) {
+        match lent(alloc, names) {
+            Ok(borrowed) => any_of(alloc, matches, names, &borrowed, answer),
+            Err(_) => answer.stop(Stop::NoMemory),
+        }
+    } else {
+        answer.field("undefined");
+    }
 }
 
 /// Answers the same of a list in both its forms.
@@ -284,14 +216,15 @@ fn any_of(
     names: &[String],
     borrowed: &[&str],
     answer: &mut Answer,
-) -> Result<(), Stop> {
-    answer.truth(matches.opts_present(names))?;
-    if are_defined(matches, names) && all_defined(matches, borrowed) {
-        answer.truth(matches.opts_present_any(borrowed))?;
-        answer.optional(matches.opts_str(alloc, names)?.as_deref())?;
-        answer.optional(matches.opts_str_first(alloc, borrowed)?.as_deref())
+)
+    requires { AreDefined matches.now.groups (map string_bytes names.now) }
+{
+    if all_defined(matches, borrowed) {
+        matches.opts_present_any(borrowed).put(answer);
+        answer.given(matches.opts_str(alloc, names));
+        answer.given(matches.opts_str_first(alloc, borrowed));
     } else {
-        answer.text("undefined")
+        answer.field("undefined");
     }
 }
 

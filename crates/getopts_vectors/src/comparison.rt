@@ -2,11 +2,11 @@
 
 use crate::form::Answer;
 use crate::line::Line;
+use crate::marks;
 use crate::session::Session;
-use crate::short::{at_length, written_out};
-use crate::stop::{Stop, UNKNOWN_WORD, at_line};
-use std::alloc::{AllocError, Global};
-use std::io::Write;
+use crate::short::{put_at_length, put_written_out};
+use crate::stop::{Stop, UNKNOWN_WORD};
+use std::alloc::Global;
 
 /// What begins a case that is written short.
 const SHORT_CASE: &str = "\n* ";
@@ -15,21 +15,23 @@ const SHORT_CASE: &str = "\n* ";
 const HIGHEST: u32 = 20;
 
 /// What is kept from line to line: the case with its name, the parts of a line, the number of the
-/// line that was answered last with what it was answered and what was expected, and how many there
-/// were.
+/// line that was answered last with what it was answered and what was expected, how many there
+/// were, what is told of all that, and whether memory was refused between marks.
 #[derive(Drop)]
 pub struct Comparison {
     session: Session,
-    case: String,
+    case: Answer,
     line: Line,
     answered: u64,
     answer: Answer,
     expected: Answer,
     counts: Counts,
+    told: Answer,
+    refused: bool,
 }
 
 /// How many cases, lines with an answer, expected answers and differences there were.
-#[derive(Drop)]
+#[derive(Clone, Copy)]
 struct Counts {
     cases: u64,
     questions: u64,
@@ -41,7 +43,7 @@ impl Comparison {
     pub fn new(alloc: Global) -> Comparison {
         Comparison {
             session: Session::new(alloc),
-            case: String::new(alloc),
+            case: Answer::new(alloc),
             line: Line::new(alloc),
             answered: 0,
             answer: Answer::new(alloc),
@@ -52,176 +54,179 @@ impl Comparison {
                 answers: 0,
                 differences: 0,
             },
+            told: Answer::new(alloc),
+            refused: false,
         }
     }
 
-    /// Compares the rows of a text, writes where other answers are given, and at the end how many
-    /// there were. The answer is whether none differs.
-    pub fn compare_rows<W: Write>(
-        &mut self,
-        alloc: Global,
-        text: &str,
-        out: &mut W,
-    ) -> Result<bool, Stop> {
+    /// What is told of the rows, whatever ended them early.
+    pub fn told(&self) -> &str {
+        self.told.text()
+    }
+
+    /// Whether no row differs, or what ended them early.
+    pub fn agrees(&self) -> Result<bool, Stop> {
+        match self.told.stopped() {
+            Some(stop) => Err(stop),
+            None if self.refused => Err(Stop::NoMemory),
+            None => Ok(self.counts.differences == 0),
+        }
+    }
+
+    /// Compares the rows of a text, and tells where other answers are given, and at the end how
+    /// many there were.
+    pub fn compare_rows(&mut self, alloc: Global, text: &str) {
         match text.split_once(SHORT_CASE) {
             Some((rows, cases)) => {
-                self.compare_lines(alloc, rows, out)?;
-                self.compare_short_cases(alloc, cases, out)?;
+                self.compare_lines(alloc, rows);
+                self.compare_short_cases(alloc, cases);
             }
-            None => self.compare_lines(alloc, text, out)?,
+            None => self.compare_lines(alloc, text),
         }
-        self.sum_up(alloc, out)
+        self.sum_up();
     }
 
     /// Compares cases that are written short.
-    fn compare_short_cases<W: Write>(
-        &mut self,
-        alloc: Global,
-        cases: &str,
-        out: &mut W,
-    ) -> Result<(), Stop> {
+    fn compare_short_cases(&mut self, alloc: Global, cases: &str) {
         for case in cases.split(SHORT_CASE) {
             if case.contains('$') {
-                self.compare_at_lengths(alloc, case, out)?;
+                self.compare_at_lengths(alloc, case);
             } else {
-                self.compare_short_case(alloc, case, out)?;
+                self.compare_short_case(alloc, case);
             }
         }
-        Ok(())
     }
 
     /// Compares a case that is written short, at each length.
-    fn compare_at_lengths<W: Write>(
-        &mut self,
-        alloc: Global,
-        case: &str,
-        out: &mut W,
-    ) -> Result<(), Stop> {
+    fn compare_at_lengths(&mut self, alloc: Global, case: &str) {
         for power in 1..=HIGHEST {
             let length = 2usize.pow(power);
-            for length in [length - 1, length, length + 1] {
-                let case = at_length(alloc, case, length)?;
-                self.compare_short_case(alloc, case.as_str(), out)?;
-            }
+            self.compare_at_length(alloc, case, length - 1);
+            self.compare_at_length(alloc, case, length);
+            self.compare_at_length(alloc, case, length + 1);
         }
-        Ok(())
+    }
+
+    /// Compares a case that is written short, at a length.
+    fn compare_at_length(&mut self, alloc: Global, case: &str, length: usize) {
+        let mut text = Answer::new(alloc);
+        put_at_length(case, length, &mut text);
+        self.compare_short_case(alloc, text.text());
     }
 
     /// Compares a case that is written short.
-    fn compare_short_case<W: Write>(
-        &mut self,
-        alloc: Global,
-        case: &str,
-        out: &mut W,
-    ) -> Result<(), Stop> {
-        let lines = written_out(alloc, case)?;
-        self.compare_lines(alloc, lines.as_str(), out)
+    fn compare_short_case(&mut self, alloc: Global, case: &str) {
+        let mut lines = Answer::new(alloc);
+        put_written_out(case, &mut lines);
+        self.compare_lines(alloc, lines.text());
     }
 
     /// Takes lines one after another, and compares what they are answered.
-    fn compare_lines<W: Write>(
-        &mut self,
-        alloc: Global,
-        lines: &str,
-        out: &mut W,
-    ) -> Result<(), Stop> {
+    fn compare_lines(&mut self, alloc: Global, lines: &str) {
         let mut number = 0u64;
         for line in lines.split('\n') {
             number = number.saturating_add(1);
-            self.follow(alloc, line, number, out)?;
+            self.follow(alloc, line, number);
         }
-        self.settle(alloc, out)
+        self.settle();
     }
 
     /// Takes what a line expects, or answers it, after what came before is compared.
-    fn follow<W: Write>(
-        &mut self,
-        alloc: Global,
-        line: &str,
-        number: u64,
-        out: &mut W,
-    ) -> Result<(), Stop> {
+    fn follow(&mut self, alloc: Global, line: &str, number: u64) {
         if matches!(line.as_bytes().first(), Some(b'>' | b'|')) {
-            return at_line(self.expect(line), number);
+            self.expect(line);
+        } else {
+            self.settle();
+            match line.strip_prefix("! ") {
+                Some(line) => self.answer_marked(alloc, line, number),
+                None => self.answer_line(alloc, line, number),
+            }
         }
-        self.settle(alloc, out)?;
-        at_line(self.answer_line(alloc, line, number), number)
+        self.told.stop_at(self.answer.stopped(), number);
+        self.told.stop_at(self.expected.stopped(), number);
     }
 
     /// Takes a line that is expected, or goes on with one.
-    fn expect(&mut self, line: &str) -> Result<(), Stop> {
+    fn expect(&mut self, line: &str) {
         if let Some(text) = line.strip_prefix("> ") {
             self.counts.answers = self.counts.answers.saturating_add(1);
-            self.expected.line(text)
-        } else if let Some(text) = line.strip_prefix('|') {
-            self.expected.go_on(text.strip_prefix(' ').unwrap_or(text))
+            self.expected.line(text);
+        } else if let Some(text) = line.strip_prefix("| ") {
+            self.expected.go_on(text);
+        } else if line == "|" {
+            self.expected.go_on("");
         } else {
-            Err(UNKNOWN_WORD)
+            self.expected.stop(UNKNOWN_WORD);
         }
     }
 
     /// Does what a line says, and keeps what it is answered. The answer of `case` isn't expected.
-    fn answer_line(&mut self, alloc: Global, line: &str, number: u64) -> Result<(), Stop> {
+    fn answer_line(&mut self, alloc: Global, line: &str, number: u64) {
         self.answered = number;
-        self.line
-            .answer(alloc, line, &mut self.session, &mut self.answer)?;
+        self.line.cut(alloc, line, &mut self.answer);
+        self.line.answer(alloc, &mut self.session, &mut self.answer);
+        self.count();
+    }
+
+    /// Answers a line between the marks. Where memory was refused, it is answered again after them:
+    /// what it borrowed has to be as it was.
+    fn answer_marked(&mut self, alloc: Global, line: &str, number: u64) {
+        self.answered = number;
+        self.line.cut(alloc, line, &mut self.answer);
+        self.answer.make_room();
+        marks::begin(alloc);
+        self.line.answer(alloc, &mut self.session, &mut self.answer);
+        marks::end(alloc);
+        if self.answer.takes_back() {
+            self.refused = true;
+            self.line.answer(alloc, &mut self.session, &mut self.answer);
+        }
+        self.count();
+    }
+
+    /// Counts the line that was answered last.
+    fn count(&mut self) {
         if let Some(name) = self.line.case_name() {
             self.counts.cases = self.counts.cases.saturating_add(1);
             self.case.clear();
-            self.case.push_str(name)?;
+            self.case.raw(name);
             self.answer.clear();
-        } else if !self.answer.bytes().is_empty() {
+        } else if !self.answer.text().is_empty() {
             self.counts.questions = self.counts.questions.saturating_add(1);
         }
-        Ok(())
     }
 
     /// Compares what the last line was answered with what was expected, and forgets both.
-    fn settle<W: Write>(&mut self, alloc: Global, out: &mut W) -> Result<(), Stop> {
-        if self.answer.bytes() != self.expected.bytes() {
+    fn settle(&mut self) {
+        if self.answer.text() != self.expected.text() {
             self.counts.differences = self.counts.differences.saturating_add(1);
-            self.tell(alloc, out)?;
+            self.tell();
         }
         self.answer.clear();
         self.expected.clear();
-        Ok(())
     }
 
-    /// Writes what was expected of the last line, and what it was answered.
-    fn tell<W: Write>(&self, alloc: Global, out: &mut W) -> Result<(), Stop> {
-        let head = format!(in alloc; "line {} of {}, expected:\n", self.answered, self.case)?;
-        written(out, head.as_str().as_bytes())?;
-        written(out, self.expected.bytes())?;
-        written(out, b"answered:\n")?;
-        written(out, self.answer.bytes())
+    /// Tells what was expected of the last line, and what it was answered.
+    fn tell(&mut self) {
+        self.told.raw("line ");
+        self.told.whole(self.answered);
+        self.told.raw(" of ");
+        self.told.raw(self.case.text());
+        self.told.raw(", expected:\n");
+        self.told.raw(self.expected.text());
+        self.told.raw("answered:\n");
+        self.told.raw(self.answer.text());
     }
 
-    /// Writes how many there were.
-    fn sum_up<W: Write>(&self, alloc: Global, out: &mut W) -> Result<bool, Stop> {
-        let text = self.counts.told(alloc)?;
-        written(out, text.as_str().as_bytes())?;
-        Ok(self.counts.differences == 0)
-    }
-}
-
-impl Counts {
-    fn told(&self, alloc: Global) -> Result<String, AllocError> {
-        let Counts {
-            cases,
-            questions,
-            answers,
-            differences,
-        } = *self;
-        format!(in alloc;
-            "{cases} cases, {questions} questions, {answers} expected lines, {differences} differ\n"
-        )
-    }
-}
-
-/// Writes bytes.
-fn written<W: Write>(out: &mut W, bytes: &[u8]) -> Result<(), Stop> {
-    match out.write_all(bytes) {
-        Ok(()) => Ok(()),
-        Err(_) => Err(Stop::NotWritten),
+    /// Tells how many there were.
+    fn sum_up(&mut self) {
+        self.told.whole(self.counts.cases);
+        self.told.raw(" cases, ");
+        self.told.whole(self.counts.questions);
+        self.told.raw(" questions, ");
+        self.told.whole(self.counts.answers);
+        self.told.raw(" expected lines, ");
+        self.told.whole(self.counts.differences);
+        self.told.raw(" differ\n");
     }
 }

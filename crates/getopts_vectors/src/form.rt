@@ -2,6 +2,10 @@
 
 use crate::stop::{NOT_TEXT, Stop, WRONG_ESCAPE};
 use std::alloc::{AllocError, Global};
+use std::fmt::Display;
+
+/// The room for the answer of a line that is answered between marks.
+const ROOM: usize = 4000;
 
 /// The letter that stands after a backslash for a byte, where it has one.
 fn letter_of(byte: u8) -> Option<u8> {
@@ -23,17 +27,6 @@ fn byte_of(letter: u8) -> Option<u8> {
         b'\\' => Some(b'\\'),
         _ => None,
     }
-}
-
-/// Adds a text as a field has it. Nothing in it ends a field or a line.
-fn push_escaped(bytes: &mut Vec<u8>, text: &str) -> Result<(), AllocError> {
-    for byte in text.as_bytes() {
-        match letter_of(*byte) {
-            Some(letter) => bytes.extend_from_slice(&[b'\\', letter])?,
-            None => bytes.push(*byte)?,
-        }
-    }
-    Ok(())
 }
 
 /// The text that a field stands for: one that is written so.
@@ -68,128 +61,282 @@ fn bytes_of_field(alloc: Global, field: &str) -> Result<Vec<u8>, Stop> {
     Ok(bytes)
 }
 
-/// Lines of answers, as they are made.
+/// Lines of answers, as they are made, and what ended them early, if something did.
 #[derive(Drop)]
 pub struct Answer {
-    bytes: Vec<u8>,
+    alloc: Global,
+    text: String,
+    stop: Option<Stop>,
 }
 
 impl Answer {
     pub fn new(alloc: Global) -> Answer {
         Answer {
-            bytes: Vec::new(alloc),
+            alloc,
+            text: String::new(alloc),
+            stop: None,
         }
     }
 
-    pub fn bytes(&self) -> &[u8] {
-        &self.bytes
+    pub fn text(&self) -> &str {
+        self.text.as_str()
+    }
+
+    /// Ends the lines early.
+    pub fn stop(&mut self, stop: Stop) {
+        self.stop = Some(stop);
+    }
+
+    /// What ended the lines early.
+    pub fn stopped(&self) -> Option<Stop> {
+        self.stop
+    }
+
+    /// Makes room for an answer beforehand.
+    pub fn make_room(&mut self) {
+        if self.text.reserve(ROOM).is_err() {
+            self.stop = Some(Stop::NoMemory);
+        }
+    }
+
+    /// Whether memory was refused. What was made is forgotten then, so that it can be made again.
+    pub fn takes_back(&mut self) -> bool {
+        match self.stop {
+            Some(Stop::NoMemory) => {
+                self.text.clear();
+                self.stop = None;
+                true
+            }
+            _ => false,
+        }
+    }
+
+    /// Ends the lines early where something else ended at a line, unless they are ended already.
+    pub fn stop_at(&mut self, stop: Option<Stop>, number: u64) {
+        if self.stop.is_none() {
+            self.stop = match stop {
+                Some(Stop::Line(_, why)) => Some(Stop::Line(number, why)),
+                other => other,
+            };
+        }
     }
 
     /// Forgets the lines, and keeps their memory for others.
     pub fn clear(&mut self) {
-        self.bytes.clear();
+        self.text.clear();
     }
 
-    /// Begins a line with its word.
-    pub fn word(&mut self, word: &str) -> Result<(), Stop> {
-        push_escaped(&mut self.bytes, word)?;
-        Ok(())
-    }
-
-    /// Adds a field.
-    pub fn text(&mut self, text: &str) -> Result<(), Stop> {
-        self.bytes.push(b'\t')?;
-        push_escaped(&mut self.bytes, text)?;
-        Ok(())
-    }
-
-    /// Adds a field for each text.
-    pub fn texts(&mut self, texts: &[String]) -> Result<(), Stop> {
-        for text in texts {
-            self.text(text.as_str())?;
-        }
-        Ok(())
-    }
-
-    /// Adds a field for the text of each pair.
-    pub fn texts_of(&mut self, pairs: &[(usize, String)]) -> Result<(), Stop> {
-        for (_, text) in pairs {
-            self.text(text.as_str())?;
-        }
-        Ok(())
-    }
-
-    /// Adds a field for each number.
-    pub fn numbers(&mut self, alloc: Global, numbers: &[usize]) -> Result<(), Stop> {
-        for number in numbers {
-            self.number(alloc, *number)?;
-        }
-        Ok(())
-    }
-
-    /// Adds two fields for each pair.
-    pub fn pairs(&mut self, alloc: Global, pairs: &[(usize, String)]) -> Result<(), Stop> {
-        for (number, text) in pairs {
-            self.number(alloc, *number)?;
-            self.text(text.as_str())?;
-        }
-        Ok(())
-    }
-
-    /// Adds a field with a number, or `-` where there is none.
-    pub fn place(&mut self, alloc: Global, place: Option<usize>) -> Result<(), Stop> {
-        match place {
-            Some(place) => self.number(alloc, place),
-            None => self.text("-"),
+    /// Adds a text as it is.
+    pub fn raw(&mut self, text: &str) {
+        if self.text.push_str(text).is_err() {
+            self.stop = Some(Stop::NoMemory);
         }
     }
 
-    /// Adds a field with a number.
-    pub fn number(&mut self, alloc: Global, number: usize) -> Result<(), Stop> {
-        self.text(number.to_string(alloc)?.as_str())
+    /// Adds a character as it is.
+    pub fn letter(&mut self, letter: char) {
+        if self.text.push(letter).is_err() {
+            self.stop = Some(Stop::NoMemory);
+        }
     }
 
-    /// Adds a field with `true` or `false`.
-    pub fn truth(&mut self, truth: bool) -> Result<(), Stop> {
-        self.text(if truth { "true" } else { "false" })
+    /// Adds a number as it is.
+    pub fn decimal(&mut self, number: usize) {
+        if write!(self.text, "{number}").is_err() {
+            self.stop = Some(Stop::NoMemory);
+        }
     }
 
-    /// Adds a field that may have a value: `-` where it has none, else `=` and the value.
-    pub fn optional(&mut self, value: Option<&str>) -> Result<(), Stop> {
-        match value {
-            None => self.text("-"),
-            Some(value) => {
-                self.text("=")?;
-                push_escaped(&mut self.bytes, value)?;
-                Ok(())
+    /// Adds a number of lines as it is.
+    pub fn whole(&mut self, number: u64) {
+        if write!(self.text, "{number}").is_err() {
+            self.stop = Some(Stop::NoMemory);
+        }
+    }
+
+    /// Adds a number in five digits.
+    pub fn five_digits(&mut self, number: usize) {
+        if write!(self.text, "{number:05}").is_err() {
+            self.stop = Some(Stop::NoMemory);
+        }
+    }
+
+    /// Begins a line with its word. Nothing in it ends a field or a line.
+    pub fn word(&mut self, word: &str) {
+        for letter in word.chars() {
+            match letter {
+                '\t' => self.raw("\\t"),
+                '\n' => self.raw("\\n"),
+                '\r' => self.raw("\\r"),
+                '\\' => self.raw("\\\\"),
+                _ => self.letter(letter),
             }
         }
     }
 
+    /// Adds a field.
+    pub fn field(&mut self, text: &str) {
+        self.raw("\t");
+        self.word(text);
+    }
+
+    /// Adds the fields of what a call gave.
+    pub fn given<T: Field + Drop>(&mut self, given: Result<T, AllocError>) {
+        match given {
+            Ok(value) => value.put(self),
+            Err(_) => self.stop = Some(Stop::NoMemory),
+        }
+    }
+
+    /// Adds a field with a number behind a text.
+    pub fn number(&mut self, front: &str, number: i64) {
+        if write!(self.text, "\t{front}{number}").is_err() {
+            self.stop = Some(Stop::NoMemory);
+        }
+    }
+
+    /// Adds a field with what a value prints.
+    pub fn printed<T: Display>(&mut self, value: &T) {
+        match value.to_string(self.alloc) {
+            Ok(text) => self.field(text.as_str()),
+            Err(_) => self.stop = Some(Stop::NoMemory),
+        }
+    }
+
+    /// Adds a field for the text of each pair.
+    pub fn texts_of(&mut self, pairs: &[(usize, String)]) {
+        for (_, text) in pairs {
+            self.field(text.as_str());
+        }
+    }
+
     /// Ends a line, and begins another with its word.
-    pub fn next(&mut self, word: &str) -> Result<(), Stop> {
-        self.end()?;
-        self.word(word)
+    pub fn next(&mut self, word: &str) {
+        self.raw("\n");
+        self.word(word);
     }
 
     /// Adds a line that is in the form of an answer already.
-    pub fn line(&mut self, line: &str) -> Result<(), Stop> {
-        self.bytes.extend_from_slice(line.as_bytes())?;
-        self.end()
+    pub fn line(&mut self, line: &str) {
+        self.raw(line);
+        self.raw("\n");
     }
 
     /// Goes on with the last line: adds a text that is in the form of a field already, and a line
     /// end as a field has it.
-    pub fn go_on(&mut self, text: &str) -> Result<(), Stop> {
-        self.bytes.pop();
-        self.bytes.extend_from_slice(text.as_bytes())?;
-        self.bytes.extend_from_slice(b"\\n\n")?;
-        Ok(())
+    pub fn go_on(&mut self, text: &str) {
+        self.text.pop();
+        self.raw(text);
+        self.raw("\\n\n");
     }
 
     /// Ends a line.
-    pub fn end(&mut self) -> Result<(), Stop> {
-        self.bytes.push(b'\n')?;
-        Ok(())
+    pub fn end(&mut self) {
+        self.raw("\n");
     }
+}
+
+/// What has a form as fields.
+pub trait Field {
+    /// Adds the fields.
+    fn put(&self, answer: &mut Answer);
+}
+
+impl Field for bool {
+    fn put(&self, answer: &mut Answer) {
+        answer.field(if *self { "true" } else { "false" });
+    }
+}
+
+impl Field for usize {
+    fn put(&self, answer: &mut Answer) {
+        if write!(answer.text, "\t{self}").is_err() {
+            answer.stop = Some(Stop::NoMemory);
+        }
+    }
+}
+
+/// `-` where there is none.
+impl Field for Option<usize> {
+    fn put(&self, answer: &mut Answer) {
+        match self {
+            Some(number) => number.put(answer),
+            None => answer.field("-"),
+        }
+    }
+}
+
+/// `-` where there is none, else `=` and the value.
+impl Field for Option<&str> {
+    fn put(&self, answer: &mut Answer) {
+        match self {
+            Some(value) => {
+                answer.field("=");
+                answer.word(value);
+            }
+            None => answer.field("-"),
+        }
+    }
+}
+
+impl Field for Option<String> {
+    fn put(&self, answer: &mut Answer) {
+        self.as_deref().put(answer);
+    }
+}
+
+impl Field for String {
+    fn put(&self, answer: &mut Answer) {
+        answer.field(self.as_str());
+    }
+}
+
+/// A field for each text.
+impl Field for Vec<String> {
+    fn put(&self, answer: &mut Answer) {
+        for text in self {
+            answer.field(text.as_str());
+        }
+    }
+}
+
+/// A field for each number.
+impl Field for Vec<usize> {
+    fn put(&self, answer: &mut Answer) {
+        for number in self {
+            number.put(answer);
+        }
+    }
+}
+
+/// Two fields for each pair.
+impl Field for Vec<(usize, String)> {
+    fn put(&self, answer: &mut Answer) {
+        for (number, text) in self {
+            number.put(answer);
+            answer.field(text.as_str());
+        }
+    }
+}
+
+/// The field of this number, or nothing.
+pub fn field_at(fields: &[String], at: usize) -> &str {
+    match fields.get(at) {
+        Some(field) => field.as_str(),
+        None => "",
+    }
+}
+
+/// A list of words that are lent.
+pub fn lent<'w>(alloc: Global, words: &'w [String]) -> Result<Vec<&'w str>, AllocError> {
+    let mut lent = Vec::new(alloc);
+    for word in words {
+        lent.push(word.as_str())?;
+    }
+    Ok(lent)
+}
+
+/// Each word is taken: by this an iterator doesn't tell how many words it has.
+pub fn is_taken(_word: &&str) -> bool {
+    true
 }

@@ -26,30 +26,31 @@ impl Line {
         }
     }
 
-    /// Cuts a line into its parts. Of a line that is passed over there are none.
-    fn cut(&mut self, alloc: Global, line: &str) -> Result<(), Stop> {
+    /// Cuts a line into its parts. Of a line that is passed over, or can't be cut, there are none.
+    pub fn cut(&mut self, alloc: Global, line: &str, answer: &mut Answer) {
         self.parts.clear();
         if line.is_empty() || line.starts_with('#') {
-            return Ok(());
+            return;
         }
-        for part in line.split('\t') {
-            self.parts.push(text_of_field(alloc, part)?)?;
+        match parts_of(alloc, line) {
+            Ok(parts) => self.parts = parts,
+            Err(stop) => answer.stop(stop),
         }
-        Ok(())
     }
 
-    /// Does what a line says, and makes its answer.
-    pub fn answer(
-        &mut self,
-        alloc: Global,
-        line: &str,
-        session: &mut Session,
-        answer: &mut Answer,
-    ) -> Result<(), Stop> {
-        self.cut(alloc, line)?;
-        match self.parts.as_slice() {
-            [word, fields @ ..] => session.answer(alloc, word.as_str(), fields, answer),
-            [] => Ok(()),
+    /// Does what the line says that was cut last, and makes its answer.
+    pub fn answer(&self, alloc: Global, session: &mut Session, answer: &mut Answer) {
+        if let [word, fields @ ..] = self.parts.as_slice() {
+            session.answer(alloc, word.as_str(), fields, answer);
         }
     }
+}
+
+/// The parts of a line.
+fn parts_of(alloc: Global, line: &str) -> Result<Vec<String>, Stop> {
+    let mut parts = Vec::new(alloc);
+    for part in line.split('\t') {
+        parts.push(text_of_field(alloc, part)?)?;
+    }
+    Ok(parts)
 }

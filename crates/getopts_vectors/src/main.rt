@@ -2,10 +2,11 @@
 //! name, and writes on the standard output where the library answers differently, and how many
 //! answers there were.
 //!
-//! The expected answers are known from outside. Those of `data/rules.rows` and `data/large.rows` are
-//! written by hand, from the rules of the Rust crate and from its tests. Those of
-//! `data/recorded.rows` were written by the Rust crate itself (`tests/differential/record.sh`). What
-//! no row can say is said by the rows of `getopts_uses`.
+//! The expected answers are known from outside. Those of `data/rules.rows` and `data/large.rows`
+//! are written by hand, from the rules of the Rust crate and from its tests. Those of
+//! `data/recorded.rows` were written by the Rust crate itself (`tests/differential/record.sh`).
+//! Those of `data/refused.rows` are for runs with memory refused. What no row can say is said by
+//! the rows of `getopts_uses`.
 //!
 //! # Rows
 //!
@@ -30,7 +31,9 @@
 //!
 //! - `words WORD..`: by `accepted START FREE..`, where START is `-` or the trailing start, or by
 //!   `refused FAULT NAME TEXT`, where TEXT is what the fault prints
-//! - `ignoring_counts WORD..`: as `words`, by `parse_ignoring_counts`, which the Rust crate doesn't have
+//! - `parse_words WORD..`, `parse_filtered WORD..` and `ignoring_counts WORD..`: as `words`, by
+//!   `parse_words`, by `parse` of an iterator that doesn't tell how many words it has, and by
+//!   `parse_ignoring_counts`
 //! - `option NAME DEFAULT`: by `option NAME present COUNT STR DEFAULTED` or `option NAME absent
 //!   ..`, with the OPTIONAL of `opt_str` and that of `opt_default`; then by a line `strs` with the
 //!   values of `opt_strs`, and a line `pairs` with the texts of `opt_strs_pos`
@@ -48,9 +51,11 @@
 //! - `rows`: by what the closure of `usage_with_format` answered, which counts its rows, then by
 //!   the rows
 //! - `usage_rows`: by the rows
+//! - `called`: by the text and the number of calls of a closure of `usage_with_format` that gives
+//!   nothing
 //! - `wrap LIMIT DESC`: by the rows of `each_split_within`
 //! - `canonical WORD..`: by `canonical line WORD..`, `canonical none`, or `canonical refused FAULT
-//!   NAME TEXT`
+//!   NAME TEXT`; and so `canonical_words` and `canonical_filtered`
 //!
 //! One call each is asked by these, and answered by the line itself with what the call gives:
 //!
@@ -71,8 +76,8 @@
 //! a line that asks of them is its word and `nothing`.
 //!
 //! Right below a line stand the lines that have to answer it, each after `> `. The answer of `case`
-//! isn't written. A line `| TEXT` goes on with the last field above it, by TEXT and a line end. So a
-//! line whose answer isn't there, and an answer that no line has, are differences too.
+//! isn't written. A line `| TEXT` goes on with the last field above it, by TEXT and a line end. So
+//! a line whose answer isn't there, and an answer that no line has, are differences too.
 //!
 //! # Cases written short
 //!
@@ -80,21 +85,22 @@
 //!
 //! - Such a case begins with a line `* NAME` in the place of `case NAME`.
 //! - `{COUNT|TEXT}` stands for so many turns of TEXT, which may have several lines. In a turn stand
-//!   `#` for its number, from 0 on, `%` for that number in five digits, and `&` for twice the number.
-//! - A case with `$` is asked at each length about a power of two, `2^n - 1`, `2^n` and `2^n + 1` for
-//!   each n from 1 to 20. The `$` is that length.
+//!   `#` for its number, from 0 on, `%` for that number in five digits, and `&` for twice the
+//!   number.
+//! - A case with `$` is asked at each length about a power of two, `2^n - 1`, `2^n` and `2^n + 1`
+//!   for each n from 1 to 20. The `$` is that length.
 //!
 //! # Refused memory
 //!
-//! With the first word `refused` it makes one call, which the next two words name, and says what became
-//! of it (`refused.rt`), for runs in which its requests for memory are refused. Without these it lists
-//! what may be called.
+//! A line that begins with `! ` is answered between two marks, for runs in which its requests for
+//! memory are refused. Where one is, the line is answered again after the marks, and the status is
+//! 3. So what a call borrowed has to be as it was.
 //!
 //! # Statuses
 //!
-//! 0 where no answer differs, 1 where one does, 2 for a line or a file that can't be read, which the
-//! standard error names, 3 where memory was refused, and 4 where a write failed. The last case of
-//! `data/large.rows` differs on purpose, so that a run shows that a difference is found.
+//! 0 where no answer differs, 1 where one does, 2 for a line or a file that can't be read, which
+//! the standard error names, 3 where memory was refused, and 4 where a write failed. The last case
+//! of `data/large.rows` differs on purpose, so that a run shows that a difference is found.
 #![tactic(auto)]
 
 mod accessors;
@@ -102,13 +108,13 @@ mod asks;
 mod comparison;
 mod form;
 mod line;
-mod refused;
+mod marks;
 mod session;
 mod short;
 mod stop;
 
 use comparison::Comparison;
-use std::io::{BufWriter, ErrorKind, Write};
+use std::io::ErrorKind;
 use std::process::ExitCode;
 use std::{env, fs, io};
 use stop::Stop;
@@ -130,21 +136,7 @@ fn run(rt: &HostRuntime) -> Result<bool, Stop> {
     let Ok(words) = arguments(rt) else {
         return Err(Stop::NoMemory);
     };
-    match words.as_slice() {
-        [first, row @ ..] if first.as_str() == "refused" => match refuse(rt, row) {
-            Ok(()) => Ok(true),
-            Err(_) => Err(Stop::NotWritten),
-        },
-        names => compare_files(rt, names),
-    }
-}
-
-/// Writes what became of the call of a row, or all rows where none is named.
-fn refuse(rt: &HostRuntime, row: &[String]) -> io::Result<()> {
-    match row {
-        [call, on] => rt.println(refused::outcome(rt.alloc(), call.as_str(), on.as_str())?),
-        _ => rt.print(refused::listed(rt.alloc())?),
-    }
+    compare_files(rt, &words)
 }
 
 /// The system's words, without the program's own name.
@@ -152,35 +144,24 @@ fn arguments(rt: &HostRuntime) -> io::Result<Vec<String>> {
     Ok(env::args(rt)?.skip(1).collect(rt.alloc())?)
 }
 
-/// Compares the rows of files, and writes through a buffer.
-fn compare_files(rt: &HostRuntime, names: &[String]) -> Result<bool, Stop> {
-    let Ok(mut out) = BufWriter::new(rt.alloc(), io::writer(rt)) else {
-        return Err(Stop::NoMemory);
-    };
-    let ended = compare_each(rt, names, &mut out);
-    match out.flush() {
-        Ok(()) => ended,
-        Err(_) => Err(Stop::NotWritten),
-    }
-}
-
 /// Compares the rows of each of these files. The answer is whether none differs.
-fn compare_each<W: Write>(rt: &HostRuntime, names: &[String], out: &mut W) -> Result<bool, Stop> {
+fn compare_files(rt: &HostRuntime, names: &[String]) -> Result<bool, Stop> {
     let mut agree = true;
     for name in names {
-        let agrees = compare_file(rt, name.as_str(), out)?;
-        agree = agree && agrees;
+        agree &= compare_file(rt, name.as_str())?;
     }
     Ok(agree)
 }
 
 /// Compares the rows of a file, and writes its name before what comes of it.
-fn compare_file<W: Write>(rt: &HostRuntime, name: &str, out: &mut W) -> Result<bool, Stop> {
-    if write!(out, "{name}: ").is_err() {
-        return Err(Stop::NotWritten);
-    }
+fn compare_file(rt: &HostRuntime, name: &str) -> Result<bool, Stop> {
     let text = fs::read_to_string(rt, name).map_err(|error| unread(&error))?;
-    Comparison::new(rt.alloc()).compare_rows(rt.alloc(), text.as_str(), out)
+    let mut comparison = Comparison::new(rt.alloc());
+    comparison.compare_rows(rt.alloc(), text.as_str());
+    match print!(rt; "{name}: {}", comparison.told()) {
+        Ok(()) => comparison.agrees(),
+        Err(_) => Err(Stop::NotWritten),
+    }
 }
 
 /// What a file that can't be read ends the run with.

@@ -2,10 +2,10 @@
 
 ghost use Rattle.getopts.specs.Names.{AreLawful};
 
-use crate::form::Answer;
+use crate::form::{Answer, Field, field_at, is_taken, lent};
 use crate::stop::{NO_CASE, Stop, UNLAWFUL_NAMES, WRONG_FIELDS};
 use crate::{accessors, asks};
-use getopts::{Fail, HasArg, Matches, Occur, Options, ParsingStyle, names_lawful};
+use getopts::{HasArg, Matches, Occur, Options, ParsingStyle, names_lawful};
 use std::alloc::{AllocError, Global};
 
 /// Options, and what the last words gave by them, if any were read.
@@ -38,6 +38,14 @@ impl Side {
             Ok(read) => Ok(Side { options, read }),
             Err(error) => Err(error),
         }
+    }
+
+    fn style(&mut self, style: ParsingStyle) {
+        self.options.parsing_style(style);
+    }
+
+    fn mode(&mut self, long_only: bool) {
+        self.options.long_only(long_only);
     }
 
     /// What the last words gave, where they were accepted.
@@ -86,190 +94,166 @@ impl Session {
     }
 
     /// Does what a line says, its word and its fields, and makes its answer.
-    pub fn answer(
-        &mut self,
-        alloc: Global,
-        word: &str,
-        fields: &[String],
-        answer: &mut Answer,
-    ) -> Result<(), Stop> {
-        if word == "case" {
-            self.begin(alloc, fields, answer)
-        } else if !self.begun {
-            Err(NO_CASE)
+    pub fn answer(&mut self, alloc: Global, word: &str, fields: &[String], answer: &mut Answer) {
+        if !takes(word, fields.len()) {
+            answer.stop(WRONG_FIELDS);
+        } else if word == "case" {
+            self.begin(alloc, field_at(fields, 0), answer);
+        } else if self.begun {
+            self.follow(alloc, word, fields, answer);
         } else {
-            self.follow(alloc, word, fields, answer)
+            answer.stop(NO_CASE);
         }
     }
 
     /// Begins a case.
-    fn begin(&mut self, alloc: Global, fields: &[String], answer: &mut Answer) -> Result<(), Stop> {
-        let [name] = fields else {
-            return Err(WRONG_FIELDS);
-        };
+    fn begin(&mut self, alloc: Global, name: &str, answer: &mut Answer) {
         self.begun = true;
         self.side = Side::new(alloc);
         self.kept = None;
-        answer.word("case")?;
-        answer.text(name.as_str())?;
-        answer.end()
+        answer.word("case");
+        answer.field(name);
+        answer.end();
     }
 
     /// Does what a line of a case says.
-    fn follow(
-        &mut self,
-        alloc: Global,
-        word: &str,
-        fields: &[String],
-        answer: &mut Answer,
-    ) -> Result<(), Stop> {
-        match (word, fields) {
-            ("keep", []) => self.keep(),
-            ("anew", []) => {
-                self.side = Side::new(alloc);
-                Ok(())
-            }
-            ("style", [style]) => self.set_style(style.as_str()),
-            ("mode", [mode]) => self.set_mode(mode.as_str()),
-            ("words", words) => self.read_words(alloc, words, answer),
-            ("ignoring_counts", words) => self.read_ignoring_counts(alloc, words, answer),
-            ("clear", []) => self.clear(alloc, answer),
-            _ if declares(word) => declare(&mut self.side.options, word, fields),
+    fn follow(&mut self, alloc: Global, word: &str, fields: &[String], answer: &mut Answer) {
+        match word {
+            "keep" => self.keep(answer),
+            "anew" => self.side = Side::new(alloc),
+            "style" => self.set_style(field_at(fields, 0), answer),
+            "mode" => self.set_mode(field_at(fields, 0), answer),
+            "clear" => self.clear(answer),
+            _ if reads(word) => self.read(alloc, word, fields, answer),
+            _ if declares(word) => declare(&mut self.side.options, word, fields, answer),
             _ => self.ask(alloc, word, fields, answer),
         }
     }
 
     /// Keeps a copy of the options and of what the last words gave.
-    fn keep(&mut self) -> Result<(), Stop> {
-        self.kept = Some(self.side.copied()?);
-        Ok(())
+    fn keep(&mut self, answer: &mut Answer) {
+        match self.side.copied() {
+            Ok(side) => self.kept = Some(side),
+            Err(_) => answer.stop(Stop::NoMemory),
+        }
     }
 
-    fn set_style(&mut self, style: &str) -> Result<(), Stop> {
-        let style = match style {
-            "floating" => ParsingStyle::FloatingFrees,
-            "stop" => ParsingStyle::StopAtFirstFree,
-            _ => return Err(WRONG_FIELDS),
-        };
-        self.side.options.parsing_style(style);
-        Ok(())
+    fn set_style(&mut self, style: &str, answer: &mut Answer) {
+        match style {
+            "floating" => self.side.style(ParsingStyle::FloatingFrees),
+            "stop" => self.side.style(ParsingStyle::StopAtFirstFree),
+            _ => answer.stop(WRONG_FIELDS),
+        }
     }
 
-    fn set_mode(&mut self, mode: &str) -> Result<(), Stop> {
-        let long_only = match mode {
-            "ordinary" => false,
-            "long-only" => true,
-            _ => return Err(WRONG_FIELDS),
-        };
-        self.side.options.long_only(long_only);
-        Ok(())
+    fn set_mode(&mut self, mode: &str, answer: &mut Answer) {
+        match mode {
+            "ordinary" => self.side.mode(false),
+            "long-only" => self.side.mode(true),
+            _ => answer.stop(WRONG_FIELDS),
+        }
     }
 
-    /// Reads words, and answers whether they are accepted.
-    fn read_words(
-        &mut self,
-        alloc: Global,
-        words: &[String],
-        answer: &mut Answer,
-    ) -> Result<(), Stop> {
-        let words = words.iter().map(|word| word.as_str());
-        self.side.read = Some(self.side.options.parse(alloc, words));
-        self.answer_read(alloc, answer)
-    }
-
-    /// Reads words whatever their counts, and answers what they give.
-    fn read_ignoring_counts(
-        &mut self,
-        alloc: Global,
-        words: &[String],
-        answer: &mut Answer,
-    ) -> Result<(), Stop> {
-        let words = lent(alloc, words)?;
-        self.side.read = Some(self.side.options.parse_ignoring_counts(alloc, &words));
-        self.answer_read(alloc, answer)
+    /// Reads words, and answers what they give.
+    fn read(&mut self, alloc: Global, word: &str, words: &[String], answer: &mut Answer) {
+        self.side.read = Some(read_by(alloc, &self.side.options, word, words));
+        self.answer_read(answer);
     }
 
     /// Answers what the last words gave.
-    fn answer_read(&self, alloc: Global, answer: &mut Answer) -> Result<(), Stop> {
+    fn answer_read(&self, answer: &mut Answer) {
         match &self.side.read {
-            Some(Ok(matches)) => accessors::accepted(alloc, matches, answer),
-            Some(Err(fail)) => asks::refused(alloc, fail, answer),
-            None => Err(WRONG_FIELDS),
+            Some(Ok(matches)) => accessors::accepted(matches, answer),
+            Some(Err(fail)) => asks::refused(fail, answer),
+            None => answer.stop(WRONG_FIELDS),
         }
     }
 
     /// Empties the free words.
-    fn clear(&mut self, alloc: Global, answer: &mut Answer) -> Result<(), Stop> {
+    fn clear(&mut self, answer: &mut Answer) {
         if let Some(Ok(matches)) = &mut self.side.read {
             matches.free.clear();
         }
-        self.answer_read(alloc, answer)
+        self.answer_read(answer);
     }
 
-    /// Answers what a line asks.
-    fn ask(
-        &self,
-        alloc: Global,
-        word: &str,
-        fields: &[String],
-        answer: &mut Answer,
-    ) -> Result<(), Stop> {
-        answer.word(word)?;
-        self.ask_for_fields(alloc, word, fields, answer)?;
-        answer.end()
-    }
-
-    /// Answers what a line asks, by the fields of the answer's last line.
-    fn ask_for_fields(
-        &self,
-        alloc: Global,
-        word: &str,
-        fields: &[String],
-        answer: &mut Answer,
-    ) -> Result<(), Stop> {
-        match fields {
-            [what] if word == "same" => self.same(what.as_str(), answer),
-            _ if accessors::has(word) => self.ask_of_matches(alloc, word, fields, answer),
-            _ => asks::ask(alloc, &self.side.options, word, fields, answer),
+    /// Answers what a line asks, by a line.
+    fn ask(&self, alloc: Global, word: &str, fields: &[String], answer: &mut Answer) {
+        answer.word(word);
+        if word == "same" {
+            self.same(field_at(fields, 0), answer);
+        } else if accessors::has(word) {
+            self.ask_of_matches(alloc, word, fields, answer);
+        } else {
+            asks::ask(alloc, &self.side.options, word, fields, answer);
         }
+        answer.end();
     }
 
     /// Answers whether what is kept equals what is there.
-    fn same(&self, what: &str, answer: &mut Answer) -> Result<(), Stop> {
-        let Some(kept) = &self.kept else {
-            return Err(WRONG_FIELDS);
-        };
-        let same = match what {
-            "options" => kept.options == self.side.options,
-            "answers" => same_reads(&kept.read, &self.side.read),
-            _ => return Err(WRONG_FIELDS),
-        };
-        answer.text(what)?;
-        answer.truth(same)
+    fn same(&self, what: &str, answer: &mut Answer) {
+        answer.field(what);
+        match &self.kept {
+            Some(kept) => match what {
+                "options" => (kept.options == self.side.options).put(answer),
+                "answers" => same_reads(&kept.read, &self.side.read).put(answer),
+                _ => answer.stop(WRONG_FIELDS),
+            },
+            None => answer.stop(WRONG_FIELDS),
+        }
     }
 
     /// Answers what a line asks of what the last words gave.
-    fn ask_of_matches(
-        &self,
-        alloc: Global,
-        word: &str,
-        fields: &[String],
-        answer: &mut Answer,
-    ) -> Result<(), Stop> {
+    fn ask_of_matches(&self, alloc: Global, word: &str, fields: &[String], answer: &mut Answer) {
         match self.side.matches() {
             Some(matches) => accessors::ask(alloc, matches, word, fields, answer),
-            None => answer.text("nothing"),
+            None => answer.field("nothing"),
         }
     }
 }
 
-/// A list of words that are lent.
-fn lent<'w>(alloc: Global, words: &'w [String]) -> Result<Vec<&'w str>, AllocError> {
-    let mut lent = Vec::new(alloc);
-    for word in words {
-        lent.push(word.as_str())?;
+/// Whether a line with this word may have so many fields.
+fn takes(word: &str, count: usize) -> bool {
+    match count_of(word) {
+        Some(wanted) => count == wanted,
+        None => true,
     }
-    Ok(lent)
+}
+
+/// How many fields a word has, unless it has any number or isn't known.
+fn count_of(word: &str) -> Option<usize> {
+    match word {
+        "anew" | "called" | "clear" | "keep" | "rows" | "usage_rows" => Some(0),
+        "case" | "mode" | "same" | "short" | "style" | "usage" => Some(1),
+        "opt_default" | "option" | "number" | "truth" => Some(2),
+        "lawful" | "occurrences_at" | "wrap" => Some(2),
+        "optflag" | "optflagmulti" => Some(3),
+        "optflagopt" | "optmulti" | "optopt" | "reqopt" => Some(4),
+        "add_group" | "opt" => Some(6),
+        _ if accessors::has(word) && word != "any" => Some(1),
+        _ => None,
+    }
+}
+
+/// Whether a line with this word reads words.
+fn reads(word: &str) -> bool {
+    matches!(
+        word,
+        "words" | "parse_words" | "parse_filtered" | "ignoring_counts"
+    )
+}
+
+/// What words give by the call of this name.
+fn read_by(alloc: Global, options: &Options, word: &str, words: &[String]) -> getopts::Result {
+    match word {
+        "words" => options.parse(alloc, words.iter().map(|word| word.as_str())),
+        "parse_filtered" => options.parse(
+            alloc,
+            words.iter().map(|word| word.as_str()).filter(is_taken),
+        ),
+        "parse_words" => options.parse_words(alloc, &lent(alloc, words)?),
+        _ => options.parse_ignoring_counts(alloc, &lent(alloc, words)?),
+    }
 }
 
 /// Whether a line with this word adds a group.
@@ -288,104 +272,92 @@ fn declares(word: &str) -> bool {
 }
 
 /// Adds a group by the call of this name.
-fn declare(options: &mut Options, word: &str, fields: &[String]) -> Result<(), Stop> {
-    let [short, long, desc, others @ ..] = fields else {
-        return Err(WRONG_FIELDS);
-    };
-    let (short, long, desc) = (short.as_str(), long.as_str(), desc.as_str());
+fn declare(options: &mut Options, word: &str, fields: &[String], answer: &mut Answer) {
+    let short = field_at(fields, 0);
+    let long = field_at(fields, 1);
     if !names_lawful(short, long) {
-        return Err(UNLAWFUL_NAMES);
-    }
-    match others {
-        [] => add_flag(options, word, short, long, desc),
-        [hint] => add_hinted(options, word, short, long, desc, hint.as_str()),
-        [hint, kind, occur] => {
-            let (kind, occur) = (kind_of(kind.as_str())?, occur_of(occur.as_str())?);
-            add_of_kinds(options, word, short, long, desc, hint.as_str(), kind, occur)
-        }
-        _ => Err(WRONG_FIELDS),
+        answer.stop(UNLAWFUL_NAMES);
+    } else if word == "opt" || word == "add_group" {
+        declare_of_kinds(options, word, short, long, fields, answer);
+    } else if !add(options, word, short, long, fields) {
+        answer.stop(Stop::NoMemory);
     }
 }
 
-/// Adds a group of these kinds.
+/// Adds a group of the kinds that the fields name.
+fn declare_of_kinds(
+    options: &mut Options,
+    word: &str,
+    short: &str,
+    long: &str,
+    fields: &[String],
+    answer: &mut Answer,
+)
+    requires { AreLawful short.now long.now }
+{
+    match (kind_of(field_at(fields, 4)), occur_of(field_at(fields, 5))) {
+        (Some(kind), Some(occur)) => {
+            if !add_of_kinds(options, word, short, long, fields, kind, occur) {
+                answer.stop(Stop::NoMemory);
+            }
+        }
+        _ => answer.stop(WRONG_FIELDS),
+    }
+}
+
+/// Adds a group of these kinds. The answer is whether there was memory for it.
 fn add_of_kinds(
     options: &mut Options,
     word: &str,
     short: &str,
     long: &str,
-    desc: &str,
-    hint: &str,
+    fields: &[String],
     kind: HasArg,
     occur: Occur,
-) -> Result<(), Stop>
+) -> bool
     requires { AreLawful short.now long.now }
 {
-    match word {
-        "opt" => added(options.opt(short, long, desc, hint, kind, occur)),
-        "add_group" => Ok(options.add_group(short, long, desc, hint, kind, occur)?),
-        _ => Err(WRONG_FIELDS),
+    let desc = field_at(fields, 2);
+    let hint = field_at(fields, 3);
+    if word == "opt" {
+        options.opt(short, long, desc, hint, kind, occur).is_ok()
+    } else {
+        options
+            .add_group(short, long, desc, hint, kind, occur)
+            .is_ok()
     }
 }
 
-/// What comes of adding a group.
-fn added(added: Result<&mut Options, AllocError>) -> Result<(), Stop> {
-    match added {
-        Ok(_) => Ok(()),
-        Err(_) => Err(Stop::NoMemory),
-    }
-}
-
-/// Adds a group that takes no argument.
-fn add_flag(
-    options: &mut Options,
-    word: &str,
-    short: &str,
-    long: &str,
-    desc: &str,
-) -> Result<(), Stop>
+/// Adds a group by the call of this name. The answer is whether there was memory for it.
+fn add(options: &mut Options, word: &str, short: &str, long: &str, fields: &[String]) -> bool
     requires { AreLawful short.now long.now }
 {
+    let desc = field_at(fields, 2);
+    let hint = field_at(fields, 3);
     match word {
-        "optflag" => added(options.optflag(short, long, desc)),
-        "optflagmulti" => added(options.optflagmulti(short, long, desc)),
-        _ => Err(WRONG_FIELDS),
+        "optflag" => options.optflag(short, long, desc).is_ok(),
+        "optflagmulti" => options.optflagmulti(short, long, desc).is_ok(),
+        "optflagopt" => options.optflagopt(short, long, desc, hint).is_ok(),
+        "optmulti" => options.optmulti(short, long, desc, hint).is_ok(),
+        "optopt" => options.optopt(short, long, desc, hint).is_ok(),
+        _ => options.reqopt(short, long, desc, hint).is_ok(),
     }
 }
 
-/// Adds a group that takes an argument, or may.
-fn add_hinted(
-    options: &mut Options,
-    word: &str,
-    short: &str,
-    long: &str,
-    desc: &str,
-    hint: &str,
-) -> Result<(), Stop>
-    requires { AreLawful short.now long.now }
-{
-    match word {
-        "optflagopt" => added(options.optflagopt(short, long, desc, hint)),
-        "optmulti" => added(options.optmulti(short, long, desc, hint)),
-        "optopt" => added(options.optopt(short, long, desc, hint)),
-        "reqopt" => added(options.reqopt(short, long, desc, hint)),
-        _ => Err(WRONG_FIELDS),
-    }
-}
-
-fn kind_of(kind: &str) -> Result<HasArg, Stop> {
+fn kind_of(kind: &str) -> Option<HasArg> {
     match kind {
-        "yes" => Ok(HasArg::Yes),
-        "no" => Ok(HasArg::No),
-        "maybe" => Ok(HasArg::Maybe),
-        _ => Err(WRONG_FIELDS),
+        "yes" => Some(HasArg::Yes),
+        "no" => Some(HasArg::No),
+        "maybe" => Some(HasArg::Maybe),
+        _ => None,
     }
 }
 
-fn occur_of(occur: &str) -> Result<Occur, Stop> {
+fn occur_of(occur: &str) -> Option<Occur> {
     match occur {
-        "req" => Ok(Occur::Req),
-        "optional" => Ok(Occur::Optional),
-        "multi" => Ok(Occur::Multi),
-        _ => Err(WRONG_FIELDS),
+        "req" => Some(Occur::Req),
+        "optional" => Some(Occur::Optional),
+        "multi" => Some(Occur::Multi),
+        _ => None,
     }
 }

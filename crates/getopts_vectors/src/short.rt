@@ -1,53 +1,50 @@
 //! Cases that are written short: what their lines are.
 
-use std::alloc::{AllocError, Global};
+use crate::form::Answer;
 
 /// A case with a length in the place of each `$`.
-pub fn at_length(alloc: Global, case: &str, length: usize) -> Result<String, AllocError> {
-    let mut text = String::new(alloc);
+pub fn put_at_length(case: &str, length: usize, text: &mut Answer) {
+    text.clear();
     for letter in case.chars() {
         match letter {
-            '$' => write!(text, "{length}")?,
-            _ => text.push(letter)?,
+            '$' => text.decimal(length),
+            _ => text.letter(letter),
         }
     }
-    Ok(text)
 }
 
 /// A case's lines, written out.
-pub fn written_out(alloc: Global, case: &str) -> Result<String, AllocError> {
-    let mut lines = String::from_str(alloc, "case\t")?;
+pub fn put_written_out(case: &str, lines: &mut Answer) {
+    lines.clear();
+    lines.raw("case\t");
     for part in case.split('{') {
         match part.split_once('}') {
             Some((repeated, rest)) => {
-                push_repeated(&mut lines, repeated)?;
-                lines.push_str(rest)?;
+                put_repeated(repeated, lines);
+                lines.raw(rest);
             }
-            None => lines.push_str(part)?,
+            None => lines.raw(part),
         }
     }
-    lines.push('\n')?;
-    Ok(lines)
+    lines.raw("\n");
 }
 
 /// Adds what stands in braces, written out.
-fn push_repeated(lines: &mut String, repeated: &str) -> Result<(), AllocError> {
+fn put_repeated(repeated: &str, lines: &mut Answer) {
     let (count, turn) = repeated.split_once('|').unwrap_or(("1", repeated));
     for number in 0..count.parse::<usize>().unwrap_or(0) {
-        push_turn(lines, turn, number)?;
+        put_turn(turn, number, lines);
     }
-    Ok(())
 }
 
 /// Adds the turn of this number.
-fn push_turn(lines: &mut String, turn: &str, number: usize) -> Result<(), AllocError> {
+fn put_turn(turn: &str, number: usize, lines: &mut Answer) {
     for letter in turn.chars() {
         match letter {
-            '#' => write!(lines, "{number}")?,
-            '%' => write!(lines, "{number:05}")?,
-            '&' => write!(lines, "{}", number.saturating_mul(2))?,
-            _ => lines.push(letter)?,
+            '#' => lines.decimal(number),
+            '%' => lines.five_digits(number),
+            '&' => lines.decimal(number.saturating_mul(2)),
+            _ => lines.letter(letter),
         }
     }
-    Ok(())
 }

@@ -4,7 +4,7 @@ use std::alloc::{AllocError, AllocFailed};
 use std::fmt;
 
 /// What ended a run early.
-#[derive(Drop)]
+#[derive(Clone, Copy)]
 pub enum Stop {
     /// A line that can't be answered: its number, and why.
     Line(u64, &'static str),
@@ -47,14 +47,6 @@ impl Stop {
             Stop::NoMemory => 3,
             Stop::NotWritten => 4,
         }
-    }
-}
-
-/// The same, with this number where a line can't be answered.
-pub fn at_line(answered: Result<(), Stop>, number: u64) -> Result<(), Stop> {
-    match answered {
-        Err(Stop::Line(_, why)) => Err(Stop::Line(number, why)),
-        other => other,
     }
 }
 

@@ -7,7 +7,7 @@ use super::matches::Matches;
 use super::occurrences::Occurrences;
 use crate::alloc::{AllocError, Global};
 use crate::convert::AsStr;
-use std::str::FromStr;
+use core::str::FromStr;
 
 /// A copy of a text, if there is one.
 fn copied(alloc: Global, text: Option<&str>) -> Result<Option<String>, AllocError> {
@@ -22,6 +22,7 @@ impl Matches {
     ///
     /// Names of one group have the same place. The result is `None` where `opt_defined` is false. The
     /// Rust has no such call.
+    #[inline]
     pub fn opt_place(&self, name: &str) -> Option<usize> {
         self.held.are_lawful();
         self.held.place_of(name)
@@ -32,6 +33,7 @@ impl Matches {
     /// `opt_place` returns the place of a name. There are none where the option wasn't given, nor past
     /// the last group. After `-v -o x` by `optopt("o",..)` and `optflag("v",..)` those at 0 are one of
     /// position 1 and value `x`. The Rust crate has no such call.
+    #[inline]
     pub fn occurrences_at(&self, place: usize) -> Occurrences<'_> {
         self.held.occurrences_at(place)
     }

@@ -4,8 +4,9 @@
 use crate::fallible::*;
 
 use super::fail::Fail;
-use super::groups::Groups;
+use super::help::Groups;
 use super::matches::ReadLine;
+use super::occurrences::LineOccurrences;
 use super::options::Options;
 use super::parse::words_from;
 use super::scan::Line;
@@ -39,15 +40,26 @@ fn canonical_word(alloc: Global, main: &str, value: Option<&str>) -> Result<Stri
     Ok(word)
 }
 
+/// The words of the occurrences, with capacity for so many words more.
+fn option_words(
+    alloc: Global,
+    groups: &Groups,
+    found: &LineOccurrences,
+    more: usize,
+) -> Result<Vec<String>, AllocError> {
+    let mut words = Vec::of_capacity(alloc, found.len().saturating_add(more))?;
+    for place in 0..found.len() {
+        let occurrence = found.at(place);
+        let value = occurrence.value;
+        words.try_push(canonical_word(alloc, groups.main(occurrence.group), value)?)?;
+    }
+    Ok(words)
+}
+
 /// The words of the occurrences, then `--`, then the free words.
 fn canonical_line(alloc: Global, groups: &Groups, line: Line) -> Result<Vec<String>, AllocError> {
     let Line { found, free, .. } = line;
-    let room = found.len().saturating_add(free.len()).saturating_add(1);
-    let mut words = Vec::of_capacity(alloc, room)?;
-    for place in 0..found.len() {
-        let (group, (_, value)) = found.at(place);
-        words.try_push(canonical_word(alloc, groups.main(group), value)?)?;
-    }
+    let mut words = option_words(alloc, groups, &found, free.len().saturating_add(1))?;
     words.try_push(String::copy_of(alloc, "--")?)?;
     for word in free {
         words.try_push(word)?;

@@ -4,8 +4,8 @@
 use crate::fallible::*;
 
 use crate::alloc::{AllocError, AllocFailed, Global};
-use std::error::Error;
-use std::fmt;
+use crate::error::Error;
+use core::fmt;
 
 /// Why a line was refused.
 ///

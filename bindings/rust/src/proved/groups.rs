@@ -1,16 +1,16 @@
 // What bindings/rust/erase.py leaves of crates/getopts/src/groups.rt: change that file, not this one.
-//! Option groups: their kinds, and the texts and kinds of many held together.
+//! Option groups: their kinds, and the names and kinds of many held together.
 
 use crate::fallible::*;
 
-use super::names::{Names, is_of_bytes};
+use super::names::{Names, is_of_bytes, key_of, short_byte};
 use crate::alloc::{AllocError, Global};
 
 /// The capacity once a first group is added: so many groups need no second request.
-const FIRST_GROUPS: usize = 8;
+pub(crate) const FIRST_GROUPS: usize = 8;
 
-/// The bytes of their texts, likewise.
-const FIRST_BYTES: usize = 256;
+/// The bytes of their names, likewise.
+const FIRST_NAMES: usize = 128;
 
 /// What the first free word does to the words after it.
 #[derive(Debug, Clone, Copy, PartialEq, Eq)]
@@ -71,46 +71,54 @@ impl<'g> PartialEq for Signature<'g> {
     }
 }
 
-/// A group with its texts for usage, borrowed.
-#[derive(Clone, Copy)]
-pub(crate) struct Group<'g> {
-    pub signature: Signature<'g>,
-    pub hint: &'g str,
-    pub desc: &'g str,
+/// Where two texts end that stand one after the other in a text.
+#[derive(Debug, Clone, Copy)]
+pub(crate) struct Ends {
+    pub first: usize,
+    pub second: usize,
 }
 
-/// A group among others: where its texts end in the text of all, and its kinds.
+impl PartialEq for Ends {
+    fn eq(&self, other: &Ends) -> bool {
+        self.first == other.first && self.second == other.second
+    }
+}
+
+/// A group among others: where its names end in the text of all names, what they are looked up by, and
+/// its kinds.
 #[derive(Debug, Clone, Copy)]
-struct GroupRecord {
-    short_end: usize,
-    long_end: usize,
-    hint_end: usize,
-    desc_end: usize,
+struct SignatureRecord {
+    names: Ends,
+    /// The key of the main name.
+    key: u64,
+    /// The byte of the short name, or `NO_BYTE`.
+    short: u16,
+    has_long: bool,
     kinds: Kinds,
 }
 
-impl PartialEq for GroupRecord {
-    fn eq(&self, other: &GroupRecord) -> bool {
-        self.short_end == other.short_end
-            && self.long_end == other.long_end
-            && self.hint_end == other.hint_end
-            && self.desc_end == other.desc_end
+impl PartialEq for SignatureRecord {
+    fn eq(&self, other: &SignatureRecord) -> bool {
+        self.names == other.names
+            && self.key == other.key
+            && self.short == other.short
+            && self.has_long == other.has_long
             && self.kinds == other.kinds
     }
 }
 
-/// Where the texts of the groups before a place end.
+/// Where the names of the groups before a place end.
 #[inline(always)]
-fn start_of(records: &[GroupRecord], place: usize) -> usize {
+fn names_start(records: &[SignatureRecord], place: usize) -> usize {
     if place == 0 {
         return 0;
     }
-    records[place - 1].desc_end
+    records[place - 1].names.second
 }
 
 /// Adds a text that there is room for, and returns where it ends.
 #[inline(always)]
-fn push_reserved(texts: &mut String, text: &str) -> usize {
+pub(crate) fn push_reserved(texts: &mut String, text: &str) -> usize {
     if text.is_empty() {
         return texts.len();
     }
@@ -120,29 +128,30 @@ fn push_reserved(texts: &mut String, text: &str) -> usize {
     }
 }
 
-/// Lawfully named groups: one text of all their texts, for each group the short name, the long name,
-/// the hint and the description, and a record of each group.
+/// What reading asks of lawfully named groups: one text of all their names, of each group the short
+/// and the long one, and a record of each group.
 #[derive(Debug)]
-pub(crate) struct Groups {
+pub(crate) struct Signatures {
     text: String,
-    records: Vec<GroupRecord>,
+    records: Vec<SignatureRecord>,
 }
 
-impl Groups {
-    /// No groups. Takes no memory.
-    pub(crate) fn new(alloc: Global) -> Groups {
-        Groups {
+impl Signatures {
+    /// Of no groups. Takes no memory.
+    pub(crate) fn new(alloc: Global) -> Signatures {
+        Signatures {
             text: String::empty(alloc),
             records: Vec::empty(alloc),
         }
     }
 
+    #[inline]
     pub(crate) fn len(&self) -> usize {
         self.records.len()
     }
 
     /// The groups may be declared: a law to cite, of which nothing is left once built.
-    pub(crate) fn may_be_declared(&self) {
+    pub(crate) fn are_lawful(&self) {
         let _records = &self.records;
     }
 
@@ -152,15 +161,55 @@ impl Groups {
         self.records[place].kinds
     }
 
-    /// The main name of the group at a place.
-    pub(crate) fn main(&self, place: usize) -> &str {
-        self.signature(place).names.main()
+    /// The short name of the group at a place. It starts where the names of the group before it end.
+    #[inline(always)]
+    pub(crate) fn short(&self, place: usize) -> &str {
+        let start = names_start(&self.records, place);
+        &self.text[start..self.records[place].names.first]
+    }
+
+    /// The long name of the group at a place.
+    #[inline(always)]
+    pub(crate) fn long(&self, place: usize) -> &str {
+        let group = self.records[place];
+        &self.text[group.names.first..group.names.second]
+    }
+
+    /// The key of the main name of the group at a place.
+    #[inline(always)]
+    pub(crate) fn key_at(&self, place: usize) -> u64 {
+        self.records[place].key
+    }
+
+    /// The byte of the short name of the group at a place, or `NO_BYTE`.
+    #[inline(always)]
+    pub(crate) fn short_at(&self, place: usize) -> u16 {
+        self.records[place].short
+    }
+
+    /// Whether the group at a place has a long name.
+    #[inline(always)]
+    pub(crate) fn has_long(&self, place: usize) -> bool {
+        self.records[place].has_long
     }
 
     /// The two names of the group at a place.
     #[inline]
     pub(crate) fn names(&self, place: usize) -> Names<'_> {
-        self.signature(place).names
+        Names {
+            short: self.short(place),
+            long: self.long(place),
+        }
+    }
+
+    /// The main name of the group at a place.
+    #[inline]
+    pub(crate) fn main(&self, place: usize) -> &str {
+        if self.has_long(place) {
+            self.long(place)
+        } else {
+            self.short(place)
+        }
     }
 
     /// The name of this number, where each group in turn has two, the short one first. Past the last
@@ -168,13 +217,11 @@ impl Groups {
     pub(crate) fn name(&self, number: usize) -> &str {
         let place = number / 2;
         if place >= self.len() {
-            return "";
-        }
-        let names = self.names(place);
-        if number % 2 == 0 {
-            names.short
+            ""
+        } else if number % 2 == 0 {
+            self.short(place)
         } else {
-            names.long
+            self.long(place)
         }
     }
 
@@ -183,95 +230,56 @@ impl Groups {
         is_of_bytes(&self.text);
     }
 
-    /// What reading asks of the group at a place: its texts start where those of the one before it end.
-    #[inline]
-    pub(crate) fn signature(&self, place: usize) -> Signature<'_> {
-        let group = self.records[place];
-        let start = start_of(&self.records, place);
-        let short = &self.text[start..group.short_end];
-        let long = &self.text[group.short_end..group.long_end];
-        let names = Names { short, long };
-        let kinds = group.kinds;
-        Signature { names, kinds }
-    }
-
-    /// The group at a place.
-    pub(crate) fn get(&self, place: usize) -> Group<'_> {
-        let group = self.records[place];
-        let signature = self.signature(place);
-        let hint = &self.text[group.long_end..group.hint_end];
-        let desc = &self.text[group.hint_end..group.desc_end];
-        Group {
-            signature,
-            hint,
-            desc,
+    /// What reading asks of the group at a place.
+    #[inline(always)]
+    pub(crate) fn get(&self, place: usize) -> Signature<'_> {
+        Signature {
+            names: self.names(place),
+            kinds: self.kinds_at(place),
         }
     }
 
-    /// Whether the names and the kinds of each group in order are the same, whatever their help.
-    pub(crate) fn same_signatures(&self, other: &Groups) -> bool {
-        self == other || self.same_each(other)
-    }
-
-    /// The same, group by group.
-    #[cold]
-    fn same_each(&self, other: &Groups) -> bool {
-        if self.len() != other.len() {
-            return false;
-        }
-        for place in 0..self.len() {
-            if self.signature(place) != other.signature(place) {
-                return false;
-            }
-        }
-        true
-    }
-
-    /// Adds a group as the last. An error leaves the groups as they were.
+    /// Adds those of a group as the last. An error leaves them as they were.
     #[inline]
     pub(crate) fn try_push(
         &mut self,
         short: &str,
         long: &str,
-        hint: &str,
-        desc: &str,
         kinds: Kinds,
     ) -> Result<(), AllocError> {
-        let names = short.len().saturating_add(long.len());
-        let bytes = names.saturating_add(hint.len()).saturating_add(desc.len());
+        let bytes = short.len().saturating_add(long.len());
         if self.records.is_empty() {
             self.records.try_grow(FIRST_GROUPS)?;
-            self.text.try_grow(bytes.max(FIRST_BYTES))?;
+            self.text.try_grow(bytes.max(FIRST_NAMES))?;
         } else {
             self.records.try_grow(1)?;
             self.text.try_grow(bytes)?;
         }
-        let short_end = push_reserved(&mut self.text, short);
-        let long_end = push_reserved(&mut self.text, long);
-        let hint_end = push_reserved(&mut self.text, hint);
-        let desc_end = push_reserved(&mut self.text, desc);
-        self.records.push_reserved(GroupRecord {
-            short_end,
-            long_end,
-            hint_end,
-            desc_end,
+        let first = push_reserved(&mut self.text, short);
+        let second = push_reserved(&mut self.text, long);
+        let key = key_of(Names { short, long }.main());
+        self.records.push_reserved(SignatureRecord {
+            names: Ends { first, second },
+            key,
+            short: short_byte(short),
+            has_long: !long.is_empty(),
             kinds,
         });
         Ok(())
     }
 }
 
-impl TryClone for Groups {
-    fn try_clone(&self) -> Result<Groups, AllocError> {
-        Ok(Groups {
+impl TryClone for Signatures {
+    fn try_clone(&self) -> Result<Signatures, AllocError> {
+        Ok(Signatures {
             text: self.text.try_clone()?,
             records: self.records.try_clone()?,
         })
     }
 }
 
-impl PartialEq for Groups {
-    fn eq(&self, other: &Groups) -> bool {
+impl PartialEq for Signatures {
+    fn eq(&self, other: &Signatures) -> bool {
         self.text == other.text && self.records == other.records
     }
 }

@@ -3,7 +3,7 @@
 
 use crate::fallible::*;
 
-use super::groups::Groups;
+use super::groups::Signatures;
 use super::index::Index;
 use super::occurrences::{LineOccurrences, Occurrences};
 use super::scan::Line;
@@ -29,7 +29,8 @@ pub struct Matches {
 
 impl Matches {
     /// What a line gives to groups.
-    pub(crate) fn of_line(groups: Groups, read: ReadLine) -> Matches {
+    #[inline(always)]
+    pub(crate) fn of_line(signatures: Signatures, read: ReadLine) -> Matches {
         let ReadLine { table, line, index } = read;
         let Line {
             found,
@@ -39,7 +40,7 @@ impl Matches {
         Matches {
             free,
             held: MatchedGroups {
-                groups,
+                signatures,
                 table,
                 found,
                 index,
@@ -85,26 +86,27 @@ impl Eq for Matches {}
 /// Groups, and what a line gave to each of them.
 #[derive(Debug)]
 pub(crate) struct MatchedGroups {
-    groups: Groups,
+    signatures: Signatures,
     table: Table,
     found: LineOccurrences,
     index: Index,
 }
 
 impl MatchedGroups {
-    /// The groups.
-    pub(crate) fn groups(&self) -> &Groups {
-        &self.groups
+    /// The names and kinds of the groups.
+    pub(crate) fn signatures(&self) -> &Signatures {
+        &self.signatures
     }
 
     /// The place of the group that a name resolves to.
+    #[inline]
     pub(crate) fn place_of(&self, name: &str) -> Option<usize> {
-        self.table.resolve(&self.groups, name)
+        self.table.resolve(&self.signatures, name)
     }
 
     /// The groups are lawfully named: a law to cite, of which nothing is left once built.
     pub(crate) fn are_lawful(&self) {
-        self.groups.may_be_declared();
+        self.signatures.are_lawful();
     }
 
     /// The occurrences of the group at a place.
@@ -123,10 +125,10 @@ impl MatchedGroups {
 
     /// Whether the groups are the same, with their occurrences.
     pub(crate) fn same(&self, other: &MatchedGroups) -> bool {
-        if !self.groups.same_signatures(&other.groups) {
+        if self.signatures != other.signatures {
             return false;
         }
-        for place in 0..self.groups.len() {
+        for place in 0..self.signatures.len() {
             if !self
                 .occurrences_at(place)
                 .same(&other.occurrences_at(place))
@@ -141,7 +143,7 @@ impl MatchedGroups {
 impl TryClone for MatchedGroups {
     fn try_clone(&self) -> Result<MatchedGroups, AllocError> {
         Ok(MatchedGroups {
-            groups: self.groups.try_clone()?,
+            signatures: self.signatures.try_clone()?,
             table: self.table.try_clone()?,
             found: self.found.try_clone()?,
             index: self.index.try_clone()?,

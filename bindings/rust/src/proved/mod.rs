@@ -3,8 +3,10 @@
 
 // Which pairs of names are lawful.
 mod names;
-// Option groups, held together: their texts as one, and a record of each.
+// Names and kinds of option groups, held together: their names as one text, and a record of each.
 mod groups;
+// Groups as they are declared, with their hints and descriptions.
+mod help;
 // The groups that a caller declares, with a style and a mode, and the calls that declare them.
 mod options;
 // Why a line is refused.
@@ -18,7 +20,7 @@ mod scan;
 // Where each group's occurrences stand.
 mod index;
 // What an accepted line gave: copies and comparisons.
-mod matches;
+pub(crate) mod matches;
 // What matches return for a name.
 mod accessors;
 // Reading a line: its words are scanned, and then its counts are checked.
@@ -42,4 +44,4 @@ pub use scan::are_texts;
 pub use usage::UsageRows;
 
 /// What `parse` returns: the matches of an accepted line, or why the line was refused.
-pub type Result = std::result::Result<Matches, Fail>;
+pub type Result = core::result::Result<Matches, Fail>;

@@ -28,6 +28,15 @@ impl OccurrenceRecord {
     }
 }
 
+/// One option that a line gives, borrowed: the place of its group, the index of its item's first word, and its
+/// value if it has one.
+#[derive(Clone, Copy)]
+pub(crate) struct Occurrence<'l> {
+    pub group: usize,
+    pub position: usize,
+    pub value: Option<&'l str>,
+}
+
 /// Where the values of the options before a place end.
 #[inline(always)]
 fn values_start(records: &[OccurrenceRecord], place: usize) -> usize {
@@ -86,15 +95,23 @@ impl LineOccurrences {
         self.records.len()
     }
 
-    /// The occurrence at a place: its group, and its position and value.
+    /// The occurrence at a place.
     #[inline(always)]
-    pub(crate) fn at(&self, place: usize) -> (usize, (usize, Option<&str>)) {
+    pub(crate) fn at(&self, place: usize) -> Occurrence<'_> {
         let held = self.records[place];
         if !held.has_value() {
-            return (held.group, (held.position, None));
+            return Occurrence {
+                group: held.group,
+                position: held.position,
+                value: None,
+            };
         }
         let value = &self.values[values_start(&self.records, place)..held.values_end()];
-        (held.group, (held.position, Some(value)))
+        Occurrence {
+            group: held.group,
+            position: held.position,
+            value: Some(value),
+        }
     }
 
     /// Adds an occurrence as the last.
@@ -154,6 +171,7 @@ impl<'m> Occurrences<'m> {
     }
 
     /// Whether there are none.
+    #[inline]
     pub fn is_empty(&self) -> bool {
         self.len() == 0
     }
@@ -172,7 +190,8 @@ impl<'m> Occurrences<'m> {
     /// The position and the value of one that is there.
     #[inline]
     fn at(&self, nth: usize) -> (usize, Option<&'m str>) {
-        self.found.at(self.places[nth]).1
+        let occurrence = self.found.at(self.places[nth]);
+        (occurrence.position, occurrence.value)
     }
 
     pub(crate) fn positions(&self, alloc: Global) -> Result<Vec<usize>, AllocError> {
@@ -235,6 +254,7 @@ impl<'m> IntoIterator for Occurrences<'m> {
 
     type IntoIter = OccurrencesIter<'m>;
 
+    #[inline]
     fn into_iter(self) -> OccurrencesIter<'m> {
         OccurrencesIter {
             occurrences: self,
@@ -253,6 +273,7 @@ pub struct OccurrencesIter<'m> {
 impl<'m> Iterator for OccurrencesIter<'m> {
     type Item = (usize, Option<&'m str>);
 
+    #[inline]
     fn next(&mut self) -> Option<(usize, Option<&'m str>)> {
         if self.next >= self.occurrences.len() {
             return None;

@@ -3,7 +3,8 @@
 
 use crate::fallible::*;
 
-use super::groups::{Group, Groups, HasArg, Kinds, Occur, ParsingStyle};
+use super::groups::{HasArg, Kinds, Occur, ParsingStyle, Signatures};
+use super::help::{Group, Groups};
 use crate::alloc::{AllocError, Global};
 
 /// A list of option groups, a parsing style and a mode.
@@ -217,6 +218,11 @@ impl Options {
     pub(crate) fn groups(&self) -> &Groups {
         self.groups.may_be_declared();
         &self.groups
+    }
+
+    /// What reading asks of the groups.
+    pub(crate) fn signatures(&self) -> &Signatures {
+        self.groups().signatures()
     }
 }
 

@@ -4,7 +4,7 @@
 use crate::fallible::*;
 
 use super::fail::Fail;
-use super::groups::{Groups, Occur};
+use super::groups::{Occur, Signatures};
 use super::index::Index;
 use super::matches::{Matches, ReadLine};
 use super::options::Options;
@@ -28,7 +28,7 @@ impl Options {
     /// The Rust crate has no such call: its `parse` takes an iterator.
     pub fn parse_words(&self, alloc: Global, words: &[&str]) -> super::Result {
         let accepted = self.accepted_line(alloc, words)?;
-        Ok(Matches::of_line(self.groups().try_clone()?, accepted))
+        Ok(Matches::of_line(self.signatures().try_clone()?, accepted))
     }
 
     /// Reads the words of a line, as `parse_words` does, whatever their counts.
@@ -40,7 +40,7 @@ impl Options {
     /// the words themselves come as from `parse_words`. The Rust crate has no such call.
     pub fn parse_ignoring_counts(&self, alloc: Global, words: &[&str]) -> super::Result {
         let read = self.read_line(alloc, words)?;
-        Ok(Matches::of_line(self.groups().try_clone()?, read))
+        Ok(Matches::of_line(self.signatures().try_clone()?, read))
     }
 
     /// Reads the words of a line, as `parse_words` does, over the items of an iterator.
@@ -54,23 +54,25 @@ impl Options {
     }
 
     /// Reads a line, and checks its counts.
+    #[inline(always)]
     pub(crate) fn accepted_line(&self, alloc: Global, words: &[&str]) -> Result<ReadLine, Fail> {
         let read = self.read_line(alloc, words)?;
-        check_counts(alloc, self.groups(), &read)?;
+        check_counts(alloc, self.signatures(), &read)?;
         Ok(read)
     }
 
     /// Reads a line, whatever its counts.
+    #[inline(always)]
     fn read_line(&self, alloc: Global, words: &[&str]) -> Result<ReadLine, Fail> {
         are_texts(words);
-        let groups = self.groups();
-        let table = Table::of(alloc, groups)?;
+        let signatures = self.signatures();
+        let table = Table::of(alloc, signatures)?;
         let scanner = Scanner {
             options: self,
             table: &table,
         };
         let line = scanner.scan(alloc, words)?;
-        let index = Index::of(alloc, groups.len(), &line.found)?;
+        let index = Index::of(alloc, signatures.len(), &line.found)?;
         Ok(ReadLine { table, line, index })
     }
 }
@@ -89,17 +91,19 @@ pub(crate) fn words_from<'a, I: Iterator<Item = &'a str>>(
 }
 
 /// Checks how often the options of a line came, group by group in order of definition.
-fn check_counts(alloc: Global, groups: &Groups, read: &ReadLine) -> Result<(), Fail> {
-    for place in 0..groups.len() {
+#[inline(always)]
+fn check_counts(alloc: Global, signatures: &Signatures, read: &ReadLine) -> Result<(), Fail> {
+    for place in 0..signatures.len() {
         let count = read.index.count(place);
-        if !fits_count(groups.kinds_at(place).occurrence, count) {
-            return Err(count_fault(alloc, groups.main(place), count));
+        if !fits_count(signatures.kinds_at(place).occurrence, count) {
+            return Err(count_fault(alloc, signatures.main(place), count));
         }
     }
     Ok(())
 }
 
 /// Whether an option may come so many times.
+#[inline(always)]
 fn fits_count(occurrence: Occur, count: usize) -> bool {
     match occurrence {
         Occur::Req => count == 1,

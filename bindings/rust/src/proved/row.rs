@@ -3,7 +3,8 @@
 
 use crate::fallible::*;
 
-use super::groups::{Group, HasArg, Signature};
+use super::groups::{HasArg, Signature};
+use super::help::Group;
 use super::names::Names;
 use super::wrap::push_description;
 use crate::alloc::AllocError;

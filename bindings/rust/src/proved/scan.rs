@@ -168,9 +168,9 @@ fn ending<'w>(
 impl<'o> Scanner<'o> {
     /// The place and the kind of argument of the option that a name resolves to.
     fn option(&self, name: &str) -> Option<(usize, HasArg)> {
-        let groups = self.options.groups();
-        let place = self.table.resolve(groups, name)?;
-        Some((place, groups.kinds_at(place).kind))
+        let signatures = self.options.signatures();
+        let place = self.table.resolve(signatures, name)?;
+        Some((place, signatures.kinds_at(place).kind))
     }
 
     /// Reads an item in long form, by its text after the dashes and the words after its first. Adds
@@ -202,15 +202,16 @@ impl<'o> Scanner<'o> {
         Ok(used)
     }
 
-    /// The option that the byte at a place in a cluster names, with that name; only names of one byte
-    /// resolve there.
-    fn option_at<'t>(&self, text: &'t str, at: usize) -> Option<(&'t str, usize, HasArg)> {
-        if !text.as_bytes()[at].is_ascii() {
+    /// The place and the kind of argument of the option that a byte in a cluster names; only names of one
+    /// byte resolve there, and one that isn't ASCII is no text.
+    #[inline(always)]
+    fn option_at(&self, byte: u8) -> Option<(usize, HasArg)> {
+        if !byte.is_ascii() {
             return None;
         }
-        let name = &text[at..at + 1];
-        let (group, kind) = self.option(name)?;
-        Some((name, group, kind))
+        let signatures = self.options.signatures();
+        let place = self.table.resolve_byte(signatures, byte)?;
+        Some((place, signatures.kinds_at(place).kind))
     }
 
     /// Reads a cluster, by its text after the dash and the words after its first. Adds its occurrences,
@@ -224,13 +225,14 @@ impl<'o> Scanner<'o> {
         found: &mut LineOccurrences,
     ) -> Result<usize, Fail> {
         'names: for at in 0..text.len() {
-            match self.option_at(text, at) {
+            match self.option_at(text.as_bytes()[at]) {
                 None => {
                     let name = first_character(&text[at..]);
                     return Err(Fail::unrecognized_option(alloc, name));
                 }
-                Some((_, group, HasArg::No)) => found.try_push(group, position, None)?,
-                Some((name, group, kind)) => {
+                Some((group, HasArg::No)) => found.try_push(group, position, None)?,
+                Some((group, kind)) => {
+                    let name = &text[at..at + 1];
                     let (value, used) = ending(alloc, kind, name, &text[at + 1..], after)?;
                     found.try_push(group, position, value)?;
                     return Ok(used);

@@ -3,13 +3,14 @@
 
 use crate::fallible::*;
 
-use super::groups::{Group, HasArg, Occur, Signature};
+use super::groups::{HasArg, Occur, Signature};
+use super::help::Group;
 use super::names::Names;
 use super::options::Options;
 use super::row::{Layout, push_argument, push_row};
 use super::wrap::push_parting;
 use crate::alloc::{AllocError, Global};
-use std::vec;
+use crate::heap::vec;
 
 /// The bytes that most rows take.
 const ROW_ROOM: usize = 80;
@@ -158,7 +159,7 @@ impl Options {
         let groups = self.groups();
         let mut any_short = false;
         for place in 0..groups.len() {
-            any_short |= !groups.signature(place).names.short.is_empty();
+            any_short |= !groups.get(place).signature.names.short.is_empty();
         }
         Layout {
             long_only: self.is_long_only(),

@@ -3,15 +3,15 @@
 
 use crate::host::*;
 
-use super::complete::{is_given, offers_at, place_of, read_words, stub};
-use super::item::{ALONE, reason_of};
-use super::quote::{push_quoted, push_quoted_words};
-use super::row::Row;
+use super::complete::{is_given, offers, read_words, stub};
+use super::item::reason_of;
+use super::quote::{push_line, push_quoted};
+use super::row::{Mark, Row};
 use super::table::{TableError, rows_of};
 use super::variables::{VariableError, Variables, main_name, variable_error, variables_code};
 use super::words::texts_of;
-use crate::getopts::{Fail, HasArg, Matches, Options, ParsingStyle, names_resolve};
-use crate::getopts_bytes::push_bytes;
+use crate::getopts::{Fail, HasArg, Matches, Occur, Options, ParsingStyle, names_resolve};
+use ::getopts::bytes::push_bytes;
 use crate::host::alloc::{AllocError, Global};
 use crate::host::io;
 use crate::host::io::{ErrorKind, Write};
@@ -53,7 +53,6 @@ struct Asked {
     brief: Option<String>,
     stop: bool,
     long_only: bool,
-    words: bool,
     usage: bool,
     complete: Option<String>,
     complete_words: Option<String>,
@@ -79,13 +78,12 @@ struct Script<'s> {
 ///
 /// - 0: code that sets the script's words to those of the canonical line, or, with `--variables`, that sets
 ///   variables, or that prints the script's help; with `--usage` the help itself, with `--complete` the code
-///   that completes words in a shell, with `--complete-words` what may come at a word, with `--help` the
+///   that completes words in a shell, with `--complete-words` what may come at the last word, with `--help` the
 ///   program's help
 /// - 2: why the script's words are refused, and its short usage
 /// - 3: out of memory, with nothing written
 /// - 4: a write or a flush failed, and what was written is a front of the text
-/// - 5: what is wrong with the call: its own words, an unknown shell, a number that no word has, a missing table,
-///   or a line of it
+/// - 5: what is wrong with the call: its own words, an unknown shell, a missing table, or a line of it
 pub fn answer<W: Write, E: Write>(alloc: Global, words: &[&str], out: &mut W, err: &mut E) -> u8 {
     match output_to(alloc, words) {
         Ok(output) => match write_output(&output, out, err) {
@@ -167,7 +165,6 @@ fn add_own_options(options: &mut Options) -> Result<(), AllocError> {
             "leave all words from the first free one on free",
         )?
         .optflag("l", "long-only", "let long names follow one dash too")?
-        .optflag("w", "words", "write the words alone, without 'set --'")?
         .optopt(
             "V",
             "variables",
@@ -185,7 +182,7 @@ fn add_own_options(options: &mut Options) -> Result<(), AllocError> {
         .optopt(
             "",
             "complete-words",
-            "write what may come at word N, where the WORDs are N and words",
+            "write what may come at the last WORD",
             "SHELL",
         )?
         .optflag("h", "help", "print this help")?
@@ -226,7 +223,6 @@ fn asked_by(alloc: Global, own: &Matches) -> Result<Asked, AllocError> {
         brief: own.opt_str(alloc, "brief")?,
         stop: own.opt_present("stop"),
         long_only: own.opt_present("long-only"),
-        words: own.opt_present("words"),
         usage: own.opt_present("usage"),
         complete: own.opt_str(alloc, "complete")?,
         complete_words: own.opt_str(alloc, "complete-words")?,
@@ -318,7 +314,6 @@ fn asked_error<'t>(
     rows: &[Row<'t>],
 ) -> Option<VariableError<'t>> {
     match &asked.variables {
-        Some(_) if asked.words => Some(VariableError::WithWords),
         Some(prefix) => variable_error(prefix.as_str(), table, rows),
         None if asked.arrays => Some(VariableError::ArraysOnly),
         None => None,
@@ -328,9 +323,6 @@ fn asked_error<'t>(
 /// The line of a fault of variables.
 fn variable_refusal(alloc: Global, error: VariableError<'_>) -> Result<String, AllocError> {
     match error {
-        VariableError::WithWords => text!(in alloc;
-            "getopts_shell: --words and --variables don't go together\n"
-        ),
         VariableError::ArraysOnly => {
             text!(in alloc; "getopts_shell: --arrays needs --variables\n")
         }
@@ -355,7 +347,7 @@ fn rows_answer(
     rows: &[Row<'_>],
     words: &[&str],
 ) -> Result<Outcome, AllocError> {
-    let options = options_of(alloc, asked, rows)?;
+    let options = options_of(alloc, asked, rows, false)?;
     let script = Script {
         asked,
         name,
@@ -366,30 +358,48 @@ fn rows_answer(
     script_answer(alloc, script, words)
 }
 
-/// The options of a table, in the style and the mode that are asked for.
-fn options_of(alloc: Global, asked: &Asked, rows: &[Row<'_>]) -> Result<Options, AllocError> {
+/// The options of a table, in the style and the mode that are asked for: as a help shows them, or as words are read.
+fn options_of(
+    alloc: Global,
+    asked: &Asked,
+    rows: &[Row<'_>],
+    shown: bool,
+) -> Result<Options, AllocError> {
     let mut options = Options::new(alloc);
     if asked.stop {
         options.parsing_style(ParsingStyle::StopAtFirstFree);
     }
     options.long_only(asked.long_only);
-    add_rows(&mut options, rows)?;
+    add_rows(&mut options, rows, shown)?;
     Ok(options)
 }
 
 /// Adds the options of a table.
-fn add_rows(options: &mut Options, rows: &[Row<'_>]) -> Result<(), AllocError> {
+fn add_rows(options: &mut Options, rows: &[Row<'_>], shown: bool) -> Result<(), AllocError> {
     for row in rows {
+        let occurrence = if shown {
+            shown_occurrence(row.mark, row.occurrence)
+        } else {
+            row.occurrence
+        };
         options.add_group(
             row.short,
             row.long,
             row.description,
             row.hint,
             row.kind,
-            row.occurrence,
+            occurrence,
         )?;
     }
     Ok(())
+}
+
+/// How often an option may come, as a help shows it.
+fn shown_occurrence(mark: Mark, occurrence: Occur) -> Occur {
+    match mark {
+        Mark::Last => Occur::Optional,
+        _ => occurrence,
+    }
 }
 
 /// The answer for a script and its words.
@@ -406,15 +416,24 @@ fn script_answer(alloc: Global, script: Script<'_>, words: &[&str]) -> Result<Ou
     }
 }
 
+/// The options of a script as its help shows them.
+fn shown_options(alloc: Global, script: Script<'_>) -> Result<Options, AllocError> {
+    options_of(alloc, script.asked, script.rows, true)
+}
+
+/// The text that the help of a script begins with.
+fn brief_text(alloc: Global, script: Script<'_>, shown: &Options) -> Result<String, AllocError> {
+    match &script.asked.brief {
+        Some(brief) => String::copy_of(alloc, brief.as_str()),
+        None => shown.short_usage(alloc, script.name),
+    }
+}
+
 /// The help of a script.
 fn help_of(alloc: Global, script: Script<'_>) -> Result<String, AllocError> {
-    match &script.asked.brief {
-        Some(brief) => script.options.usage(alloc, brief.as_str()),
-        None => {
-            let brief = script.options.short_usage(alloc, script.name)?;
-            script.options.usage(alloc, brief.as_str())
-        }
-    }
+    let shown = shown_options(alloc, script)?;
+    let brief = brief_text(alloc, script, &shown)?;
+    shown.usage(alloc, brief.as_str())
 }
 
 /// The code that completes a script's words in a shell, or that there is none for it.
@@ -444,7 +463,7 @@ fn has_completion(shell: &str) -> bool {
     shell == "bash" || shell == "zsh" || shell == "fish"
 }
 
-/// The answer to a shell that asks what may come at a word: its number stands before the words.
+/// The answer to a shell that asks what may come at the last word.
 fn offer_answer(
     alloc: Global,
     shell: &str,
@@ -454,45 +473,23 @@ fn offer_answer(
     if !has_completion(shell) {
         return no_completion(alloc, shell);
     }
-    numbered_answer(alloc, script, words)
+    Ok(Outcome {
+        text: last_offers(alloc, script, words)?,
+        status: DONE,
+    })
 }
 
-/// What may come at a word whose number stands before the words.
-fn numbered_answer(
-    alloc: Global,
-    script: Script<'_>,
-    words: &[&str],
-) -> Result<Outcome, AllocError> {
-    match words {
-        [number, words @ ..] => place_answer(alloc, script, number, words),
-        [] => place_answer(alloc, script, "", &[]),
+/// What may come at the last word.
+fn last_offers(alloc: Global, script: Script<'_>, words: &[&str]) -> Result<String, AllocError> {
+    let options = script.options;
+    let long_only = script.asked.long_only;
+    let count = words.len();
+    if count == 0 {
+        return offers(alloc, options, long_only, script.rows, words, "");
     }
-}
-
-/// What may come at the word with this number.
-fn place_answer(
-    alloc: Global,
-    script: Script<'_>,
-    number: &str,
-    words: &[&str],
-) -> Result<Outcome, AllocError> {
-    match place_of(number, words.len()) {
-        Some(place) => Ok(Outcome {
-            text: offers_at(
-                alloc,
-                script.options,
-                script.asked.long_only,
-                script.rows,
-                words,
-                place,
-            )?,
-            status: DONE,
-        }),
-        None => Ok(Outcome {
-            text: text!(in alloc; "getopts_shell: no word has the number '{number}'\n")?,
-            status: MISUSED,
-        }),
-    }
+    let before = &words[..count - 1];
+    let word = words[count - 1];
+    offers(alloc, options, long_only, script.rows, before, word)
 }
 
 /// The answer to the words of a script: the code that prints its help where they ask for it, the code of the one
@@ -551,12 +548,12 @@ fn asked_alone<'s>(
 
 /// Whether one of the rows stands alone.
 fn any_stands_alone(rows: &[Row<'_>]) -> bool {
-    rows.iter().any(|row| stands_alone(*row))
+    rows.iter().any(|row| stands_alone(row.mark))
 }
 
-/// Whether a row stands alone.
-fn stands_alone(row: Row<'_>) -> bool {
-    matches!(row.kind, HasArg::No) && row.hint == ALONE
+/// Whether an option with this mark stands alone.
+fn stands_alone(mark: Mark) -> bool {
+    matches!(mark, Mark::Alone)
 }
 
 /// The first row that stands alone and is given by matches.
@@ -572,7 +569,7 @@ fn first_alone<'t>(rows: &[Row<'t>], matches: &Matches) -> Option<Row<'t>> {
 
 /// Whether a row stands alone and is given by matches.
 fn is_alone(row: Row<'_>, matches: &Matches) -> bool {
-    stands_alone(row) && is_given(matches, main_name(row))
+    stands_alone(row.mark) && is_given(matches, main_name(row))
 }
 
 /// The answer to words that ask for one option alone: its line, or the code that sets variables to what it gives.
@@ -588,7 +585,7 @@ fn alone_line(alloc: Global, script: Script<'_>, row: Row<'_>) -> Result<Outcome
     let word = main_word(alloc, row)?;
     let stop = String::copy_of(alloc, "--")?;
     Ok(Outcome {
-        text: line_code(alloc, script.asked, &[word, stop])?,
+        text: line_code(alloc, &[word, stop])?,
         status: DONE,
     })
 }
@@ -648,7 +645,7 @@ fn line_answer(alloc: Global, script: Script<'_>, words: &[&str]) -> Result<Outc
     names_resolve(script.options);
     match script.options.canonical_words(alloc, words) {
         Ok(Some(line)) => Ok(Outcome {
-            text: line_code(alloc, script.asked, &line)?,
+            text: line_code(alloc, &line)?,
             status: DONE,
         }),
         Ok(None) => unreachable!(),
@@ -682,22 +679,19 @@ fn variables_answer(
     }
 }
 
-/// The code that sets a script's words to those of a line, or the words alone.
-fn line_code(alloc: Global, asked: &Asked, line: &[String]) -> Result<String, AllocError> {
+/// The code that sets a script's words to those of a line.
+fn line_code(alloc: Global, line: &[String]) -> Result<String, AllocError> {
     let mut text = String::empty(alloc);
-    if !asked.words {
-        text.try_push_str("\\set -- ")?;
-    }
-    push_quoted_words(&mut text, line)?;
-    text.try_push('\n')?;
+    push_line(&mut text, line)?;
     Ok(text)
 }
 
-/// Why a script's words are refused, and its short usage.
+/// Why a script's words are refused, and the text that its help begins with.
 fn refusal(alloc: Global, script: Script<'_>, fail: &Fail) -> Result<String, AllocError> {
     let mut text = fault_line(alloc, script.name, fail)?;
-    let usage = script.options.short_usage(alloc, script.name)?;
-    text.try_push_str(usage.as_str())?;
+    let shown = shown_options(alloc, script)?;
+    let brief = brief_text(alloc, script, &shown)?;
+    text.try_push_str(brief.as_str())?;
     text.try_push('\n')?;
     Ok(text)
 }

@@ -3,8 +3,9 @@
 
 use crate::host::*;
 
-use super::quote::push_quoted;
+use super::quote::{push_parting, push_replaced};
 use super::row::Row;
+use super::variables::main_name;
 use crate::getopts::{Fail, HasArg, Matches, Occur, Options};
 use crate::host::alloc::{AllocError, Global};
 
@@ -17,7 +18,7 @@ const BASH: &str = r#"_getopts_shell_offer() {
         if [[ $at == -1 || $rest != "$line" ]]; then at=$((at + 1)); fi
         words[at]+=${rest:0:${#word}} line=${rest:${#word}}
     done
-    mapfile -t COMPREPLY < <("${@:2}" "$((at - 1))" "${words[@]:1}" 2>/dev/null)
+    mapfile -t COMPREPLY < <("${@:2}" "${words[@]:1}" 2>/dev/null)
     if [[ ${COMPREPLY-} == [fv]* ]]; then COMPREPLY=(); compopt -o default; fi
     line=${words[at]%"$1"}
     for at in "${!COMPREPLY[@]}"; do
@@ -31,7 +32,7 @@ const BASH: &str = r#"_getopts_shell_offer() {
 /// What offers words in zsh.
 const ZSH: &str = r#"_getopts_shell_offer() {
     local -a offers
-    offers=("${(@f)$("$@" "$((CURRENT - 2))" "${(@Q)words[2,CURRENT-1]}" "$PREFIX" 2>/dev/null)}")
+    offers=("${(@f)$("$@" "${(@Q)words[2,CURRENT-1]}" "$PREFIX" 2>/dev/null)}")
     case $offers[1] in
     (files) _files ;;
     (value) compset -P 1 '*='; _files ;;
@@ -48,7 +49,7 @@ const ZSH: &str = r#"_getopts_shell_offer() {
 const FISH: &str = r#"function _getopts_shell_offer
     set -l before (commandline -opc); set -e before[1]
     set -l word (commandline -ct)
-    set -l offers (command $argv (count $before) $before "$word" 2>/dev/null)
+    set -l offers (command $argv $before "$word" 2>/dev/null)
     switch "$offers[1]"
         case files; __fish_complete_path "$word"
         case value
@@ -62,19 +63,14 @@ end
 /// Adds a word in quotes, as each of the three shells reads it: a quote and a backslash stand outside quotes,
 /// behind a backslash.
 fn push_stub_quoted(text: &mut String, word: &str) -> Result<(), AllocError> {
+    text.try_push('\'')?;
     let mut begun = false;
     for part in word.split('\\') {
-        push_part(text, begun, part)?;
+        push_parting(text, begun, "'\\\\'")?;
+        push_replaced(text, part, '\'', "'\\''")?;
         begun = true;
     }
-    Ok(())
-}
-
-/// Adds a part of a word that holds no backslash in quotes, after a backslash where another part stands before
-/// it.
-fn push_part(text: &mut String, begun: bool, part: &str) -> Result<(), AllocError> {
-    text.try_push_str(if begun { "\\\\" } else { "" })?;
-    push_quoted(text, part)
+    text.try_push('\'')
 }
 
 /// The mark of a name in names of functions.
@@ -171,44 +167,8 @@ fn fish_stub(alloc: Global, mark: &str, call: &str, name: &str) -> Result<String
     )
 }
 
-/// The place that a word writes, if it is at most this.
-pub(crate) fn place_of(word: &str, most: usize) -> Option<usize> {
-    match word.parse::<usize>() {
-        Ok(place) if place <= most => Some(place),
-        _ => None,
-    }
-}
-
-/// What is offered at a place of words by a script with these options.
-pub(crate) fn offers_at(
-    alloc: Global,
-    options: &Options,
-    long_only: bool,
-    rows: &[Row<'_>],
-    words: &[&str],
-    place: usize,
-) -> Result<String, AllocError> {
-    offers(
-        alloc,
-        options,
-        long_only,
-        rows,
-        &words[..place],
-        word_at(words, place),
-    )
-}
-
-/// The word at a place, or an empty one after the last.
-fn word_at<'w>(words: &[&'w str], place: usize) -> &'w str {
-    if place < words.len() {
-        words[place]
-    } else {
-        ""
-    }
-}
-
 /// What is offered at a word of a script with these options, after the words before it: options, or files.
-fn offers(
+pub(crate) fn offers(
     alloc: Global,
     options: &Options,
     long_only: bool,
@@ -319,21 +279,12 @@ fn push_row(
 
 /// Whether an option may come once more.
 fn may_come(matches: &Matches, row: &Row<'_>) -> bool {
-    is_multi(row.occurrence) || !is_given(matches, main_name(row))
+    is_multi(row.occurrence) || !is_given(matches, main_name(*row))
 }
 
 /// Whether an option may come any number of times.
 fn is_multi(occurrence: Occur) -> bool {
     matches!(occurrence, Occur::Multi)
-}
-
-/// The main name of a row.
-fn main_name<'t>(row: &Row<'t>) -> &'t str {
-    if row.long.is_empty() {
-        row.short
-    } else {
-        row.long
-    }
 }
 
 /// Whether matches have an option of this name.

@@ -3,40 +3,18 @@
 
 use crate::host::*;
 
-use super::row::Row;
+use super::row::{Mark, Row};
 use crate::getopts::{HasArg, Occur, names_lawful};
 
-/// The hint of an option that stands alone, which no text shows.
-pub(crate) const ALONE: &str = "!";
-
-/// The option of a text with this description, if the text is an item, or one that is marked and stands alone.
-pub(crate) fn row_of<'t>(text: &'t str, description: &'t str) -> Option<Row<'t>> {
-    match text.strip_suffix("]!") {
-        Some(opened) => marked_row(opened, description),
-        None => item_row(text, description),
-    }
-}
-
-/// The option that stands alone, of a marked item that is this text and `]!`, if there is one.
-fn marked_row<'t>(opened: &'t str, description: &'t str) -> Option<Row<'t>> {
-    let names = opened.strip_prefix('[')?;
-    let (short, long) = names_of(names)?;
-    Some(Row {
-        short,
-        long,
-        kind: HasArg::No,
-        occurrence: Occur::Optional,
-        hint: ALONE,
-        description,
-    })
-}
-
-/// The option of an item.
-fn item_row<'t>(item: &'t str, description: &'t str) -> Option<Row<'t>> {
-    let (inside, occurrence) = unbracketed(item)?;
+/// The option of an item with this description, if the text is one.
+pub(crate) fn row_of<'t>(item: &'t str, description: &'t str) -> Option<Row<'t>> {
+    let (inside, occurrence, mark) = unbracketed(item)?;
     let (names, argument) = parts_of(inside);
     let (short, long) = names_of(names)?;
     let (kind, hint) = argument_of(argument)?;
+    if !fits(mark, kind) {
+        return None;
+    }
     Some(Row {
         short,
         long,
@@ -44,23 +22,45 @@ fn item_row<'t>(item: &'t str, description: &'t str) -> Option<Row<'t>> {
         occurrence,
         hint,
         description,
+        mark,
     })
 }
 
+/// Whether an option with a mark may be of a kind: one that stands alone takes no argument.
+fn fits(mark: Mark, kind: HasArg) -> bool {
+    match (mark, kind) {
+        (Mark::Alone, HasArg::Yes | HasArg::Maybe) => false,
+        _ => true,
+    }
+}
+
 /// A text without the brackets of its occurrence, if it has those of one.
-fn unbracketed(text: &str) -> Option<(&str, Occur)> {
-    let Some(inside) = text.strip_prefix('[') else {
-        return Some((text, Occur::Req));
+fn unbracketed(text: &str) -> Option<(&str, Occur, Mark)> {
+    let Some(opened) = text.strip_prefix('[') else {
+        return Some((text, Occur::Req, Mark::Plain));
     };
-    if let Some(inside) = inside.strip_suffix(']') {
-        return Some((inside, Occur::Optional));
-    }
-    if let Some(inside) = inside.strip_suffix("]..") {
-        return Some((inside, Occur::Multi));
-    }
-    match inside.strip_suffix("]...") {
-        Some(inside) => Some((inside, Occur::Multi)),
-        None => None,
+    let (inside, end) = cut_at_bracket(opened)?;
+    let (occurrence, mark) = end_means(end)?;
+    Some((inside, occurrence, mark))
+}
+
+/// A text in two: what stands before its last `]`, and what stands after it.
+fn cut_at_bracket(text: &str) -> Option<(&str, &str)> {
+    text.rsplit_once(']')
+}
+
+/// What stands behind `]`.
+fn end_means(end: &str) -> Option<(Occur, Mark)> {
+    if end.is_empty() {
+        Some((Occur::Optional, Mark::Plain))
+    } else if end == "!" {
+        Some((Occur::Optional, Mark::Alone))
+    } else if end == ".." || end == "..." {
+        Some((Occur::Multi, Mark::Plain))
+    } else if end == "*" {
+        Some((Occur::Multi, Mark::Last))
+    } else {
+        None
     }
 }
 
@@ -115,20 +115,29 @@ fn are_name_bytes(bytes: &[u8]) -> bool {
 
 /// Whether a byte may stand in a short name.
 fn is_name_byte(byte: u8) -> bool {
-    byte > b' ' && !matches!(byte, 127 | b'|' | b'[' | b']' | b'=')
+    byte.is_ascii_alphanumeric()
+        || matches!(
+            byte,
+            b'?' | b'@' | b'#' | b'%' | b'+' | b'_' | b'^' | b',' | b'.' | b'/' | b':'
+        )
 }
 
 /// Whether bytes may be a long name.
 fn is_long_name(bytes: &[u8]) -> bool {
     match bytes {
         [b'-', ..] => false,
-        _ => are_long_bytes(bytes),
+        _ => are_long_bytes(bytes) && !ends_in(bytes, b':'),
     }
 }
 
 /// Whether bytes may stand in a long name.
 fn are_long_bytes(bytes: &[u8]) -> bool {
     bytes.iter().all(|byte| is_long_byte(*byte))
+}
+
+/// Whether bytes end in a byte.
+fn ends_in(bytes: &[u8], byte: u8) -> bool {
+    !bytes.is_empty() && bytes[bytes.len() - 1] == byte
 }
 
 /// Whether a byte may stand in a long name.
@@ -183,9 +192,9 @@ fn is_hint_byte(byte: u8) -> bool {
 const MARK: &str = "'!' comes only after ']' of an option without an argument";
 /// Why names that are right stand in no item.
 const BRACKETS: &str = "brackets stand around the option or its argument, and dots only after ']'";
-/// Why a name is wrong that has a wrong byte.
+/// Why a long name is wrong that has a wrong byte.
 const BYTES: &str =
-    "a name may hold letters, digits, '-', '_', '.', '+', ':' and bytes from 128 on";
+    "a long name may hold letters, digits, '-', '_', '.', '+', ':' and bytes from 128 on";
 /// Why names are wrong that have wrong dashes.
 const DASHES: &str = "a short name comes after '-', a long one after '--'";
 
@@ -196,10 +205,21 @@ pub(crate) fn reason_of(item: &str) -> &'static str {
         return "no ']'";
     }
     let (names, rest) = cut_at_end(bytes);
-    if holds(rest, b' ') {
-        return "a tab or two spaces have to come before the description";
+    let right = plain_reason(brackets_reason(item), after_bracket(names));
+    rest_reason(right, bytes, rest)
+}
+
+/// Why what stands after the first space or `]` is wrong, or what is wrong where it is right.
+fn rest_reason(right: &'static str, item: &[u8], rest: &[u8]) -> &'static str {
+    if !rest.is_empty() && (rest[0] == b'-' || rest[0] == b'|') {
+        "names are written as -s|--long, without a blank or a comma"
+    } else if !holds(rest, b' ') {
+        right
+    } else if ends_in(item, b']') {
+        "an argument holds no space"
+    } else {
+        "a tab or two spaces have to come before the description"
     }
-    names_reason(brackets_reason(item), after_bracket(names))
 }
 
 /// Why a text is no option, where its names are right.
@@ -235,6 +255,17 @@ fn after_bracket(bytes: &[u8]) -> &[u8] {
     }
 }
 
+/// Why names that hold `=` or `[` are wrong, or what is wrong else.
+fn plain_reason(right: &'static str, names: &[u8]) -> &'static str {
+    if holds(names, b'=') {
+        "an argument comes after a space, as in '--long ARG'"
+    } else if holds(names, b'[') {
+        right
+    } else {
+        names_reason(right, names)
+    }
+}
+
 /// Why names are wrong, or what is wrong where they are right.
 fn names_reason(right: &'static str, names: &[u8]) -> &'static str {
     if names.len() < 2 || names[0] != b'-' {
@@ -251,8 +282,15 @@ fn short_reason(right: &'static str, short: u8, more: &[u8]) -> &'static str {
     if !more.is_empty() && more[0] != b'|' {
         "a short name has one byte"
     } else if !is_name_byte(short) {
-        BYTES
-    } else if more.is_empty() {
+        "a short name is a letter, a digit or one of ?@#%+_^,./:"
+    } else {
+        after_short(right, more)
+    }
+}
+
+/// The same of what follows a short name, where it is `|` or nothing.
+fn after_short(right: &'static str, more: &[u8]) -> &'static str {
+    if more.is_empty() {
         right
     } else if more.len() > 2 && more[1] == b'-' && more[2] == b'-' {
         long_reason(right, &more[3..])
@@ -265,10 +303,14 @@ fn short_reason(right: &'static str, short: u8, more: &[u8]) -> &'static str {
 fn long_reason(right: &'static str, long: &[u8]) -> &'static str {
     if long.len() < 2 {
         "a long name has at least two bytes"
+    } else if holds(long, b'|') {
+        "the short name comes first, then one long one"
     } else if !are_long_bytes(long) {
         BYTES
     } else if long[0] == b'-' {
         DASHES
+    } else if ends_in(long, b':') {
+        "a long name doesn't end in ':'"
     } else {
         right
     }

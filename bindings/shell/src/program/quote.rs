@@ -5,29 +5,51 @@ use crate::host::*;
 
 use crate::host::alloc::AllocError;
 
-/// A shell makes of words in quotes the same words, where none holds a NUL byte; also where they are words of any other
-/// bytes, read as texts and written as bytes. No other words are written alike. A law to cite, which does nothing.
+/// A shell makes of words in quotes the same words; also where they are words of any bytes, read as texts and written
+/// as bytes. No other words are written alike. A law to cite, which does nothing.
 pub fn words_come_back() {}
+
+/// Adds a text with another in the place of each such character of ASCII.
+pub(crate) fn push_replaced(
+    text: &mut String,
+    word: &str,
+    character: char,
+    other: &str,
+) -> Result<(), AllocError> {
+    let mut begun = false;
+    for part in word.split(character) {
+        push_parting(text, begun, other)?;
+        text.try_push_str(part)?;
+        begun = true;
+    }
+    Ok(())
+}
+
+/// Adds the separator, where `begun` says that anything came before.
+pub(crate) fn push_parting(
+    text: &mut String,
+    begun: bool,
+    separator: &str,
+) -> Result<(), AllocError> {
+    text.try_push_str(if begun { separator } else { "" })
+}
 
 /// Adds a word in quotes: `'`, its bytes with `'\''` for each `'`, and `'`.
 pub(crate) fn push_quoted(text: &mut String, word: &str) -> Result<(), AllocError> {
     text.try_push('\'')?;
-    let mut begun = false;
-    for part in word.split('\'') {
-        push_part(text, begun, part)?;
-        begun = true;
-    }
+    push_replaced(text, word, '\'', "'\\''")?;
     text.try_push('\'')
 }
 
-/// Adds a part of a word that holds no `'`, after `'\''` where another part stands before it.
-fn push_part(text: &mut String, begun: bool, part: &str) -> Result<(), AllocError> {
-    text.try_push_str(if begun { "'\\''" } else { "" })?;
-    text.try_push_str(part)
+/// Adds the command that sets the words of a script.
+pub(crate) fn push_line(text: &mut String, words: &[String]) -> Result<(), AllocError> {
+    text.try_push_str("\\set -- ")?;
+    push_quoted_words(text, words)?;
+    text.try_push('\n')
 }
 
 /// Adds words in quotes, with a space between each two.
-pub(crate) fn push_quoted_words(text: &mut String, words: &[String]) -> Result<(), AllocError> {
+fn push_quoted_words(text: &mut String, words: &[String]) -> Result<(), AllocError> {
     let [first, others @ ..] = words else {
         return Ok(());
     };

@@ -5,6 +5,17 @@ use crate::host::*;
 
 use crate::getopts::{HasArg, Occur};
 
+/// What stands behind the brackets of an option, besides how often it may come.
+#[derive(Clone, Copy)]
+pub enum Mark {
+    /// Nothing.
+    Plain,
+    /// `!`: it stands alone.
+    Alone,
+    /// `*`: it may come again, and its last value counts.
+    Last,
+}
+
 /// An option that a line of a table declares, by lawful names.
 #[derive(Clone, Copy)]
 pub struct Row<'t> {
@@ -14,4 +25,5 @@ pub struct Row<'t> {
     pub occurrence: Occur,
     pub hint: &'t str,
     pub description: &'t str,
+    pub mark: Mark,
 }

@@ -42,6 +42,7 @@ fn push_line<'t>(
         return Ok(());
     }
     let (item, description) = cut_at_gap(line);
+    let item = trimmed(item);
     let Some(row) = row_of(item, trimmed(description)) else {
         return Err(TableError::NoOption(number, item));
     };
@@ -80,36 +81,9 @@ fn any_is_called(rows: &[Row<'_>], text: &str) -> bool {
     rows.iter().any(|row| row.short == text || row.long == text)
 }
 
-/// A text without the spaces, tabs and carriage returns at both ends.
+/// A text without the ASCII white space at both ends.
 pub(crate) fn trimmed(text: &str) -> &str {
-    before_blanks(after_blanks(text))
-}
-
-/// Whether a byte is a space, a tab or a carriage return.
-fn is_blank(byte: u8) -> bool {
-    matches!(byte, b' ' | b'\t' | b'\r')
-}
-
-/// A text without the blanks that it begins with.
-fn after_blanks(text: &str) -> &str {
-    let bytes = text.as_bytes();
-    for at in 0..bytes.len() {
-        if !is_blank(bytes[at]) {
-            return &text[at..];
-        }
-    }
-    ""
-}
-
-/// A text without the blanks that it ends in.
-fn before_blanks(text: &str) -> &str {
-    let bytes = text.as_bytes();
-    for at in (0..bytes.len()).rev() {
-        if !is_blank(bytes[at]) {
-            return &text[..at + 1];
-        }
-    }
-    ""
+    text.trimmed_ascii()
 }
 
 /// A text in two: what stands before its first tab or two spaces, and what begins with these.

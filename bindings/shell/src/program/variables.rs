@@ -3,8 +3,8 @@
 
 use crate::host::*;
 
-use super::quote::{push_quoted, push_quoted_words};
-use super::row::Row;
+use super::quote::{push_line, push_parting, push_quoted, push_replaced};
+use super::row::{Mark, Row};
 use super::table::{declares_nothing, trimmed};
 use crate::getopts::{HasArg, Matches, Occur, Occurrences};
 use crate::host::alloc::{AllocError, Global};
@@ -19,8 +19,6 @@ pub(crate) struct Variables<'p> {
 /// Why there are no variables.
 #[derive(Clone, Copy)]
 pub(crate) enum VariableError<'t> {
-    /// The words alone are asked for too.
-    WithWords,
     /// Arrays are asked for, and no variables.
     ArraysOnly,
     /// The prefix begins no name of a variable.
@@ -43,7 +41,7 @@ pub(crate) fn variables_code(
 ) -> Result<String, AllocError> {
     let mut text = String::empty(alloc);
     for (place, row) in rows.iter().enumerate() {
-        push_line(
+        push_option(
             alloc,
             &mut text,
             variables,
@@ -51,25 +49,26 @@ pub(crate) fn variables_code(
             &matches.occurrences_at(place),
         )?;
     }
-    text.try_push_str("\\set -- ")?;
-    push_quoted_words(&mut text, &matches.free)?;
-    text.try_push('\n')?;
+    push_line(&mut text, &matches.free)?;
     Ok(text)
 }
 
-/// Adds the line of an option.
-fn push_line(
+/// Adds the commands for an option: its variable is taken away, and then set if it has a value.
+fn push_option(
     alloc: Global,
     text: &mut String,
     variables: Variables<'_>,
     row: Row<'_>,
     given: &Occurrences<'_>,
 ) -> Result<(), AllocError> {
-    push_setting(alloc, text, variables, row, given)?;
-    text.try_push('\n')
+    let name = main_name(row);
+    text.try_push_str("\\unset -v ")?;
+    push_variable(text, variables.prefix, name)?;
+    text.try_push('\n')?;
+    push_setting(alloc, text, variables, row, given)
 }
 
-/// Adds the command that sets or removes the variable of an option.
+/// Adds the command that sets the variable of an option, if it has a value.
 fn push_setting(
     alloc: Global,
     text: &mut String,
@@ -78,10 +77,11 @@ fn push_setting(
     given: &Occurrences<'_>,
 ) -> Result<(), AllocError> {
     let name = main_name(row);
-    match (row.kind, row.occurrence) {
-        (HasArg::No, _) => push_count(alloc, text, variables.prefix, name, given.len()),
-        (_, Occur::Multi) => push_values(alloc, text, variables, name, given),
-        _ => push_first(text, variables.prefix, name, given),
+    match (row.kind, row.mark, row.occurrence) {
+        (HasArg::No, _, _) => push_count(alloc, text, variables.prefix, name, given.len()),
+        (_, Mark::Last, _) => push_last(text, variables.prefix, name, given),
+        (_, _, Occur::Multi) => push_values(alloc, text, variables, name, given),
+        _ => push_last(text, variables.prefix, name, given),
     }
 }
 
@@ -94,7 +94,7 @@ pub(crate) fn main_name<'t>(row: Row<'t>) -> &'t str {
     }
 }
 
-/// Adds how often an option came.
+/// Adds the command that sets a variable to how often an option came.
 fn push_count(
     alloc: Global,
     text: &mut String,
@@ -102,32 +102,33 @@ fn push_count(
     name: &str,
     count: usize,
 ) -> Result<(), AllocError> {
-    push_variable(text, prefix, name)?;
-    let count = text!(in alloc; "={count}")?;
-    text.try_push_str(count.as_str())
+    let count = text!(in alloc; "{count}")?;
+    push_value(text, prefix, name, count.as_str())
 }
 
-/// Adds the value of an option's first occurrence, or that it has none.
-fn push_first(
+/// Adds the command that sets a variable to the value of an option's last occurrence, if it has one.
+fn push_last(
     text: &mut String,
     prefix: &str,
     name: &str,
     given: &Occurrences<'_>,
 ) -> Result<(), AllocError> {
-    match given.get(0) {
-        Some((_, value)) => {
-            push_variable(text, prefix, name)?;
-            text.try_push('=')?;
-            push_quoted(text, value.unwrap_or(""))
-        }
-        None => {
-            text.try_push_str("\\unset -v ")?;
-            push_variable(text, prefix, name)
-        }
+    let count = given.len();
+    if count == 0 {
+        return Ok(());
     }
+    push_value(text, prefix, name, text_at(given, count - 1))
 }
 
-/// Adds all values of an option, as an array or as words in quotes.
+/// Adds the command that sets a variable to a text.
+fn push_value(text: &mut String, prefix: &str, name: &str, value: &str) -> Result<(), AllocError> {
+    push_variable(text, prefix, name)?;
+    text.try_push('=')?;
+    push_quoted(text, value)?;
+    text.try_push('\n')
+}
+
+/// Adds the command that sets a variable to all values of an option, as an array or as words in quotes.
 fn push_values(
     alloc: Global,
     text: &mut String,
@@ -135,35 +136,40 @@ fn push_values(
     name: &str,
     given: &Occurrences<'_>,
 ) -> Result<(), AllocError> {
-    push_variable(text, variables.prefix, name)?;
-    if !variables.arrays {
-        push_words(alloc, text, given)
-    } else {
+    if variables.arrays {
         push_array(text, variables.prefix, name, given)
+    } else {
+        push_words(alloc, text, variables.prefix, name, given)
     }
 }
 
-/// Adds all values as words in quotes, which are quoted once more.
-fn push_words(alloc: Global, text: &mut String, given: &Occurrences<'_>) -> Result<(), AllocError> {
+/// Adds the command that sets a variable to all values as words in quotes, which are quoted once more.
+fn push_words(
+    alloc: Global,
+    text: &mut String,
+    prefix: &str,
+    name: &str,
+    given: &Occurrences<'_>,
+) -> Result<(), AllocError> {
     let mut words = String::empty(alloc);
     push_texts(&mut words, given)?;
-    text.try_push('=')?;
-    push_quoted(text, words.as_str())
+    push_value(text, prefix, name, words.as_str())
 }
 
-/// Adds all values as an array. `${NAME+}` is no word: the Korn shell takes a first word such as `typeset` for a
-/// declaration, and `()` for no array.
+/// Adds the command that sets a variable to all values as an array. `${NAME+}` is no word: the Korn shell takes a first
+/// word such as `typeset` for a declaration, and `()` for no array.
 fn push_array(
     text: &mut String,
     prefix: &str,
     name: &str,
     given: &Occurrences<'_>,
 ) -> Result<(), AllocError> {
+    push_variable(text, prefix, name)?;
     text.try_push_str("=(${")?;
     push_variable(text, prefix, name)?;
     text.try_push_str("+} ")?;
     push_texts(text, given)?;
-    text.try_push(')')
+    text.try_push_str(")\n")
 }
 
 /// Adds the values of occurrences as words in quotes, with the empty text for one that has none.
@@ -176,7 +182,7 @@ fn push_texts(text: &mut String, given: &Occurrences<'_>) -> Result<(), AllocErr
 
 /// Adds a word in quotes, after a space where another stands before it.
 fn push_word(text: &mut String, begun: bool, word: &str) -> Result<(), AllocError> {
-    text.try_push_str(if begun { " " } else { "" })?;
+    push_parting(text, begun, " ")?;
     push_quoted(text, word)
 }
 
@@ -191,18 +197,8 @@ fn text_at<'m>(given: &Occurrences<'m>, nth: usize) -> &'m str {
 /// Adds the variable of a main name: the prefix, and the name with `_` for each `-`.
 fn push_variable(text: &mut String, prefix: &str, name: &str) -> Result<(), AllocError> {
     text.try_push_str(prefix)?;
-    let mut begun = false;
-    for part in name.split('-') {
-        push_part(text, begun, part)?;
-        begun = true;
-    }
+    push_replaced(text, name, '-', "_")?;
     Ok(())
-}
-
-/// Adds a part of a name that holds no `-`, after `_` where another part stands before it.
-fn push_part(text: &mut String, begun: bool, part: &str) -> Result<(), AllocError> {
-    text.try_push_str(if begun { "_" } else { "" })?;
-    text.try_push_str(part)
 }
 
 /// Why a prefix and the options of a table make no variables, if they make none.

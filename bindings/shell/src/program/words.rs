@@ -3,7 +3,7 @@
 
 use crate::host::*;
 
-use crate::getopts_bytes::push_text;
+use ::getopts::bytes::push_text;
 use crate::host::alloc::{AllocError, Global};
 use crate::host::env::{Env, FillError};
 

@@ -225,7 +225,8 @@ module _ (options : Declared) (words : List Text) where
   }
 
   -- words have one reading's matches
-  only_matches : (m n : Matched) → HasReading options words m → HasReading options words n → m ≡ n
+  pub only_matches : (m n : Matched) → HasReading options words m → HasReading options words n
+      → m ≡ n
   only_matches m n has other =
       has.matches_are ∙ ap (matches_of options) ((other.only has.reading).0 (reads_of m has))
       ∙ sym other.matches_are

@@ -13,8 +13,9 @@ use Rattle.std.proofs.lemmas.Bool.{and_from}
 use Rattle.std.proofs.lemmas.List.{length-map}
 use Rattle.std.proofs.lemmas.List.Elements.{recursion_from_All}
 use Rattle.std.proofs.lemmas.Option.{slice_get_past}
-use Rattle.getopts.specs.Names.{Text, Names, resolution}
-use Rattle.getopts.specs.Options.{Signature, Group, AreLawfullyNamed, signatures_of, names_of}
+use Rattle.getopts.specs.Names.{Text, Names, IsLawfullyNamed, resolution}
+use Rattle.getopts.specs.Options.{Signature}
+use Rattle.getopts.specs.Held.Groups.{names_in}
 use Rattle.getopts.specs.Held.Index.{places_of, index_of}
 use Rattle.getopts.specs.Reading.{Occurrence}
 use Rattle.getopts.specs.Matches.{Found, MatchedGroup, found_at, matched, found_part}
@@ -22,7 +23,6 @@ use Rattle.getopts.specs.Accessors.{AreHeldLawfully, found_in, place_of, values_
 use Rattle.getopts.specs.Same.{same_signature, same_found, same_matched_group}
 use Rattle.getopts.specs.Accessors.{pair_view}
 use Rattle.getopts.proofs.Parsing.Counts.{length-matched}
-use Rattle.getopts.proofs.Held.Signatures.{length-signatures_of, names-signatures_of}
 use Rattle.getopts.proofs.Held.Index.{filter_map-places_of, places_of-within}
 use Rattle.getopts.proofs.Held.Index.{slice_get-places_by_group, length-places_by_group}
 
@@ -56,43 +56,44 @@ found-matched first (signature ∷ signatures) occurrences (suc i) within =
     ∙ ap (λ (n : ℕ). found_at n occurrences) (omega arith)
 
 -- lawfully named groups are held so
-pub AreHeldLawfully-matched : (first : ℕ) (groups : List Group) (occurrences : List Occurrence)
-    → AreLawfullyNamed groups → AreHeldLawfully (matched first (signatures_of groups) occurrences)
+pub AreHeldLawfully-matched : (first : ℕ) (signatures : List Signature)
+    (occurrences : List Occurrence)
+    → AllByRecursion (λ signature. IsLawfullyNamed signature.names) signatures
+    → AreHeldLawfully (matched first signatures occurrences)
 AreHeldLawfully-matched first [] occurrences lawful = tt
-AreHeldLawfully-matched first (group ∷ groups) occurrences lawful =
-    (lawful.0, AreHeldLawfully-matched (first + 1) groups occurrences lawful.1)
+AreHeldLawfully-matched first (signature ∷ signatures) occurrences lawful =
+    (lawful.0, AreHeldLawfully-matched (first + 1) signatures occurrences lawful.1)
 
 -- a name resolves among the groups that matches hold as among their names
-pub place_of-matched : (groups : List Group) (occurrences : List Occurrence) (name : Text)
-    → resolution (names_of groups) name
-    ≡ place_of (matched 0 (signatures_of groups) occurrences) name
-place_of-matched groups occurrences name = ap (λ (names : List Names). resolution names name)
-    (sym (names-matched 0 (signatures_of groups) occurrences ∙ names-signatures_of groups))
+pub place_of-matched : (signatures : List Signature) (occurrences : List Occurrence) (name : Text)
+    → resolution (names_in signatures) name ≡ place_of (matched 0 signatures occurrences) name
+place_of-matched signatures occurrences name = ap (λ (names : List Names). resolution names name)
+    (sym (names-matched 0 signatures occurrences))
 
-module _ (groups : List Group) (occurrences : List Occurrence) (place : ℕ) where
+module _ (signatures : List Signature) (occurrences : List Occurrence) (place : ℕ) where
   -- where the occurrences of the group at this place stand
   abbrev pub held_places : List ℕ
-  held_places = unwrap_or (slice_get (index_of (length groups) occurrences) place) []
+  held_places = unwrap_or (slice_get (index_of (length signatures) occurrences) place) []
 
   -- of a group that is there, those of its number
-  places-there : place < length groups
+  places-there : place < length signatures
       → held_places ≡ places_of place (map (λ (o : Occurrence). o.mention.group) occurrences)
   places-there there =
       ap (λ (o : Option (List ℕ)). unwrap_or o [])
-      (slice_get-places_by_group (length groups) place
+      (slice_get-places_by_group (length signatures) place
       (map (λ (o : Occurrence). o.mention.group) occurrences) there)
 
   -- of any other, none
-  places-past : length groups ≤ place → held_places ≡ []
+  places-past : length signatures ≤ place → held_places ≡ []
   places-past past =
       let mentioned = map (λ (o : Occurrence). o.mention.group) occurrences in
       ap (λ (o : Option (List ℕ)). unwrap_or o [])
-      (slice_get_past (index_of (length groups) occurrences) place
-      (omega (arith, length-places_by_group (length groups) mentioned)))
+      (slice_get_past (index_of (length signatures) occurrences) place
+      (omega (arith, length-places_by_group (length signatures) mentioned)))
 
   -- they stand among the occurrences
   pub held_places-within : AllByRecursion (λ p. p < length occurrences) held_places
-  held_places-within = elim (cases_lt place (length groups)) [
+  held_places-within = elim (cases_lt place (length signatures)) [
     | inl there ↦
         let mentioned = map (λ (o : Occurrence). o.mention.group) occurrences in
         let within = recursion_from_All (λ p. p < length mentioned) (places_of place mentioned)
@@ -105,27 +106,23 @@ module _ (groups : List Group) (occurrences : List Occurrence) (place : ℕ) whe
 
   -- they are the occurrences of that group
   pub held_places-found : map found_part (filter_map (λ p. slice_get occurrences p) held_places)
-      ≡ found_in (matched 0 (signatures_of groups) occurrences) place
-  held_places-found = elim (cases_lt place (length groups)) [
+      ≡ found_in (matched 0 signatures occurrences) place
+  held_places-found = elim (cases_lt place (length signatures)) [
     | inl there ↦
         ap (λ (ps : List ℕ). map found_part (filter_map (λ p. slice_get occurrences p) ps))
         (places-there there)
         ∙ ap (map found_part) (filter_map-places_of
         (λ (o : Occurrence). o.mention.group) place occurrences)
         ∙ ap (λ n. found_at n occurrences) (sym (zero-add place))
-        ∙ sym (found-matched 0 (signatures_of groups) occurrences place
-        (omega (arith, length-signatures_of groups)))
+        ∙ sym (found-matched 0 signatures occurrences place
+        there)
     | inr past ↦
         ap (λ (ps : List ℕ). map found_part (filter_map (λ p. slice_get occurrences p) ps))
         (places-past past)
         ∙ sym (ap (λ (o : Option MatchedGroup). option_map_or
         (λ (group : MatchedGroup). group.found) o [])
-        (slice_get_past (matched 0 (signatures_of groups) occurrences) place
-        (omega (
-          arith,
-          length-matched 0 (signatures_of groups) occurrences,
-          length-signatures_of groups,
-        ))))
+        (slice_get_past (matched 0 signatures occurrences) place
+        (omega (arith, length-matched 0 signatures occurrences))))
   ]
 
 -- values are the texts of the pairs

@@ -1,11 +1,12 @@
 -- What is known of groups, beside the groups.
 use Rattle.std.proofs.Common.{◌≡◌, ℕ, zero, suc, List, [], ◌∷◌, map, length, slice_get, refl, ap}
+use Rattle.std.proofs.Common.{Option, Some, None}
 use Rattle.std.proofs.lemmas.List.{length-map}
-use Rattle.std.specs.Option.{option_map, option_map_or}
-use Rattle.getopts.specs.Names.{Names, main_name}
+use Rattle.std.specs.Option.{option_map}
+use Rattle.getopts.specs.Names.{Names}
 use Rattle.getopts.specs.Options.{Signature, Group, signatures_of, names_of}
-use Rattle.getopts.specs.Canon.{main_at}
 use Rattle.getopts.specs.Held.Groups.{kinds_of}
+use Rattle.getopts.specs.declared.groups.Kinds.{Kinds}
 
 -- there is as much known as there are groups
 pub length-signatures_of : (groups : List Group) → length (signatures_of groups) ≡ length groups
@@ -26,10 +27,9 @@ kinds-signatures_of [] place = refl
 kinds-signatures_of (group ∷ groups) zero = refl
 kinds-signatures_of (group ∷ groups) (suc place) = kinds-signatures_of groups place
 
--- and the main name
-pub main-signatures_of : (groups : List Group) (place : ℕ) → main_at groups place
-    ≡ option_map_or (λ (signature : Signature). main_name signature.names)
-    (slice_get (signatures_of groups) place) []
-main-signatures_of [] place = refl
-main-signatures_of (group ∷ groups) zero = refl
-main-signatures_of (group ∷ groups) (suc place) = main-signatures_of groups place
+-- the kind of argument, by the kinds of the group
+pub kind_of-kinds : (group : Option Group)
+    → option_map (λ (k : Kinds). k.kind) (option_map (λ (g : Group). kinds_of g.signature) group)
+    ≡ option_map (λ (g : Group). g.signature.kind) group
+kind_of-kinds None = refl
+kind_of-kinds (Some group) = refl

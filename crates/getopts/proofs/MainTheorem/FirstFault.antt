@@ -1,5 +1,5 @@
 -- The fault of the first group that breaks its count, computed.
-use Rattle.std.proofs.Common.{◌≡◌, ◌==◌, ℕ, Bool, true, false, nat_lt, List, [], ◌∷◌, length, arith}
+use Rattle.std.proofs.Common.{◌≡◌, ℕ, Bool, true, false, List, [], ◌∷◌, length, arith}
 use Rattle.std.proofs.Common.{Option, Some, None, MatchOption, refl, ap}
 use Rattle.std.specs.Prelude.{if◌then◌else◌}
 use Rattle.std.proofs.lemmas.Bool.Decides.{nat_tests}
@@ -7,13 +7,8 @@ use Rattle.getopts.specs.Fail.{Fault}
 use Rattle.getopts.specs.Matches.{MatchedGroup, FitsCount, KeepsCount, KeepsCounts, IsCountFault}
 use Rattle.getopts.specs.declared.groups.Occur.{Occur}
 use Rattle.getopts.specs.declared.groups.Occur.TheVariants.{Req, Optional, Multi}
-use Rattle.getopts.proofs.Parsing.Counts.{broken_count}
-
--- whether a group may have so many occurrences
-abbrev pub fits_count : Occur → ℕ → Bool
-fits_count Req count = count == 1
-fits_count Optional count = nat_lt count 2
-fits_count Multi count = true
+pub use Rattle.getopts.specs.Results.{fits_count, first_count_fault}
+use Rattle.getopts.specs.Results.{broken_count}
 
 fits_count-true : (occurrence : Occur) (count : ℕ) → fits_count occurrence count ≡ true
     → FitsCount occurrence count
@@ -26,13 +21,6 @@ fits_count-false : (occurrence : Occur) (count : ℕ) → fits_count occurrence 
 fits_count-false Req count breaks = λ fits. grind (arith, nat_tests)
 fits_count-false Optional count breaks = λ fits. grind (arith, nat_tests)
 fits_count-false Multi count breaks = cc
-
--- the fault of the first group that breaks its count
-abbrev pub first_count_fault : List MatchedGroup → Option Fault
-first_count_fault [] = None
-first_count_fault (group ∷ groups) =
-    if fits_count group.signature.occurrence (length group.found) then first_count_fault
-    groups else Some (broken_count group)
 
 -- the groups keep their counts, or this is their fault
 abbrev pub HaveFault : List MatchedGroup → Option Fault → Type 0

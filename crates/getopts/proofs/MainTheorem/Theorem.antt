@@ -1,35 +1,20 @@
 -- The main theorem, of options that are lawfully named, by texts.
-use Rattle.std.proofs.Common.{◌⊎◌, List, refl, sym, subst, inl, inr, Option, Some, None, Result, Ok}
-use Rattle.std.proofs.Common.{Err}
+use Rattle.std.proofs.Common.{◌⊎◌, List, refl, sym, subst, inl, inr}
 use Rattle.getopts.specs.Names.{Text, AreTexts}
 use Rattle.getopts.specs.Options.{Declared, MayBeDeclared, grammar_of}
 use Rattle.getopts.specs.Fail.{Fault}
 use Rattle.getopts.specs.Reading.{Reading, IsReading, IsScanFault}
-use Rattle.getopts.specs.Matches.{Matched, MatchedGroup, matches_of, KeepsCounts, IsCountFault}
-use Rattle.getopts.specs.Parse.{IsAccepted, BreaksCounts, HasReading, HasNoReading, IsRefused}
+use Rattle.getopts.specs.Matches.{Matched, matches_of, IsCountFault}
+use Rattle.getopts.specs.Parse.{IsAccepted, BreaksCounts, HasReading, IsRefused}
 use Rattle.getopts.specs.Canon.{IsPlain, IsCountKeeping, HasCanonicalLine, Content, Says}
-use Rattle.getopts.specs.CanonAnswers.{IsParseAnswer}
 use Rattle.getopts.specs.Theorem.{OneReading, AcceptedExactlyWhen, RefusedExactlyWhen}
-use Rattle.getopts.specs.Theorem.{HaveOneAnswer, OneLineOneContent}
-use Rattle.getopts.specs.Only.{IsTheOnly}
+use Rattle.getopts.specs.Theorem.{OneLineOneContent}
 use Rattle.getopts.proofs.Canonical.Lines.{HasCanonicalLine-says, OneLineOneContent-lawful}
-use Rattle.getopts.proofs.Canonical.Answered.{reads_of, keeps_accepted}
-use Rattle.getopts.proofs.Canonical.Answered.{not_refused, only_parse_answer}
-use Rattle.getopts.proofs.Parsing.Only.{IsTheOnly-from, meets}
+use Rattle.getopts.proofs.Canonical.Answered.{reads_of, keeps_accepted, not_refused}
+use Rattle.getopts.proofs.Parsing.Only.{meets}
 use Rattle.getopts.proofs.Parsing.Parsed.{only_reads, named_here, HasNoReading-fault}
-use Rattle.getopts.proofs.Reading.Readings.{only_reading, reading_or_fault}
+use Rattle.getopts.proofs.Reading.Readings.{only_reading}
 use Rattle.getopts.proofs.Reading.Turns.{IsNamed}
-use Rattle.getopts.proofs.MainTheorem.FirstFault.{HaveFault, first_count_fault}
-use Rattle.getopts.proofs.MainTheorem.FirstFault.{first_count_fault-is}
-
--- groups keep their counts, or they have a count fault
-KeepsCounts-cases : (groups : List MatchedGroup)
-    → KeepsCounts groups ⊎ ((fault : Fault) × IsCountFault groups fault)
-KeepsCounts-cases groups = by_fault (first_count_fault groups) (first_count_fault-is groups) where
-  by_fault : (fault : Option Fault) → HaveFault groups fault
-      → KeepsCounts groups ⊎ ((fault : Fault) × IsCountFault groups fault)
-  by_fault None kept = inl kept
-  by_fault (Some fault) is = inr (fault, is)
 
 module _ (options : Declared) (declared : MayBeDeclared options.groups) where
   named : IsNamed (grammar_of options)
@@ -111,38 +96,6 @@ module _ (options : Declared) (declared : MayBeDeclared options.groups) where
     ),
     λ told. refused words fault texts told.1,
   )
-
-  -- words are accepted, or break the counts, or have no reading
-  one_of_three : (words : List Text) → AreTexts words
-      → ((matches : Matched) × IsAccepted options words matches)
-      ⊎ (((fault : Fault) × BreaksCounts options words fault)
-      ⊎ ((fault : Fault) × HasNoReading options words fault))
-  one_of_three words texts = elim (reading_or_fault (grammar_of options) named words texts) [
-    | inl read ↦ elim (KeepsCounts-cases (matches_of options read.0).groups) [
-      | inl keeps ↦
-          inl (
-            matches_of options read.0,
-            accepted words read.0
-                (record { reads = read.1; keeps = keeps }),
-          )
-      | inr breaks ↦ inr (inl (breaks.0, breaks_counts words breaks.0 read.0 read.1 breaks.1))
-    ]
-    | inr fault ↦
-        inr (inr (fault.0, HasNoReading-fault options declared words texts fault.0 fault.1))
-  ]
-
-  -- `parse` has one answer
-  pub HaveOneAnswer-options : HaveOneAnswer options
-  HaveOneAnswer-options words texts = elim (one_of_three words texts) [
-    | inl is ↦ (Ok is.0, only_answer words (Ok is.0) is.1)
-    | inr (inl is) ↦ (Err is.0, only_answer words (Err is.0) (inr is.1))
-    | inr (inr is) ↦ (Err is.0, only_answer words (Err is.0) (inl is.1))
-  ] where
-    only_answer : (words : List Text) (answer : Result Matched Fault)
-        → IsParseAnswer options words answer
-        → IsTheOnly (IsParseAnswer options words) answer
-    only_answer words answer is = IsTheOnly-from (IsParseAnswer options words) answer is
-        (λ other also. only_parse_answer options words other answer also is)
 
   -- two canonical lines
   pub OneLineOneContent-options : OneLineOneContent options

@@ -6,21 +6,17 @@ use Rattle.std.proofs.Common.{subst, inl, inr, arith, add-zero, zero-add}
 use Rattle.std.specs.List.{filter, list_all}
 use Rattle.std.proofs.lemmas.Bool.{and_from, cases_eq, eq-eqb, ne_eqb}
 use Rattle.std.proofs.lemmas.List.{length-map, take-append-drop}
-use Rattle.getopts.specs.Names.{main_name}
 use Rattle.getopts.specs.Options.{Signature}
 use Rattle.getopts.specs.Fail.{Fault}
 use Rattle.getopts.specs.Reading.{Occurrence}
 use Rattle.getopts.specs.Matches.{Found, MatchedGroup, found_at, matched, KeepsCount, KeepsCounts}
-use Rattle.getopts.specs.Matches.{FitsCount, count_fault, IsCountFault}
+use Rattle.getopts.specs.Matches.{FitsCount, IsCountFault}
+pub use Rattle.getopts.specs.Results.{broken_count}
 use Rattle.getopts.specs.Held.Index.{index_of}
 use Rattle.getopts.specs.Held.Groups.{kinds_of}
 use Rattle.getopts.specs.declared.groups.Kinds.{Kinds}
 use Rattle.getopts.proofs.Lists.{AllByRecursion-append, take-get, slice_get-drop}
 use Rattle.getopts.proofs.Held.Index.{length-places_of, slice_get-places_by_group}
-
--- the fault of a group that breaks its count
-abbrev pub broken_count : MatchedGroup → Fault
-broken_count group = count_fault (main_name group.signature.names) (length group.found)
 
 -- a known group with its occurrences, at this place
 abbrev pub matched_at : ℕ → Signature → List Occurrence → MatchedGroup

@@ -1,7 +1,8 @@
 -- What accepted matches hold of the names that the options declare.
 use Rattle.std.proofs.Common.{◌≡◌, ◌==◌, ◌<◌, ◌+◌, ℕ, zero, suc, Bool, true, false, cond, List, []}
-use Rattle.std.proofs.Common.{◌∷◌, ◌++◌, length, append_assoc, map, slice_get, Option, Some, None}
-use Rattle.std.proofs.Common.{IsSome, refl, ap, sym, subst, ◌∙◌, arith, add-zero, zero-add}
+use Rattle.std.proofs.Common.{◌∷◌, ◌++◌, drop, length, append_assoc, map, slice_get, Option, Some}
+use Rattle.std.proofs.Common.{None, IfSome, IsSome, refl, ap, sym, subst, ◌∙◌, arith, add-zero}
+use Rattle.std.proofs.Common.{zero-add}
 use Rattle.std.specs.List.{AllByRecursion, filter}
 use Rattle.std.specs.Option.{option_map, option_map_or}
 use Rattle.std.proofs.lemmas.Bool.{eqb-true}
@@ -18,7 +19,7 @@ use Rattle.getopts.specs.Matches.{KeepsCounts}
 use Rattle.getopts.specs.Accessors.{IsDefined, place_of, found_of, found_in, first_value}
 use Rattle.getopts.specs.Parse.{IsAccepted, HasReading}
 use Rattle.getopts.specs.Holds.{HaveLastWordsFree, AreGroupsOf, HaveValuesByKind}
-use Rattle.getopts.specs.Holds.{HoldGiven, HoldDeclared, Accepts}
+use Rattle.getopts.specs.Holds.{HoldGiven, HoldDeclared, EndsInTrailing, Accepts}
 use Rattle.getopts.specs.ReadingLaws.{EndIn, HavePositionsBelow}
 use Rattle.getopts.specs.declared.groups.ParsingStyle.TheVariants.{FloatingFrees, StopAtFirstFree}
 use Rattle.getopts.specs.declared.groups.HasArg.{HasArg}
@@ -28,6 +29,7 @@ use Rattle.getopts.specs.declared.groups.Occur.TheVariants.{Req}
 use Rattle.getopts.proofs.Lists.{AllByRecursion-unmap}
 use Rattle.getopts.proofs.Canonical.Lines.{kind_at, FitsGroup, IsFitting-reading}
 use Rattle.getopts.proofs.Held.Matches.{signatures-matched}
+use Rattle.getopts.proofs.Reading.Laws.{TrailingStartIsAfterStop_lem}
 use Rattle.getopts.proofs.Reading.Readings.{spelled_all-append}
 use Rattle.getopts.proofs.Held.Signatures.{names-signatures_of}
 use Rattle.getopts.proofs.Parsing.Parsed.{HavePositionsInOrder-read, positions_below-read}
@@ -301,6 +303,31 @@ HaveLastWordsFree-read options words matches has style =
     subst (EndIn words) (ap (λ (m : Matched). m.free) (sym has.matches_are))
     (EndIn-reading (grammar_of options) has.reading words ((has.only has.reading).1 refl) style)
 
+-- the words end in the free words from the trailing start on, after `--`
+pub EndsInTrailing-read : (options : Declared) (words : List Text) (matches : Matched)
+    → HasReading options words matches
+    → IfSome matches.trailing_start (EndsInTrailing words matches)
+EndsInTrailing-read options words matches has = here matches.trailing_start refl where
+  here : (start : Option ℕ) → matches.trailing_start ≡ start
+      → IfSome start (EndsInTrailing words matches)
+  here None is = tt
+  here (Some start) is =
+      let reads : IsReading (grammar_of options) has.reading words =
+      (has.only has.reading).1 refl in
+      let free : free_words has.reading ≡ matches.free =
+      ap (λ (m : Matched). m.free) (sym has.matches_are) in
+      let law = TrailingStartIsAfterStop_lem (grammar_of options) in
+      let at = law.after_stop has.reading words start reads
+      (ap (λ (m : Matched). m.trailing_start) (sym has.matches_are) ∙ is) in
+      let tail_is : has.reading.tail ≡ stop (drop start matches.free) = rw free at at.tail_is in
+      record {
+        below = rw free at at.below;
+        before = spelled_all has.reading.items [];
+        words_are = sym reads.spells
+            ∙ ap (λ (tail : Tail). spelled_all has.reading.items (tail_words tail)) tail_is
+            ∙ spelled_all-append has.reading.items [] (stop_word ∷ drop start matches.free);
+      }
+
 -- what accepted words tell of their matches
 pub Accepts-accepted : (options : Declared) (words : List (Bor Text)) (matches : Matched)
     → IsAccepted options (texts words) matches → Accepts options words matches
@@ -309,4 +336,5 @@ Accepts-accepted options words matches accepted = record {
   positions_below = subst (λ n. HavePositionsBelow n matches.groups) (length-texts words)
       (positions_below-read options (texts words) matches accepted.read);
   free_last = HaveLastWordsFree-read options (texts words) matches accepted.read;
+  trailing = EndsInTrailing-read options (texts words) matches accepted.read;
 }

@@ -1,6 +1,6 @@
 -- Whole lines: `read` gives the one reading of a line, or its one fault.
-use Rattle.std.proofs.Common.{◌≡◌, ◌⊎◌, List, [], ◌∷◌, ◌++◌, drop, Result, Ok, Err, refl, sym, ap}
-use Rattle.std.proofs.Common.{◌∙◌, subst, inl, inr, append_assoc, append-nil}
+use Rattle.std.proofs.Common.{◌≡◌, List, [], ◌∷◌, ◌++◌, drop, Result, Ok, Err, refl, sym, ap}
+use Rattle.std.proofs.Common.{◌∙◌, subst, append_assoc, append-nil}
 use Rattle.std.specs.List.{AllByRecursion}
 use Rattle.std.specs.Str.{IsUtf8}
 use Rattle.getopts.specs.Names.{Text, AreTexts}
@@ -302,15 +302,3 @@ unfolding read
 read_sound grammar named words texts outcome e =
     subst (λ (o : Result Reading Fault). IsSoundOutcome grammar words o) e
     (both_sound grammar named words texts).0
-
--- a line of texts has a reading or a fault
-pub reading_or_fault : (grammar : Grammar) → IsNamed grammar → (words : List Text) → AreTexts words
-    → ((reading : Reading) × IsReading grammar reading words)
-    ⊎ ((fault : Fault) × IsScanFault grammar words fault)
-reading_or_fault grammar named words texts =
-    by_outcome (read grammar words) (read_sound grammar named words texts _ refl) where
-      by_outcome : (outcome : Result Reading Fault) → IsSoundOutcome grammar words outcome
-          → ((reading : Reading) × IsReading grammar reading words)
-          ⊎ ((fault : Fault) × IsScanFault grammar words fault)
-      by_outcome (Ok reading) sound = inl (reading, sound)
-      by_outcome (Err fault) sound = inr (fault, sound)

@@ -4,21 +4,20 @@ use Rattle.std.proofs.Common.{[], ◌∷◌, ◌++◌, Some, length, take, drop,
 use Rattle.std.proofs.Common.{◌∙◌, subst, arith, codes, append_assoc}
 use Rattle.std.specs.Prelude.{Result, Ok, Err, OnOk, slice_get, nat_lt, if◌then◌else◌}
 use Rattle.std.specs.List.{AllZip}
-use Rattle.std.specs.Option.{option_map}
 use Rattle.std.proofs.Math.Bool.{or-false}
 use Rattle.std.proofs.lemmas.Bool.Decides.{nat_tests}
 use Rattle.std.proofs.lemmas.List.{take_all, take_more, drop_at}
 use Rattle.std.proofs.lemmas.List.Folds.{list_any-append}
-use Rattle.std.proofs.lemmas.Option.{slice_get_within, get_or_from_slice_get, same_Some}
+use Rattle.std.proofs.lemmas.Option.{slice_get_within, get_or_from_slice_get}
 use Rattle.std.proofs.lemmas.Slice.Zip.{all_zipped_more}
-use Rattle.getopts.specs.Held.Groups.{group_view}
+use Rattle.getopts.specs.Held.Help.{group_view}
 use Rattle.getopts.specs.Names.{Text, is_empty}
-use Rattle.getopts.specs.Options.{Signature, Group, Declared}
+use Rattle.getopts.specs.Options.{Group, Declared}
 use Rattle.getopts.specs.Only.{IsTheOnly}
 use Rattle.getopts.specs.Usage.{AddsTheOnly, any_short, spaces, head, next_row, padding, row_text}
 use Rattle.getopts.specs.Usage.{IsUsageRow, AreUsageRows, usage_text, IsUsageText}
 use Rattle.getopts.specs.Wrap.{width_of, IsDescriptionRows, joined, parting, AddsDescription}
-use Rattle.getopts.specs.declared.groups.Group.{Group as Borrowed}
+use Rattle.getopts.specs.declared.help.Group.{Group as Borrowed}
 use Rattle.getopts.proofs.Wrapping.Lines.{rows_exactly}
 use Rattle.getopts.proofs.Wrapping.Texts.{joined-push}
 
@@ -74,16 +73,6 @@ group_more groups place group is =
 -- whether a group has a short name
 abbrev pub has_short : Group → Bool
 has_short group = not (is_empty group.signature.names.short)
-
--- a group that is known at a place stands there
-pub group_signature : (groups : List Group) (place : ℕ) (signature : Signature)
-    → Some signature ≡ option_map (λ (group : Group). group.signature) (slice_get groups place)
-    → (group : Group) × (slice_get groups place ≡ Some group) × (signature ≡ group.signature)
-group_signature [] place signature is = cc is
-group_signature (group ∷ groups) zero signature is =
-    (group, refl, same_Some signature group.signature is)
-group_signature (group ∷ groups) (suc place) signature is =
-    group_signature groups place signature is
 
 -- whether any group has a short name, with one more group
 pub any_short_more : (groups : List Group) (place : ℕ) (group : Group)

@@ -4,8 +4,8 @@ ghost use Rattle.std.specs.Prelude.{IfOk, codes};
 ghost use Rattle.getopts.specs.Options.{Declares};
 
 use super::push;
-use crate::cache::key_of;
-use crate::lists::{any_given, count_of, level_of, place_named};
+use crate::flag::says_more;
+use crate::lists::{any_given, count_of, place_named};
 use crate::output::writes_out;
 use crate::plugin::add_flag;
 use getopts::{Matches, Options, ParsingStyle};
@@ -30,8 +30,7 @@ pub fn push_wrapped(
 ) -> Result<(), AllocError> {
     let mut options = wrapped(alloc)?;
     match (caller, words) {
-        ("key", words) => push(text, &key_of(alloc, &options, words)),
-        ("level", words) => push(text, &level_of(alloc, &options, words)),
+        ("flag", words) => push(text, &says_more(alloc, &options, words)),
         ("plugin", [name]) => push_plugin(text, &mut options, name),
         ("chained", words) => push_chained(alloc, text, &mut options, words),
         _ => push_asked(alloc, text, &mut options, caller, words),

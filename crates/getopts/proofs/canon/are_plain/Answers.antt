@@ -5,13 +5,16 @@ use Rattle.std.proofs.lemmas.Bool.{cases_lt}
 use Rattle.std.proofs.lemmas.Option.{slice_get_past}
 use Rattle.std.specs.Option.{option_map_or}
 use Rattle.getopts.specs.Names.{main_name}
-use Rattle.getopts.specs.Options.{Group}
+use Rattle.getopts.specs.Options.{Group, signatures_of}
+use Rattle.getopts.specs.Held.Matches.{IsOfSignatures}
+use Rattle.getopts.specs.declared.matches.ReadLine.{ReadLine}
 use Rattle.getopts.specs.Matches.{found_at}
 use Rattle.getopts.specs.Reading.{Occurrence, holds_equals}
 use Rattle.getopts.specs.Held.Index.{index_of}
 use Rattle.getopts.specs.Canon.{main_at}
 use Rattle.getopts.proofs.Parsing.Counts.{length-found_at, list_all-by_group}
 use Rattle.getopts.proofs.Parsing.Counts.{list_all-fails_by_group}
+use Rattle.getopts.proofs.Held.Signatures.{length-signatures_of}
 use Rattle.getopts.proofs.canon.are_plain.Goals as goal
 use Rattle.getopts.proofs.canon.are_plain.Goals.{
   else-count-gt0-via-then-count-gt0+else-holds_equals,
@@ -25,6 +28,12 @@ counted : (groups : List Group) (found : List Occurrence) (index : List (List �
 counted groups found index place count is within asked =
     asked ∙ ap (λ (index : List (List ℕ)). length (unwrap_or (slice_get index place) [])) is
     ∙ length-found_at (length groups) found place within
+
+-- the index is that of as many groups
+index_is : (groups : List Group) (read : ReadLine) → IsOfSignatures (signatures_of groups) read
+    → read.index ≡ index_of (length groups) read.line.found
+index_is groups read is =
+    is.index ∙ ap (λ n. index_of n read.line.found) (length-signatures_of groups)
 
 -- past the last group the main name is empty
 plain_past : (groups : List Group) (place : ℕ) → length groups ≤ place
@@ -43,7 +52,8 @@ returns-then-holds_equals c =
     omega (
       arith,
       counted groups c.args.read.now.line.found c.args.read.now.index c.loop-place.place
-          c.count.result c.requires.index (omega arith) c.count.ensures,
+          c.count.result (index_is c.args.groups.now c.args.read.now c.requires) (omega arith)
+          c.count.ensures,
       c.if-count-gt0.true,
     ) in
     sym (list_all-fails_by_group (λ group. not (holds_equals (main_at groups group)))
@@ -55,8 +65,8 @@ loop-place-preserved c =
     let groups = c.args.groups.now in
     let found = c.args.read.now.line.found in
     let place = c.loop-place.place in
-    let counted = counted groups found c.args.read.now.index place c.count.result c.requires.index
-    (omega arith) c.count.ensures in
+    let counted = counted groups found c.args.read.now.index place c.count.result
+    (index_is groups c.args.read.now c.requires) (omega arith) c.count.ensures in
     let passes : ℕ → Type 0 = λ group. 0 < length (found_at group found)
     → not (holds_equals (main_at groups group)) ≡ true in
     let last : passes place = elim c.else-count-gt0.branch [

@@ -1,10 +1,11 @@
 -- What the options keep makes their names lawful, and so the laws hold.
 use Rattle.getopts.specs.Canon.{with_setting}
-use Rattle.getopts.proofs.MainTheorem.Callers.{OneContentHoldsSame_lem}
+use Rattle.getopts.proofs.MainTheorem.Callers.{OneContentHoldsSame_lem, LinesReadAgain_lem}
+use Rattle.getopts.proofs.MainTheorem.Results.{HasResults-declared}
 use Rattle.getopts.proofs.Canonical.Lines.{IsSound-says}
 use Rattle.getopts.proofs.Parsing.Parsed.{keeps_laws}
 use Rattle.getopts.proofs.MainTheorem.Theorem.{OneReading-options, AcceptedExactlyWhen-options}
-use Rattle.getopts.proofs.MainTheorem.Theorem.{RefusedExactlyWhen-options, HaveOneAnswer-options}
+use Rattle.getopts.proofs.MainTheorem.Theorem.{RefusedExactlyWhen-options}
 use Rattle.getopts.proofs.MainTheorem.Theorem.{OneLineOneContent-options, HasCanonicalLine-options}
 use Rattle.getopts.proofs.Canonical.Answered.{KeepsLineLaws-lawful}
 use Rattle.getopts.proofs.laws.one_reading_one_canonical_line.Goals as goal
@@ -13,17 +14,21 @@ pub returns : goal.returns
 returns c =
     let options = c.args.options.now in
     let declared = c.groups-groups.ensures.declared in
+    let holds_same = OneContentHoldsSame_lem options
+    (AcceptedExactlyWhen-options options declared) in
+    let line_laws = KeepsLineLaws-lawful options declared in
     record {
       one_reading = OneReading-options options declared;
       one_reading_in_each = λ style long_only. OneReading-options
           (with_setting options style long_only) declared;
       accepted = AcceptedExactlyWhen-options options declared;
       refused = RefusedExactlyWhen-options options declared;
-      one_answer = HaveOneAnswer-options options declared;
-      holds_same = OneContentHoldsSame_lem options (AcceptedExactlyWhen-options options declared);
+      results = HasResults-declared options declared;
+      holds_same = holds_same;
       one_line_one_content = OneLineOneContent-options options declared;
       canonical_lines = HasCanonicalLine-options options declared;
-      line_laws = KeepsLineLaws-lawful options declared;
+      line_laws = line_laws;
+      read_again = LinesReadAgain_lem options holds_same line_laws;
       reading_laws = keeps_laws options declared;
       sound = IsSound-says options;
     }

@@ -1,39 +1,34 @@
 -- Each group in order keeps its count, or is the first to break it.
 use Rattle.std.proofs.Common.{◌≡◌, List, [], ℕ, slice_get, unwrap_or, length, sym, ap, ◌∙◌, subst}
 use Rattle.std.proofs.Common.{arith}
-use Rattle.std.specs.Option.{option_map_or}
 use Rattle.std.proofs.lemmas.List.{take_all}
 use Rattle.getopts.specs.Names.{Text, main_name}
-use Rattle.getopts.specs.Options.{Signature, signatures_of}
 use Rattle.getopts.specs.Matches.{matched, found_at, count_fault, FitsCount}
 use Rattle.getopts.specs.declared.groups.Occur.{Occur}
 use Rattle.getopts.proofs.Parsing.Counts.{KeepsCounts-more, IsCountFault-at, length-found_at}
 use Rattle.getopts.proofs.Parsing.Counts.{length-matched, signature-there}
 use Rattle.getopts.proofs.Parsing.Faults.{Tells-weaker}
-use Rattle.getopts.proofs.Held.Signatures.{length-signatures_of, kinds-signatures_of}
-use Rattle.getopts.proofs.Held.Signatures.{main-signatures_of}
+use Rattle.getopts.proofs.Held.Groups.{names_at-signature}
 use Rattle.getopts.proofs.parse.check_counts.Goals as goal
 
 pub returns-clause-ok : goal.returns-clause-ok
 returns-clause-ok c =
-    let whole = matched 0 (signatures_of c.args.groups.now) c.args.read.now.line.found in
+    let whole = matched 0 c.args.signatures.now c.args.read.now.line.found in
     rw (sym (take_all c.loop-place.place whole (omega (
       arith,
-      length-matched 0 (signatures_of c.args.groups.now) c.args.read.now.line.found,
-      length-signatures_of c.args.groups.now,
+      length-matched 0 c.args.signatures.now c.args.read.now.line.found,
     )))) c.loop-place.invariant
 
 pub loop-place-preserved : goal.loop-place-preserved
 loop-place-preserved c =
-    let signatures = signatures_of c.args.groups.now in
+    let signatures = c.args.signatures.now in
     let kinds = c.kinds_at.result in
     let count = c.count-count.result in
-    let there = signature-there signatures c.loop-place.place kinds (c.kinds_at.ensures
-    ∙ kinds-signatures_of c.args.groups.now c.loop-place.place) in
+    let there = signature-there signatures c.loop-place.place kinds c.kinds_at.ensures in
     let counted : count ≡ length (found_at c.loop-place.place c.args.read.now.line.found) =
     c.count-count.ensures
     ∙ ap (λ (ix : List (List ℕ)). length (unwrap_or (slice_get ix c.loop-place.place) []))
-    c.requires.index ∙ length-found_at (length c.args.groups.now) c.args.read.now.line.found
+    c.requires.index ∙ length-found_at (length c.args.signatures.now) c.args.read.now.line.found
     c.loop-place.place (omega arith) in
     let fits : FitsCount kinds.occurrence count =
     c.fits_count.ensures.0 c.if-not-fits_count.false in
@@ -43,19 +38,18 @@ loop-place-preserved c =
 
 pub returns-then-not-fits_count-clause-err : goal.returns-then-not-fits_count-clause-err
 returns-then-not-fits_count-clause-err c =
-    let there = signature-there (signatures_of c.args.groups.now) c.loop-place.place
+    let there = signature-there c.args.signatures.now c.loop-place.place
     c.kinds_at.result
-    (c.kinds_at.ensures ∙ kinds-signatures_of c.args.groups.now c.loop-place.place) in
+    c.kinds_at.ensures in
     let count = c.count-count.result in
     let counted : count ≡ length (found_at c.loop-place.place c.args.read.now.line.found) =
     c.count-count.ensures
     ∙ ap (λ (ix : List (List ℕ)). length (unwrap_or (slice_get ix c.loop-place.place) []))
-    c.requires.index ∙ length-found_at (length c.args.groups.now) c.args.read.now.line.found
+    c.requires.index ∙ length-found_at (length c.args.signatures.now) c.args.read.now.line.found
     c.loop-place.place (omega arith) in
     let main : c.main.result.now ≡ main_name there.0.names =
-    c.main.ensures ∙ main-signatures_of c.args.groups.now c.loop-place.place
-    ∙ ap (λ group. option_map_or (λ (signature : Signature). main_name signature.names) group [])
-    there.1 in
+    c.main.ensures ∙ ap main_name (names_at-signature c.args.signatures.now c.loop-place.place there.0
+    there.1) in
     let broken : ¬ (FitsCount there.0.occurrence count) =
     λ fits. absurd (cc (
       c.fits_count.ensures.1 (subst (λ (occurrence : Occur). FitsCount occurrence count) there.2
@@ -63,7 +57,7 @@ returns-then-not-fits_count-clause-err c =
       c.if-not-fits_count.true,
     )) in
     Tells-weaker c.count_fault.result _ _ c.count_fault.ensures
-    (λ fault told. IsCountFault-at (signatures_of c.args.groups.now) c.args.read.now.line.found
+    (λ fault told. IsCountFault-at c.args.signatures.now c.args.read.now.line.found
     c.loop-place.place there.0 there.1
     c.loop-place.invariant count counted fault broken
     (told ∙ ap (λ (text : Text). count_fault text count) main

@@ -1,9 +1,8 @@
 -- The groups before this place keep their counts.
 use Rattle.std.proofs.Common.{take}
-use Rattle.getopts.specs.Options.{signatures_of}
 use Rattle.getopts.specs.Matches.{matched, KeepsCounts}
 use Rattle.getopts.proofs.parse.check_counts.Given as goal
 
 abbrev pub invariant-loop-place : goal.invariant-loop-place
 invariant-loop-place l =
-    KeepsCounts (take l.place (matched 0 (signatures_of l.groups) l.read.line.found))
+    KeepsCounts (take l.place (matched 0 l.signatures l.read.line.found))

@@ -1,7 +1,7 @@
 -- The row is the head, its padding and the description's rows, which are the only ones.
 use Rattle.std.proofs.Common.{◌≡◌, ◌++◌, ◌∙◌, ap, arith, drop, length, string_bytes}
 use Rattle.std.proofs.lemmas.Result.{on_ok_weaker}
-use Rattle.getopts.specs.Held.Groups.{group_view}
+use Rattle.getopts.specs.Held.Help.{group_view}
 use Rattle.getopts.specs.Names.{Text}
 use Rattle.getopts.specs.Usage.{padding}
 use Rattle.getopts.proofs.Wrapping.Usage.{row_added}

@@ -6,5 +6,5 @@ pub returns : goal.returns
 returns c =
     rw (
       ← c.self.view_is,
-      ← place_of-matched c.self.inside.groups c.self.inside.found c.args.name.now,
+      ← place_of-matched c.self.inside.signatures c.self.inside.found c.args.name.now,
     ) c.resolve.ensures

@@ -1,24 +1,23 @@
 -- The copies are those of what is held.
 use Rattle.std.proofs.Common.{◌≡◌, ◌∙◌, length, sym}
-use Rattle.getopts.specs.Options.{signatures_of}
 use Rattle.getopts.specs.Matches.{matched}
 use Rattle.getopts.specs.Held.Index.{index_of}
 use Rattle.getopts.proofs.matches.MatchedGroupsClone.clone.Goals as goal
 
 pub invariant_of-result : goal.invariant_of-result
 invariant_of-result c =
-    let groups : c.in_ok-clone.field-0 ≡ c.self.inside.groups = c.in_ok-clone.ensures.cases in
+    let signatures : c.in_ok-clone.field-0 ≡ c.self.inside.signatures = c.in_ok-clone.ensures.cases in
     let table : c.in_ok-clone-2.field-0.entries.items ≡ c.self.inside.table.entries.items =
     c.in_ok-clone-2.ensures.same in
     let found : c.in_ok-clone-3.field-0 ≡ c.self.inside.found = c.in_ok-clone-3.ensures.cases in
     let index : c.in_ok-clone-4.field-0 ≡ c.self.inside.index = c.in_ok-clone-4.ensures.cases in
     record {
-      table = rw (groups, table) c.self.invariant.table;
-      index = index ∙ c.self.invariant.index ∙ sym (λ i. index_of (length (groups i)) (found i));
+      table = rw (signatures, table) c.self.invariant.table;
+      index = index ∙ c.self.invariant.index ∙ sym (λ i. index_of (length (signatures i)) (found i));
     }
 
 pub returns : goal.returns
 returns c =
-    let groups : c.in_ok-clone.field-0 ≡ c.self.inside.groups = c.in_ok-clone.ensures.cases in
+    let signatures : c.in_ok-clone.field-0 ≡ c.self.inside.signatures = c.in_ok-clone.ensures.cases in
     let found : c.in_ok-clone-3.field-0 ≡ c.self.inside.found = c.in_ok-clone-3.ensures.cases in
-    record { cases = (λ i. matched 0 (signatures_of (groups i)) (found i)) ∙ c.self.view_is }
+    record { cases = (λ i. matched 0 (signatures i) (found i)) ∙ c.self.view_is }

@@ -15,7 +15,7 @@ returns-in_err-read-clause-refused c =
     (Tells-weaker c.in_err-read.field-0.0 _ _ c.in_err-read.ensures.refused (λ fault is. inl is))
 
 pub check_counts-requires : goal.check_counts-requires
-check_counts-requires c = rw (c.groups.ensures.groups) c.in_ok-read.ensures.read.of_groups
+check_counts-requires c = rw (c.signatures.ensures.signatures) c.in_ok-read.ensures.read.of_groups
 
 pub returns-in_err-check_counts-clause-refused : goal.returns-in_err-check_counts-clause-refused
 returns-in_err-check_counts-clause-refused c =
@@ -24,7 +24,7 @@ returns-in_err-check_counts-clause-refused c =
     c.from_residual-in_err-check_counts.ensures.1 in
     rw (left.1, left.2)
     (Tells-weaker c.in_err-check_counts.field-0.0 _ _
-    (rw c.groups.ensures.groups at c.in_err-check_counts.ensures.err)
+    (rw c.signatures.ensures.signatures at c.in_err-check_counts.ensures.err)
     (λ fault is. inr (record {
       matches = record {
         groups = matched 0 (signatures_of c.args.self.now.groups) line.found;
@@ -38,5 +38,5 @@ returns-in_err-check_counts-clause-refused c =
 pub returns-clause-accepted : goal.returns-clause-accepted
 returns-clause-accepted c = record {
   is_read = c.in_ok-read.ensures.read;
-  keeps = rw c.groups.ensures.groups at c.in_ok-check_counts.ensures.ok;
+  keeps = rw c.signatures.ensures.signatures at c.in_ok-check_counts.ensures.ok;
 }

@@ -1,6 +1,6 @@
 -- The words that were taken are those that the iterator gives.
 use Rattle.std.proofs.Common.{◌∙◌}
-use Rattle.std.proofs.lemmas.Result.{IfOk-weaker, IfErr-weaker}
+use Rattle.std.proofs.lemmas.Result.{IfOk-weaker, IfErr-weaker, MatchResult-weaker}
 use Rattle.getopts.proofs.Canonical.Answered.{IfSome-weaker, IfNone-weaker}
 use Rattle.getopts.proofs.Parsing.Faults.{Tells-weaker}
 use Rattle.getopts.proofs.options.Options.canonical.Goals as goal
@@ -25,3 +25,11 @@ returns-clause-refused g c =
     IfErr-weaker c.canonical_words.result _ _
     (λ fail told. Tells-weaker fail _ _ told (λ fault is. (run.0, run.1, run.2, is)))
     (rw (c.deref.ensures.value ∙ run.3) at c.canonical_words.ensures.refused)
+
+pub returns-clause-result : goal.returns-clause-result
+returns-clause-result g c =
+    let run = c.in_ok-words.ensures in
+    MatchResult-weaker c.canonical_words.result
+    (rw (c.deref.ensures.value ∙ run.3) at c.canonical_words.ensures.result)
+    (λ value is. (run.0, run.1, run.2, is))
+    (λ fail told. Tells-weaker fail _ _ told (λ fault is. (run.0, run.1, run.2, is)))

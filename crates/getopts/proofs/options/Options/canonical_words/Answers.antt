@@ -1,7 +1,14 @@
 -- What the line says is what the words are accepted with.
-use Rattle.std.proofs.Common.{◌∙◌, sym}
+use Rattle.std.proofs.Common.{◌∙◌, sym, Ok, Err, Some, None, List}
+use Rattle.getopts.specs.Names.{Text}
+use Rattle.getopts.specs.Options.{Declared, MayBeDeclared}
+use Rattle.getopts.specs.Theorem.{LinesReadAgain}
+use Rattle.std.proofs.lemmas.Result.{err_from_is_err_and}
 use Rattle.getopts.proofs.Canonical.Answered.{IsWritten-line, IsUnwritable-line, groups_within}
 use Rattle.getopts.proofs.Canonical.Answered.{KeepsLineLaws-lawful}
+use Rattle.getopts.proofs.MainTheorem.Callers.{OneContentHoldsSame_lem, LinesReadAgain_lem}
+use Rattle.getopts.proofs.MainTheorem.Results.{GivesResult-canonical}
+use Rattle.getopts.proofs.MainTheorem.Theorem.{AcceptedExactlyWhen-options}
 use Rattle.getopts.proofs.options.Options.canonical_words.Goals as goal
 
 pub are_plain-requires : goal.are_plain-requires
@@ -29,3 +36,34 @@ returns-in_ok-canonical_line-clause-laws c = KeepsLineLaws-lawful _ c.groups-gro
 
 pub returns-else-are_plain-clause-laws : goal.returns-else-are_plain-clause-laws
 returns-else-are_plain-clause-laws c = KeepsLineLaws-lawful _ c.groups-groups.ensures.declared
+
+pub returns-in_err-accepted-clause-result : goal.returns-in_err-accepted-clause-result
+returns-in_err-accepted-clause-result c =
+    let left = err_from_is_err_and c.from_residual.result c.from_residual.ensures.1 in
+    rw (left.1, left.2)
+    (GivesResult-canonical {Y = List Text} _ _ c.in_err-accepted.ensures.results (λ line. line)
+    (Err c.in_err-accepted.field-0.0) tt tt
+    c.in_err-accepted.ensures.refused)
+
+pub returns-in_ok-canonical_line-clause-result : goal.returns-in_ok-canonical_line-clause-result
+returns-in_ok-canonical_line-clause-result c =
+    GivesResult-canonical {Y = List Text} _ _ c.in_ok-accepted.ensures.results (λ line. line)
+    (Ok (Some _))
+    (returns-in_ok-canonical_line-clause-written c) tt tt
+
+pub returns-else-are_plain-clause-result : goal.returns-else-are_plain-clause-result
+returns-else-are_plain-clause-result c =
+    GivesResult-canonical {Y = List Text} _ _ c.in_ok-accepted.ensures.results (λ line. line)
+    (Ok None) tt (returns-else-are_plain-clause-unwritable c) tt
+
+-- canonical lines are read again, by the laws above
+again : (options : Declared) → MayBeDeclared options.groups → LinesReadAgain options
+again options declared = LinesReadAgain_lem options
+    (OneContentHoldsSame_lem options (AcceptedExactlyWhen-options options declared))
+    (KeepsLineLaws-lawful options declared)
+
+pub returns-in_ok-canonical_line-clause-read_again : goal.returns-in_ok-canonical_line-clause-read_again
+returns-in_ok-canonical_line-clause-read_again c = again _ c.groups-groups.ensures.declared
+
+pub returns-else-are_plain-clause-read_again : goal.returns-else-are_plain-clause-read_again
+returns-else-are_plain-clause-read_again c = again _ c.groups-groups.ensures.declared

@@ -1,10 +1,8 @@
-use Rattle.std.proofs.Common.{◌||◌, Bool, not, ap, ◌∙◌, arith}
+use Rattle.std.proofs.Common.{◌||◌, Bool, not, ap, sym, ◌∙◌, arith}
 use Rattle.std.proofs.lemmas.List.{take_all}
-use Rattle.getopts.specs.Names.{is_empty}
-use Rattle.getopts.specs.Options.{Signature}
 use Rattle.getopts.specs.Usage.{any_short}
-use Rattle.getopts.specs.Held.Groups.{signature_view}
-use Rattle.getopts.proofs.Wrapping.Usage.{any_short_more, group_signature}
+use Rattle.getopts.specs.Held.Help.{group_view}
+use Rattle.getopts.proofs.Wrapping.Usage.{any_short_more}
 use Rattle.getopts.proofs.options.Options.layout.Goals as goal
 
 -- one more group
@@ -12,12 +10,9 @@ pub loop-place-preserved : goal.loop-place-preserved
 loop-place-preserved c =
     let groups = c.groups-groups.result.now in
     let place = c.loop-place.place in
-    let there = group_signature groups place (signature_view c.signature.result)
-    c.signature.ensures in
-    any_short_more groups place there.0 there.1 c.loop-place.any_short _ c.loop-place.invariant
-    (ap (λ (empty : Bool). c.loop-place.any_short || not empty) c.is_empty.ensures
-    ∙ ap (λ (signature : Signature). c.loop-place.any_short || not (is_empty signature.names.short))
-    there.2)
+    any_short_more groups place (group_view c.get.result) (sym c.get.ensures)
+    c.loop-place.any_short _ c.loop-place.invariant
+    (ap (λ (empty : Bool). c.loop-place.any_short || not empty) c.is_empty.ensures)
 
 -- all groups were asked
 pub returns-clause-any_short : goal.returns-clause-any_short

@@ -1,6 +1,6 @@
 -- The words that were taken are those that the iterator gives.
 use Rattle.std.proofs.Common.{◌∙◌}
-use Rattle.std.proofs.lemmas.Result.{IfOk-weaker, IfErr-weaker}
+use Rattle.std.proofs.lemmas.Result.{IfOk-weaker, IfErr-weaker, MatchResult-weaker}
 use Rattle.getopts.proofs.Parsing.Faults.{Tells-weaker}
 use Rattle.getopts.proofs.Parsing.Holds.{Accepts-accepted}
 use Rattle.getopts.proofs.options.Options.parse.Goals as goal
@@ -18,3 +18,11 @@ returns-clause-refused g c =
     IfErr-weaker c.parse_words.result _ _
     (λ fail told. Tells-weaker fail _ _ told (λ fault is. (run.0, run.1, run.2, is)))
     (rw (c.deref.ensures.value ∙ run.3) at c.parse_words.ensures.refused)
+
+pub returns-clause-result : goal.returns-clause-result
+returns-clause-result g c =
+    let run = c.in_ok-words.ensures in
+    MatchResult-weaker c.parse_words.result
+    (rw (c.deref.ensures.value ∙ run.3) at c.parse_words.ensures.result)
+    (λ value is. (run.0, run.1, run.2, is))
+    (λ fail told. Tells-weaker fail _ _ told (λ fault is. (run.0, run.1, run.2, is)))

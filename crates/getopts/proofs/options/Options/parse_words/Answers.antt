@@ -1,17 +1,21 @@
 -- The line that was read gives accepted matches, and its options keep the laws of readings.
-use Rattle.std.proofs.Common.{◌≡◌, ◌∙◌, subst}
+use Rattle.std.proofs.Common.{◌≡◌, ◌∙◌, subst, Ok, Err}
+use Rattle.std.proofs.lemmas.Result.{err_from_is_err_and}
+use Rattle.getopts.specs.Options.{signatures_of}
 use Rattle.getopts.specs.ReadingLaws.{HavePositionsBelow}
 use Rattle.getopts.proofs.Canonical.Answered.{IsAccepted-line}
+use Rattle.getopts.proofs.MainTheorem.Results.{GivesResult-parse}
 use Rattle.getopts.proofs.Parsing.Parsed.{positions_below-read, keeps_laws}
 use Rattle.getopts.proofs.Scanner.Loop.{length-texts}
 use Rattle.getopts.proofs.Parsing.Holds.{HoldDeclared-accepted, HaveLastWordsFree-read}
+use Rattle.getopts.proofs.Parsing.Holds.{EndsInTrailing-read}
 use Rattle.getopts.proofs.options.Options.parse_words.Goals as goal
 
 pub returns-clause-accepted : goal.returns-clause-accepted
 returns-clause-accepted c =
-    let groups : c.in_ok-clone.field-0 ≡ c.args.self.now.groups = c.in_ok-clone.ensures.cases
-    ∙ c.groups.ensures.groups in
-    rw (c.of_line.ensures, groups)
+    let signatures : c.in_ok-clone.field-0 ≡ signatures_of c.args.self.now.groups =
+    c.in_ok-clone.ensures.cases ∙ c.signatures.ensures.signatures in
+    rw (c.of_line.ensures, signatures)
     (IsAccepted-line _ _ c.in_ok-accepted.accepted c.in_ok-accepted.ensures.accepted)
 
 pub returns-clause-declared : goal.returns-clause-declared
@@ -25,5 +29,20 @@ returns-clause-positions_below c =
 pub returns-clause-free_last : goal.returns-clause-free_last
 returns-clause-free_last c = HaveLastWordsFree-read _ _ _ (returns-clause-accepted c).read
 
+pub returns-clause-trailing : goal.returns-clause-trailing
+returns-clause-trailing c = EndsInTrailing-read _ _ _ (returns-clause-accepted c).read
+
 pub returns-clause-laws : goal.returns-clause-laws
-returns-clause-laws c = keeps_laws c.args.self.now c.groups.ensures.declared
+returns-clause-laws c = keeps_laws c.args.self.now c.signatures.ensures.declared
+
+pub returns-in_err-accepted-clause-result : goal.returns-in_err-accepted-clause-result
+returns-in_err-accepted-clause-result c =
+    let left = err_from_is_err_and c.from_residual.result c.from_residual.ensures.1 in
+    rw (left.1, left.2)
+    (GivesResult-parse _ _ c.in_err-accepted.ensures.results (Err c.in_err-accepted.field-0.0) tt
+    c.in_err-accepted.ensures.refused)
+
+pub returns-clause-result : goal.returns-clause-result
+returns-clause-result c =
+    GivesResult-parse _ _ c.in_ok-accepted.ensures.results (Ok c.of_line.result)
+    (returns-clause-accepted c) tt

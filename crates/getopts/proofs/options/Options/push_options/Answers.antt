@@ -1,7 +1,7 @@
 use Rattle.std.proofs.Common.{◌≡◌, ◌≤◌, ◌++◌, ◌∷◌, List, [], ap, ◌∙◌, sym, append-nil, arith, codes}
 use Rattle.std.proofs.Common.{length, map, string_bytes, take}
 use Rattle.std.proofs.lemmas.List.{length-map, length-take-le, map-append, take_all}
-use Rattle.getopts.specs.Held.Groups.{group_view}
+use Rattle.getopts.specs.Held.Help.{group_view}
 use Rattle.getopts.specs.Options.{Group}
 use Rattle.getopts.specs.Usage.{option_text}
 use Rattle.getopts.specs.Wrap.{joined}

@@ -1,14 +1,19 @@
 -- The line that was read and its scan fault are those of the declared options.
 use Rattle.std.proofs.lemmas.Result.{err_from_is_err_and}
+use Rattle.getopts.proofs.MainTheorem.Results.{HasResults-declared}
 use Rattle.getopts.proofs.Parsing.Faults.{Tells-weaker}
 use Rattle.getopts.proofs.Parsing.Parsed.{HasNoReading-fault}
+use Rattle.getopts.proofs.Held.Signatures.{names-signatures_of}
 use Rattle.getopts.proofs.options.Options.read_line.Goals as goal
 
 pub scan-requires : goal.scan-requires
 scan-requires c = record {
   lawful = record {
-    declared = c.groups-groups.ensures.declared;
-    table = rw c.groups-groups.ensures.groups at c.in_ok-table.ensures;
+    declared = c.signatures-signatures.ensures.declared;
+    table = rw (
+      c.signatures-signatures.ensures.signatures,
+      names-signatures_of c.args.self.now.groups,
+    ) at c.in_ok-table.ensures;
   };
   texts = c.are_texts.ensures;
 }
@@ -19,14 +24,31 @@ returns-in_err-line-clause-refused c =
     c.from_residual-in_err-line.ensures.1 in
     rw (left.1, left.2)
     (Tells-weaker c.in_err-line.field-0.0 _ _ c.in_err-line.ensures.err
-    (HasNoReading-fault _ c.groups-groups.ensures.declared _ c.are_texts.ensures))
+    (HasNoReading-fault _ c.signatures-signatures.ensures.declared _ c.are_texts.ensures))
 
 pub returns-clause-read : goal.returns-clause-read
 returns-clause-read c = record {
-  declared = c.groups-groups.ensures.declared;
+  declared = c.signatures-signatures.ensures.declared;
   of_groups = record {
-    table = rw c.groups-groups.ensures.groups at c.in_ok-table.ensures;
-    index = rw (c.len.ensures.len, c.groups-groups.ensures.groups) at c.in_ok-index.ensures;
+    table = rw c.signatures-signatures.ensures.signatures at c.in_ok-table.ensures;
+    index = rw (c.len.ensures.len, c.signatures-signatures.ensures.signatures) at
+        c.in_ok-index.ensures;
   };
   reads = c.in_ok-line.ensures.ok;
 }
+
+pub returns-in_err-table-clause-results : goal.returns-in_err-table-clause-results
+returns-in_err-table-clause-results c =
+    HasResults-declared _ c.signatures-signatures.ensures.declared _ c.are_texts.ensures
+
+pub returns-in_err-line-clause-results : goal.returns-in_err-line-clause-results
+returns-in_err-line-clause-results c =
+    HasResults-declared _ c.signatures-signatures.ensures.declared _ c.are_texts.ensures
+
+pub returns-in_err-index-clause-results : goal.returns-in_err-index-clause-results
+returns-in_err-index-clause-results c =
+    HasResults-declared _ c.signatures-signatures.ensures.declared _ c.are_texts.ensures
+
+pub returns-clause-results : goal.returns-clause-results
+returns-clause-results c =
+    HasResults-declared _ c.signatures-signatures.ensures.declared _ c.are_texts.ensures

@@ -1,6 +1,7 @@
 -- Each name of a cluster is a flag, ends it, or is a fault.
-use Rattle.std.proofs.Common.{take, slice_index, sym, ◌∙◌, ap, arith, None, rules}
+use Rattle.std.proofs.Common.{◌+◌, take, slice_index, sym, ◌∙◌, ap, arith, None, rules}
 use Rattle.std.specs.Option.{option_copied}
+use Rattle.std.specs.Str.{IsCharBoundary}
 use Rattle.std.proofs.lemmas.Str.{IsCharBoundary-after_ascii}
 use Rattle.std.proofs.lemmas.Result.{err_from_is_err_and}
 use Rattle.getopts.specs.Fail.{unrecognized_option}
@@ -10,7 +11,9 @@ use Rattle.getopts.proofs.Parsing.Faults.{Tells-one, Tells-weaker}
 use Rattle.getopts.proofs.Scanner.Clusters.{FlagsRead-none, FlagsRead-more, AddsItem-flags}
 use Rattle.getopts.proofs.Scanner.Clusters.{AddsItem-ends, cluster_turn-byte, cluster_turn-ends}
 use Rattle.getopts.proofs.Scanner.Clusters.{text_from}
+use Rattle.getopts.proofs.Scanner.Words.{slice_range-one}
 use Rattle.getopts.proofs.scan.Scanner.cluster.Goals as goal
+use Rattle.getopts.proofs.scan.Scanner.cluster.Goals.{In-Some}
 
 pub names-init : goal.names-init
 names-init c = FlagsRead-none c.args.found.now c.utf8.text
@@ -21,43 +24,58 @@ returns-in-None-clause-err c =
     ∙ ap first_char (c.range_from.ensures.value
     ∙ text_from c.args.text.now c.names.at (omega arith)) in
     Tells-one c.unrecognized_option.result _ _ c.unrecognized_option.ensures
-    (cluster_turn-byte (omega arith) c.names.invariant None c.in-None.ensures.option
+    (cluster_turn-byte (omega arith) c.names.invariant None
+    (rw c.as_bytes.ensures.value at c.in-None.ensures.option)
     ∙ ap (λ name. faults (unrecognized_option name)) (sym first))
+
+after : (c : In-Some) → IsCharBoundary c.args.text.now (c.names.at + 1)
+after c = IsCharBoundary-after_ascii c.args.text.now c.names.at c.utf8.text (omega arith)
+    (rw c.as_bytes.ensures.value at c.in-Some.ensures.ascii)
+
+pub range-name-requires-clause-start_boundary : goal.range-name-requires-clause-start_boundary
+range-name-requires-clause-start_boundary c = λ _. c.names.invariant.boundary
+
+pub range-name-requires-clause-end_boundary : goal.range-name-requires-clause-end_boundary
+range-name-requires-clause-end_boundary c = after c
 
 pub range_from-requires-in-Some : goal.range_from-requires-in-Some
 range_from-requires-in-Some c =
-    λ _. IsCharBoundary-after_ascii c.args.text.now c.names.at c.utf8.text
-    (omega arith) c.in-Some.ensures.ascii
+    λ _. after (goal.at.range_from-requires-in-Some c).In-Some
 
 pub returns-in-Some-clause-ok : goal.returns-in-Some-clause-ok
 returns-in-Some-clause-ok c =
-    let option = c.in-Some.ensures.option in
+    let option = rw c.as_bytes.ensures.value at c.in-Some.ensures.option in
+    let name = c.range-name.ensures.value
+    ∙ slice_range-one c.args.text.now c.names.at (omega arith) in
     AddsItem-ends (omega arith) c.names.invariant c.in-Some.group c.in-Some.kind
-    (option_copied c.in_ok-value-in-Some.value) c.in_ok-value-in-Some.used _ option.1
-    (search rules) option.2
-    (rw (option.0, c.range_from-in-Some.ensures.value) at c.in_ok-value-in-Some.ensures.ok)
+    (option_copied c.in_ok-value-in-Some.value) c.in_ok-value-in-Some.used _ option.0
+    (search rules) option.1
+    (rw (name, c.range_from-in-Some.ensures.value) at c.in_ok-value-in-Some.ensures.ok)
     c.in_ok-push-in-Some.ensures
 
 pub returns-in_err-value-in-Some-clause-err : goal.returns-in_err-value-in-Some-clause-err
 returns-in_err-value-in-Some-clause-err c =
     let left = err_from_is_err_and c.from_residual-in_err-value-in-Some.result
     c.from_residual-in_err-value-in-Some.ensures.1 in
-    let option = c.in-Some.ensures.option in
+    let option = rw c.as_bytes.ensures.value at c.in-Some.ensures.option in
+    let name = c.range-name.ensures.value
+    ∙ slice_range-one c.args.text.now c.names.at (omega arith) in
     let bytes = take c.names.at c.args.text.now in
     let byte = slice_index c.args.text.now c.names.at in
     rw (left.1, left.2) (Tells-weaker c.in_err-value-in-Some.field-0.0 _ _
-    (rw (option.0, c.range_from-in-Some.ensures.value) at c.in_err-value-in-Some.ensures.err)
+    (rw (name, c.range_from-in-Some.ensures.value) at c.in_err-value-in-Some.ensures.err)
     (λ fault told. cluster_turn-ends (omega arith) c.names.invariant
-    c.in-Some.kind (search rules) option.2
+    c.in-Some.kind (search rules) option.1
     ∙ ap (chosen_turn (λ a. cluster bytes (ends_in byte a))) told))
 
 pub names-preserved : goal.names-preserved
 names-preserved c =
-    let option = c.in-Some-default-default-No.ensures.option in
+    let option = rw c.as_bytes.ensures.value at c.in-Some-default-No.ensures.option in
     FlagsRead-more (omega arith) c.names.invariant
-    c.in-Some-default-default-No.group _ c.utf8.text c.in-Some-default-default-No.ensures.ascii
-    option.1 (rw c.in-Some-default-default-No.field-0-2-is at option.2)
-    c.in_ok-push-in-Some-default-default-No.ensures
+    c.in-Some-default-No.group _ c.utf8.text
+    (rw c.as_bytes.ensures.value at c.in-Some-default-No.ensures.ascii)
+    option.0 (rw c.in-Some-default-No.field-0-1-is at option.1)
+    c.in_ok-push-in-Some-default-No.ensures
 
 pub returns-clause-ok : goal.returns-clause-ok
 returns-clause-ok c = AddsItem-flags (omega arith) c.names.invariant

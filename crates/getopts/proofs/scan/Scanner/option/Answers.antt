@@ -1,40 +1,42 @@
 -- The table finds what a name resolves to.
-use Rattle.std.proofs.Common.{◌≡◌, Option, Some, None, refl, sym, ap, ◌∙◌, arith}
+use Rattle.std.proofs.Common.{refl, sym, ap, ◌∙◌, arith}
 use Rattle.std.proofs.lemmas.List.{length-map}
 use Rattle.std.specs.Option.{option_map}
-use Rattle.getopts.specs.Held.Groups.{kinds_of}
-use Rattle.getopts.specs.Options.{Group, names_of}
+use Rattle.getopts.specs.Held.Groups.{names_in}
+use Rattle.getopts.specs.Options.{Signature}
 use Rattle.getopts.specs.declared.groups.Kinds.{Kinds}
+use Rattle.getopts.proofs.Held.Signatures.{names-signatures_of, kinds-signatures_of, kind_of-kinds}
 use Rattle.getopts.proofs.Lookup.Names.{resolution_within}
 use Rattle.getopts.proofs.scan.Scanner.option.Goals as goal
 
--- the kind of argument, by the kinds of the group
-kind_of-kinds : (group : Option Group)
-    → option_map (λ (k : Kinds). k.kind) (option_map (λ (g : Group). kinds_of g.signature) group)
-    ≡ option_map (λ (g : Group). g.signature.kind) group
-kind_of-kinds None = refl
-kind_of-kinds (Some group) = refl
-
 pub resolve-requires : goal.resolve-requires
-resolve-requires c = rw c.groups-groups.ensures.groups c.requires.table
+resolve-requires c = rw (
+  c.signatures-signatures.ensures.signatures,
+  names-signatures_of c.args.self.now.options.now.groups,
+) c.requires.table
 
 pub returns-in_err-place : goal.returns-in_err-place
 returns-in_err-place c =
-    let none = rw c.groups-groups.ensures.groups at c.in_err-place.ensures in
+    let none = rw (
+      c.signatures-signatures.ensures.signatures,
+      names-signatures_of c.args.self.now.options.now.groups,
+    ) at c.in_err-place.ensures in
     rw (c.from_residual.ensures, ← none) refl
 
 pub kinds_at-requires : goal.kinds_at-requires
 kinds_at-requires c =
-    let groups = c.groups-groups.result.now in
-    let within = resolution_within (names_of groups) c.args.name.now c.in_ok-place.place
+    let signatures = c.signatures-signatures.result.now in
+    let within = resolution_within (names_in signatures) c.args.name.now c.in_ok-place.place
     (sym c.in_ok-place.ensures) in
-    omega (arith, within, length-map groups (λ (group : Group). group.signature.names))
+    omega (arith, within, length-map signatures (λ (s : Signature). s.names))
 
 pub returns : goal.returns
 returns c =
-    let there = rw c.groups-groups.ensures.groups at c.in_ok-place.ensures in
-    let kinds = rw c.groups-groups.ensures.groups at c.kinds_at.ensures in (
+    let groups = c.args.self.now.options.now.groups in
+    let there = rw (c.signatures-signatures.ensures.signatures, names-signatures_of groups) at
+    c.in_ok-place.ensures in
+    let kinds = (rw c.signatures-signatures.ensures.signatures at c.kinds_at.ensures)
+    ∙ sym (kinds-signatures_of groups c.in_ok-place.place) in (
       sym there,
-      rw (← there) (sym (ap (option_map (λ (k : Kinds). k.kind)) kinds
-          ∙ kind_of-kinds _)),
+      rw (← there) (sym (ap (option_map (λ (k : Kinds). k.kind)) kinds ∙ kind_of-kinds _)),
     )

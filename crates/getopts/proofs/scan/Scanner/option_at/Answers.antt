@@ -1,30 +1,48 @@
--- One ASCII byte is a text of its own, and no other byte names an option.
-use Rattle.std.proofs.Common.{◌<◌, ◌≤◌, slice_index, ◌∙◌, arith}
+-- The table finds what a byte resolves to, and one that isn't ASCII names no option.
+use Rattle.std.proofs.Common.{◌≤◌, ◌∷◌, [], sym, ap, ◌∙◌, refl, arith}
 use Rattle.std.proofs.lemmas.Grind.{common_steps}
-use Rattle.std.proofs.lemmas.Str.{IsCharBoundary-after_ascii}
-use Rattle.getopts.proofs.Lookup.Names.{wide_unknown}
-use Rattle.getopts.proofs.Scanner.Words.{slice_range-one}
+use Rattle.std.proofs.lemmas.List.{length-map}
+use Rattle.std.specs.Option.{option_map}
+use Rattle.getopts.specs.Held.Groups.{names_in}
+use Rattle.getopts.specs.Options.{Signature}
+use Rattle.getopts.specs.declared.groups.Kinds.{Kinds}
+use Rattle.getopts.proofs.Held.Signatures.{names-signatures_of, kinds-signatures_of, kind_of-kinds}
+use Rattle.getopts.proofs.Lookup.Names.{resolution_within, wide_unknown}
 use Rattle.getopts.proofs.scan.Scanner.option_at.Goals as goal
-
-pub range-name-requires-clause-end_boundary : goal.range-name-requires-clause-end_boundary
-range-name-requires-clause-end_boundary c =
-    let ascii : slice_index c.args.text.now c.args.at < 128 = grind (arith, common_steps) in
-    IsCharBoundary-after_ascii c.args.text.now c.args.at c.utf8.text c.requires.within ascii
 
 pub returns-then-not-is_ascii-clause-option : goal.returns-then-not-is_ascii-clause-option
 returns-then-not-is_ascii-clause-option c =
-    let wide : 128 ≤ slice_index c.args.text.now c.args.at = grind (arith, common_steps) in
-    wide_unknown c.args.self.now.options.now c.requires.lawful.declared
-    (slice_index c.args.text.now c.args.at) wide
+    let wide : 128 ≤ c.args.byte = grind (arith, common_steps) in
+    wide_unknown c.args.self.now.options.now c.requires.declared c.args.byte wide
 
-pub returns-in_err-group-clause-option : goal.returns-in_err-group-clause-option
-returns-in_err-group-clause-option c =
-    let name = c.range-name.ensures.value
-    ∙ slice_range-one c.args.text.now c.args.at c.requires.within in
-    rw c.from_residual.ensures (rw name at c.in_err-group.ensures)
+pub resolve_byte-requires : goal.resolve_byte-requires
+resolve_byte-requires c = rw (
+  c.signatures-signatures.ensures.signatures,
+  names-signatures_of c.args.self.now.options.now.groups,
+) c.requires.table
+
+pub returns-in_err-place-clause-option : goal.returns-in_err-place-clause-option
+returns-in_err-place-clause-option c =
+    let none = rw (
+      c.signatures-signatures.ensures.signatures,
+      names-signatures_of c.args.self.now.options.now.groups,
+    ) at c.in_err-place.ensures in
+    rw (c.from_residual.ensures, ← none) refl
+
+pub kinds_at-requires : goal.kinds_at-requires
+kinds_at-requires c =
+    let signatures = c.signatures-signatures.result.now in
+    let within = resolution_within (names_in signatures) (c.args.byte ∷ []) c.in_ok-place.place
+    (sym c.in_ok-place.ensures) in
+    omega (arith, within, length-map signatures (λ (s : Signature). s.names))
 
 pub returns-clause-option : goal.returns-clause-option
 returns-clause-option c =
-    let name = c.range-name.ensures.value
-    ∙ slice_range-one c.args.text.now c.args.at c.requires.within in
-    let option = rw name at c.in_ok-group.ensures in (name, option.0, option.1)
+    let groups = c.args.self.now.options.now.groups in
+    let there = rw (c.signatures-signatures.ensures.signatures, names-signatures_of groups) at
+    c.in_ok-place.ensures in
+    let kinds = (rw c.signatures-signatures.ensures.signatures at c.kinds_at.ensures)
+    ∙ sym (kinds-signatures_of groups c.in_ok-place.place) in (
+      sym there,
+      rw (← there) (sym (ap (option_map (λ (k : Kinds). k.kind)) kinds ∙ kind_of-kinds _)),
+    )

@@ -1,0 +1,212 @@
+#!/usr/bin/env python3
+"""Counts what jobs take on this library and on its peers, by valgrind.
+
+usage: bench.py OUT [--getopts FOLDER] [JOB..]      prints the tables of all jobs, or of some: > bench/last_run.txt
+       bench.py --count WHAT A B PROGRAM WORD..     prints what one turn of a program takes
+       bench.py --rows LINE                         prints the rows of a line
+       bench.py --shell [PROGRAM]                   prints the instructions of getopts_shell, getopt(1) and true
+
+OUT is a folder outside the repository, where the peers' program is built. FOLDER has the Rust crate getopts; without it
+cargo takes the crate from the public registry. The variable OURS names a built getopts_bench; without it `rt run` proves
+and builds one.
+
+WHAT is `instructions`, `requests` (for memory; a growth of memory that is held counts as one) or `peak` (the most bytes held
+at once). The number of turns is put last: what B turns take more than A turns is divided by B - A, so what is done before
+the turns isn't counted.
+"""
+
+import os
+import platform
+import re
+import shutil
+import subprocess
+import sys
+from pathlib import Path
+
+HERE = Path(__file__).resolve().parent
+TOOLS = {"instructions": ("--tool=callgrind --callgrind-out-file=/dev/null", r"Collected : ([\d,]+)"),
+         "requests": ("--leak-check=no", r"total heap usage: ([\d,]+)"),
+         "peak": ("--tool=dhat --dhat-out-file=/dev/null", r"At t-gmax: *([\d,]+)")}
+
+# The jobs: what a turn does, the line, and the two numbers of turns. Where a turn takes no memory, it is as long from the
+# first on.
+JOBS = {"small": ("whole", "small", 100, 300), "read-small": ("read", "small", 100, 300),
+        "canonical-small": ("canonical", "small", 100, 300), "copied-small": ("copied", "small", 100, 300),
+        "typical": ("whole", "typical", 100, 300), "read-typical": ("read", "typical", 100, 300),
+        "long": ("whole", "long", 5, 15), "read-long": ("read", "long", 5, 15),
+        "canonical-long": ("canonical", "long", 5, 15), "copied-long": ("copied", "long", 5, 15),
+        "many": ("whole", "many", 5, 15), "read-many": ("read", "many", 5, 15),
+        "canonical-many": ("canonical", "many", 5, 15), "copied-many": ("copied", "many", 5, 15),
+        "many11": ("whole", "many11", 5, 15), "front": ("whole", "front", 100, 300),
+        "read-front": ("read", "front", 100, 300), "asked-front": ("asked", "front", 100, 300),
+        "none": ("whole", "none", 100, 300), "equal": ("equal", "equal", 0, 1), "usage": ("usage", "usage", 100, 300),
+        "defined-4000": ("defined", "defined", 0, 1)}
+# Of these the most bytes held at once are counted.
+MEMORY = {"memory": ("The most bytes held at once for reading 100,000 words, above the words and the options",
+                     "read", "memory", 0, 1),
+          "held": ("Bytes that matches of 20 options hold, whose descriptions have 1,000 bytes each",
+                   "held", "held", 10, 110)}
+
+FIVE = [("optmulti", "o", "output", "d", "H"), ("optflagmulti", "h", "help", "d"), ("optflagmulti", "v", "verbose", "d"),
+        ("optmulti", "L", "", "d", "H"), ("optmulti", "c", "color", "d", "H")]
+FLAGS = "a/all b/brief c/count h/help i/ignore-case l/files-with-matches n/line-number q/quiet r/recursive v/verbose /version"
+ARGUMENTS = "d/directory e/regexp f/file m/max-count o/output x/exclude C/ /include /color"
+TYPICAL = "-r -i --color=auto -e pattern --exclude=target -C3 --output out.txt src".split()
+
+
+def flags(names, desc="d"):
+    return [("optflagmulti", *name, desc) for name in names]
+
+
+def typical(desc):
+    return flags((it.split("/") for it in FLAGS.split()), desc) + [
+        ("optmulti", *it.split("/"), desc, "H") for it in ARGUMENTS.split()]
+
+
+def long(rounds):
+    return FIVE, [word for at in range(rounds) for word in ("-v", f"-Ldir{at}", "--verbose", f"file{at}")]
+
+
+def many(front):
+    options, words = [], []
+    for at in range(200):
+        name = f"{front}{at:03}"
+        options.append(("optmulti", "", name, "d", "H") if at % 2 else ("optflagmulti", "", name, "d"))
+        words += [f"--{name}=value{at}" if at % 2 else f"--{name}", f"file{at}"]
+    return options, words
+
+
+# The lines: their options, each with the call that declares it, and their words.
+LINES = {
+    "small": lambda: (FIVE, ["--output=x.txt", "--verbose", "in.txt"]),
+    "typical": lambda: (typical("d"), TYPICAL),
+    "long": lambda: long(250), "memory": lambda: long(25_000),
+    "many": lambda: many("name"), "many11": lambda: many("the-name"),
+    "front": lambda: (flags(("", f"option-name-{at}") for at in range(20)),
+                      [f"--option-name-{at}" for at in (3, 17, 0, 3)] + ["file"]),
+    "none": lambda: ([], ["file"]),
+    "equal": lambda: (flags([*(("", f"n{at:04}") for at in range(998)), ("a", ""), ("b", "")]),
+                      ["-ab"] * 1000 + ["-ba"] * 1000),
+    "usage": lambda: ([("optmulti", "o", "output", "set output file name", "NAME"),
+                       ("optflagmulti", "h", "help", "print this help menu"),
+                       ("optflagmulti", "v", "verbose", "say more"), ("optmulti", "L", "", "add a folder", "DIR"),
+                       ("optflagopt", "c", "color", "colour the output", "WHEN")], []),
+    "defined": lambda: (flags(("", f"n{at:04}") for at in range(4000)), []),
+    "held": lambda: (typical("d" * 1000), TYPICAL),
+}
+
+
+def rows(line):
+    """The rows of a line, as getopts_bench and the peers read them."""
+    options, words = LINES[line]()
+    said = [*options, ("words", str(len(words))), *(("word", word) for word in words)]
+    return "".join("\t".join(row) + "\n" for row in said)
+
+
+def stop(why):
+    print(f"bench.py: {why}", file=sys.stderr)
+    sys.exit(2)
+
+
+def counted(what, words, env=None):
+    """What a run takes, as valgrind counts it."""
+    flag, found = TOOLS[what]
+    done = subprocess.run(["valgrind", *flag.split(), *(str(word) for word in words)], stdout=subprocess.DEVNULL,
+                          stderr=subprocess.PIPE, text=True, errors="replace", env=env)
+    return int(re.findall(found, done.stderr)[-1].replace(",", ""))
+
+
+def of_a_turn(what, few, more, words):
+    """What one turn takes of a program whose last word is the number of turns."""
+    return (counted(what, [*words, more]) - counted(what, [*words, few])) // (more - few)
+
+
+def sum_of(words):
+    """The sum of one turn, or nothing where the program doesn't do the job."""
+    done = subprocess.run([*(str(word) for word in words), "1"], capture_output=True, text=True)
+    return done.stdout if done.returncode == 0 else None
+
+
+def built(out, getopts):
+    """The programs by their columns, each as its words."""
+    for tool in ("cargo", "valgrind", os.environ.get("OURS", "rt")):
+        shutil.which(tool) or stop(f"there is no {tool}")
+    build = HERE.parent / "tests/differential/build.sh"
+    subprocess.run(["bash", build, HERE / "peers", out / "peers", *([getopts] if getopts else [])], check=True)
+    subprocess.run(["bash", build, HERE / "peers", out / "over_ours", HERE.parent / "bindings/rust"], check=True)
+    crate = HERE.parent / "crates/getopts_bench"
+    if "OURS" not in os.environ:
+        print("bench.py: proves and builds getopts_bench, some minutes where nothing is kept ..", file=sys.stderr)
+        subprocess.run(["rt", "run", "--", "whole", crate / "data/small.rows", "1"], cwd=crate, check=True,
+                       stdout=subprocess.DEVNULL)
+    peers, ours = (out / f"{name}/target/release/peers" for name in ("peers", "over_ours"))
+    return {"this library": [os.environ.get("OURS", crate / "out/getopts_bench")], "Rust crate": [peers, "getopts"],
+            "bindings/rust": [ours, "getopts"], "lexopt": [peers, "lexopt"], "pico-args": [peers, "pico-args"],
+            "clap": [peers, "clap"]}
+
+
+def row(out, programs, what, job, work, line, few, more):
+    """A row of a table, with a star where a peer's sum of one turn isn't that of this library."""
+    file = out / f"{line}.rows"
+    file.write_text(rows(line), encoding="utf-8")
+    cells, ours = [], None
+    for column, program in programs.items():
+        words = [*program, work, file]
+        total = sum_of(words)
+        ours = total if column == "this library" else ours
+        cells.append("-" if total is None else f"{of_a_turn(what, few, more, words)}{'*' * (total != ours)}")
+    print(f"{job:<16} " + " ".join(f"{cell:>14}" for cell in cells), flush=True)
+
+
+def tables(out, getopts, asked):
+    out = Path(out).resolve()
+    out.mkdir(parents=True, exist_ok=True)
+    programs = built(out, getopts)
+    lock = (out / "peers/Cargo.lock").read_text()
+    versions = re.findall(r'^name = "(getopts|lexopt|pico-args|clap|unicode-width)"\nversion = "(.*)"', lock, re.M)
+    said = [subprocess.run([tool, "--version"], capture_output=True, text=True).stdout.strip()
+            for tool in ("valgrind", "rustc")]
+    print("# " + ", ".join([*(" ".join(it) for it in versions), *said]))
+    head = f"{'job':<16} " + " ".join(f"{column:>14}" for column in programs)
+    for what, title in (("instructions", "Instructions of one turn"), ("requests", "Requests for memory of one turn")):
+        print(f"\n{title}\n{head}")
+        for job, how in JOBS.items():
+            if not asked or job in asked:
+                row(out, programs, what, job, *how)
+    for job, (title, *how) in MEMORY.items():
+        if not asked or job in asked:
+            print(f"\n{title}\n{head}")
+            row(out, programs, "peak", job, *how)
+    print("\n* its sum isn't this library's")
+
+
+def shell(program=HERE.parent / f"bindings/shell/{platform.machine()}/getopts_shell"):
+    """The instructions from start to end of three programs, which may not depend on the environment."""
+    table = ("-i|--input FILE       read this file\n[-o|--output FILE]    write to FILE\n"
+             "[-v|--verbose]..      say more\n[-c|--color [WHEN]]   colour the output\n"
+             "[-L DIR]..            add a folder\n[-h|--help]           print this help")
+    words = ["-vi", "a", "--output=b", "x", "--color"]
+    env = {"PATH": os.environ["PATH"], "LC_ALL": "C.UTF-8"}
+    getopt = "getopt -n backup -o i:o:vc::L:h --long input:,output:,verbose,color::,help --".split()
+    return {"getopts_shell": counted("instructions", [program, "backup", table, *words], env),
+            "getopt": counted("instructions", [*getopt, *words], env),
+            "true": counted("instructions", [shutil.which("true")], env)}
+
+
+def main(words):
+    if words[:1] == ["--count"]:
+        print(of_a_turn(words[1], int(words[2]), int(words[3]), words[4:]))
+    elif words[:1] == ["--rows"]:
+        print(rows(words[1]), end="")
+    elif words[:1] == ["--shell"]:
+        for name, count in shell(*words[1:]).items():
+            print(f"{name}: {count}")
+    elif words and not words[0].startswith("-"):
+        getopts = words[2] if words[1:2] == ["--getopts"] else None
+        tables(words[0], getopts, words[3 if getopts else 1:])
+    else:
+        sys.exit(__doc__)
+
+
+if __name__ == "__main__":
+    main(sys.argv[1:])

@@ -1,0 +1,313 @@
+//! What C gives and gets: its heap, texts, tables and words, and the calls of `getopts.h`. Each `unsafe` block rests on
+//! what that header asks of a caller, which stands above it.
+#![allow(unsafe_code)]
+#![deny(unsafe_op_in_unsafe_fn)]
+
+use crate::options::Getopts;
+use crate::{NO_MEMORY, OK, Refused, Status};
+use core::alloc::{GlobalAlloc, Layout};
+use core::ffi::{c_int, c_long, c_uint};
+use core::mem::{ManuallyDrop, size_of};
+use core::{ptr, slice};
+use library::bytes::plain_text;
+use library::fallible::String;
+
+/// A text of C, which ends with a zero byte, or NULL.
+pub type Text = *const u8;
+
+extern "C" {
+    fn malloc(bytes: usize) -> *mut u8;
+    fn realloc(block: *mut u8, bytes: usize) -> *mut u8;
+    fn free(block: *mut u8);
+    fn strlen(text: Text) -> usize;
+    fn abort() -> !;
+}
+
+/// The heap of C. A block of it is aligned for whatever this crate holds, which are numbers and pointers.
+struct Heap;
+
+#[global_allocator]
+static HEAP: Heap = Heap;
+
+// SAFETY: the calls of C have the contracts of these, for such alignments.
+unsafe impl GlobalAlloc for Heap {
+    #[inline]
+    unsafe fn alloc(&self, layout: Layout) -> *mut u8 {
+        unsafe { malloc(layout.size()) }
+    }
+    #[inline]
+    unsafe fn dealloc(&self, block: *mut u8, _: Layout) {
+        unsafe { free(block) }
+    }
+    #[inline]
+    unsafe fn realloc(&self, block: *mut u8, _: Layout, bytes: usize) -> *mut u8 {
+        unsafe { realloc(block, bytes) }
+    }
+}
+
+#[panic_handler]
+fn panic(_: &core::panic::PanicInfo<'_>) -> ! {
+    // SAFETY: nothing is asked of who calls it.
+    unsafe { abort() }
+}
+
+/// Whether all bytes are ASCII: eight at a time, or four, of which the last overlap those before.
+#[inline]
+fn is_ascii(bytes: &[u8]) -> bool {
+    const HIGH: u64 = 0x8080_8080_8080_8080;
+    let eight = |at: usize| bytes[at..at + 8].try_into().map_or(HIGH, u64::from_ne_bytes);
+    let four = |at: usize| bytes[at..at + 4].try_into().map_or(!0, u32::from_ne_bytes);
+    let all = match bytes.len() {
+        0..=3 => bytes.iter().fold(0, |all, byte| all | u64::from(*byte)),
+        len @ 4..=7 => u64::from(four(0) | four(len - 4)),
+        len => (0..len / 8).fold(eight(len - 8), |all, nth| all | eight(8 * nth)),
+    };
+    all & HIGH == 0
+}
+
+/// Bytes as a text, where they are UTF-8 below U+10FF80.
+#[inline]
+pub fn text(bytes: &[u8]) -> Option<&str> {
+    if is_ascii(bytes) {
+        // SAFETY: ASCII is UTF-8.
+        Some(unsafe { core::str::from_utf8_unchecked(bytes) })
+    } else {
+        plain_text(bytes)
+    }
+}
+
+/// The bytes of a text of C, if it isn't NULL.
+#[inline]
+unsafe fn bytes<'c>(text: Text) -> Option<&'c [u8]> {
+    // SAFETY: texts end with a zero byte, and stay as they are while the call that is given them runs.
+    (!text.is_null()).then(|| unsafe { slice::from_raw_parts(text, strlen(text)) })
+}
+
+/// A row of a table, as C has it.
+#[repr(C)]
+#[derive(Clone, Copy)]
+pub struct RowOfC {
+    texts: [Text; 4],
+    kind: c_uint,
+}
+
+/// A row of a table: its short name, long name, hint and description, and its kind.
+pub struct Row<'c> {
+    pub texts: [&'c [u8]; 4],
+    pub kind: c_uint,
+}
+
+/// The rows of a table, up to that whose names are NULL.
+struct Rows(*const RowOfC);
+
+impl Iterator for Rows {
+    type Item = Row<'static>;
+    #[inline]
+    fn next(&mut self) -> Option<Row<'static>> {
+        // SAFETY: there are rows up to one whose names are NULL, which none follows. They are `'static` in name alone:
+        // `Getopts::new` keeps none.
+        unsafe {
+            let RowOfC { texts, kind } = *self.0;
+            if texts[0].is_null() && texts[1].is_null() {
+                return None;
+            }
+            self.0 = self.0.add(1);
+            let texts = texts.map(|text| bytes(text).unwrap_or(&[]));
+            Some(Row { texts, kind })
+        }
+    }
+}
+
+/// Words of C, none of them NULL.
+#[derive(Clone, Copy)]
+pub struct Words<'c>(&'c [Text]);
+
+impl<'c> Words<'c> {
+    #[inline]
+    unsafe fn of(count: c_int, words: *const Text) -> Result<Words<'c>, Refused> {
+        let count = usize::try_from(count).unwrap_or(0);
+        if count == 0 {
+            return Ok(Words(&[]));
+        }
+        // SAFETY: there are so many words, or one before is NULL.
+        unsafe {
+            if words.is_null() || (0..count).any(|nth| (*words.add(nth)).is_null()) {
+                return Err(Refused::NullWord);
+            }
+            Ok(Words(slice::from_raw_parts(words, count)))
+        }
+    }
+
+    #[inline]
+    pub fn len(self) -> usize {
+        self.0.len()
+    }
+
+    #[inline]
+    pub fn iter(self) -> impl Iterator<Item = &'c [u8]> {
+        // SAFETY: words are texts.
+        let bytes = |word: &Text| unsafe { bytes(*word) }.unwrap_or(&[]);
+        self.0.iter().map(bytes)
+    }
+}
+
+/// A text that C frees.
+fn given_away(text: Option<String>) -> *mut u8 {
+    text.map_or(ptr::null_mut(), |text| ManuallyDrop::new(text).as_mut_ptr())
+}
+
+/// So many texts, each with a zero byte after it, as a block that C frees: pointers to each, NULL, and the texts.
+fn line_of(texts: &[u8], count: usize) -> *mut *mut u8 {
+    // SAFETY: the block has room for the pointers and the texts, and there are as many zero bytes as texts.
+    unsafe {
+        let line = malloc((count + 1) * size_of::<Text>() + texts.len()).cast::<*mut u8>();
+        if !line.is_null() {
+            let mut text = line.add(count + 1).cast::<u8>();
+            ptr::copy_nonoverlapping(texts.as_ptr(), text, texts.len());
+            for nth in 0..count {
+                line.add(nth).write(text);
+                text = text.add(strlen(text) + 1);
+            }
+            line.add(count).write(ptr::null_mut());
+        }
+        line
+    }
+}
+
+#[no_mangle]
+unsafe extern "C" fn getopts_new(table: *const RowOfC, modes: c_uint) -> *mut Getopts {
+    let rows = (!table.is_null()).then_some(Rows(table));
+    // SAFETY: a block that isn't NULL has room for the options.
+    unsafe {
+        let options = malloc(size_of::<Getopts>()).cast::<Getopts>();
+        if !options.is_null() {
+            match Getopts::new(rows, modes) {
+                Ok(made) => options.write(made),
+                Err(_) => {
+                    free(options.cast());
+                    return ptr::null_mut();
+                }
+            }
+        }
+        options
+    }
+}
+
+#[no_mangle]
+unsafe extern "C" fn getopts_delete(options: *mut Getopts) {
+    if !options.is_null() {
+        // SAFETY: `getopts_new` made them, and they weren't deleted.
+        unsafe {
+            options.drop_in_place();
+            free(options.cast());
+        }
+    }
+}
+
+// What follows is given options that `getopts_new` made and that weren't deleted, and texts that end with a zero byte.
+
+#[no_mangle]
+unsafe extern "C" fn getopts_read(
+    options: *mut Getopts,
+    count: c_int,
+    words: *const Text,
+) -> Status {
+    // SAFETY: as above. The words may be those that were read before: they aren't looked at when those go.
+    unsafe {
+        let read = (*options).read(Words::of(count, words));
+        (*options).keep(read)
+    }
+}
+
+#[no_mangle]
+unsafe extern "C" fn getopts_canonical(
+    options: &Getopts,
+    count: c_int,
+    words: *const Text,
+    line: &mut *mut *mut u8,
+) -> Status {
+    *line = ptr::null_mut();
+    // SAFETY: as above.
+    match options.canonical(unsafe { Words::of(count, words) }) {
+        Ok(Some((texts, count))) => *line = line_of(&texts, count),
+        Ok(None) => return OK,
+        Err(refused) => return refused.status(),
+    }
+    if line.is_null() { NO_MEMORY } else { OK }
+}
+
+#[no_mangle]
+extern "C" fn getopts_message(options: &Getopts) -> Text {
+    options.message
+}
+
+#[no_mangle]
+unsafe extern "C" fn getopts_defined(options: &Getopts, name: Text) -> bool {
+    // SAFETY: as above, and below.
+    options.reading.is_defined(unsafe { bytes(name) })
+}
+
+#[no_mangle]
+unsafe extern "C" fn getopts_count(options: &Getopts, name: Text) -> usize {
+    options.reading.count(unsafe { bytes(name) })
+}
+
+#[no_mangle]
+unsafe extern "C" fn getopts_position(options: &Getopts, name: Text, nth: usize) -> c_int {
+    let position = options.reading.position(unsafe { bytes(name) }, nth);
+    position.map_or(-1, |position| position as c_int)
+}
+
+#[no_mangle]
+unsafe extern "C" fn getopts_value(options: &Getopts, name: Text, nth: usize) -> Text {
+    options.reading.value(unsafe { bytes(name) }, nth)
+}
+
+#[no_mangle]
+unsafe extern "C" fn getopts_values(options: &Getopts, name: Text) -> *const Text {
+    options.reading.values(unsafe { bytes(name) })
+}
+
+#[no_mangle]
+unsafe extern "C" fn getopts_long_value(
+    options: &Getopts,
+    name: Text,
+    nth: usize,
+    value: *mut c_long,
+) -> bool {
+    // SAFETY: what a reading returns is a text or NULL, and the value is one that may be written.
+    unsafe {
+        let Some(text) = bytes(getopts_value(options, name, nth)) else { return true };
+        let number = core::str::from_utf8(text).map(str::parse);
+        if let Ok(Ok(number)) = number {
+            *value = number;
+        }
+        matches!(number, Ok(Ok(_)))
+    }
+}
+
+#[no_mangle]
+extern "C" fn getopts_free_count(options: &Getopts) -> c_int {
+    options.reading.free_count() as c_int
+}
+
+#[no_mangle]
+extern "C" fn getopts_free_words(options: &Getopts) -> *const Text {
+    options.reading.free_words()
+}
+
+#[no_mangle]
+extern "C" fn getopts_trailing_start(options: &Getopts) -> c_int {
+    let start = options.reading.trailing_start();
+    start.map_or(-1, |start| start as c_int)
+}
+
+#[no_mangle]
+unsafe extern "C" fn getopts_usage(options: &Getopts, brief: Text) -> *mut u8 {
+    given_away(options.usage(unsafe { bytes(brief) }, true))
+}
+
+#[no_mangle]
+unsafe extern "C" fn getopts_short_usage(options: &Getopts, program: Text) -> *mut u8 {
+    given_away(options.usage(unsafe { bytes(program) }, false))
+}

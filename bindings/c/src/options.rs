@@ -1,0 +1,120 @@
+//! Options, and what the last reading gave.
+
+use crate::c::{Row, Text, Words, text};
+use crate::reading::Reading;
+use crate::words::Texts;
+use crate::{Granted, OK, Refused, Status, table};
+use library::alloc::Global;
+use library::bytes::push_bytes;
+use library::fallible::{String, TryList, TryText, Vec};
+use library::proved::{Fail, Options};
+
+/// A `struct getopts`.
+pub struct Getopts {
+    options: Options,
+    /// How many options there are.
+    groups: usize,
+    /// What is wrong with the table.
+    wrong: Option<Vec<u8>>,
+    /// What `getopts_message` returns: one below, what is wrong, or that of the reading.
+    pub message: Text,
+    pub reading: Reading,
+}
+
+const NOTHING: &str = "\0";
+const NULL_WORD: &str = "a word is NULL\0";
+const OUT_OF_MEMORY: &str = "Out of memory\0";
+
+impl Getopts {
+    #[inline]
+    pub fn new<'c>(rows: Option<impl Iterator<Item = Row<'c>>>, modes: u32) -> Granted<Getopts> {
+        let mut options = Options::new(Global);
+        let (groups, wrong) = table::declare(&mut options, rows, modes)?;
+        let message = wrong.as_ref().map_or(NOTHING.as_ptr(), |wrong| wrong.as_ptr());
+        let reading = Reading::default();
+        Ok(Getopts { options, groups, wrong, message, reading })
+    }
+
+    /// The words as texts, if the table isn't wrong.
+    #[inline]
+    fn texts<'c>(&self, words: Result<Words<'c>, Refused>) -> Result<Texts<'c>, Refused> {
+        match self.wrong {
+            Some(_) => Err(Refused::Table),
+            None => Ok(Texts::of(words?)),
+        }
+    }
+
+    /// Keeps what was read, and returns its status.
+    pub fn keep(&mut self, read: Result<(Reading, Status), Refused>) -> Status {
+        let refused = match read {
+            Ok((reading, status)) => {
+                self.message = if status == OK { NOTHING.as_ptr() } else { reading.message() };
+                self.reading = reading;
+                return status;
+            }
+            Err(refused) => refused,
+        };
+        self.message = match (&refused, &self.wrong) {
+            (Refused::Table, Some(wrong)) => wrong.as_ptr(),
+            (Refused::Fail(_), _) => OUT_OF_MEMORY.as_ptr(),
+            _ => NULL_WORD.as_ptr(),
+        };
+        refused.status()
+    }
+
+    /// What words give, and the status of their fault. Where counts alone are wrong they are read all the same.
+    #[inline]
+    pub fn read(&self, words: Result<Words<'_>, Refused>) -> Result<(Reading, Status), Refused> {
+        let (mut texts, options) = (self.texts(words)?, &self.options);
+        let refused = match texts.ask(|words| options.parse_words(Global, words)) {
+            Ok(matches) => {
+                return Ok((Reading::of(Some(matches), None, self.groups, &texts)?, OK));
+            }
+            Err(refused) => refused,
+        };
+        let (status, fault) = (
+            refused.status(),
+            match refused {
+                Refused::Fail(fault) if !matches!(fault, Fail::OutOfMemory) => fault,
+                _ => return Err(refused),
+            },
+        );
+        let matches = match fault {
+            Fail::OptionMissing(_) | Fail::OptionDuplicated(_) => {
+                Some(texts.ask(|words| options.parse_ignoring_counts(Global, words))?)
+            }
+            _ => None,
+        };
+        let reading = Reading::of(matches, Some(&fault), self.groups, &texts)?;
+        Ok((reading, status))
+    }
+
+    /// The canonical line, each word with a zero byte after it, and how many they are.
+    pub fn canonical(
+        &self,
+        words: Result<Words<'_>, Refused>,
+    ) -> Result<Option<(Vec<u8>, usize)>, Refused> {
+        let mut texts = self.texts(words)?;
+        let Some(line) = texts.ask(|words| self.options.canonical_words(Global, words))? else {
+            return Ok(None);
+        };
+        let mut bytes = Vec::empty(Global);
+        for word in &line {
+            push_bytes(&mut bytes, word)?;
+            push_bytes(&mut bytes, "\0")?;
+        }
+        Ok(Some((bytes, line.len())))
+    }
+
+    /// A usage text with a zero byte after it.
+    pub fn usage(&self, start: Option<&[u8]>, whole: bool) -> Option<String> {
+        let start = text(start.filter(|_| self.wrong.is_none())?)?;
+        let made = match whole {
+            true => self.options.usage(Global, start),
+            false => self.options.short_usage(Global, start),
+        };
+        let mut text = made.ok()?;
+        text.try_push('\0').ok()?;
+        Some(text)
+    }
+}

@@ -1,0 +1,164 @@
+//! What words gave, as C reads it.
+
+use crate::Granted;
+use crate::c::{Text, text};
+use crate::words::Texts;
+use core::mem::take;
+use core::ptr::null;
+use library::bytes::push_bytes;
+use library::fallible::{TryList, Vec};
+use library::proved::{Fail, Matches, Occurrences};
+
+/// What words gave: nothing where they weren't read.
+#[derive(Default)]
+pub struct Reading {
+    matches: Option<Matches>,
+    /// The message if there is one, the values and the free words, each with a zero byte after it.
+    texts: Vec<u8>,
+    /// The values of each option, of which one is NULL where it was given without, and NULL; then the free words, and
+    /// NULL.
+    lists: Vec<Text>,
+    /// Where the values of each option begin in the lists, and then the free words.
+    starts: Vec<usize>,
+}
+
+/// A list of texts of C that has none: NULL.
+static NONE: usize = 0;
+
+impl Reading {
+    /// What words gave that so many options were read by, and the message of a fault.
+    pub fn of(
+        matches: Option<Matches>,
+        fault: Option<&Fail>,
+        groups: usize,
+        of: &Texts<'_>,
+    ) -> Granted<Reading> {
+        let mut reading = Reading::default();
+        let parts = fault.map_or([""; 3], parts_of);
+        let message = parts.map(str::len).iter().sum::<usize>() + 1;
+        reading.texts.try_grow_exact(of.bytes.saturating_add(message))?;
+        if fault.is_some() {
+            parts.iter().try_for_each(|part| push_bytes(&mut reading.texts, part))?;
+            reading.texts.try_push(0)?;
+        }
+        if let Some(mut matches) = matches {
+            let free = take(&mut matches.free);
+            let given = (0..groups).map(|place| matches.occurrences_at(place).len() + 1);
+            reading.lists.try_grow_exact(given.sum::<usize>() + free.len() + 1)?;
+            reading.starts.try_grow_exact(groups + 1)?;
+            for place in 0..groups {
+                let values = matches.occurrences_at(place).into_iter();
+                reading.push_list(values.map(|(_, value)| value), of.marked)?;
+            }
+            reading.push_list(free.iter().map(|word| Some(&**word)), of.marked)?;
+            reading.matches = Some(matches);
+        }
+        Ok(reading)
+    }
+
+    /// Adds a list of texts. There is room for it: a word gives one text at most, so they are no longer than the words.
+    #[inline]
+    fn push_list<'m>(
+        &mut self,
+        texts: impl Iterator<Item = Option<&'m str>>,
+        marked: bool,
+    ) -> Granted<()> {
+        self.starts.push(self.lists.len());
+        for text in texts {
+            let mut pointer = null();
+            if let Some(text) = text {
+                pointer = self.texts.as_ptr().wrapping_add(self.texts.len());
+                match marked {
+                    true => push_bytes(&mut self.texts, text)?,
+                    false => self.texts.extend_from_slice(text.as_bytes()),
+                }
+                self.texts.push(0);
+            }
+            self.lists.push(pointer);
+        }
+        self.lists.push(null());
+        Ok(())
+    }
+
+    /// The message, where words weren't read or their counts are wrong.
+    pub fn message(&self) -> Text {
+        self.texts.as_ptr()
+    }
+
+    /// The place of an option and what was given of it.
+    #[inline(always)]
+    fn find(&self, name: Option<&[u8]>) -> Option<(usize, Occurrences<'_>)> {
+        let matches = self.matches.as_ref()?;
+        let place = matches.opt_place(text(name?)?)?;
+        Some((place, matches.occurrences_at(place)))
+    }
+
+    pub fn is_defined(&self, name: Option<&[u8]>) -> bool {
+        self.find(name).is_some()
+    }
+
+    pub fn count(&self, name: Option<&[u8]>) -> usize {
+        self.find(name).map_or(0, |(_, given)| given.len())
+    }
+
+    pub fn position(&self, name: Option<&[u8]>, nth: usize) -> Option<usize> {
+        let (_, given) = self.find(name)?;
+        let (position, _) = given.get(nth_of(nth, given.len())?)?;
+        Some(position)
+    }
+
+    #[inline]
+    pub fn value(&self, name: Option<&[u8]>, nth: usize) -> Text {
+        let found = self.find(name).and_then(|(place, given)| {
+            let nth = nth_of(nth, given.len())?;
+            self.lists.get(self.starts[place] + nth)
+        });
+        found.copied().unwrap_or(null())
+    }
+
+    /// The list of a place: that of an option, or that of the free words behind them.
+    fn list(&self, place: Option<usize>) -> *const Text {
+        match place.and_then(|place| self.starts.get(place)) {
+            Some(start) => self.lists[*start..].as_ptr(),
+            None => (&NONE as *const usize).cast(),
+        }
+    }
+
+    pub fn values(&self, name: Option<&[u8]>) -> *const Text {
+        self.list(self.find(name).map(|(place, _)| place))
+    }
+
+    pub fn free_words(&self) -> *const Text {
+        self.list(self.starts.len().checked_sub(1))
+    }
+
+    pub fn free_count(&self) -> usize {
+        let start = self.starts.last();
+        start.map_or(0, |start| self.lists.len() - 1 - start)
+    }
+
+    pub fn trailing_start(&self) -> Option<usize> {
+        self.matches.as_ref()?.free_trailing_start()
+    }
+}
+
+/// Which occurrence of so many is asked for: the nth, or the last where this is `GETOPTS_LAST`.
+fn nth_of(nth: usize, count: usize) -> Option<usize> {
+    let last = count.checked_sub(1)?;
+    match nth {
+        usize::MAX => Some(last),
+        _ => (nth <= last).then_some(nth),
+    }
+}
+
+/// What a message has before the name, the name, and what it has after it.
+fn parts_of(fault: &Fail) -> [&str; 3] {
+    match fault {
+        Fail::ArgumentMissing(name) => ["Argument to option '", name, "' missing"],
+        Fail::UnrecognizedOption(name) => ["Unrecognized option: '", name, "'"],
+        Fail::OptionMissing(name) => ["Required option '", name, "' missing"],
+        Fail::OptionDuplicated(name) => ["Option '", name, "' given more than once"],
+        Fail::UnexpectedArgument(name) => ["Option '", name, "' does not take an argument"],
+        Fail::OutOfMemory => [""; 3],
+    }
+}

@@ -1,0 +1,114 @@
+//! A table of options: its rows are declared, or what is wrong with it is said.
+
+use crate::Granted;
+use crate::c::{Row, text};
+use library::alloc::{AllocError, Global};
+use library::fallible::{TryCopies, TryList, Vec};
+use library::proved::{HasArg, Occur, Options, ParsingStyle};
+
+/// The modes, which are added.
+const STOP: u32 = 16;
+const LONG_ONLY: u32 = 32;
+
+/// The most bytes of a name that is too long which a message has.
+const SHOWN: usize = 40;
+
+const TEXTS: [&str; 4] = ["short name", "long name", "hint", "description"];
+
+/// What is wrong, with a zero byte after it; `None` where nothing is.
+type Wrong = Option<Vec<u8>>;
+
+/// Declares the rows of a table, and says how many they are and what is wrong.
+pub fn declare<'c>(
+    options: &mut Options,
+    rows: Option<impl Iterator<Item = Row<'c>>>,
+    modes: u32,
+) -> Granted<(usize, Wrong)> {
+    let Some(rows) = rows else { return Ok((0, said(&[b"the table is NULL"])?)) };
+    let mut groups = 0;
+    for row in rows {
+        if let wrong @ Some(_) = declare_row(options, groups, &row)? {
+            return Ok((0, wrong));
+        }
+        groups += 1;
+    }
+    if modes & !(STOP | LONG_ONLY) != 0 {
+        return Ok((0, said(&[&digits(modes as usize)?, b" is no sum of modes"])?));
+    }
+    if modes & STOP != 0 {
+        options.parsing_style(ParsingStyle::StopAtFirstFree);
+    }
+    options.long_only(modes & LONG_ONLY != 0);
+    Ok((groups, None))
+}
+
+/// The two parts of a kind, where it is one.
+fn kind_of(kind: u32) -> Option<(HasArg, Occur)> {
+    let hasarg = [HasArg::No, HasArg::Yes, HasArg::Maybe].into_iter().nth(kind as usize % 4)?;
+    let occur = [Occur::Optional, Occur::Req, Occur::Multi].into_iter().nth(kind as usize / 4)?;
+    Some((hasarg, occur))
+}
+
+#[inline]
+fn declare_row(options: &mut Options, place: usize, row: &Row<'_>) -> Granted<Wrong> {
+    let [short, long, ..] = row.texts;
+    let lawful = short.len() <= 1 && long.len() != 1 && short.len() + long.len() > 0;
+    match (row.texts.map(text), kind_of(row.kind)) {
+        ([Some(short), Some(long), Some(hint), Some(desc)], Some((hasarg, occur))) if lawful => {
+            options.add_group(short, long, desc, hint, hasarg, occur).map(|()| None)
+        }
+        _ => wrong_row(place, row),
+    }
+}
+
+/// What is wrong with a row: the first of all that may be.
+#[cold]
+fn wrong_row(place: usize, row: &Row<'_>) -> Granted<Wrong> {
+    let ([short, long, ..], bad) =
+        (row.texts, row.texts.iter().position(|bytes| text(bytes).is_none()));
+    let (kind, len) = (digits(row.kind as usize)?, digits(short.len())?);
+    let says: [&[u8]; 4] = match bad {
+        _ if short.len() > 1 => [b"short name '", shown(short), b"' has ", &len],
+        _ if long.len() == 1 => [b"long name '", long, b"' has 1 byte", b""],
+        _ if short.len() + long.len() == 0 => [b"both names are empty", b"", b"", b""],
+        _ if kind_of(row.kind).is_none() => [&kind, b" is no kind", b"", b""],
+        nth => [b"the ", TEXTS[nth.unwrap_or(0)].as_bytes(), b" isn't UTF-8 below U+10FF80", b""],
+    };
+    let (place, end): (_, &[u8]) = (digits(place)?, if short.len() > 1 { b" bytes" } else { b"" });
+    said(&[b"table[", &place, b"]: ", says[0], says[1], says[2], says[3], end])
+}
+
+/// What a message has of a name: all, or its first bytes, of which a last character that isn't whole is left out.
+fn shown(name: &[u8]) -> &[u8] {
+    let mut end = name.len().min(SHOWN);
+    // A character has three bytes at most that go on with it.
+    let goes_on = |end: usize| name.get(end).map_or(false, |byte| byte & 0xC0 == 0x80);
+    while goes_on(end) && SHOWN - end < 3 {
+        end -= 1;
+    }
+    &name[..end]
+}
+
+/// A message of these parts.
+fn said(parts: &[&[u8]]) -> Granted<Wrong> {
+    let mut message = Vec::empty(Global);
+    for part in parts {
+        message.try_extend_from_slice(part)?;
+    }
+    message.try_push(0)?;
+    Ok(Some(message))
+}
+
+/// A number in decimal digits.
+fn digits(number: usize) -> Result<Vec<u8>, AllocError> {
+    let (mut text, mut rest) = (Vec::empty(Global), number);
+    while rest > 9 || text.is_empty() {
+        text.try_push(b'0' + (rest % 10) as u8)?;
+        rest /= 10;
+    }
+    if rest > 0 {
+        text.try_push(b'0' + rest as u8)?;
+    }
+    text.reverse();
+    Ok(text)
+}

@@ -1,0 +1,74 @@
+//! Words of C as texts: those that are texts as they stand, the others by marks.
+
+use crate::Refused;
+use crate::c::{Words, text};
+use library::alloc::Global;
+use library::bytes::push_text;
+use library::fallible::{String, TryCopies, TryText, Vec};
+use library::proved::Fail;
+
+/// So many words need no memory for their texts.
+const FEW: usize = 16;
+
+/// Words, and what is known of them once they were asked for.
+pub struct Texts<'c> {
+    words: Words<'c>,
+    /// The bytes that they take, with a zero byte after each.
+    pub bytes: usize,
+    /// Whether one is read by marks.
+    pub marked: bool,
+}
+
+impl<'c> Texts<'c> {
+    #[inline]
+    pub fn of(words: Words<'c>) -> Texts<'c> {
+        Texts { words, bytes: 0, marked: false }
+    }
+
+    /// What a call answers on the words.
+    #[inline]
+    pub fn ask<T>(&mut self, call: impl FnOnce(&[&str]) -> Result<T, Fail>) -> Result<T, Refused> {
+        let (mut few, mut many) = ([""; FEW], None);
+        let texts = match self.words.len() {
+            len @ 0..=FEW => &mut few[..len],
+            len => &mut many.insert(Vec::filled(Global, "", len)?)[..],
+        };
+        self.bytes = 0;
+        for (to, word) in texts.iter_mut().zip(self.words.iter()) {
+            self.bytes = self.bytes.saturating_add(word.len()).saturating_add(1);
+            match text(word) {
+                Some(plain) => *to = plain,
+                None => self.marked = true,
+            }
+        }
+        let mut marks = String::empty(Global);
+        if self.marked {
+            put_marked(texts, self.words, &mut marks)?;
+        }
+        Ok(call(texts)?)
+    }
+}
+
+/// Puts the texts of those words that have marks in their places.
+#[cold]
+fn put_marked<'m>(
+    texts: &mut [&'m str],
+    words: Words<'_>,
+    marks: &'m mut String,
+) -> Result<(), Refused> {
+    let mut starts = Vec::filled(Global, 0, texts.len())?;
+    for (start, word) in starts.iter_mut().zip(words.iter()) {
+        *start = marks.len();
+        if text(word).is_none() {
+            push_text(marks, word)?;
+        }
+    }
+    let mut rest = &**marks;
+    for (start, text) in starts.into_iter().zip(texts).rev() {
+        let (before, marked) = rest.split_at(start);
+        if !marked.is_empty() {
+            (rest, *text) = (before, marked);
+        }
+    }
+    Ok(())
+}

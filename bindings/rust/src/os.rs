@@ -1,0 +1,335 @@
+//! Words of any bytes, such as file names that aren't UTF-8.
+
+use crate::alloc::Global;
+use crate::bytes::{plain_text, push_bytes, push_text};
+use crate::fail::granted;
+use crate::{Fail, Matches, Options, proved};
+use std::borrow::Cow;
+use std::ffi::{OsStr, OsString};
+use std::result::Result;
+
+/// What an accepted line of words of any bytes gave.
+///
+/// A call that takes a name panics where no option has it, but for `opt_defined`.
+#[derive(Clone, Debug, PartialEq, Eq)]
+pub struct OsMatches {
+    /// The free words, in the order of the line.
+    pub free: Vec<OsString>,
+    matches: Matches,
+    /// Where a word was no text, the values of each option.
+    values: Vec<Vec<Option<OsString>>>,
+}
+
+impl Options {
+    /// Reads words of any bytes: values and free words come back as they were given. The crate getopts has no such call.
+    ///
+    /// Words are of any bytes on Unix, and may hold lone surrogates on Windows; elsewhere they are texts. The name in a
+    /// fault is a text, with U+FFFD for what is none.
+    ///
+    /// ```
+    /// use std::ffi::OsString;
+    /// let mut options = getopts::Options::new();
+    /// options.optopt("o", "output", "set the output file", "NAME");
+    /// let words = ["-o", "file", "in.txt"].map(OsString::from);
+    /// let matches = options.parse_os(&words).unwrap();
+    /// assert_eq!(matches.value("output").unwrap(), "file");
+    /// assert_eq!(matches.free, ["in.txt"]);
+    /// ```
+    ///
+    /// A program's own words are `std::env::args_os().skip(1)`.
+    ///
+    /// # Errors
+    /// As `parse`.
+    ///
+    /// # Panics
+    /// Where an option has two empty names.
+    pub fn parse_os<C: IntoIterator>(&self, args: C) -> Result<OsMatches, Fail>
+    where
+        C::Item: AsRef<OsStr>,
+    {
+        self.read_os(args, |options, words| options.parse_words(Global, words))
+    }
+
+    /// Reads words as `parse_os` does, but doesn't check how often options came, as `parse_ignoring_counts`.
+    ///
+    /// ```
+    /// let mut options = getopts::Options::new();
+    /// options.optflag("h", "help", "print this help").reqopt("o", "output", "", "NAME");
+    /// assert!(options.parse_os(["-h"]).is_err());
+    /// assert!(options.parse_os_ignoring_counts(["-h"]).unwrap().opt_present("help"));
+    /// ```
+    ///
+    /// # Errors
+    /// As `parse_ignoring_counts`.
+    ///
+    /// # Panics
+    /// Where an option has two empty names.
+    pub fn parse_os_ignoring_counts<C: IntoIterator>(&self, args: C) -> Result<OsMatches, Fail>
+    where
+        C::Item: AsRef<OsStr>,
+    {
+        self.read_os(args, |options, words| {
+            options.parse_ignoring_counts(Global, words)
+        })
+    }
+
+    fn read_os<C: IntoIterator>(
+        &self,
+        args: C,
+        ask: impl Fn(&proved::Options, &[&str]) -> proved::Result,
+    ) -> Result<OsMatches, Fail>
+    where
+        C::Item: AsRef<OsStr>,
+    {
+        let args: Vec<C::Item> = args.into_iter().collect();
+        let (mut texts, mut marked) = (Vec::with_capacity(args.len()), false);
+        for arg in &args {
+            let text = text_of(arg.as_ref())?;
+            marked |= matches!(text, Cow::Owned(_));
+            texts.push(text);
+        }
+        let words: Vec<&str> = texts.iter().map(|text| &**text).collect();
+        match ask(self.named(), &words) {
+            Ok(proved) => Ok(OsMatches::of(Matches::of(proved), marked)),
+            Err(fail) => Err(shown(fail.into())),
+        }
+    }
+}
+
+impl OsMatches {
+    fn of(mut matches: Matches, marked: bool) -> OsMatches {
+        let free = std::mem::take(&mut matches.free);
+        let values = if marked {
+            let every = matches.every_option();
+            let values = every.map(|given| given.map(|(_, value)| value.map(os_of)).collect());
+            values.collect()
+        } else {
+            Vec::new()
+        };
+        OsMatches {
+            free: free.into_iter().map(free_word).collect(),
+            matches,
+            values,
+        }
+    }
+
+    /// Whether some option has this name.
+    ///
+    /// ```
+    /// let mut options = getopts::Options::new();
+    /// options.optflag("q", "quiet", "say less");
+    /// let matches = options.parse_os(["in.txt"]).unwrap();
+    /// assert!(matches.opt_defined("quiet") && !matches.opt_defined("loud"));
+    /// ```
+    pub fn opt_defined(&self, name: &str) -> bool {
+        self.matches.opt_defined(name)
+    }
+
+    /// Whether an option was given, by any of its names.
+    ///
+    /// ```
+    /// let mut options = getopts::Options::new();
+    /// options.optflag("q", "quiet", "say less");
+    /// assert!(options.parse_os(["-q"]).unwrap().opt_present("quiet"));
+    /// ```
+    ///
+    /// # Panics
+    /// Where no option has the name.
+    pub fn opt_present(&self, name: &str) -> bool {
+        self.matches.opt_present(name)
+    }
+
+    /// How often an option was given, by any of its names.
+    ///
+    /// ```
+    /// let mut options = getopts::Options::new();
+    /// options.optflagmulti("v", "verbose", "say more");
+    /// assert_eq!(options.parse_os(["-vv", "--verbose"]).unwrap().opt_count("v"), 3);
+    /// ```
+    ///
+    /// # Panics
+    /// Where no option has the name.
+    pub fn opt_count(&self, name: &str) -> usize {
+        self.matches.opt_count(name)
+    }
+
+    /// The positions of an option's occurrences: indexes of words, a separate argument counted.
+    ///
+    /// ```
+    /// let mut options = getopts::Options::new();
+    /// options.optflagmulti("v", "", "say more").optopt("o", "", "", "NAME");
+    /// let matches = options.parse_os(["-v", "-o", "x", "-vv"]).unwrap();
+    /// assert_eq!(matches.opt_positions("v"), [0, 3, 3]);
+    /// ```
+    ///
+    /// # Panics
+    /// Where no option has the name.
+    pub fn opt_positions(&self, name: &str) -> Vec<usize> {
+        self.matches.opt_positions(name)
+    }
+
+    /// The value of an option's first occurrence.
+    ///
+    /// ```
+    /// let mut options = getopts::Options::new();
+    /// options.optopt("o", "output", "set the output file", "NAME");
+    /// assert_eq!(options.parse_os(["-ofile"]).unwrap().value("output").unwrap(), "file");
+    /// ```
+    ///
+    /// # Panics
+    /// Where no option has the name.
+    pub fn value(&self, name: &str) -> Option<&OsStr> {
+        self.occurrences(name).next()?.1
+    }
+
+    /// The values of an option's occurrences, in the order of the line.
+    ///
+    /// ```
+    /// let mut options = getopts::Options::new();
+    /// options.optmulti("L", "", "add a folder", "DIR");
+    /// let matches = options.parse_os(["-La", "-L", "b"]).unwrap();
+    /// assert!(matches.values("L").eq(["a", "b"]));
+    /// ```
+    ///
+    /// # Panics
+    /// Where no option has the name.
+    pub fn values(&self, name: &str) -> impl Iterator<Item = &OsStr> + '_ {
+        self.occurrences(name).filter_map(|(_, value)| value)
+    }
+
+    /// The positions and values of an option's occurrences, in the order of the line.
+    ///
+    /// ```
+    /// let mut options = getopts::Options::new();
+    /// options.optflagopt("c", "color", "colour the output", "WHEN");
+    /// let matches = options.parse_os(["in.txt", "--color"]).unwrap();
+    /// assert_eq!(matches.occurrences("c").next(), Some((1, None)));
+    /// ```
+    ///
+    /// # Panics
+    /// Where no option has the name.
+    pub fn occurrences(&self, name: &str) -> impl Iterator<Item = (usize, Option<&OsStr>)> + '_ {
+        let held = self.values.get(self.matches.place(name));
+        let given = self.matches.occurrences(name).enumerate();
+        given.map(move |(nth, (position, text))| match held {
+            Some(values) => (position, values[nth].as_deref()),
+            None => (position, text.map(OsStr::new)),
+        })
+    }
+
+    /// Where the words after `--` begin among the free words.
+    ///
+    /// ```
+    /// let options = getopts::Options::new();
+    /// assert_eq!(options.parse_os(["a", "--", "b"]).unwrap().free_trailing_start(), Some(1));
+    /// ```
+    pub fn free_trailing_start(&self) -> Option<usize> {
+        self.matches.free_trailing_start()
+    }
+}
+
+/// The text of a word: itself, or by marks.
+fn text_of(word: &OsStr) -> Result<Cow<'_, str>, Fail> {
+    match word.to_str() {
+        Some(text) if plain_text(text.as_bytes()).is_some() => Ok(Cow::Borrowed(text)),
+        _ => {
+            let mut text = String::new();
+            granted(push_text(&mut text, &bytes_of(word)?));
+            Ok(Cow::Owned(text))
+        }
+    }
+}
+
+/// The word that a text stands for.
+fn os_of(text: &str) -> OsString {
+    let mut bytes = Vec::new();
+    granted(push_bytes(&mut bytes, text));
+    word_of(bytes)
+}
+
+fn free_word(text: String) -> OsString {
+    match plain_text(text.as_bytes()) {
+        Some(_) => OsString::from(text),
+        None => os_of(&text),
+    }
+}
+
+/// A fault whose name has U+FFFD for what is no text.
+fn shown(fail: Fail) -> Fail {
+    let shown = |name: String| {
+        let mut bytes = Vec::new();
+        granted(push_bytes(&mut bytes, &name));
+        String::from_utf8_lossy(&bytes).into_owned()
+    };
+    match fail {
+        Fail::ArgumentMissing(name) => Fail::ArgumentMissing(shown(name)),
+        Fail::UnrecognizedOption(name) => Fail::UnrecognizedOption(shown(name)),
+        Fail::UnexpectedArgument(name) => Fail::UnexpectedArgument(shown(name)),
+        // These have names that were declared.
+        Fail::OptionMissing(_) | Fail::OptionDuplicated(_) => fail,
+    }
+}
+
+#[cfg(unix)]
+fn bytes_of(word: &OsStr) -> Result<Cow<'_, [u8]>, Fail> {
+    Ok(Cow::Borrowed(std::os::unix::ffi::OsStrExt::as_bytes(word)))
+}
+
+#[cfg(unix)]
+fn word_of(bytes: Vec<u8>) -> OsString {
+    std::os::unix::ffi::OsStringExt::from_vec(bytes)
+}
+
+/// The bytes of a word. Half of a pair that stands alone has the three bytes that UTF-8 would have for it, which are no
+/// text.
+#[cfg(windows)]
+fn bytes_of(word: &OsStr) -> Result<Cow<'_, [u8]>, Fail> {
+    let mut bytes = Vec::new();
+    for unit in char::decode_utf16(std::os::windows::ffi::OsStrExt::encode_wide(word)) {
+        match unit {
+            Ok(character) => bytes.extend(character.encode_utf8(&mut [0; 4]).bytes()),
+            Err(half) => {
+                let half = half.unpaired_surrogate();
+                bytes.extend([
+                    0xED,
+                    0x80 | (half >> 6 & 0x3F) as u8,
+                    0x80 | (half & 0x3F) as u8,
+                ]);
+            }
+        }
+    }
+    Ok(Cow::Owned(bytes))
+}
+
+#[cfg(windows)]
+fn word_of(bytes: Vec<u8>) -> OsString {
+    let (mut units, mut rest) = (Vec::new(), &bytes[..]);
+    while !rest.is_empty() {
+        let end = std::str::from_utf8(rest).map_or_else(|error| error.valid_up_to(), str::len);
+        let (text, half) = rest.split_at(end);
+        units.extend(std::str::from_utf8(text).unwrap_or("").encode_utf16());
+        let unit = |high: u8, low: u8| 0xD000 | u16::from(high & 0x3F) << 6 | u16::from(low & 0x3F);
+        // No word is cut within a half.
+        rest = match half {
+            [0xED, high, low, rest @ ..] => {
+                units.push(unit(*high, *low));
+                rest
+            }
+            _ => half.get(1..).unwrap_or(&[]),
+        };
+    }
+    std::os::windows::ffi::OsStringExt::from_wide(&units)
+}
+
+#[cfg(not(any(unix, windows)))]
+fn bytes_of(word: &OsStr) -> Result<Cow<'_, [u8]>, Fail> {
+    match word.to_str() {
+        Some(text) => Ok(Cow::Borrowed(text.as_bytes())),
+        None => Err(Fail::UnrecognizedOption(format!("{word:?}"))),
+    }
+}
+
+#[cfg(not(any(unix, windows)))]
+fn word_of(bytes: Vec<u8>) -> OsString {
+    OsString::from(String::from_utf8_lossy(&bytes).into_owned())
+}

@@ -1,0 +1,186 @@
+-- What is computed is what the relations say.
+use Rattle.std.proofs.Common.{◌≡◌, Bool, true, false, List, Option, Some, None, Result, Ok, Err}
+use Rattle.std.proofs.Common.{IfOk, IfErr, option_map, refl, ap, sym, inl, inr}
+use Rattle.std.specs.List.{list_all}
+use Rattle.std.specs.Prelude.{IfSome, IfNone, not, if◌then◌else◌}
+use Rattle.getopts.specs.Names.{Text, AreTexts}
+use Rattle.getopts.specs.Options.{Declared, MayBeDeclared, grammar_of}
+use Rattle.getopts.specs.Fail.{Fault, Tells}
+use Rattle.getopts.specs.declared.fail.Fail.{Fail}
+use Rattle.getopts.specs.Reading.{Reading, IsReading, holds_equals}
+use Rattle.getopts.specs.Matches.{Matched, matches_of}
+use Rattle.getopts.specs.Parse.{HasReading, HasNoReading, BreaksCounts, IsAccepted, IsRefused}
+use Rattle.getopts.specs.Canon.{Content, content_of, main_at, canonical_line}
+use Rattle.getopts.specs.Canon.{IsAcceptedWith}
+use Rattle.getopts.specs.CanonAnswers.{IsParseAnswer, IsCanonicalAnswer, IsWritten, IsUnwritable}
+use Rattle.getopts.specs.Results.{read, first_count_fault, unless_fault, with_counts_kept}
+use Rattle.getopts.specs.Results.{reading_result, line_result}
+use Rattle.getopts.specs.Results.{made_of, written_line, read_result, parse_result}
+use Rattle.getopts.specs.Results.{canonical_result, IsReadAnswer, HasResults, GivesResult, GivesAs}
+use Rattle.getopts.proofs.Canonical.Lines.{is_plain-true, is_plain-false, Says-accepted}
+use Rattle.getopts.proofs.Canonical.Lines.{IsSound-says, HasUnwritable-content}
+use Rattle.getopts.proofs.Canonical.Answered.{only_parse_answer, only_canonical_answer}
+use Rattle.getopts.proofs.Canonical.Answered.{only_matches, reads_of}
+use Rattle.getopts.proofs.MainTheorem.FirstFault.{HaveFault, first_count_fault-is}
+use Rattle.getopts.proofs.Parsing.Faults.{Tells-weaker}
+use Rattle.getopts.proofs.Parsing.Only.{IsTheOnly-from}
+use Rattle.getopts.proofs.Parsing.Parsed.{only_reads, named_here, HasNoReading-fault}
+use Rattle.getopts.proofs.Reading.Readings.{IsSoundOutcome, read_sound}
+
+module _ (options : Declared) (declared : MayBeDeclared options.groups) (words : List Text) where
+  has_reading : (reading : Reading) → IsReading (grammar_of options) reading words
+      → HasReading options words (matches_of options reading)
+  has_reading reading reads = record {
+    reading = reading;
+    only = only_reads options declared words reading reads;
+    matches_are = refl;
+  }
+
+  written_answer : (reading : Reading) (content : Content) → IsAcceptedWith options words content
+      → content ≡ content_of options reading → (plain : Bool)
+      → list_all (λ m. not (holds_equals (main_at options.groups m.group))) content.mentions ≡ plain
+      → IsCanonicalAnswer options words
+      (Ok (if plain then Some (canonical_line options.groups content) else None))
+  written_answer reading content accepted content_is true plain = record {
+    content = content;
+    accepted = accepted;
+    plain = is_plain-true options.groups content.mentions plain;
+    line_is = refl;
+  }
+  written_answer reading content accepted content_is false some =
+      let not_plain = is_plain-false options.groups content.mentions some in
+      record {
+        content = content;
+        accepted = accepted;
+        sound = IsSound-says options words content
+            (Says-accepted options options.style options.long_only words content accepted);
+        not_plain = not_plain;
+        unwritable = HasUnwritable-content options content not_plain;
+      }
+
+  -- what the line gives, by the fault of its counts
+  counted : (reading : Reading) → IsReading (grammar_of options) reading words
+      → (fault : Option Fault)
+      → HaveFault (matches_of options reading).groups fault
+      → IsParseAnswer options words (made_of (matches_of options) (unless_fault reading fault))
+      × IsCanonicalAnswer options words
+      (made_of (λ r. written_line options.groups (content_of options r))
+      (unless_fault reading fault))
+  counted reading reads None kept = (
+    record { read = has_reading reading reads; counts = kept },
+    written_answer reading (content_of options reading)
+        (record {
+          reading = reading;
+          only = only_reads options declared words reading reads;
+          counts = kept;
+          content_is = refl;
+        }) refl _ refl,
+  )
+  counted reading reads (Some fault) breaks =
+      let is : BreaksCounts options words fault =
+      record {
+        matches = matches_of options reading;
+        read = has_reading reading reads;
+        breaks = breaks;
+      } in
+      (inr is, inr is)
+
+  line_answers : AreTexts words → (outcome : Result Reading Fault)
+      → IsSoundOutcome (grammar_of options) words outcome
+      → IsParseAnswer options words (made_of (matches_of options)
+      (with_counts_kept options outcome))
+      × IsCanonicalAnswer options words
+      (made_of (λ r. written_line options.groups (content_of options r))
+      (with_counts_kept options outcome))
+  line_answers texts (Ok reading) reads = counted reading reads
+      (first_count_fault (matches_of options reading).groups)
+      (first_count_fault-is (matches_of options reading).groups)
+  line_answers texts (Err fault) fails =
+      let is = HasNoReading-fault options declared words texts fault fails in (inl is, inl is)
+
+  read_answer : AreTexts words → (outcome : Result Reading Fault)
+      → IsSoundOutcome (grammar_of options) words outcome
+      → IsReadAnswer options words (made_of (matches_of options) outcome)
+  read_answer texts (Ok reading) reads = has_reading reading reads
+  read_answer texts (Err fault) fails = HasNoReading-fault options declared words texts fault fails
+
+  only_read_answer : (answer other : Result Matched Fault) → IsReadAnswer options words answer
+      → IsReadAnswer options words other → answer ≡ other
+  only_read_answer (Ok m) (Ok n) is also = ap Ok (only_matches options words m n is also)
+  only_read_answer (Ok m) (Err fault) is also =
+      absurd (also.no_reading is.reading (reads_of options words m is))
+  only_read_answer (Err fault) (Ok n) is also =
+      absurd (is.no_reading also.reading (reads_of options words n also))
+  only_read_answer (Err fault) (Err other) is also =
+      ap Err ((also.only fault).0 ((is.only fault).1 refl))
+
+  -- the results are the computed ones
+  pub HasResults-declared : AreTexts words → HasResults options words
+  unfolding reading_result line_result
+  HasResults-declared texts =
+      let sound = read_sound (grammar_of options)
+      (named_here options declared) words texts _ refl in
+      let line = line_answers texts (read (grammar_of options) words) sound in
+      record {
+        parse = IsTheOnly-from (IsParseAnswer options words) (parse_result options words) line.0
+            (λ other is. only_parse_answer options words other
+            (parse_result options words) is line.0);
+        read = IsTheOnly-from (IsReadAnswer options words) (read_result options words)
+            (read_answer texts (read (grammar_of options) words) sound)
+            (λ other is. only_read_answer other (read_result options words) is
+            (read_answer texts (read (grammar_of options) words) sound));
+        canonical = IsTheOnly-from (IsCanonicalAnswer options words)
+            (canonical_result options words) line.1
+            (λ other is. only_canonical_answer options words other
+            (canonical_result options words) is line.1);
+      }
+
+-- A call that answers what is accepted, or the fault that words are refused with, answers the result.
+pub GivesResult-parse : (options : Declared) (words : List Text) → HasResults options words
+    → (answer : Result Matched Fail) → IfOk answer (IsAccepted options words)
+    → IfErr answer (λ fail. Tells fail (IsRefused options words))
+    → GivesResult answer (parse_result options words)
+GivesResult-parse options words has (Ok matches) is refused = sym ((has.parse (Ok matches)).0 is)
+GivesResult-parse options words has (Err fail) is refused =
+    Tells-weaker fail (IsRefused options words)
+    (λ fault. parse_result options words ≡ Err fault) refused
+    (λ fault why. sym ((has.parse (Err fault)).0 why))
+
+pub GivesResult-read : (options : Declared) (words : List Text) → HasResults options words
+    → (answer : Result Matched Fail) → IfOk answer (HasReading options words)
+    → IfErr answer (λ fail. Tells fail (HasNoReading options words))
+    → GivesResult answer (read_result options words)
+GivesResult-read options words has (Ok matches) is refused = sym ((has.read (Ok matches)).0 is)
+GivesResult-read options words has (Err fail) is refused =
+    Tells-weaker fail (HasNoReading options words)
+    (λ fault. read_result options words ≡ Err fault) refused
+    (λ fault why. sym ((has.read (Err fault)).0 why))
+
+pub GivesResult-canonical : {Y : Type 0} (options : Declared) (words : List Text)
+    → HasResults options words
+    → (see : Y → List Text) (answer : Result (Option Y) Fail)
+    → IfOk answer (λ a. IfSome a (λ y. IsWritten options words (see y)))
+    → IfOk answer (λ a. IfNone a (IsUnwritable options words))
+    → IfErr answer (λ fail. Tells fail (IsRefused options words))
+    → GivesAs (option_map see) answer (λ it. canonical_result options words ≡ it)
+GivesResult-canonical options words has see (Ok (Some y)) is none_is refused =
+    sym ((has.canonical (Ok (Some (see y)))).0 is)
+GivesResult-canonical options words has see (Ok None) is none_is refused =
+    sym ((has.canonical (Ok None)).0 none_is)
+GivesResult-canonical options words has see (Err fail) is none_is refused =
+    Tells-weaker fail (IsRefused options words)
+    (λ fault. canonical_result options words ≡ Err fault) refused
+    (λ fault why. sym ((has.canonical (Err fault)).0 why))
+
+-- what is made of a reading is made of one
+pub made_of-ok : {X : Type 0} (make : Reading → X) (outcome : Result Reading Fault) (x : X)
+    → made_of make outcome ≡ Ok x
+    → (reading : Reading) × (outcome ≡ Ok reading) × (make reading ≡ x)
+made_of-ok make (Ok reading) x same = (reading, refl, cc)
+made_of-ok make (Err fault) x same = cc
+
+-- and a fault is that of the line
+pub made_of-err : {X : Type 0} (make : Reading → X) (outcome : Result Reading Fault) (fault : Fault)
+    → made_of make outcome ≡ Err fault → outcome ≡ Err fault
+made_of-err make (Ok reading) fault same = cc
+made_of-err make (Err other) fault same = cc

@@ -1,0 +1,42 @@
+-- One more occurrence has its word.
+use Rattle.std.proofs.Common.{◌≡◌, ◌<◌, ◌++◌, ◌∷◌, [], ◌+◌, List, length, map, take, sym, ap, ◌∙◌}
+use Rattle.std.proofs.lemmas.List.{map-append}
+use Rattle.std.specs.Option.{option_copied}
+use Rattle.std.specs.String.{string_bytes}
+use Rattle.getopts.specs.Names.{Text}
+use Rattle.getopts.specs.Reading.{two, long_word, Occurrence, at_position}
+use Rattle.getopts.specs.Canon.{canonical_word}
+use Rattle.getopts.proofs.Lists.{take-get, AllByRecursion-at}
+use Rattle.getopts.proofs.canon.option_words.Goals as goal
+
+pub main-requires : goal.main-requires
+main-requires c =
+    AllByRecursion-at (λ (o : Occurrence). o.mention.group < length c.args.groups.now)
+    c.args.found.now c.loop-place.place _ c.requires c.at-occurrence.ensures
+
+pub loop-place-preserved : goal.loop-place-preserved
+loop-place-preserved c =
+    let groups = c.args.groups.now in
+    let found = c.args.found.now in
+    let words_of = λ (os : List Occurrence). map (canonical_word groups)
+    (map (λ (o : Occurrence). o.mention) os) in
+    let occurrence : Occurrence = at_position c.at-occurrence.result.position
+    (record {
+      group = c.at-occurrence.result.group;
+      value = option_copied c.at-occurrence.result.value;
+    }) in
+    let word : string_bytes c.in_ok-canonical_word.field-0
+    ≡ canonical_word groups occurrence.mention =
+    c.in_ok-canonical_word.ensures
+    ∙ ap (λ (main : Text). long_word two main occurrence.mention.value) c.main.ensures in
+    let more : words_of (take (c.loop-place.place + 1) found) ≡ words_of
+    (take c.loop-place.place found) ++ canonical_word groups occurrence.mention ∷ [] =
+    ap words_of (take-get found c.loop-place.place occurrence c.at-occurrence.ensures)
+    ∙ ap (map (canonical_word groups)) (map-append (λ (o : Occurrence). o.mention)
+    (take c.loop-place.place found) (occurrence ∷ []))
+    ∙ map-append (canonical_word groups)
+    (map (λ (o : Occurrence). o.mention) (take c.loop-place.place found))
+    (occurrence.mention ∷ []) in
+    ap (map string_bytes) c.in_ok-push.ensures.items
+    ∙ map-append string_bytes c.loop-place.words.items _
+    ∙ (λ i. c.loop-place.invariant i ++ word i ∷ []) ∙ sym more

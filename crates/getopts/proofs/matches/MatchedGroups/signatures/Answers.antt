@@ -1,0 +1,7 @@
+-- The signatures that are lent are those of what is seen.
+use Rattle.getopts.proofs.Held.Matches.{signatures-matched}
+use Rattle.getopts.proofs.matches.MatchedGroups.signatures.Goals as goal
+
+pub returns : goal.returns
+returns c =
+    rw (← c.self.view_is) (signatures-matched 0 c.self.inside.signatures c.self.inside.found)

@@ -1,0 +1,36 @@
+-- What is seen of groups that are held, with their hints and descriptions, or borrowed.
+use Rattle.std.specs.Prelude.{◌≡◌, List, [], ◌∷◌, length}
+use Rattle.std.specs.String.{string_bytes}
+use Rattle.getopts.specs.Names.{Text}
+use Rattle.getopts.specs.Options.{Signature, Group}
+use Rattle.getopts.specs.Held.Pieces.{IsWellCut}
+use Rattle.getopts.specs.Held.Groups.{text_ends, twos_in, signature_view}
+use Rattle.getopts.specs.declared.help.Group.{Group as HeldGroup}
+use Rattle.getopts.specs.declared.help.Groups.TheInside.{Inside}
+
+-- groups by their signatures, each with the next two texts
+abbrev pub groups_with : List Signature → List (Text × Text) → List Group
+groups_with (signature ∷ signatures) (texts ∷ more) = record {
+  signature = signature;
+  hint = texts.0;
+  description = texts.1;
+} ∷ groups_with signatures more
+groups_with signatures more = []
+
+-- the groups that are held
+abbrev pub groups_view : Inside → List Group
+groups_view inside =
+    groups_with inside.signatures (twos_in (string_bytes inside.help) inside.ends.items)
+
+-- the one text is cut where hints and descriptions end, and each group has those
+pub record HoldGroups (inside : Inside) : Type 0 where
+  pub cut : IsWellCut (string_bytes inside.help) (text_ends inside.ends.items)
+  pub as_many : length inside.ends.items ≡ length inside.signatures
+
+-- a borrowed group
+abbrev pub group_view : HeldGroup → Group
+group_view held = record {
+  signature = signature_view held.signature;
+  hint = held.hint.now;
+  description = held.desc.now;
+}

@@ -1,0 +1,157 @@
+-- The results, computed. Nobody has to believe these definitions: the law `HasResults` says that
+-- what they give is what the relations of `Parse` and `CanonAnswers` say.
+use Rattle.std.specs.Prelude.{◌≡◌, ◌==◌, if◌then◌else◌, ℕ, Bool, true, nat_lt, not, List, [], ◌∷◌}
+use Rattle.std.specs.Prelude.{◌++◌, length}
+use Rattle.std.specs.Prelude.{Option, Some, None, Result, Ok, Err, MatchResult}
+use Rattle.std.specs.List.{list_all}
+use Rattle.getopts.specs.Only.{IsTheOnly}
+use Rattle.getopts.specs.Names.{Text, main_name}
+use Rattle.getopts.specs.Options.{Group, Grammar, Declared, grammar_of}
+use Rattle.getopts.specs.Fail.{Fault, Tells}
+use Rattle.getopts.specs.Reading.{dash, none, separate, one, two, Item, free, line_end}
+use Rattle.getopts.specs.Reading.{stop, rest, Reading, holds_equals}
+use Rattle.getopts.specs.Matches.{MatchedGroup, Matched, matches_of, count_fault}
+use Rattle.getopts.specs.Canon.{Content, content_of, main_at, canonical_line}
+use Rattle.getopts.specs.Parse.{HasReading, HasNoReading}
+use Rattle.getopts.specs.CanonAnswers.{IsParseAnswer, IsCanonicalAnswer}
+use Rattle.getopts.specs.Turn.{Turn, ends, takes, faults, long_turn, cluster_turn}
+use Rattle.getopts.specs.declared.fail.Fail.{Fail}
+use Rattle.getopts.specs.declared.groups.Occur.{Occur}
+use Rattle.getopts.specs.declared.groups.Occur.TheVariants.{Req, Optional, Multi}
+use Rattle.getopts.specs.declared.groups.ParsingStyle.{ParsingStyle}
+use Rattle.getopts.specs.declared.groups.ParsingStyle.TheVariants.{FloatingFrees, StopAtFirstFree}
+
+-- a word that isn't dashed
+abbrev pub free_turn : ParsingStyle → Text → List Text → Turn
+free_turn FloatingFrees word more = takes (free word) none
+free_turn StopAtFirstFree word more = ends (rest (word ∷ more))
+
+-- two dashes and this text: the stop, or a word in long form
+abbrev pub two_dashes_turn : Grammar → Text → List Text → Turn
+two_dashes_turn grammar [] more = ends (stop more)
+two_dashes_turn grammar (c ∷ text) more = long_turn grammar two (c ∷ text) more
+
+-- one dash and this text, which doesn't begin with another
+abbrev pub one_dash_turn : Grammar → Text → List Text → Turn
+one_dash_turn grammar text more =
+    if grammar.long_only then long_turn grammar one text more else cluster_turn grammar [] text more
+
+-- the first word of a line
+unfoldable pub turn : Grammar → Text → List Text → Turn
+turn grammar (first ∷ second ∷ text) more = if first == dash
+    then (if second == dash then two_dashes_turn grammar text more else one_dash_turn grammar
+    (second ∷ text) more)
+    else free_turn grammar.style (first ∷ second ∷ text) more
+turn grammar word more = free_turn grammar.style word more
+
+-- an outcome, with these items before it
+abbrev pub with_items : List Item → Result Reading Fault → Result Reading Fault
+with_items items (Ok reading) = Ok (record { items = items ++ reading.items; tail = reading.tail })
+with_items items (Err fault) = Err fault
+
+-- the outcome of a line, by its first word's turn and the outcomes after one word and after two
+abbrev pub after_turn : Turn → Result Reading Fault → Result Reading Fault → Result Reading Fault
+after_turn (ends tail) after_one after_two = Ok (record { items = []; tail = tail })
+after_turn (takes item (separate word)) after_one after_two = with_items (item ∷ []) after_two
+after_turn (takes item argument) after_one after_two = with_items (item ∷ []) after_one
+after_turn (faults fault) after_one after_two = Err fault
+
+-- the outcomes of a line and of the line without its first word
+unfoldable pub read_both : Grammar → List Text → Result Reading Fault × Result Reading Fault
+read_both grammar [] =
+    (Ok (record { items = []; tail = line_end }), Ok (record { items = []; tail = line_end }))
+read_both grammar (word ∷ more) = (
+  after_turn (turn grammar word more) (read_both grammar more).0
+      (read_both grammar more).1,
+  (read_both grammar more).0,
+)
+
+-- the reading of a line, or its fault
+unfoldable pub read : Grammar → List Text → Result Reading Fault
+unfolding read_both
+read grammar words = (read_both grammar words).0
+
+-- whether a group may have so many occurrences
+abbrev pub fits_count : Occur → ℕ → Bool
+fits_count Req count = count == 1
+fits_count Optional count = nat_lt count 2
+fits_count Multi count = true
+
+-- the fault of a group that breaks its count
+abbrev pub broken_count : MatchedGroup → Fault
+broken_count group = count_fault (main_name group.signature.names) (length group.found)
+
+-- the fault of the first group that breaks its count
+abbrev pub first_count_fault : List MatchedGroup → Option Fault
+first_count_fault [] = None
+first_count_fault (group ∷ groups) =
+    if fits_count group.signature.occurrence (length group.found) then first_count_fault
+    groups else Some (broken_count group)
+
+-- a reading, unless there is this count fault
+abbrev pub unless_fault : Reading → Option Fault → Result Reading Fault
+unless_fault reading None = Ok reading
+unless_fault reading (Some fault) = Err fault
+
+-- an outcome with its counts checked
+abbrev pub with_counts_kept : Declared → Result Reading Fault → Result Reading Fault
+with_counts_kept options (Ok reading) =
+    unless_fault reading (first_count_fault (matches_of options reading).groups)
+with_counts_kept options (Err fault) = Err fault
+
+-- the reading of words, or their first scan fault
+unfoldable pub reading_result : Declared → List Text → Result Reading Fault
+reading_result options words = read (grammar_of options) words
+
+-- the reading of words that keeps the counts, or their first fault
+unfoldable pub line_result : Declared → List Text → Result Reading Fault
+line_result options words = with_counts_kept options (read (grammar_of options) words)
+
+-- the canonical line of a content, or none where some mention of it can't be written
+abbrev pub written_line : List Group → Content → Option (List Text)
+written_line groups content =
+    if list_all (λ m. not (holds_equals (main_at groups m.group))) content.mentions then Some
+    (canonical_line groups content) else None
+
+-- what is made of a reading, or the fault
+abbrev pub made_of : {X : Type 0} → (Reading → X) → Result Reading Fault → Result X Fault
+made_of make (Ok reading) = Ok (make reading)
+made_of make (Err fault) = Err fault
+
+-- the result of `parse_ignoring_counts`
+abbrev pub read_result : Declared → List Text → Result Matched Fault
+read_result options words = made_of (matches_of options) (reading_result options words)
+
+-- the result of `parse`
+abbrev pub parse_result : Declared → List Text → Result Matched Fault
+parse_result options words = made_of (matches_of options) (line_result options words)
+
+-- the result of `canonical`
+abbrev pub canonical_result : Declared → List Text → Result (Option (List Text)) Fault
+canonical_result options words =
+    made_of (λ reading. written_line options.groups (content_of options reading))
+    (line_result options words)
+
+-- what `parse_ignoring_counts` answers to these words, memory aside
+abbrev pub IsReadAnswer : Declared → List Text → Result Matched Fault → Type 0
+IsReadAnswer options words answer =
+    MatchResult answer (HasReading options words) (HasNoReading options words)
+
+-- The results are those of the relations, and no others.
+pub record HasResults (options : Declared) (words : List Text) : Type 0 where
+  pub parse : IsTheOnly (IsParseAnswer options words) (parse_result options words)
+  pub read : IsTheOnly (IsReadAnswer options words) (read_result options words)
+  pub canonical : IsTheOnly (IsCanonicalAnswer options words) (canonical_result options words)
+
+-- what is seen of a call's answer is so, or memory is out
+abbrev pub GivesAs : {A X : Type 0} → (A → X) → Result A Fail → (Result X Fault → Type 0) → Type 0
+GivesAs see answer Is =
+    MatchResult answer (λ value. Is (Ok (see value))) (λ fail. Tells fail (λ fault. Is (Err fault)))
+
+-- a call's answer is so, or memory is out
+abbrev pub Gives : {X : Type 0} → Result X Fail → (Result X Fault → Type 0) → Type 0
+Gives answer Is = GivesAs (λ value. value) answer Is
+
+-- a call answers this result, or that memory is out
+abbrev pub GivesResult : {X : Type 0} → Result X Fail → Result X Fault → Type 0
+GivesResult answer result = Gives answer (λ it. result ≡ it)

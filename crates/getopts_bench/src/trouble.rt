@@ -1,0 +1,55 @@
+//! What ends a run early.
+
+use getopts::Fail;
+use std::alloc::AllocError;
+use std::fmt;
+
+/// Why a sum wasn't printed.
+#[derive(Clone, Copy)]
+pub enum Trouble {
+    /// The arguments aren't jobs, each with a file of rows and a number of turns.
+    NoJob,
+    /// A job's line was refused.
+    Refused,
+    NoMemory,
+    /// A write failed.
+    NotWritten,
+}
+
+impl Trouble {
+    /// The status that tells it.
+    pub fn status(&self) -> u8 {
+        match self {
+            Trouble::Refused => 1,
+            Trouble::NoJob => 2,
+            Trouble::NoMemory => 3,
+            Trouble::NotWritten => 4,
+        }
+    }
+}
+
+impl fmt::Display for Trouble {
+    fn fmt<W: fmt::Write>(&self, f: &mut fmt::Formatter<W>) -> fmt::Result {
+        f.write_str(match self {
+            Trouble::NoJob => "arguments are JOB ROWS TIMES, and more of the same",
+            Trouble::Refused => "the words are refused",
+            Trouble::NoMemory => "out of memory",
+            Trouble::NotWritten => "a sum can't be written",
+        })
+    }
+}
+
+impl From<Fail> for Trouble {
+    fn from(fail: Fail) -> Trouble {
+        match fail {
+            Fail::OutOfMemory => Trouble::NoMemory,
+            _ => Trouble::Refused,
+        }
+    }
+}
+
+impl From<AllocError> for Trouble {
+    fn from(_error: AllocError) -> Trouble {
+        Trouble::NoMemory
+    }
+}

@@ -1,0 +1,95 @@
+-- A tool that prints some lines of files: its options, and what a line asks for, said both ways.
+use Rattle.std.specs.Prelude.{◌≡◌, ⊤, ◌||◌, if◌then◌else◌, ℕ, Bool, true, false, List, [], ◌∷◌}
+use Rattle.std.specs.Prelude.{map, codes, Some, Result, Ok, Err}
+use Rattle.std.specs.Option.{option_map}
+use Rattle.std.specs.Str.Parse.{ParsesUnsigned}
+use Rattle.std.specs.String.{string_bytes}
+use Rattle.std.specs.declared.num.ParseIntError.{ParseIntError}
+use Rattle.getopts.specs.Accessors.{IsReadAs, first_value, first_value_or, found_of, is_present}
+use Rattle.getopts.specs.Accessors.{values_of}
+use Rattle.getopts.specs.Fail.{Fault, Tells}
+use Rattle.getopts.specs.Matches.{Matched}
+use Rattle.getopts.specs.Names.{Text}
+use Rattle.getopts.specs.Only.{IsTheOnly}
+use Rattle.getopts.specs.Options.{Declared, group_of}
+use Rattle.getopts.specs.Parse.{IsAccepted}
+use Rattle.getopts.specs.Results.{read_result, parse_result}
+use Rattle.getopts.specs.Usage.{IsUsageText, short_usage_text}
+use Rattle.getopts.specs.declared.groups.HasArg.TheVariants.{No, Yes, Maybe}
+use Rattle.getopts.specs.declared.groups.Occur.TheVariants.{Optional, Req, Multi}
+use Rattle.getopts.specs.declared.groups.ParsingStyle.TheVariants.{FloatingFrees}
+use Rattle.getopts_uses.specs.declared.peek.Peek.{Peek}
+use Rattle.getopts_uses.specs.declared.peek.Request.{Request}
+use Rattle.getopts_uses.specs.declared.peek.Request.TheVariants as asked
+use Rattle.getopts_uses.specs.declared.peek.Refusal.{Refusal}
+use Rattle.getopts_uses.specs.declared.peek.Refusal.TheVariants.{Line, Number, OutOfMemory}
+
+-- the tool's options
+abbrev pub peek_options : Declared
+peek_options = record {
+  groups =
+      group_of (codes "n") (codes "lines") (codes "print so many lines") (codes "COUNT") Yes Req
+      ∷ group_of (codes "r") (codes "reverse") (codes "print the last line first") [] No Optional
+      ∷ group_of (codes "e") (codes "match") (codes "print lines with TEXT") (codes "TEXT") Yes Multi
+      ∷ group_of [] (codes "color") (codes "colour the matches") (codes "WHEN") Maybe Optional
+      ∷ group_of (codes "h") (codes "help") (codes "print this help") [] No Optional
+      ∷ group_of (codes "V") (codes "version") (codes "print the version") [] No Optional
+      ∷ [];
+  style = FloatingFrees;
+  long_only = false;
+}
+
+-- whether matches hold a flag
+abbrev pub gives : Matched → Text → Bool
+gives matches name = is_present matches.groups name
+
+-- A line's matches, or its fault. Where it asks for help or the version, its counts are ignored: the two
+-- results are those of the line without its counts, and with them.
+abbrev pub asked_of : Result Matched Fault → Result Matched Fault → Result Matched Fault
+asked_of (Err fault) line = Err fault
+asked_of (Ok read) line =
+    if gives read (codes "help") || gives read (codes "version") then Ok read else line
+
+-- the same of words
+abbrev pub asked_result : List Text → Result Matched Fault
+asked_result words = asked_of (read_result peek_options words) (parse_result peek_options words)
+
+-- The matches ask for these lines: neither for help nor the version, but for this number, and what else they give.
+pub record IsPeekOf (matches : Matched) (peek : Peek) : Type 0 where
+  pub no_help : gives matches (codes "help") ≡ false
+  pub no_version : gives matches (codes "version") ≡ false
+  pub lines : IsReadAs {E = ParseIntError} (ParsesUnsigned 32 10)
+      (first_value (found_of matches.groups (codes "lines"))) (Ok (Some peek.lines))
+  pub reverse : peek.reverse ≡ gives matches (codes "reverse")
+  pub wanted : map string_bytes peek.wanted.items ≡ values_of (found_of matches.groups (codes "match"))
+  pub color : option_map string_bytes peek.color
+      ≡ first_value_or (found_of matches.groups (codes "color")) (codes "always")
+  pub files : map string_bytes peek.files.items ≡ matches.free
+
+-- What a line asks for, or why it asks for nothing. Help comes before the version, and out of memory says
+-- nothing of the line.
+abbrev pub IsAskedBy : Result Matched Fault → Result Request Refusal → Type 0
+IsAskedBy line (Err OutOfMemory) = ⊤
+IsAskedBy line (Err (Line fail)) = Tells fail (λ fault. line ≡ Err fault)
+IsAskedBy (Ok matches) (Ok asked.Help) = gives matches (codes "help") ≡ true
+IsAskedBy (Ok matches) (Ok asked.Version) =
+    (gives matches (codes "help") ≡ false) × (gives matches (codes "version") ≡ true)
+IsAskedBy (Ok matches) (Ok (asked.Peek peek)) = IsPeekOf matches peek
+IsAskedBy (Ok matches) (Err (Number error)) =
+    (gives matches (codes "help") ≡ false) × ((gives matches (codes "version") ≡ false)
+    × IsReadAs {T = ℕ} (ParsesUnsigned 32 10)
+    (first_value (found_of matches.groups (codes "lines"))) (Err error))
+IsAskedBy (Err fault) result = ⊥
+
+-- the tool's help: the usage text of its options under their short usage, and no other text
+abbrev pub IsPeekHelp : Text → Type 0
+IsPeekHelp text =
+    IsTheOnly (IsUsageText peek_options (short_usage_text peek_options (codes "peek"))) text
+
+-- the words are accepted, and ask for these lines
+abbrev pub AskFor : List Text → Peek → Type 0
+AskFor words peek = (matches : Matched) × IsAccepted peek_options words matches × IsPeekOf matches peek
+
+-- a line that was logged asks for the lines that the words ask for
+abbrev pub AsksTheSame : List Text → List Text → Type 0
+AsksTheSame words line = (peek : Peek) → AskFor words peek → AskFor line peek

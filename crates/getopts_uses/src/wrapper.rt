@@ -1,0 +1,46 @@
+//! A wrapper of another command: its own options, and then `--` and the words that it hands on.
+
+ghost use Rattle.std.specs.Prelude.{◌≡◌, [], ◌∷◌, true, codes, map, IfErr, IfOk, Ok};
+ghost use Rattle.std.specs.String.{string_bytes};
+ghost use Rattle.getopts.specs.Accessors.{is_present};
+ghost use Rattle.getopts.specs.Fail.{Tells};
+ghost use Rattle.getopts.specs.Matches.{Matched};
+ghost use Rattle.getopts.specs.Names.{texts};
+ghost use Rattle.getopts.specs.Parse.{IsRefused};
+ghost use Rattle.getopts.specs.Results.{parse_result};
+ghost use Rattle.getopts_uses.specs.Wrapper.{HandsOn, wrapper_options};
+
+use getopts::{Fail, Options};
+use std::alloc::{AllocError, Global};
+
+/// The wrapper's own options.
+fn options(alloc: Global) -> Result<Options, AllocError>
+    ensures { IfOk result (λ options. options ≡ wrapper_options) }
+{
+    let mut options = Options::new(alloc);
+    options.optflag("v", "verbose", "say what is run")?;
+    Ok(options)
+}
+
+/// A line that is written out, and its matches: how definitions are tried before anything is proved with them.
+fn matches_of_a_line()
+    ensures { (matches : Matched)
+        × (parse_result wrapper_options
+        (codes "-v" ∷ codes "--" ∷ codes "ls" ∷ codes "-l" ∷ []) ≡ Ok matches)
+        × (is_present matches.groups (codes "verbose") ≡ true)
+        × (matches.free ≡ codes "ls" ∷ codes "-l" ∷ []) }
+{}
+
+/// The words that a line hands on: those after its `--`, as they are.
+pub fn handed_on(alloc: Global, words: &[&str]) -> Result<Vec<String>, Fail>
+    ensures handed { IfOk result (λ handed.
+        HandsOn (texts words.now) (map string_bytes handed.items)) }
+    ensures refused { IfErr result (λ fail. Tells fail (IsRefused wrapper_options (texts words.now))) }
+{
+    let options = options(alloc)?;
+    let mut matches = options.parse_words(alloc, words)?;
+    match matches.free_trailing_start() {
+        Some(start) => Ok(matches.free.split_off(start)?),
+        None => Ok(Vec::new(alloc)),
+    }
+}

@@ -1,0 +1,214 @@
+"""What the tests share: tools that may be lacking, programs that run, and the programs that the proofs leave."""
+
+import functools
+import os
+import platform
+import re
+import shutil
+import subprocess
+import sys
+import time
+from pathlib import Path
+
+import pytest
+
+sys.dont_write_bytecode = True
+ROOT = Path(__file__).resolve().parents[1]
+MACHINE = platform.machine()
+VECTORS = ROOT / "crates/getopts_vectors"
+# Rows with their answers beside them.
+ROWS = [VECTORS / f"data/{name}.rows" for name in ("rules", "recorded")]
+# Lines that each door's example has to answer as getopts_show does.
+LINES = ["--output=x.txt --verbose in.txt", "-vvLd -La -Lb -c auto -o x.txt f -- g -v", "-v --help", "--nope", "-o",
+         "-o a -o b", "--verbose=x", "", "-c", "--output= é --color=日本"]
+# The package of Debian 12 that has a tool, where its name is another.
+PACKAGES = {"cc": "gcc", "clang++": "clang", "nm": "binutils", "ar": "binutils", "readelf": "binutils", "as": "binutils",
+            "ld": "binutils", "objcopy": "binutils", "musl-gcc": "musl-tools", "qemu-aarch64": "qemu-user",
+            "aarch64-linux-gnu-gcc": "gcc-aarch64-linux-gnu libc6-dev-arm64-cross", "node": "nodejs", "wine": "wine64",
+            "i686-linux-gnu-gcc": "gcc-i686-linux-gnu libc6-dev-i386-cross", "man": "man-db", "groff": "groff-base",
+            "x86_64-w64-mingw32-gcc": "gcc-mingw-w64-x86-64", "ksh93": "ksh93u+m", "busybox": "busybox-static"}
+
+
+def pytest_addoption(parser):
+    parser.addoption("--quick", action="store_true", help="fewer random cases, no other targets, nothing is proved")
+    parser.addoption("--many", action="store_true", help="ten times as many random cases")
+    parser.addoption("--fix", action="store_true", help="writes anew what a script makes: figures, contracts")
+    parser.addoption("--getopts", help="a folder with the Rust crate getopts 0.2.24")
+
+
+def pytest_configure(config):
+    config.addinivalue_line("markers", "built: takes programs or libraries that the proofs leave")
+    os.environ["LC_ALL"] = "C.UTF-8"
+    os.environ.pop("POSIXLY_CORRECT", None)
+
+
+def pytest_collection_modifyitems(items):
+    for item in items:
+        if {"show", "shell", "vectors", "bench", "built"} & set(item.fixturenames):
+            item.add_marker(pytest.mark.built)
+
+
+@pytest.fixture(scope="session")
+def quick(request):
+    return request.config.getoption("--quick")
+
+
+@pytest.fixture(scope="session")
+def fix(request):
+    return request.config.getoption("--fix")
+
+
+@pytest.fixture(scope="session")
+def cases(request):
+    """cases(N): how many random cases there are where the gate has N."""
+    option = request.config.getoption
+    return lambda count: count * 10 if option("--many") else max(1, count // 10) if option("--quick") else count
+
+
+@pytest.fixture(scope="session")
+def crate(request):
+    """The folder with the Rust crate getopts 0.2.24."""
+    folder = request.config.getoption("--getopts")
+    if not folder:
+        pytest.skip("no folder with the Rust crate getopts 0.2.24 was given: --getopts FOLDER")
+    return Path(folder).resolve()
+
+
+def need(*tools):
+    """Skips a test where one of its tools isn't there, and says which package has it."""
+    for tool in tools:
+        if not shutil.which(str(tool)):
+            pytest.skip(f"there is no {tool}: apt-get install {PACKAGES.get(str(tool), tool)}")
+
+
+def run(*words, status=0, env=None, **how):
+    """Runs a command, which has to end with this status, and returns what it wrote to its two streams."""
+    how = {"capture_output": True, "text": True, "errors": "surrogateescape", **how}
+    done = subprocess.run([str(word) for word in words], env={**os.environ, **(env or {})}, **how)
+    assert done.returncode == status, f"{words[0]}: status {done.returncode}\n{done.stdout[-3000:]}{done.stderr[-3000:]}"
+    return done.stdout, done.stderr
+
+
+def answer(*words, env=None, **how):
+    """What a program wrote, whatever its status, and the status."""
+    done = subprocess.run([str(word) for word in words], capture_output=True, env={**os.environ, **(env or {})}, **how)
+    return done.stdout + done.stderr, done.returncode
+
+
+def wait_for(*crates):
+    """Where test.sh runs `rt ci` beside the tests: waits until it has proved these crates, or took them over."""
+    log = Path(os.environ.get("CI_LOG", "/nowhere"))
+    for crate in crates:
+        while log.exists() and not re.search(rf"^rt: {crate} (proved$|is kept: )", log.read_text(errors="replace"), re.M):
+            if Path(f"{log}.ended").exists():
+                pytest.fail(f"{crate} isn't proved")
+            time.sleep(1)
+
+
+def program(crate):
+    """The program of a crate, as `rt ci` or `rt run` leaves it."""
+    wait_for(crate)
+    built = ROOT / f"crates/{crate}/out/{crate}"
+    if not built.exists():
+        pytest.skip(f"{crate} isn't built: 'rt ci', or 'rt run' in crates/{crate}, builds it")
+    return built
+
+
+@pytest.fixture(scope="session")
+def show():
+    return program("getopts_show")
+
+
+@pytest.fixture(scope="session")
+def shell():
+    return program("getopts_shell")
+
+
+@pytest.fixture(scope="session")
+def vectors():
+    return program("getopts_vectors")
+
+
+@pytest.fixture(scope="session")
+def bench():
+    return program("getopts_bench")
+
+
+@functools.cache
+def kit():
+    """The folder of the toolchain."""
+    need("rt")
+    return Path(shutil.which("rt")).resolve().parents[1]
+
+
+def tracked():
+    """Each file of the repository, but for what is built."""
+    names = run("git", "ls-files", "-co", "--exclude-standard", cwd=ROOT)[0].splitlines()
+    return [name for name in names if (ROOT / name).is_file()]
+
+
+def copy_tree(to, *libraries):
+    """Copies what isn't built to a folder, and these libraries as they were proved."""
+    for name in tracked():
+        (to / name).parent.mkdir(parents=True, exist_ok=True)
+        shutil.copy2(ROOT / name, to / name)
+    for library in libraries:
+        proved = f"crates/{library}/out/rlib"
+        if (ROOT / proved).exists():
+            shutil.copytree(ROOT / proved, to / proved, symlinks=True)
+    return to
+
+
+@pytest.fixture
+def copy(tmp_path):
+    """A copy of the repository, without what is built."""
+    return copy_tree(tmp_path / "copy")
+
+
+def manual(page):
+    """A page of the manual is well formed."""
+    need("man", "groff")
+    assert run("man", "--warnings", "-E", "UTF-8", "-l", page)[1] == ""
+
+
+@pytest.fixture(scope="session")
+def refuse(tmp_path_factory):
+    """What refuses memory, as a library to preload, built by the toolchain's compiler or this machine's."""
+    tools, room = kit() / "toolchain/bin", tmp_path_factory.mktemp("refuse")
+    flags = "-O2 -Wall -Wextra -Werror -ffreestanding -nostdinc -fPIC -c".split()
+    run(tools / "clang", *flags, ROOT / "tests/memory/refuse.c", "-o", room / "refuse.o")
+    run(tools / "ld.lld", "-shared", "-o", room / "refuse.so", room / "refuse.o")
+    return room / "refuse.so"
+
+
+def refused_in_turn(preload, words, refusal=(b"", 3), like=None, marks=False, by=()):
+    """Refuses each request for memory in turn, alone and with all after it, and returns how many were. A run with a
+    refusal writes `refusal`, its output and status; with none refused it answers as the words `like`, or as ever. With
+    marks the requests between the program's marks count."""
+    def outcome(at, on):
+        env = {"REFUSE_AT": str(at), "REFUSE_ON": str(on), "REFUSE_MARKS": str(int(marks))}
+        env.update({"LD_PRELOAD": str(preload)} if preload else {})
+        done = subprocess.run([str(word) for word in (*by, *words)], capture_output=True, env={**os.environ, **env})
+        said = done.stderr.splitlines()[-1].split() if done.stderr else []
+        # A program that ends by a signal says nothing of its refusals.
+        refused, met = (int(said[1]), int(said[3])) if said[:1] == [b"refused"] else (1, None)
+        return (done.stdout, done.returncode), refused, met
+
+    ever, _, marked = outcome(0, 0)
+    assert (marked > 0) == marks and marked % 2 == 0
+    if like:
+        done = subprocess.run([str(word) for word in like], stdout=subprocess.PIPE, stderr=subprocess.DEVNULL)
+        assert ever == (done.stdout, done.returncode)
+    count = 0
+    for on in (0, 1):
+        for at in range(1, 10_001):
+            ended, refused, met = outcome(at, on)
+            assert met == marked or (met is None and ended[1] < 0), f"request {at}: {met} marks of {marked}: {ended}"
+            if refused == 0:
+                assert ended == ever
+                break
+            assert ended == refusal, f"request {at}, all after it: {on}"
+            count += 1
+        else:
+            pytest.fail("more than 10,000 requests")
+    return count

@@ -1,0 +1,309 @@
+"""A second reader of the rules, by docs/GRAMMAR.md alone: a search for readings and for faults, as they are defined, and
+what rows of text ask of them."""
+
+KINDS = {  # of argument and of occurrence, by the call that declares the group
+    "optflag": ("no", "optional"), "optflagmulti": ("no", "multi"), "optflagopt": ("maybe", "optional"),
+    "optmulti": ("yes", "multi"), "optopt": ("yes", "optional"), "reqopt": ("yes", "req"),
+}
+TEXTS = {
+    "ArgumentMissing": b"Argument to option '%s' missing", "UnrecognizedOption": b"Unrecognized option: '%s'",
+    "OptionMissing": b"Required option '%s' missing", "OptionDuplicated": b"Option '%s' given more than once",
+    "UnexpectedArgument": b"Option '%s' does not take an argument",
+}
+
+
+class Group:
+    def __init__(self, short, long, kind, occur):
+        self.short, self.long, self.kind, self.occur = short, long, kind, occur
+        self.main = long or short
+        self.alias = short if short and long else None
+
+
+class Options:
+    """Groups, a style and a mode, and the readings of a line by them."""
+
+    def __init__(self):
+        self.groups, self.stops, self.long_only = [], False, False
+
+    def resolve(self, name):
+        """The place of the group that a name resolves to."""
+        mains = [group.main for group in self.groups]
+        if name in mains:
+            return mains.index(name)
+        for group in self.groups:
+            if group.alias is not None and group.alias == name:
+                return mains.index(group.main)
+        return None
+
+    def kind(self, name):
+        place = self.resolve(name)
+        return None if place is None else self.groups[place].kind
+
+    def long_forms(self, word):
+        """The word as dashes, a name and perhaps an attached argument, in each way that the mode has."""
+        rests = [word[2:]] if word.startswith(b"--") and word != b"--" else []
+        rests += [word[1:]] if self.long_only and is_dashed(word) and not word.startswith(b"--") else []
+        for rest in rests:
+            name, equals, value = rest.partition(b"=")
+            yield name, value if equals else None
+
+    def cluster(self, word):
+        """What follows the dash of a cluster."""
+        is_cluster = not self.long_only and is_dashed(word) and not word.startswith(b"--")
+        return word[1:] if is_cluster else b""
+
+    def items(self, word, after):
+        """Each lawful item that begins with this word: what it mentions, its words, whether it is bare."""
+        if not is_dashed(word) and not self.stops:
+            yield [], 1, False
+        for name, value in self.long_forms(word):
+            kind, place = self.kind(name), self.resolve(name)
+            if (kind == "no" and value is None) or (kind == "yes" and value is not None) or kind == "maybe":
+                yield [(place, value)], 1, False
+            if kind == "yes" and value is None and after:
+                yield [(place, after[0])], 2, False
+        flags = self.cluster(word)
+        for end in range(len(flags) + 1):
+            mentions = [(self.resolve(flags[at:at + 1]), None) for at in range(end)]
+            if any(self.kind(flags[at:at + 1]) != "no" for at in range(end)):
+                return
+            name, value = flags[end:end + 1], flags[end + 1:]
+            kind, place = self.kind(name), self.resolve(name)
+            if not name and end > 0:
+                yield mentions, 1, False
+            if kind in ("yes", "maybe") and value:
+                yield mentions + [(place, value)], 1, False
+            if kind == "yes" and not value and after:
+                yield mentions + [(place, after[0])], 2, False
+            if kind == "maybe" and not value:
+                yield mentions + [(place, None)], 1, True
+                if after and not is_dashed(after[0]):
+                    yield mentions + [(place, after[0])], 2, False
+
+    def readings(self, words):
+        """Each reading of the words: occurrences, free words and the trailing start. There is one at most."""
+        found = {len(words): [([], [], None)]}
+        for at in range(len(words) - 1, -1, -1):
+            found[at] = []
+            if words[at] == b"--":
+                found[at].append(([], words[at + 1:], 0 if words[at + 1:] else None))
+            if self.stops and not is_dashed(words[at]):
+                found[at].append(([], words[at:], None))
+            for mentions, used, bare in self.items(words[at], words[at + 1:]):
+                after = at + used
+                if bare and after < len(words) and not is_dashed(words[after]):
+                    continue
+                for occurrences, free, start in found[after]:
+                    own = [] if mentions else [words[at]]
+                    given = [(place, at, value) for place, value in mentions]
+                    found[at].append((given + occurrences, own + free, start if start is None else start + len(own)))
+        assert len(found[0]) < 2, words
+        return found[0]
+
+    def faults(self, words):
+        """Each scan fault of the words. Those before the word at fault have a reading that ends there."""
+        for at, word in enumerate(words):
+            if not self.readable_to_its_end(words[:at]):
+                continue
+            for name, value in self.long_forms(word):
+                kind = self.kind(name)
+                if kind is None:
+                    yield "UnrecognizedOption", name
+                elif kind == "no" and value is not None:
+                    yield "UnexpectedArgument", name
+                elif kind == "yes" and value is None and at + 1 == len(words):
+                    yield "ArgumentMissing", name
+            text = self.cluster(word)
+            for end in range(len(text)):
+                if any(self.kind(text[flag:flag + 1]) != "no" for flag in range(end)):
+                    break
+                letter = first_character(text[end:])
+                if self.kind(letter) is None or len(letter) > 1:
+                    yield "UnrecognizedOption", letter
+                elif self.kind(letter) == "yes" and end + 1 == len(text) and at + 1 == len(words):
+                    yield "ArgumentMissing", letter
+
+    def readable_to_its_end(self, words):
+        """Whether the words have a reading with no stop and no rest."""
+        found = {len(words)}
+        for at in range(len(words) - 1, -1, -1):
+            for _, used, bare in self.items(words[at], words[at + 1:]):
+                after = at + used
+                if after in found and (not bare or after == len(words) or is_dashed(words[after])):
+                    found.add(at)
+        return 0 in found
+
+    def parse(self, words, with_counts=True):
+        """The occurrences, free words and trailing start, or the fault and its name."""
+        readings = self.readings(words)
+        if not readings:
+            faults = list(self.faults(words))
+            assert len(faults) == 1, (words, faults)
+            return faults[0]
+        if not with_counts:
+            return readings[0]
+        counts = [sum(place == mine for place, _, _ in readings[0][0]) for mine in range(len(self.groups))]
+        for group, count in zip(self.groups, counts):
+            if count > 1 and group.occur != "multi":
+                return "OptionDuplicated", group.main
+            if count == 0 and group.occur == "req":
+                return "OptionMissing", group.main
+        return readings[0]
+
+    def canonical(self, read):
+        occurrences, free, _ = read
+        if any(b"=" in self.groups[place].main for place, _, _ in occurrences):
+            return None
+        return [b"--" + self.groups[place].main + (b"" if value is None else b"=" + value)
+                for place, _, value in occurrences] + [b"--"] + free
+
+
+def is_dashed(word):
+    return word.startswith(b"-") and len(word) > 1
+
+
+def first_character(text):
+    return text.decode()[0].encode()
+
+
+def field(text):
+    for byte, letter in ((b"\\", b"\\\\"), (b"\t", b"\\t"), (b"\n", b"\\n"), (b"\r", b"\\r")):
+        text = text.replace(byte, letter)
+    return text
+
+
+def text_of(written):
+    out, rest = b"", written
+    while b"\\" in rest:
+        before, _, rest = rest.partition(b"\\")
+        out += before + {b"t": b"\t", b"n": b"\n", b"r": b"\r", b"\\": b"\\"}[rest[:1]]
+        rest = rest[1:]
+    return out + rest
+
+
+def line(*fields):
+    return b"\t".join(field(one if isinstance(one, bytes) else str(one).encode()) for one in fields)
+
+
+def optional(value):
+    return b"-" if value is None else b"=" + value
+
+
+class Session:
+    """A case as it is answered: its options, and what its last words gave."""
+
+    def __init__(self):
+        self.options, self.read = Options(), None
+
+    def declare(self, word, fields):
+        if word == "style":
+            self.options.stops = fields[0] == b"stop"
+        elif word == "mode":
+            self.options.long_only = fields[0] == b"long-only"
+        elif word in ("opt", "add_group"):
+            self.options.groups.append(Group(fields[0], fields[1], fields[4].decode(), fields[5].decode()))
+        elif word in KINDS:
+            self.options.groups.append(Group(fields[0], fields[1], *KINDS[word]))
+        elif word == "anew":
+            self.__init__()
+        else:
+            return word == "keep"
+        return True
+
+    def answer(self, word, fields):
+        """The lines that answer a line, each `None` where the rules here don't say it."""
+        if word == "case":
+            self.__init__()
+            return [line("case", *fields)]
+        if self.declare(word, fields):
+            return []
+        if word in ("words", "parse_words", "parse_filtered", "ignoring_counts"):
+            self.read = self.options.parse(fields, word != "ignoring_counts")
+            return [self.result("accepted", self.read)]
+        if word in ("canonical", "canonical_words", "canonical_filtered"):
+            return [self.canonical(word, fields)]
+        if word == "lawful":
+            short, long = fields
+            return [line("lawful", "true" if len(short) < 2 and len(long) != 1 and short + long else "false")]
+        if word in ("option", "positions", "any") and (self.read is None or len(self.read) == 2):
+            return [line(word, "nothing")]
+        if word == "any":
+            return [self.any(fields)]
+        if word in ("option", "positions"):
+            place = self.options.resolve(fields[0])
+            own = [(at, value) for mine, at, value in self.read[0] if mine == place]
+            return [line(word, fields[0], "undefined")] if place is None else getattr(self, word)(own, *fields)
+        return [None]
+
+    def result(self, word, read):
+        if len(read) == 2:
+            return line("refused", read[0], read[1], TEXTS[read[0]] % read[1])
+        return line(word, "-" if read[2] is None else read[2], *read[1])
+
+    def canonical(self, word, words):
+        read = self.options.parse(words)
+        if len(read) == 2:
+            return line(word) + b"\t" + self.result("", read)
+        written = self.options.canonical(read)
+        return line(word, "none") if written is None else line(word, "line", *written)
+
+    def any(self, names):
+        places = [self.options.resolve(name) for name in names]
+        firsts = [[value for mine, _, value in self.read[0] if mine == place][:1] for place in places]
+        present = "true" if any(first for first in firsts) else "false"
+        if None in places:
+            return line("any", present, "undefined")
+        value = next((first[0] for first in firsts if first and first[0] is not None), None)
+        return line("any", present, present, optional(value), optional(value))
+
+    def option(self, own, name, default):
+        values = [value for _, value in own if value is not None]
+        first = own[0][1] if own else None
+        defaulted = None if not own else default if first is None else first
+        return [line("option", name, "present" if own else "absent", len(own), optional(first), optional(defaulted)),
+                line("strs", *values), line("pairs", *values)]
+
+    def positions(self, own, name):
+        pairs = [part for at, value in own if value is not None for part in (at, value)]
+        return [line("positions", name, *(at for at, _ in own)), line("pairs", *pairs)]
+
+
+def parts(written):
+    word, *fields = written.split(b"\t")
+    return word.decode(), [text_of(one) for one in fields]
+
+
+def rows_of(text):
+    """Each line of a text that is a row, with the answers that stand below it."""
+    rows = []
+    for one in text.split(b"\n"):
+        if one.startswith(b"> "):
+            rows[-1][1].append(one[2:])
+        elif one.startswith(b"|"):
+            rows[-1][1][-1] += one[1:].removeprefix(b" ") + b"\\n"
+        elif one and not one.startswith(b"#"):
+            rows.append((one, []))
+    return rows
+
+
+def held(rows):
+    """The rows, with a canonical line asked beyond them below each line of words and the positions of each name; how
+    many lines of answers the rules give of how many there are; and the rows whose answers the rules don't give."""
+    session, beyond, given, lines, differ, case = Session(), [], 0, 0, [], b""
+    for one, answers in rows:
+        word, fields = parts(one)
+        case = one if word == "case" else case
+        expected = session.answer(word, fields)
+        beyond.append((one, answers))
+        lines += len(answers)
+        if word != "case" and expected != [None]:
+            given += len(answers)
+            if expected != answers:
+                differ.append((case, one, b"by the rules: " + b" / ".join(expected), b"in the row: " + b" / ".join(answers)))
+        if word in ("words", "ignoring_counts"):
+            asked = [line("canonical", *fields)]
+            if len(session.read) == 3:
+                names = {name: 0 for group in session.options.groups for name in (group.short, group.long) if name}
+                asked += [line("positions", name) for name in names]
+            beyond += [(more, session.answer(*parts(more))) for more in asked]
+    return beyond, given, lines, differ

@@ -1,0 +1,76 @@
+"""The targets on which the Rust crate and the library for C are tested, by Debian's rustc 1.63.
+
+Of libstd-rust-dev and libstd-rust-1.63 for arm64 and i386, which Debian doesn't install beside those of this machine
+(dpkg --add-architecture, apt-get download, dpkg -x), put the folders usr/lib/rustlib/TARGET beside the others there."""
+
+import os
+import shutil
+from pathlib import Path
+
+import pytest
+from conftest import ROOT, need, run
+
+# What cargo builds lies in the folders of the tests.
+os.environ.pop("CARGO_TARGET_DIR", None)
+REGISTRY = Path("/usr/share/cargo/registry")
+LOADER = "/usr/i686-linux-gnu/lib/ld-linux.so.2"
+# What a rustc of 1.63 is asked for that newer ones have.
+OLD = {"RUSTC": "/usr/bin/rustc", "RUSTC_BOOTSTRAP": "1"}
+WASI = """import { WASI } from "node:wasi";
+import { readFile } from "node:fs/promises";
+import { argv, env } from "node:process";
+const wasi = new WASI({ version: "preview1", args: argv.slice(2), env, preopens: { "/": "/" }, returnOnExit: true });
+const module = await WebAssembly.compile(await readFile(argv[2]));
+process.exitCode = wasi.start(await WebAssembly.instantiate(module, { wasi_snapshot_preview1: wasi.wasiImport }));
+"""
+# Of each target the compiler that links its programs, or none where rustc does, and what runs them.
+TARGETS = {
+    "x86_64-unknown-linux-gnu": ("cc", []),
+    "aarch64-unknown-linux-gnu": ("aarch64-linux-gnu-gcc", ["qemu-aarch64", "-L", "/usr/aarch64-linux-gnu"]),
+    "i686-unknown-linux-gnu": ("i686-linux-gnu-gcc", [LOADER, "--library-path", str(Path(LOADER).parent)]),
+    "wasm32-wasi": (None, ["node", "{room}/wasi.mjs"]),
+    "x86_64-pc-windows-gnu": ("x86_64-w64-mingw32-gcc", ["wine"]),
+}
+# Where a panic ends the program, what asks for one is left out.
+UNWINDS = {target for target in TARGETS if "linux" in target}
+
+
+def offline():
+    """What cargo is told so that it takes Debian's crates, where unicode-width is installed."""
+    if not list(REGISTRY.glob("unicode-width-*")):
+        return []
+    return ["--offline", "--config", 'source.crates-io.replace-with="debian"',
+            "--config", f'source.debian.directory="{REGISTRY}"']
+
+
+def runner(target, room):
+    """What runs a target's programs."""
+    (room / "wasi.mjs").write_text(WASI)
+    words = [word.format(room=room) for word in TARGETS[target][1]]
+    need(*words[:1])
+    if words[:1] == ["wine"]:
+        os.environ.update(WINEPREFIX=str(room / "wine"), WINEDEBUG="-all")
+    os.environ["NODE_NO_WARNINGS"] = "1"
+    return words
+
+
+def cargo_for(target, folder, *words, env=None):
+    """Runs Debian's cargo for a target on a copy of a crate, in whose folder it writes, and returns what it wrote."""
+    cargo, (linker, by) = Path("/usr/bin/cargo"), TARGETS[target]
+    if not cargo.exists() or not offline():
+        pytest.skip("there is no /usr/bin/cargo or no unicode-width: apt-get install cargo librust-unicode-width-dev")
+    need(*[linker] if linker else [])
+    if not Path(run(OLD["RUSTC"], "--print", "target-libdir", "--target", target)[0].strip()).exists():
+        pytest.skip(f"/usr/bin/rustc has no std for {target}: see tests/targets.py")
+    name = f"CARGO_TARGET_{target.upper().replace('-', '_')}"
+    settings = {f"{name}_LINKER": linker, f"{name}_RUNNER": " ".join(runner(target, folder)) if by else None}
+    env = {**{key: word for key, word in settings.items() if word}, **(env or {})}
+    return run(cargo, words[0], *offline(), "--quiet", "--target", target, *words[1:], cwd=folder, env={**OLD, **env})
+
+
+def copied(to, *names):
+    """Copies what is tracked of folders, so that what cargo writes stays out of them."""
+    for name in names:
+        ignored = shutil.ignore_patterns("target", "Cargo.lock")
+        shutil.copytree(ROOT / name, to / name, ignore=ignored, dirs_exist_ok=True)
+    return to

@@ -1,0 +1,287 @@
+"""The library for C: its calls on six targets, as each C compiler of this machine builds them, and the installation."""
+
+import os
+import re
+import shlex
+import shutil
+from pathlib import Path
+
+import pytest
+from conftest import LINES, ROOT, ROWS, answer, manual, need, refused_in_turn, run
+from targets import cargo_for, copied, offline, runner
+
+C = ROOT / "bindings/c"
+WARNINGS = "-std=c11 -Wall -Wextra -Wpedantic -Wshadow -Wconversion -Wno-sign-conversion -Werror".split()
+PLUS_WARNINGS = "-Wall -Wextra -Wpedantic -Werror".split()
+SANITIZERS = "-fsanitize=address,undefined -fno-sanitize-recover=all -g -O1".split()
+WRAPS = "-Wl,--wrap=malloc,--wrap=calloc,--wrap=realloc,--wrap=free"
+HOST = "x86_64-unknown-linux-gnu"
+# Of each build the compiler with its flags, the target of the library, or none where it is this machine's by its own
+# cargo, and what runs its programs where that isn't what runs those of the target.
+BUILDS = {
+    "gcc": (["gcc", "-O2"], None, []), "clang": (["clang", "-O2"], None, []),
+    "gcc-san": (["gcc", *SANITIZERS], None, []), "clang-san": (["clang", *SANITIZERS], None, []),
+    "valgrind": (["gcc", "-g"], None, "valgrind -q --error-exitcode=9 --leak-check=full".split()),
+    "musl": (["musl-gcc", "-static", "-O2"], None, []), "old": (["gcc", "-O2"], HOST, []),
+    "aarch64": (["aarch64-linux-gnu-gcc", "-O2"], "aarch64-unknown-linux-gnu", None),
+    "i686": (["i686-linux-gnu-gcc", "-O2"], "i686-unknown-linux-gnu", None),
+    "wasm": (["clang", "--target=wasm32-wasi", "-O2"], "wasm32-wasi", None),
+    "windows": (["x86_64-w64-mingw32-gcc", "-O2", "-D__USE_MINGW_ANSI_STDIO=1"], "x86_64-pc-windows-gnu", None),
+}
+
+
+@pytest.fixture(scope="module")
+def library(tmp_path_factory):
+    """library(TARGET): the archive that cargo builds, once for each target."""
+    room, built = tmp_path_factory.mktemp("c"), {}
+
+    def of(target):
+        if target not in built:
+            folder = copied(room / (target or "host"), "bindings/c", "bindings/rust") / "bindings/c"
+            if target:
+                words = ["build", "--release", "--ignore-rust-version"]
+                cargo_for(target, folder, *words, env={"RUSTFLAGS": "--cfg old_rustc"})
+            else:
+                need("cargo", "cc")
+                run("cargo", "build", "--release", *offline(), cwd=folder, env={"RUSTFLAGS": "-D warnings"})
+            built[target] = folder / "target" / (target or "") / "release/libgetopts.a"
+        return built[target]
+
+    return of
+
+
+@pytest.fixture(params=BUILDS)
+def build(request, tmp_path, quick, library):
+    """Builds a program of a source as one compiler does, and returns the words that run it."""
+    compiler, target, by = BUILDS[request.param]
+    if quick and target:
+        pytest.skip("other targets: this is the quick test")
+    need(compiler[0], *(by or [])[:1])
+    by = runner(target, tmp_path) if by is None else by
+    archive = library(target)
+
+    def built(source, *flags):
+        program = tmp_path / f"program{'.exe' if request.param == 'windows' else ''}"
+        run(*compiler, *WARNINGS, source, *flags, archive, "-o", program)
+        return [*by, program]
+
+    built.name = request.param
+    return built
+
+
+def test_rows(build):
+    program = build(C / "tests/rows.c")
+    for rows in ROWS:
+        out = run(*program, rows)[0]
+        assert ", 0 differ" in out
+        print(out)
+
+
+def test_calls(build):
+    run(*build(C / "tests/layer.c"))
+
+
+def test_calls_under_refused_memory(build):
+    if build.name in ("wasm", "windows", "valgrind"):
+        pytest.skip("its linker doesn't wrap malloc, or it is slow")
+    run(*build(C / "tests/layer_refused.c", WRAPS))
+
+
+def test_random_tables_and_words(build, cases):
+    run(*build(C / "tests/random.c"), cases(40_000) if build.name in ("gcc", "clang-san") else cases(4_000))
+
+
+def test_threads(build):
+    if build.name not in ("gcc", "clang", "musl"):
+        pytest.skip("threads: on this machine alone")
+    run(*build(C / "tests/threads.c", "-pthread"))
+
+
+def test_form(library, tmp_path):
+    """The crate's form and lints, and that all that is unsafe stands in one file."""
+    need("cargo", "rustfmt")
+    folder = copied(tmp_path, "bindings/c", "bindings/rust") / "bindings/c"
+    run("cargo", "fmt", "--check", cwd=folder)
+    run("cargo", "clippy", "--release", *offline(), "--", "-D", "warnings", cwd=folder)
+    unsafe = [path.name for path in (C / "src").glob("*.rs") if re.search(r"\bunsafe\b(?!_code)", path.read_text())]
+    assert [name for name in unsafe if name != "lib.rs"] == ["c.rs"]
+    assert "#![deny(unsafe_code)]" in (C / "src/lib.rs").read_text()
+
+
+@pytest.fixture(scope="module")
+def show_c(tmp_path_factory, library):
+    need("cc")
+    program = tmp_path_factory.mktemp("show") / "show"
+    run("cc", "-O2", *WARNINGS, C / "show.c", library(None), "-o", program)
+    return program
+
+
+@pytest.mark.parametrize("line", LINES)
+def test_show_answers_as_getopts_show(show, show_c, line):
+    assert answer(show_c, *line.split()) == answer(show, *line.split())
+
+
+@pytest.mark.parametrize("line", LINES[1:4])
+def test_show_under_refused_memory(show_c, refuse, line):
+    refused_in_turn(refuse, [show_c, *line.split()])
+
+
+@pytest.mark.parametrize("compiler", ["gcc", "clang", "g++", "clang++"])
+@pytest.mark.parametrize("modes, right", [("GETOPTS_STOP | GETOPTS_LONG_ONLY", True), ("GETOPTS_NO", False)])
+def test_a_kind_in_place_of_a_mode(compiler, modes, right, tmp_path):
+    need(compiler)
+    plus = compiler.endswith("++")
+    source = tmp_path / ("modes.cc" if plus else "modes.c")
+    source.write_text(f'#include "{C}/getopts.h"\nstruct getopts *made(const struct getopts_option *table);\n'
+                      "struct getopts *made(const struct getopts_option *table)"
+                      f" {{ return getopts_new(table, {modes}); }}\n")
+    flags = PLUS_WARNINGS if plus else WARNINGS
+    assert (answer(compiler, *flags, "-c", source, "-o", tmp_path / "modes.o")[1] == 0) == right
+
+
+# ---- installed
+
+HEAD = [  # status, output, errors, words
+    (0, "1\n2\n", "", ["-n2", "FILE"]),
+    (0, "Usage: head [options] FILE..\n", "", ["--help"]),
+    (0, "Usage: head [options] FILE..\n", "", ["-h", "-h", "FILE"]),
+    (2, "", "head: Unrecognized option: 'nope'\n", ["--nope"]),
+    (2, "", "head: Unrecognized option: 'x\udcff'\n", ["--x\udcff"]),
+    (0, "1\n2\n", "", ["-n2", "\udcff.txt"]),
+    (2, "", "head: '2x' isn't a number of lines\n", ["-n", "2x", "FILE"]),
+    (2, "", "head: '-1' isn't a number of lines\n", ["--lines=-1", "FILE"]),
+    (1, "1\n2\n", "head: nofile: No such file or directory\n", ["-n", "2", "nofile", "FILE"]),
+    (1, "", "head: .: Is a directory\n", ["."]),
+]
+
+
+@pytest.fixture(scope="module")
+def prefix(tmp_path_factory):
+    need("cargo", "cc", "ld", "objcopy", "ar", "pkg-config")
+    prefix = tmp_path_factory.mktemp("c") / "a prefix"
+    run("sh", C / "install.sh", prefix)
+    return prefix
+
+
+@pytest.fixture(params=["getopts", "getopts-static"])
+def flags(request, prefix):
+    env = {"PKG_CONFIG_PATH": str(prefix / "lib/pkgconfig")}
+    version = re.search(r'GETOPTS_VERSION "(.*)"', (C / "getopts.h").read_text())[1]
+    assert run("pkg-config", "--modversion", request.param, env=env)[0] == f"{version}\n"
+    assert f'version = "{version}"\n' in (C / "Cargo.toml").read_text()
+    return shlex.split(run("pkg-config", "--cflags", "--libs", request.param, env=env)[0])
+
+
+@pytest.mark.parametrize("compiler", ["gcc", "clang", "gcc-san", "clang-san"])
+def test_example(compiler, flags, prefix, tmp_path):
+    command = BUILDS[compiler][0]
+    need(command[0])
+    run(*command, *WARNINGS, C / "head.c", *flags, "-o", tmp_path / "head")
+    for name in ("FILE", "\udcff.txt"):
+        (tmp_path / name).write_text("1\n2\n3\n")
+    for status, output, errors, words in HEAD:
+        env = {"LD_LIBRARY_PATH": str(prefix / "lib")}
+        out, err = run(tmp_path / "head", *words, status=status, cwd=tmp_path, env=env)
+        assert ("".join(out.splitlines(True)[:2]).startswith(output), err) == (True, errors), words
+
+
+@pytest.mark.parametrize("compiler", ["g++", "clang++"])
+def test_cpp(compiler, flags, prefix, tmp_path):
+    need(compiler)
+    run(compiler, *PLUS_WARNINGS, C / "tests/installed.cpp", *flags, "-o", tmp_path / "plus")
+    words = "--verbose -ox --verbose a --verbose".split()
+    out = run(tmp_path / "plus", *words, env={"LD_LIBRARY_PATH": str(prefix / "lib")})[0]
+    assert out == "2 x a --verbose\n"
+
+
+def test_exports(prefix):
+    """Both libraries export the functions of getopts.h, and nothing else."""
+    need("nm", "readelf")
+    declared = set(re.findall(r"(getopts_[a-z_]*)\(", (C / "getopts.h").read_text()))
+    shared, archive = prefix / "lib/libgetopts.so", prefix / "lib/libgetopts.a"
+    for words in (["-D", shared], ["-g", archive]):
+        listed = run("nm", "--defined-only", *words)[0].splitlines()
+        assert {line.split()[-1] for line in listed if re.match(r"[0-9a-f]{8}", line)} == declared
+    asked = {line.split()[-1] for line in run("nm", "-u", archive)[0].splitlines() if " U " in line}
+    assert asked <= set("abort bcmp free malloc memcmp memcpy memmove memset realloc strlen".split())
+    assert re.search(r"SONAME.*\[libgetopts.so.2\]", run("readelf", "-d", shared)[0])
+
+
+def test_what_a_program_grows_by(prefix, tmp_path):
+    most = int(re.search(r" grows by (\d+) KB at most", (C / "getopts.h").read_text())[1]) * 1000
+    (tmp_path / "empty.c").write_text("int main(void) { return 0; }\n")
+    run("cc", "-O2", "-s", tmp_path / "empty.c", "-o", tmp_path / "without")
+    library = ["-isystem", prefix / "include", prefix / "lib/libgetopts.a"]
+    run("cc", "-O2", "-s", C / "head.c", *library, "-o", tmp_path / "with")
+    grown = (tmp_path / "with").stat().st_size - (tmp_path / "without").stat().st_size
+    assert 0.8 * most < grown <= most
+
+
+@pytest.mark.parametrize("compiler", ["clang", "musl-gcc"])
+@pytest.mark.parametrize("link", ["-static {0}/lib/libgetopts.a", "-L{0}/lib -Wl,-rpath,{0}/lib -lgetopts"])
+def test_installed_for(compiler, link, show_c, tmp_path):
+    need(compiler)
+    to = tmp_path / "to"
+    run("sh", C / "install.sh", to, env={"CC": compiler})
+    run(compiler, "-isystem", to / "include", C / "show.c", *link.format(to).split(), "-o", tmp_path / "linked")
+    assert answer(tmp_path / "linked", "-vv", "x") == answer(show_c, "-vv", "x")
+
+
+def test_installed_for_another_target(show_c, tmp_path):
+    """By the folder that has Debian's rustc, whose cargo is asked for what newer ones have."""
+    by, compiler = runner("aarch64-unknown-linux-gnu", tmp_path), "aarch64-linux-gnu-gcc"
+    need("/usr/bin/cargo", compiler)
+    env = {"CARGO": "/usr/bin/cargo", "CARGO_FLAGS": "--ignore-rust-version", "RUSTFLAGS": "--cfg old_rustc",
+           "RUSTC": "/usr/bin/rustc", "RUSTC_BOOTSTRAP": "1", "CARGO_BUILD_TARGET": "aarch64-unknown-linux-gnu"}
+    std = run("/usr/bin/rustc", "--print", "target-libdir", "--target", env["CARGO_BUILD_TARGET"])[0].strip()
+    if not Path(std).exists():
+        pytest.skip("/usr/bin/rustc has no std for aarch64: see tests/targets.py")
+    _, errors = run("sh", C / "install.sh", tmp_path / "to", env=env, status=1)
+    assert "CC has to name the C compiler for aarch64-unknown-linux-gnu" in errors
+    run("sh", C / "install.sh", tmp_path / "to", env={**env, "CC": compiler})
+    to, program = tmp_path / "to", tmp_path / "linked"
+    library = ["-isystem", to / "include", f"-L{to}/lib", f"-Wl,-rpath,{to}/lib", "-lgetopts"]
+    run(compiler, C / "show.c", *library, "-o", program)
+    assert answer(*by, program, "-vv", "x") == answer(show_c, "-vv", "x")
+
+
+def test_tools_that_lack(tmp_path):
+    _, errors = run("sh", C / "install.sh", tmp_path / "to", status=1, env={"CARGO": "no-cargo"})
+    assert "there is no no-cargo: install Rust 1.68 or later (Debian's package cargo" in errors
+    _, errors = run("sh", C / "install.sh", tmp_path / "to", status=1, env={"CC": "no-cc"})
+    assert "there is no no-cc: install a C compiler (Debian's package gcc)" in errors
+    (tmp_path / "cargo").write_text("#!/bin/sh\nexit 101\n")
+    (tmp_path / "cargo").chmod(0o755)
+    _, errors = run("sh", C / "install.sh", tmp_path / "to", status=1, env={"CARGO": str(tmp_path / "cargo")})
+    assert "librust-unicode-width-dev" in errors and not (tmp_path / "to").exists()
+
+
+@pytest.mark.parametrize("shell", ["dash", "busybox"])
+@pytest.mark.parametrize("relative", [False, True])
+def test_destdir_and_uninstall(shell, relative, tmp_path):
+    """Also by busybox's shell and tools alone."""
+    need(shell, "cargo", "cc")
+    env, words = {"DESTDIR": "stage" if relative else f"{tmp_path}/stage/"}, ["dash"]
+    if shell == "busybox":
+        tools, words = tmp_path / "tools", ["busybox", "sh"]
+        tools.mkdir()
+        for tool in "sed cp ln mkdir chmod rm dirname basename mktemp cat".split():
+            (tools / tool).symlink_to(shutil.which("busybox"))
+        # Debian's busybox has tools of its own before those on the path, of which ar makes no archives.
+        env.update(PATH=f"{tools}:{os.environ['PATH']}", AR=shutil.which("ar"))
+    run(*words, C / "install.sh", "/usr/lo cal/", env=env, cwd=tmp_path)
+    assert "prefix=/usr/lo cal\n" in (tmp_path / "stage/usr/lo cal/lib/pkgconfig/getopts.pc").read_text()
+    run(*words, C / "install.sh", "--uninstall", "/usr/lo cal", env=env, cwd=tmp_path)
+    assert not any(path.is_file() for path in (tmp_path / "stage").rglob("*"))
+
+
+def test_usage_of_install():
+    assert "PREFIX/include: getopts.h" in run("sh", C / "install.sh", "--help")[0]
+    for words in ([], [""], ["--nope"], ["a", "b"]):
+        assert "usage: bindings/c/install.sh [--uninstall] PREFIX" in run("sh", C / "install.sh", *words, status=1)[1]
+
+
+def test_pages():
+    example = re.search(r"^```c\n(.*?)^```", (C / "README.md").read_text(), re.M | re.S)[1]
+    assert example == (C / "head.c").read_text() and len(example.splitlines()) < 60
+    manual(C / "getopts.3")

@@ -1,0 +1,31 @@
+"""What the repository carries built is of today's source: by the sums of what was made, its sources and the toolchain."""
+
+import pytest
+from conftest import ROOT, need, run
+
+BUILD = "bindings/build.py"
+
+
+def test_of_the_source():
+    need("rt")
+    run(ROOT / BUILD, "--check", "shell")
+
+
+@pytest.mark.parametrize("file", ["crates/getopts/src/scan.rt", "bindings/shell/start.c",
+                                  "bindings/shell/x86_64/getopts_shell"])
+def test_a_change_is_found(file, copy):
+    need("rt")
+    with open(copy / file, "ab") as changed:
+        changed.write(b"\n")
+    assert file in run(copy / BUILD, "--check", "shell", status=1)[1]
+
+
+def test_erased_rust():
+    need("rustfmt")
+    run(ROOT / BUILD, "--check", "rust")
+
+
+@pytest.mark.parametrize("file", ["LICENSE-MIT", "LICENSE-APACHE", "NOTICE"])
+def test_licences(file):
+    for folder in ("crates/getopts", "bindings/rust"):
+        assert (ROOT / folder / file).read_bytes() == (ROOT / file).read_bytes()

@@ -1,0 +1,230 @@
+"""Wrong bodies, each an edit under must-fail: the prover has to refuse each against the contract as it stands.
+
+An edit names the function that it turns ('fn'), a file, and texts that stand there once ('old') with those in their place
+('new'), each of one or more lines. A function that an edit adds needs an 'ensures': of one without it the prover knows
+nothing, so any body is refused. Such an edit, or one that adds a way out, has also texts that are right in the same place
+('right'), and with these the prover has to prove the function.
+
+On a copy of the repository each edit is put beside its function, under a name of its own and with a copy of its proof
+files, so that one check of the crate tries all that were asked for. A method of a trait can't be copied: it is tried
+alone. The edits in private/ turn bodies that no public clause speaks of; they are tried with --many.
+"""
+
+import os
+import re
+import shutil
+
+import pytest
+from conftest import ROOT, answer, copy_tree, kit, wait_for
+
+EDITS = sorted(path for path in (ROOT / "tests/must-fail").rglob("*.edit"))
+LIBRARIES = ["getopts", "getopts_bytes"]
+# What a check says of a proof file that names a step which an edit took away: it says nothing of the contract.
+NAMES = re.compile(r"has no field|has no `|is not in scope|was not admitted|was rejected, was not checked")
+
+
+class Edit:
+    """An edit, with its wrong texts or its right ones."""
+
+    def __init__(self, path, variant):
+        self.path, self.variant, self.name = path, variant, path.stem + (":right" if variant == "right" else "")
+        self.crate = path.relative_to(ROOT / "tests/must-fail").parts[0]
+        self.pairs, self.function, file, texts = [], "", "", {}
+        for line in [*path.read_text(encoding="utf-8").splitlines(), "end:"]:
+            kind, _, rest = line.partition(":")
+            rest = rest.removeprefix(" ")
+            if "new" in texts and kind not in ("new", "right"):
+                self.pairs.append((file, {kind: "\n".join(lines) for kind, lines in texts.items()}))
+                texts = {}
+            if kind == "fn":
+                self.function = rest
+            elif kind == "file":
+                file = rest
+            elif kind in ("old", "new", "right"):
+                texts.setdefault(kind, []).append(rest)
+
+    def texts(self, kind):
+        return "\n".join(texts.get(kind, "") for _, texts in self.pairs)
+
+    def applied(self, folder):
+        """The files of the crate that the edit turns, as it leaves them."""
+        files = {}
+        for file, texts in self.pairs:
+            text = files.get(file) or (folder / file).read_text(encoding="utf-8")
+            assert text.count(texts["old"]) == 1, f"this doesn't stand once in {file}: {texts['old']}"
+            files[file] = text.replace(texts["old"], texts.get(self.variant, texts["new"]))
+        return files
+
+
+ALL = [Edit(path, variant) for path in EDITS
+       for variant in (("new", "right") if re.search("^right:", path.read_text(encoding="utf-8"), re.M) else ("new",))]
+
+
+def named(functions, text):
+    return re.sub(rf"\b({'|'.join(functions)})\b", lambda it: functions[it[1]], text) if functions else text
+
+
+def span(text, name, owner=None):
+    """Where a function stands in a text: one of a module, or a method in an impl of its type."""
+    starts = [it.start() for it in re.finditer(rf"^impl(<[^>]*>)? {owner}\b[^\n]*\{{", text, re.M)] if owner else [0]
+    for start in starts:
+        end = text.find("\n}\n", start) if owner else len(text)
+        if it := re.compile(rf"^[ ]*(pub(\([^)]*\))? )?fn {name}\b", re.M).search(text, start, end):
+            indent = re.match(" *", it[0])[0]
+            return it.start(), text.find(f"\n{indent}}}\n", it.start()) + len(indent) + 3
+    return None
+
+
+class Copies:
+    """The edits of a crate as copies of their functions, in its folder."""
+
+    def __init__(self, folder):
+        self.folder, self.files, self.imports, self.more, self.count = folder, {}, {}, {}, 0
+
+    def text(self, file):
+        return self.files.setdefault(file, (self.folder / file).read_text(encoding="utf-8"))
+
+    def add(self, edit):
+        """Copies an edit's function, and returns its name in the copy, or nothing where it has to be tried alone."""
+        path = edit.function.split("::")[1:]
+        owner = path[-2] if len(path) > 1 and path[-2][0].isupper() else None
+        files = edit.applied(self.folder)
+        file = next((file for file in files if span(files[file], path[-1], owner)), None)
+        if not file:
+            return None
+        self.count += 1
+        there = set(re.findall(r"\bfn (\w+)", (self.folder / file).read_text(encoding="utf-8")))
+        helpers = [name for name in dict.fromkeys(re.findall(r"\bfn (\w+)", files[file])) if name not in there]
+        names = {name: f"{name}_edit{self.count}" for name in helpers}
+        start, end = span(files[file], path[-1], owner)
+        body = named(names, files[file][start:end])
+        new = f"{path[-1]}_edit{self.count}"
+        body = re.sub(rf"\bfn {path[-1]}\b", f"fn {new}", body, count=1)
+        added = ["\n" + named(names, files[file][slice(*span(files[file], name))]) for name in helpers]
+        self.more.setdefault(file, []).append((path[-1], owner, body, added))
+        for other, text in files.items():
+            mine = self.text(other)
+            self.imports.setdefault(other, []).extend(
+                line for line in text.split("\n") if line.startswith("ghost use ") and line not in mine)
+            for name in re.findall(r"^pub\(crate\) fn (\w+)\(", text, re.M):
+                self.files[other] = re.sub(rf"^fn {name}\(", f"pub(crate) fn {name}(", self.files[other], flags=re.M)
+        self.copy_proofs(path, new)
+        return "::".join([edit.crate, *path[:-1], new])
+
+    def copy_proofs(self, path, new):
+        source, to = (self.folder.joinpath("proofs", *path[:-1], name) for name in (path[-1], new))
+        if source.is_dir():
+            shutil.copytree(source, to)
+            for file in (file for file in to.rglob("*") if file.is_file()):
+                text, module = file.read_text(encoding="utf-8"), ".".join(["proofs", *path[:-1]])
+                file.write_text(text.replace(f"{module}.{path[-1]}.", f"{module}.{new}."), encoding="utf-8")
+
+    def write(self):
+        for file, text in self.files.items():
+            for line in self.imports.get(file, ()):
+                module, more = re.match(r"ghost use ([\w.]+)\.\{(.*)\};", line).groups()
+                it = re.search(rf"^ghost use {re.escape(module)}\.\{{(.*)\}};", text, re.M)
+                names = list(dict.fromkeys(name.strip() for name in f"{it[1]},{more}".split(",")))
+                text = f"{text[:it.start()]}ghost use {module}.{{{', '.join(names)}}};{text[it.end():]}"
+            for name, owner, body, added in self.more.get(file, ()):
+                end = span(text, name, owner)[1]
+                text = text[:end] + "\n" + body + text[end:] + "".join(added)
+            (self.folder / file).write_text(text, encoding="utf-8")
+
+
+def check(folder, functions):
+    """What a check of these functions says."""
+    only = [word for function in functions for word in ("--only", function)]
+    said, _ = answer("rt", "check", "--jobs", os.environ.get("JOBS", "1"), *only, cwd=folder)
+    return said.decode(errors="replace")
+
+
+def verdict(said, function):
+    """`proved`, `refused`, or why a check doesn't say which."""
+    proof = "./proofs/" + function.partition("::")[2].replace("::", "/") + "/"
+    lines = said.split("\n")
+    own = next((line for line in lines if line.startswith(f"fn {function}: ")), "")
+    if own.startswith(f"fn {function}: proved"):
+        return "proved"
+    if "no proof: " in own and "`search` did not prove" in own:
+        return "refused"
+    if own.startswith(f"fn {function}: not proved"):
+        if any(proof in line and ": error: " in line and not NAMES.search(line) for line in lines):
+            return "refused"
+    return own or next((line for line in lines if ": error: " in line), said[-300:])
+
+
+@pytest.fixture(scope="session")
+def verdicts(request, tmp_path_factory):
+    """verdicts(CRATE): by the name of each edit that was asked for, what the prover says to it."""
+    kit()
+    found = {}
+
+    def of(crate):
+        if crate not in found:
+            found[crate] = {}
+            items = [item for item in request.session.items if item.name.startswith("test_edit[")]
+            asked = [edit for edit in (item.callspec.params["edit"] for item in items)
+                     if edit.crate == crate and not passed_over(edit, request.config)]
+            found[crate] = tried(asked, tmp_path_factory.mktemp(crate))
+        return found[crate]
+
+    return of
+
+
+def tried(edits, room):
+    crate = edits[0].crate
+    below = [] if crate in LIBRARIES else LIBRARIES
+    wait_for(*below)
+    folder = copy_tree(room / "copy", *below) / "crates" / crate
+    copies, functions, said = Copies(folder), {}, {}
+    for edit in edits:
+        functions[edit.name] = copies.add(edit)
+    alone = [edit for edit in edits if not functions[edit.name]]
+    plain = {file: (folder / file).read_text(encoding="utf-8") for edit in alone for file, _ in edit.pairs}
+    copies.write()
+    checked = check(folder, [function for function in functions.values() if function])
+    (room / "said").write_text(checked)
+    for edit in edits:
+        if functions[edit.name]:
+            said[edit.name] = verdict(checked, functions[edit.name])
+    for edit in alone:
+        for file, text in plain.items():
+            (folder / file).write_text(text, encoding="utf-8")
+        for file, text in edit.applied(folder).items():
+            (folder / file).write_text(text, encoding="utf-8")
+        said[edit.name] = verdict(check(folder, [edit.function]), edit.function)
+    return said
+
+
+def passed_over(edit, config):
+    """Why an edit isn't tried."""
+    if config.getoption("--quick"):
+        return "edits: --quick proves nothing"
+    if "private" in edit.path.parts and not config.getoption("--many"):
+        return "edits of private bodies: --many tries them"
+    return None
+
+
+def marks(edit):
+    """The edits of a crate are tried by one worker, those of callers once their libraries are proved."""
+    group = pytest.mark.xdist_group(f"edits of {edit.crate}")
+    return [group] if edit.crate in LIBRARIES else [group, pytest.mark.built]
+
+
+@pytest.mark.parametrize("edit", [pytest.param(edit, id=f"{edit.crate}-{edit.name}", marks=marks(edit)) for edit in ALL])
+def test_edit(edit, verdicts, request):
+    if why := passed_over(edit, request.config):
+        pytest.skip(why)
+    assert verdicts(edit.crate).get(edit.name, "the check failed before") == ("proved" if edit.variant == "right" else "refused")
+
+
+@pytest.mark.parametrize("edit", [pytest.param(edit, id=f"{edit.crate}-{edit.name}")
+                                  for edit in ALL if edit.variant == "new"])
+def test_form(edit):
+    """Each text stands where the edit says, and what it adds has an ensures and a right text beside it."""
+    edit.applied(ROOT / "crates" / edit.crate)
+    functions = dict(re.findall(r"\bfn (\w+)(.*?)(?=\bfn \w|\Z)", edit.texts("new"), re.S))
+    for name in functions.keys() - set(re.findall(r"\bfn (\w+)", edit.texts("old"))):
+        assert re.search(r"\bensures\b", functions[name]), f"it adds {name}, which has no ensures"
+        assert edit.texts("right").strip(), f"it adds {name}, and has no right text"

@@ -1,0 +1,386 @@
+"""The pages: what they name, quote and state is what the sources, the proofs and the records have. And no module uses one
+that uses it.
+
+Each figure of ten or more on a page is counted, measured or recorded (FIGURES). With --fix those that differ are replaced,
+and CONTRACTS.md is written anew from the sources.
+"""
+
+import functools
+import os
+import re
+import shutil
+import subprocess
+import textwrap
+
+import pytest
+from conftest import ROOT, need, run
+from conftest import tracked as all_tracked
+
+
+def read(name):
+    return (ROOT / name).read_text(encoding="utf-8")
+
+
+def output_of(*command):
+    return subprocess.run(command, capture_output=True, text=True, check=True, cwd=ROOT).stdout
+
+
+tracked = all_tracked()
+pages = {name: read(name) for name in tracked if name.endswith(".md")}
+
+
+def place(page, at):
+    """A page, and the line of a place in it."""
+    return f"{page}:{pages[page].count(chr(10), 0, at) + 1}"
+
+
+# ---- what is recorded ----
+
+
+@functools.cache
+def tables():
+    """The tables of bench/last_run.txt: by their titles and jobs, the figures by the names of their columns."""
+    kept, title, columns = {}, None, []
+    for line in read("bench/last_run.txt").split("\n"):
+        cells = re.split(r"\s{2,}", line.strip())
+        if cells[0] == "job":
+            columns = cells[1:]
+        elif columns and len(cells) == len(columns) + 1:
+            kept[title, cells[0]] = dict(zip(columns, cells[1:]))
+        else:
+            title, columns = line.strip(), []
+    return kept
+
+
+def cell(title, job, column):
+    return tables().get((title, job), {}).get(column, "0").rstrip("*")
+
+
+def share(job, library="this library"):
+    """What part of the Rust crate's instructions a library takes, in hundredths."""
+    return f"{100 * int(cell(INSTRUCTIONS, job, library)) / max(1, int(cell(INSTRUCTIONS, job, 'Rust crate'))):.0f}"
+
+
+def megabytes(column):
+    return f"{int(cell(PEAK, 'memory', column)) / 1e6:.2f}"
+
+
+@functools.cache
+def minutes(command):
+    """The least and the most minutes of a command in tests/times.txt, of processors and by the clock."""
+    rows = [line.rsplit(maxsplit=2) for line in read("tests/times.txt").split("\n") if line and line[0] != "#"]
+    spans = []
+    for kind in (1, 2):
+        of = [round(int(row[kind]) / 60) for row in rows if row[0] == command] or [0]
+        spans.append(f"{min(of)} to {max(of)} minutes" if min(of) < max(of) else f"{min(of)} minutes")
+    return spans
+
+
+@functools.cache
+def logic():
+    """The sum of the logic that the toolchain proves with."""
+    return output_of("rt", "version").split()[-1] if shutil.which("rt") else "unknown"
+
+
+INSTRUCTIONS = "Instructions of one turn"
+PEAK = "The most bytes held at once for reading 100,000 words, above the words and the options"
+COLUMNS = {"this library": "this library", "Rust crate": "Rust crate", "drop-in": "bindings/rust", "lexopt": "lexopt",
+           "pico-args": "pico-args", "clap": "clap"}
+
+CALLING = next(name for name in pages if name.endswith("CALLING.md"))
+# The figures that stand in no table of jobs: a page, a pattern whose groups are figures, and what each has to be.
+edits = {os.path.basename(name)[:-5] for name in tracked if name.endswith(".edit") and "/private/" not in name}
+FIGURES = [
+    ("README.md", r"\| ([\d,]+) named wrong bodies", lambda: [str(len(edits))]),
+    ("README.md", r"logic `(\w+)`", lambda: [logic()]),
+    ("README.md", r"`\(cd crates/getopts && rt lib\)` .* \| ([^|]*) \| ([^|]*) \|", lambda: minutes("rt lib")),
+    ("README.md", r"`bash test.sh` .* \| ([^|]*) \| ([^|]*) \|", lambda: minutes("bash test.sh")),
+    ("README.md", r"program takes (\d+) % of the Rust crate's .* and (\d+) %",
+     lambda: [share("small"), share("long")]),
+    ("README.md", r"it takes (\d+) % and (\d+) %", lambda: [share("copied-small"), share("copied-long")]),
+    ("README.md", r"takes (\d+) % of the instructions of the crate .* and (\d+) %",
+     lambda: [share("small", "bindings/rust"), share("long", "bindings/rust")]),
+    ("docs/DECISIONS.md", r"Up to (\d+) groups have no table",
+     lambda: re.findall(r"const FEW: usize = (\d+)", read("crates/getopts/src/table.rt"))),
+    (CALLING, r"the library once, in ([^|]*?) of processor time, by the clock in ([^|]*?)\s+on four", lambda: minutes("rt lib")),
+    ("tests/differential/README.md", r"first ([\d,]+) of seed 1",
+     lambda: [f"{int(re.search(r'choose 1 (.*?) ', read('tests/differential/record.sh'))[1]):,}"]),
+    ("bindings/rust/README.md", r"Rust ([\d.]+) or later",
+     lambda: re.findall(r'rust-version = "(.*)"', read("bindings/rust/Cargo.toml"))),
+    ("bindings/c/README.md", r"Rust ([\d.]+) or later",
+     lambda: re.findall(r'rust-version = "(.*)"', read("bindings/c/Cargo.toml"))),
+    ("bindings/shell/README.md", r"Rust ([\d.]+) or later",
+     lambda: re.findall(r'rust-version = "(.*)"', read("bindings/shell/Cargo.toml"))),
+    ("bench/README.md", r"holds is ([\d.]+) MB here, ([\d.]+) MB in the Rust\s+crate and ([\d.]+) MB",
+     lambda: [megabytes("this library"), megabytes("Rust crate"), megabytes("bindings/rust")]),
+]
+
+# What is no figure: versions, rules of the language, the jobs of the bench and the sizes of tests.
+NO_FIGURES = re.compile(r"""
+    \bU\+\w+ | \b0\.2\.24\b | Apache-2\.0 | x86-64(-v2)?
+    | 1,000\ words | 100,000\ words | 20\ options | 10\ words
+    | (32|64)\ bits | 54\ columns | 24\ (spaces|columns) | stop\ at\ 255 | 24\ bytes | C\+\+11 | Debian\ 12 | 80\ words | 200,000\ cases
+    # experiments that were done once
+    | 2,500\ random\ lines | 393\ small\ changes | detected\ 375 | 585\ small\ changes | detected\ 492 | 54\ of\ the\ other\ 93 | 39\ are
+""", re.X)
+
+
+# ---- what is compared ----
+
+
+def table_figures(page):
+    """The figures in tables of jobs, by the job and the column of each."""
+    columns = []
+    for row in re.finditer(r"^\|.*\|$", pages[page], re.M):
+        cells = [(row.start() + it.start(1), it[1]) for it in re.finditer(r"(?<=\|) *([^|]*?) *(?=\|)", row[0])]
+        if cells[0][1] == "job":
+            columns = [it for _, it in cells]
+        elif columns and (job := re.match(r"`([\w-]+)`", cells[0][1])):
+            for (at, cell_text), column in list(zip(cells, columns))[1:]:
+                if column in COLUMNS and (INSTRUCTIONS, job[1]) in tables():
+                    wanted = tables()[INSTRUCTIONS, job[1]].get(COLUMNS[column], "0")
+                    yield at, cell_text, re.sub(r"^\d+", lambda it: f"{int(it[0]):,}", wanted)
+
+
+def figures_of(page):
+    """The figures of a page that are known: where each is, what it is, and what it has to be."""
+    yield from table_figures(page)
+    for name, pattern, values in FIGURES:
+        if name == page:
+            it = re.search(pattern, pages[page])
+            for group, wanted in enumerate(values(), 1):
+                yield (it.start(group), it[group], wanted) if it else (0, f"nothing for '{pattern}'", wanted)
+
+
+def unknown_in(page):
+    """The numbers of ten or more in the prose of a page that no check knows."""
+    blank = lambda it: " " * len(it[0])
+    prose = re.sub(r"^```.*?^```|^    [^\n]*$|`[^`\n]*`|\]\([^)]*\)", blank, pages[page], flags=re.M | re.S)
+    prose = list(NO_FIGURES.sub(blank, prose))
+    for at, is_now, _ in figures_of(page):
+        prose[at:at + len(is_now)] = " " * len(is_now)
+    for it in re.finditer(r"(?<![\w.,-])\d[\d,]*(?:\.\d+)?(?!\w)", "".join(prose)):
+        if len(re.sub(r"\D", "", it[0])) > 1:
+            yield it.start(), it[0]
+
+
+def put_in(page):
+    """Puts what each figure of a page has to be in the place of what it is."""
+    text = pages[page]
+    for at, is_now, wanted in sorted(figures_of(page), reverse=True):
+        if at:
+            text = text[:at] + wanted + text[at + len(is_now):]
+    if text != pages[page]:
+        (ROOT / page).write_text(text, encoding="utf-8")
+        pages[page] = text
+
+
+# ---- what is checked ----
+
+
+def none(failures):
+    failures = list(dict.fromkeys(failures))
+    assert not failures, "\n".join(failures)
+
+
+# ---- code ----
+
+USE = re.compile(r"^[ \t]*(?:pub )?(?:ghost )?use ([^;{\n]*?)(?:\{([^}]*)\})?;?[ \t]*$\n?", re.M)
+
+
+def imports_of(text):
+    """The names that a text imports, each with the path that it comes from."""
+    names = {}
+    for path, several in USE.findall(text):
+        front, _, last = path.strip().rpartition("::")
+        for name in several.split(",") if several else [last]:
+            names[name.strip()] = path.strip() if several else front
+    return names
+
+
+sources = {name: read(name) for name in tracked if re.match(r"crates/\w*/src/.*\.rt$", name)}
+
+
+blocks = [(page, block) for page in ("README.md", CALLING)
+          for block in re.findall(r"^```rust\n(.*?)^```", pages[page], re.M | re.S)]
+examples = sources | {name: read(name) for name in tracked if name.startswith("bindings/rust/tests/")}
+
+
+@pytest.mark.parametrize("page, block", blocks, ids=[f"{page}-{at}" for at, (page, _) in enumerate(blocks)])
+def test_code_of_the_pages(page, block):
+    """Each block stands in a file that is proved or tested, and has the imports that it needs."""
+    code = USE.sub("", block).strip()
+    found = [name for name, text in examples.items() if f"\n{code}\n" in textwrap.dedent(text) or
+             textwrap.indent(code, "    ") in text]
+    assert found, "no file has its code"
+    here, there = imports_of(block), imports_of(examples[found[0]])
+    for name in here | there:
+        used = re.search(rf"(?<!\w){re.escape(name.strip('◌'))}(?!\w)", code) is not None
+        assert used == (name in here), name
+        assert name not in here or here[name] == there.get(name), f"{found[0]} doesn't import {name} from there"
+
+
+# ---- contracts ----
+
+CONTRACTS = next(name for name in pages if name.endswith("CONTRACTS.md"))
+
+
+def contracts_in(text):
+    """Each public function of a module's text, with the type that it is of, its name and its contract."""
+    owner, taken, name = "", None, ""
+    for line in text.split("\n"):
+        if it := re.match(r"impl(?:<[^>]*>)? (?:[\w<>: ]+ for )?(\w+)", line):
+            owner = it[1]
+        if line == "}":
+            owner = ""
+        if it := re.match(r"( *)pub fn (\w+)", line):
+            taken, indent, name = [], it[1], it[2]
+        if taken is None:
+            continue
+        alone = line.strip() in ("{", "{}")
+        clauses = re.search(r"^ *(requires|ensures) ", "\n".join([*taken, line]), re.M)
+        ends = alone or line.endswith((" {", "}")) and not clauses
+        taken += [] if alone else [(re.sub(r" \{(.*\})?$", "", line) if ends else line).removeprefix(indent)]
+        if ends:
+            yield owner, name, "\n".join(taken)
+            taken = None
+
+
+def contracts():
+    """The public functions of the library with their contracts, in the order of its modules."""
+    root = read("crates/getopts/src/lib.rt")
+    public = set(re.findall(r"\w+", " ".join(re.findall(r"^pub use (.*?);", root, re.M | re.S))))
+    parts = []
+    for visible, module in re.findall(r"^(pub )?mod (\w+);", root, re.M):
+        for owner, name, text in contracts_in(read(f"crates/getopts/src/{module}.rt")):
+            if (owner or name) in public or visible:
+                front = f"{owner}::" if owner else f"{module}::" if visible else ""
+                parts.append(text.replace("pub fn ", f"fn {front}", 1))
+    return "\n\n".join(parts) + "\n"
+
+
+def test_contracts(fix):
+    """CONTRACTS.md has the contract of each public function, as the sources have it."""
+    wanted = re.sub(r"^```\w+\n.*?^```", lambda _: f"```text\n{contracts()}```", pages[CONTRACTS], flags=re.M | re.S)
+    if fix and wanted != pages[CONTRACTS]:
+        (ROOT / CONTRACTS).write_text(wanted, encoding="utf-8")
+        pages[CONTRACTS] = wanted
+    assert pages[CONTRACTS] == wanted, "pytest tests/test_pages.py --fix writes it anew"
+
+
+# ---- promises ----
+
+def clauses_of():
+    """The named clauses of each function."""
+    clauses = {}
+    for text in sources.values():
+        for function in re.split(r"\bfn (?=\w)", text)[1:]:
+            here = clauses.setdefault(re.match(r"\w+", function)[0], set())
+            here |= set(re.findall(r"ensures (\w+) \{", function))
+    clauses["there"] = clauses["one_reading_one_canonical_line"]
+    return clauses
+
+
+def test_promises_have_clauses():
+    """Each function in a table of PROOFS has the clauses that stand beside it."""
+    clauses, lacking = clauses_of(), []
+    for row in re.findall(r"^\|.*\|$", pages["docs/PROOFS.md"], re.M):
+        for part in re.split(r"[;|]", re.sub(r"\([^)]*\)", "", row)):
+            if it := re.match(r"\s*((?:`\w+`(?:, )?)+|there): ((?:`\w+`(?:, )?)+)", part):
+                for function in re.findall(r"\w+", it[1]) if "`" in it[1] else [it[1]]:
+                    lacking += [f"{function} has no clause {clause}" for clause in re.findall(r"\w+", it[2])
+                                if clause not in clauses.get(function, ())]
+    none(lacking)
+
+
+# ---- names ----
+
+@pytest.mark.parametrize("crate", ["getopts", "getopts_show", "getopts_bytes", "getopts_shell"])
+def test_definitions_are_in_the_grammar(crate):
+    """GRAMMAR has each public definition, of getopts_shell each fact."""
+    named = set(re.findall(r"`([A-Za-z_][\w-]*)`", pages["docs/GRAMMAR.md"]))
+    here = [name for name in tracked if name.startswith(f"crates/{crate}/specs/")]
+    # Modules that stand under private clauses alone have their rules in comments.
+    order = read(f"crates/{crate}/specs/Lib.antt") if here else ""
+    private = re.findall(r"mod (\w+)", order.partition("Cited by private clauses alone")[2]) + ["Held"]
+    # What computes the results is a tool, but for what the clauses cite.
+    tools = set(re.findall(r"[a-z]\w*", read(f"crates/{crate}/specs/Results.antt"))) if crate == "getopts" else set()
+    lacking = []
+    for name in here:
+        if not re.match(rf"crates/{crate}/specs/(?:{'|'.join(private)})\b", name):
+            for it in re.findall(r"^(?:abbrev |unfoldable )?pub (?:record |data )?([A-Za-z_][\w-]*)", read(name), re.M):
+                passed_over = it in ("mod", "use") or crate == "getopts_shell" and it[0].islower()
+                passed_over |= name.endswith("/Results.antt") and it in tools and not it.endswith("_result")
+                lacking += [] if passed_over or it in named else [f"{it} of {name}"]
+    none(lacking)
+
+
+def test_edits_are_in_the_proofs():
+    none(edit for edit in sorted(edits) if f"`{edit}`" not in pages["docs/PROOFS.md"])
+
+
+# Names of the toolchain, of Rust and of Debian's packages.
+OTHERS = """Lends LendsIfOk RestsIfErr Send Sync unicode-width x86-64-v2 POSIXLY_CORRECT optind IFS copied-
+    librust-clap-dev librust-lexopt-dev librust-pico-args-dev librust-unicode-width-dev"""
+
+
+@functools.cache
+def words():
+    """The words of the sources, and the names of files."""
+    found = set(OTHERS.split()) | {logic()} | {part for name in tracked for part in re.split(r"[/.]", name)}
+    for name in tracked:
+        if re.search(r"\.(rt|antt|rs|c|h|cpp|sh|py|edit|toml|txt|ini|rows)$|/stdin$|^crates.txt$|^HANDLES$", name):
+            text = read(name)
+            found |= set(re.findall(r"[\w+-]+", text)) | set(re.findall(r"\w+", text))
+    return found
+
+
+@pytest.mark.parametrize("page", pages)
+def test_names_and_links(page):
+    """What a page names in backquotes exists, as a word of the sources or a file; so does what it links to."""
+    failures = []
+    prose = re.sub(r"^```.*?^```", "", pages[page], flags=re.M | re.S)
+    for span in sorted(set(re.findall(r"`([A-Za-z_][\w-]*)`", prose))):
+        failures += [] if span in words() else [f"nothing is called {span}"]
+    for path in sorted(set(re.findall(r"`([\w./-]+\.(?:md|rt|antt|rs|c|h|sh|py|edit|txt))`", prose))):
+        there = [path, os.path.normpath(os.path.join(os.path.dirname(page), path))]
+        if not any(f"/{it}".endswith(f"/{end}") for it in tracked for end in there):
+            failures.append(f"there is no file {path}")
+    for target, heading in re.findall(r"\]\(([^)#]*)#?([^)]*)\)", prose):
+        there = os.path.normpath(os.path.join(os.path.dirname(page), target)) if target else page
+        failures += [] if "://" in target or (ROOT / there).exists() else [f"there is no {target}"]
+        headings = re.findall(r"^#+ (.*)", pages.get(there, ""), re.M)
+        anchors = [re.sub(r"[^\w -]", "", it).lower().replace(" ", "-") for it in headings]
+        failures += [] if not heading or heading in anchors else [f"{target} has no heading {heading}"]
+    none(failures)
+
+
+# ---- modules ----
+
+@pytest.mark.parametrize("crate", sorted({name.split("/")[1] for name in sources}))
+def test_no_module_uses_one_that_uses_it(crate):
+    left = {}
+    for name, text in sources.items():
+        if (it := re.match(rf"crates/{crate}/src/(\w+)\.rt$", name)) and it[1] not in ("lib", "main"):
+            left[it[1]] = set(re.findall(r"^\s*use crate::(\w+)", text, re.M)) - {it[1]}
+    while ready := [module for module in left if not left[module] & set(left)]:
+        for module in ready:
+            del left[module]
+    assert not left, f"in a circle: {', '.join(left)}"
+
+
+# ---- figures and scripts ----
+
+
+@pytest.mark.parametrize("page", pages)
+def test_figures(page, fix):
+    if fix:
+        put_in(page)
+    failures = [f"{place(page, at)}: {is_now} has to be {wanted}"
+                for at, is_now, wanted in figures_of(page) if is_now != wanted]
+    none(failures + [f"{place(page, at)}: no check knows the figure {it}" for at, it in unknown_in(page)])
+
+
+def test_shell_scripts():
+    need("shellcheck")
+    run("shellcheck", *(name for name in tracked if name.endswith(".sh")), cwd=ROOT)

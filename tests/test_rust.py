@@ -1,0 +1,244 @@
+"""The Rust crate: it is the proved source, its form, and it answers as the crate getopts 0.2.24, on five targets."""
+
+import re
+import shutil
+import subprocess
+import sys
+from pathlib import Path
+
+import pytest
+from conftest import LINES, ROOT, ROWS, answer, need, run
+from targets import TARGETS, UNWINDS, cargo_for, copied, offline, runner
+
+RUST = ROOT / "bindings/rust"
+TWIN = ROOT / "tests/differential/twin"
+ERASED = {"getopts": RUST / "src/proved", "getopts_bytes": RUST / "src/bytes",
+          "getopts_shell": ROOT / "bindings/shell/src/program"}
+
+
+# ---- the source
+
+def same_tokens(source, folder):
+    return answer(sys.executable, RUST / "same_tokens.py", source, folder)
+
+
+@pytest.mark.parametrize("crate", ERASED)
+def test_tokens_are_those_of_the_source(crate):
+    assert same_tokens(ROOT / f"crates/{crate}/src", ERASED[crate]) == (b"", 0)
+
+
+def test_erased_source_is_that_of_today():
+    need("rustfmt")
+    assert run(sys.executable, RUST / "erase.py", "--check") == ("", "")
+
+
+@pytest.mark.parametrize("file, right, wrong", [
+    ("parse.rs", "count <= 1", "count < 1"),
+    ("scan.rs", "line.try_grow(words, stops)?;", "line.try_grow(words, stops);"),
+    ("table.rs", "entries.dedup_by", "entries.reverse(); entries.dedup_by")])
+def test_other_tokens_are_found(file, right, wrong, tmp_path):
+    shutil.copytree(ERASED["getopts"], tmp_path / "planted")
+    planted = tmp_path / "planted" / file
+    planted.write_text(planted.read_text().replace(right, wrong, 1))
+    assert wrong in planted.read_text() and same_tokens(ROOT / "crates/getopts/src", tmp_path / "planted")[1] == 1
+
+
+@pytest.fixture
+def reader(tmp_path):
+    """A copy of the eraser, and the folder of the source that it reads there."""
+    source = tmp_path / "crates/getopts/src"
+    source.mkdir(parents=True)
+    (tmp_path / "bindings/rust").mkdir(parents=True)
+    shutil.copy(RUST / "erase.py", tmp_path / "bindings/rust")
+    return tmp_path / "bindings/rust/erase.py", source
+
+
+@pytest.mark.parametrize("plant", sorted(path.stem for path in (ROOT / "tests/eraser").glob("*.plant")))
+def test_readers_stop(plant, reader, tmp_path):
+    """Each is Rattle, or was taken for it, and means something else once it is erased: both readers stop at it."""
+    eraser, source = reader
+    text, rust = (ROOT / f"tests/eraser/{plant}.plant").read_text().split("// ---- what is left of it\n")
+    laws = plant.endswith("laws")
+    (source / ("laws.rt" if laws else "lib.rt")).write_text(text)
+    if laws:
+        (source / "lib.rt").write_text("mod laws;\n")
+    assert "erase.py: crates/getopts/src/" in run(sys.executable, eraser, status=1)[1]
+    (tmp_path / "left").mkdir()
+    (tmp_path / "left/mod.rs").write_text(rust)
+    said, status = same_tokens(source, tmp_path / "left")
+    assert status == 1 and b"it may mean something else in Rust" in said
+
+
+@pytest.mark.parametrize("file, right, wrong, why", [
+    ("row.rt", "const MARGIN: usize = 24", "const MARGIN: usize ≡ 24", "'≡': it isn't Rust"),
+    ("table.rt", "let Table { entries: _ } = self;", "let _ = self;",
+     "'Drop': its impl does more than to take a value apart"),
+    ("names.rt", "    short.len()", "    (short.len()", "'}': it closes nothing")])
+def test_eraser_stops(file, right, wrong, why, reader):
+    eraser, source = reader
+    shutil.copytree(ROOT / "crates/getopts/src", source, dirs_exist_ok=True)
+    text = (source / file).read_text()
+    assert right in text
+    (source / file).write_text(text.replace(right, wrong, 1))
+    assert re.search(rf"{file}:\d+: {re.escape(why)}", run(sys.executable, eraser, "--check", status=1)[1])
+
+
+def test_licences():
+    for name in ("LICENSE-MIT", "LICENSE-APACHE", "NOTICE"):
+        assert (ROOT / name).read_bytes() == (ROOT / "crates/getopts" / name).read_bytes() == (RUST / name).read_bytes()
+
+
+# ---- the crate
+
+@pytest.fixture(scope="module")
+def cargo(tmp_path_factory):
+    """cargo(WORD..): in a copy of the crate."""
+    need("cargo", "cc")
+    folder = copied(tmp_path_factory.mktemp("rust"), "bindings/rust") / "bindings/rust"
+    shutil.copytree(TWIN, folder / "../../tests/differential/twin")
+
+    def cargo(*words, env=None):
+        return run("cargo", words[0], *offline(), *words[1:], cwd=folder, env=env)
+
+    cargo.folder = folder
+    return cargo
+
+
+@pytest.mark.parametrize("features", [["--features", "proved"], ["--no-default-features", "--tests"]])
+def test_crate(cargo, features):
+    cargo("test", *features)
+
+
+@pytest.mark.parametrize("features", [[], ["--features", "proved"], ["--no-default-features"], ["--features", "bare"]])
+def test_no_warning(cargo, features):
+    cargo("check", *features, env={"RUSTFLAGS": "-D warnings"})
+
+
+def test_form(cargo):
+    for folder in (cargo.folder, cargo.folder / "../../tests/differential/twin"):
+        run("cargo", "fmt", "--check", cwd=folder)
+    cargo("clippy", "--all-targets", "--features", "proved canonical", "--", "-D", "warnings")
+    cargo("clippy", "--features", "bare", "--", "-D", "warnings")
+
+
+def test_documentation(cargo):
+    cargo("doc", "--no-deps", "--features", "proved", env={"RUSTDOCFLAGS": "-D warnings"})
+    for name in ("options", "matches", "os"):
+        example = False
+        for line in (RUST / f"src/{name}.rs").read_text().splitlines():
+            assert example or not line.startswith("    pub fn"), f"no example of {line.strip()}"
+            example = line.startswith("    /// ```") or example and not line.startswith(("    }", "impl"))
+
+
+def test_package(cargo):
+    names = cargo("package", "--allow-dirty", "--list")[0].split()
+    assert set("README.md LICENSE-MIT LICENSE-APACHE NOTICE src/proved/mod.rs src/bytes/mod.rs".split()) <= set(names)
+    for name in set(names) - {"Cargo.lock", "Cargo.toml.orig", ".cargo_vcs_info.json"}:
+        (RUST / name).read_text(encoding="utf-8")
+    tree = cargo("tree", "--edges", "normal", "--prefix", "none")[0].splitlines()
+    assert {line.split()[0] for line in tree} == {"getopts", "unicode-width"}
+
+
+@pytest.fixture(scope="module")
+def example(cargo):
+    cargo("build", "--release", "--example", "show")
+    return cargo.folder / "target/release/examples/show"
+
+
+@pytest.mark.parametrize("line", LINES)
+def test_example_answers_as_getopts_show(line, example, show):
+    assert answer(example, *line.split()) == answer(show, *line.split())
+
+
+# ---- beside the crate getopts 0.2.24
+
+@pytest.fixture(scope="module")
+def twin(tmp_path_factory):
+    """twin(CRATE, FLAG..): the program of tests/differential over a crate in a folder."""
+    need("cargo", "cc")
+    built = {}
+
+    def twin(over, *flags, edit=None):
+        if (over, flags, edit) not in built:
+            room = tmp_path_factory.mktemp("twin")
+            shutil.copytree(TWIN, room / "twin")
+            shutil.copytree(over, room / "crate", ignore=shutil.ignore_patterns("target", "Cargo.lock"))
+            if edit:
+                file, right, wrong = edit
+                text = (room / "crate/src" / file).read_text()
+                assert right in text
+                (room / "crate/src" / file).write_text(text.replace(right, wrong))
+            with open(room / "twin/Cargo.toml", "a") as file:
+                file.write('\n[patch.crates-io]\ngetopts = { path = "../crate" }\n')
+            run("cargo", "build", "--release", *offline(), *flags, cwd=room / "twin")
+            built[over, flags, edit] = room / "twin/target/release/twin"
+        return built[over, flags, edit]
+
+    return twin
+
+
+@pytest.fixture(scope="module")
+def ours(twin):
+    return twin(RUST, "--features", "canonical")
+
+
+@pytest.mark.parametrize("rows", ROWS, ids=lambda path: path.stem)
+def test_rows(ours, rows):
+    assert ", 0 differ" in run(ours, "check", rows)[0]
+
+
+def differ(room, ours, theirs, seed, count):
+    """What two twins answer to so many cases of a seed, compared."""
+    cases = run(theirs, "generate", seed, count)[0]
+    (room / "theirs").write_text(run(theirs, "answer", input=cases)[0])
+    (room / "ours").write_text(run(ours, "answer", input=cases)[0])
+    return subprocess.run([theirs, "compare", room / "ours", room / "theirs"]).returncode
+
+
+@pytest.mark.parametrize("flags, seed", [(("--features", "canonical"), 1), (("--no-default-features",), 3)])
+def test_cases(twin, crate, cases, tmp_path, flags, seed):
+    without = flags if "--no-default-features" in flags else ()
+    ours, theirs = twin(RUST, *flags), twin(crate, *without)
+    for of in (seed, seed + 1):
+        assert differ(tmp_path, ours, theirs, of, cases(20_000)) == 0
+    assert run(ours, "panics") == run(theirs, "panics")
+
+
+def test_a_difference_is_found(twin, crate, tmp_path):
+    planted = twin(RUST, edit=("matches.rs", "first_value_or(def)", 'first_value_or("")'))
+    assert differ(tmp_path, planted, twin(crate), 1, 2000) == 1
+
+
+# ---- other targets
+
+@pytest.mark.parametrize("target", TARGETS)
+def test_target(target, tmp_path, quick, request, ours, example):
+    """By Debian's rustc 1.63: the crate's public tests, the rows, the example, words of any bytes, and `bare`."""
+    if quick:
+        pytest.skip("other targets: this is the quick test")
+    shutil.copytree(TWIN, tmp_path / "twin")
+    copied(tmp_path, "bindings/rust")
+    twin = tmp_path / "twin"
+    with open(twin / "Cargo.toml", "a") as file:
+        file.write('\n[patch.crates-io]\ngetopts = { path = "../bindings/rust" }\n')
+    (twin / "src/bin").mkdir()
+    shutil.copy(RUST / "examples/show.rs", twin / "src/bin")
+    (twin / "tests").mkdir()
+    shutil.copy(RUST / "tests/os.rs", twin / "tests")
+    panics = [] if target in UNWINDS else ["panics", "test_long_name_too_short", "test_undefined_opt_present"]
+    left_out = [word for name in panics for word in ("--skip", name)]
+    crate = request.config.getoption("--getopts")
+    if crate and (Path(crate) / "tests/public.rs").exists():
+        shutil.copy(Path(crate) / "tests/public.rs", twin / "tests")
+    cargo_for(target, twin, "build", "--release", "--features", "canonical")
+    cargo_for(target, twin, "test", "--release", "--features", "canonical", "--test", "*", "--", *left_out)
+    cargo_for(target, tmp_path / "bindings/rust", "build", "--features", "bare")
+    by, built = runner(target, tmp_path), twin / "target" / target / "release"
+    program = {path.stem: path for path in built.iterdir() if path.suffix in ("", ".exe", ".wasm") and path.is_file()}
+    for rows in ROWS:
+        passed_over = [] if target in UNWINDS else ["lawful"]
+        assert ", 0 differ" in run(*by, program["twin"], "check", rows, *passed_over)[0]
+    words = LINES[1].split()
+    said, status = answer(example, *words)
+    there = run(*by, program["show"], *words)[0].replace("\r", "")
+    assert (there.encode(), status) == (said, 0)
