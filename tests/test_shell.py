@@ -1,174 +1,80 @@
-"""The program for shell scripts: the one that bindings/shell carries for this machine in the shells that are installed,
-beside getopt(1), in terminals, and in a root that has nothing but busybox; aarch64's by qemu; the one that cargo builds,
-also for Windows; start.c by itself; and their installation."""
+"""The program for shell scripts: what it answers, and what each shell that is installed makes of its code."""
 
 import os
-import shutil
-import stat
-import subprocess
 import sys
-from pathlib import Path
 
 import pytest
-from conftest import MACHINE, ROOT, answer, manual, need, run
-from targets import cargo_for, copied, offline, runner
+from conftest import ROOT, need
 
-SHELL = ROOT / "bindings/shell"
-CARRIED = SHELL / MACHINE / "getopts_shell"
-START = ["-std=c11", "-Wall", "-Wextra", "-Wpedantic", "-Wshadow", "-Wconversion", "-Wno-sign-conversion", "-Werror",
-         "-Wl,--wrap=main", ROOT / "tests/system/start.c", SHELL / "start.c", "-o"]
-
-
-def tries(script, *words):
-    """Runs a script of tests/shell, which says what it tried."""
-    print(run(sys.executable, ROOT / f"tests/shell/{script}.py", *words)[0])
-
-
-def wrapped(path, text):
-    """A script that runs a program by another."""
-    path.write_text(text)
-    path.chmod(path.stat().st_mode | stat.S_IXUSR)
-    return path
+sys.path.insert(0, str(ROOT / "tests/shell"))
+import common  # noqa: E402
+import complete  # noqa: E402
+import lines  # noqa: E402
+import rows  # noqa: E402
+import run as shells  # noqa: E402
 
 
 @pytest.fixture(scope="module")
-def carried():
-    if not CARRIED.exists():
-        pytest.skip(f"bindings/shell carries no program for {MACHINE}")
-    return CARRIED
+def program(shell, tmp_path_factory):
+    """The program in a folder of its own, by the name that scripts call."""
+    folder = tmp_path_factory.mktemp("bin")
+    (folder / "getopts_shell").symlink_to(shell)
+    return folder / "getopts_shell"
 
 
-def test_in_shells(carried, cases):
-    tries("run", carried, cases(2000))
+@pytest.fixture(autouse=True)
+def nothing_failed():
+    """What the modules of tests/shell found wrong fails a test."""
+    common.failed.clear()
+    yield
+    assert common.failed == []
 
 
-def test_completion_in_terminals(carried):
-    tries("complete", carried)
+@pytest.fixture(params=common.SHELLS)
+def one_shell(request):
+    """One of the shells, as its words."""
+    words = request.param.split()
+    need({"busybox": "busybox"}.get(words[0], words[0]))
+    return words
 
 
-def test_instructions_of_a_run(carried):
-    need("valgrind")
-    print(run(ROOT / "bench/bench.py", "--shell", carried)[0])
+@pytest.mark.parametrize("words, text, status", [pytest.param(*row, id=str(at)) for at, row in enumerate(rows.all_rows())])
+def test_row(program, words, text, status):
+    streams = (text, "") if status == 0 else ("", text)
+    common.expect(f"{[word[:60] for word in words]}", common.run([program, *words]), status, *streams)
 
 
-def test_aarch64(carried, tmp_path):
-    if MACHINE == "aarch64":
-        pytest.skip("this machine is one")
-    need("qemu-aarch64")
-    by = wrapped(tmp_path / "by_qemu", f'#!/bin/sh\nexec qemu-aarch64 "{SHELL}/aarch64/getopts_shell" "$@"\n')
-    tries("rows", by, carried)
+def test_help_and_faults_are_those_without_variables(program):
+    shells.without_variables(program)
 
 
-@pytest.mark.parametrize("compiler", ["gcc", "clang", "musl-gcc", "aarch64-linux-gnu-gcc"])
-def test_start(compiler, tmp_path):
-    """start.c does what is declared of it."""
-    flags = ["-static", "-O2"] if "-gcc" in compiler else ["-fsanitize=undefined", "-fno-sanitize-recover=all", "-g"]
-    by = ["qemu-aarch64"] if compiler.startswith("aarch64") and MACHINE != "aarch64" else []
-    need(compiler, *by)
-    run(compiler, *flags, *START, tmp_path / "start")
-    run(*by, tmp_path / "start", "", "three")
+@pytest.mark.parametrize("way", ["words", "variables", "arrays"])
+def test_random_lines(program, one_shell, tmp_path, cases, way):
+    if way == "arrays" and one_shell[0] not in lines.WITH_ARRAYS:
+        pytest.skip(f"{one_shell[0]} has no arrays")
+    lines.random_lines(program, [one_shell], tmp_path, cases(2000), way)
 
 
-@pytest.mark.parametrize("words", ["-vi a x", "--input=a -v -- -v", "--help", "-x", "--completion fish"])
-def test_with_nothing_but_busybox(words, carried, tmp_path):
-    """In a root that has busybox, the program and a script, the script does what it does here."""
-    need("busybox")
-    busybox = Path(shutil.which("busybox"))
-    if answer("ldd", busybox)[1] == 0:
-        pytest.skip("busybox isn't static: apt-get install busybox-static")
-    if os.getuid() != 0:
-        pytest.skip("only the system administrator may make a root")
-    folder = tmp_path / "root/bin"
-    folder.mkdir(parents=True)
-    for file in (busybox, carried, SHELL / "examples/backup"):
-        shutil.copy2(file, folder / file.name)
-    (folder / "sh").hardlink_to(folder / "busybox")
-    inside = answer("chroot", tmp_path / "root", "/bin/busybox", "env", "-i", "PATH=/bin", "sh", "/bin/backup", *words.split())
-    here = answer("busybox", "sh", SHELL / "examples/backup", *words.split(), env={"PATH": f"{folder}:{os.environ['PATH']}"})
-    assert inside == here
+def test_scripts_of_the_page(program, one_shell, tmp_path):
+    shells.page(program, [one_shell], tmp_path)
 
 
-def test_install(carried, tmp_path):
-    """The program where the caller says, below DESTDIR, of another processor; and nothing after --uninstall."""
-    def install(*words, status=0, **env):
-        run("sh", SHELL / "install.sh", *words, status=status, cwd=tmp_path, env=env)
-
-    install("a prefix", CDPATH=f"/:{SHELL}")
-    assert (tmp_path / "a prefix/bin/getopts_shell").read_bytes() == carried.read_bytes()
-    assert (tmp_path / "a prefix/share/man/man1/getopts_shell.1").is_file()
-    for machine in ("x86_64", "aarch64"):
-        install("/usr", DESTDIR="stage", MACHINE=machine)
-        there = SHELL / machine / "getopts_shell"
-        assert (tmp_path / "stage/usr/bin/getopts_shell").read_bytes() == there.read_bytes()
-    done = subprocess.run(["sh", SHELL / "install.sh", "/nowhere"], env={**os.environ, "MACHINE": "m68k"}, cwd=tmp_path)
-    assert done.returncode != 0 and not Path("/nowhere").exists()
-    install("--uninstall", "a prefix")
-    install("--uninstall", "/usr", DESTDIR="stage/")
-    assert not [path for path in tmp_path.rglob("*") if not path.is_dir()]
+@pytest.mark.parametrize("what, where, script, out", [pytest.param(*row, id=row[0]) for row in shells.MINDS])
+def test_sentence_of_the_page(program, one_shell, what, where, script, out):
+    if where is not None and one_shell[0] not in where:
+        pytest.skip(f"it is said of {', '.join(where)}")
+    env = {**os.environ, "PATH": f"{program.parent}:{os.environ['PATH']}"}
+    assert common.run(one_shell + ["-c", script], env=env).stdout == out.encode()
 
 
-def test_manual():
-    manual(SHELL / "getopts_shell.1")
+def test_lines_as_getopt_reads_them(program):
+    need("getopt")
+    shells.beside_getopt(program)
 
 
-# ---- by cargo
-
-def test_cargo_form():
-    need("cargo", "rustfmt")
-    run("cargo", "fmt", "--check", cwd=SHELL)
+def test_tables_with_one_byte_changed(program):
+    shells.changed_tables(program)
 
 
-def test_cargo_without_a_warning(tmp_path):
-    need("cargo", "cc")
-    folder = copied(tmp_path, "bindings/rust", "bindings/shell") / "bindings/shell"
-    run("cargo", "check", *offline(), cwd=folder, env={"RUSTFLAGS": "-D warnings"})
-
-
-@pytest.fixture(scope="module")
-def installed(tmp_path_factory):
-    """The program that cargo installs from a clone."""
-    need("cargo", "cc", "git")
-    room = tmp_path_factory.mktemp("cargo")
-    clone = copied(room, "bindings/rust", "bindings/shell") / "bindings"
-    for words in (["init", "-q"], ["add", "-A"], ["-c", "user.name=a", "-c", "user.email=a@b", "commit", "-q", "-m", "a"]):
-        run("git", *words, cwd=clone)
-    registry = [word for word in offline() if word != "--offline"]
-    run("cargo", "install", *registry, "--quiet", "--git", f"file://{clone}", "--root", room / "root", "getopts_shell")
-    return room / "root/bin/getopts_shell"
-
-
-def test_cargo_answers(installed, carried):
-    tries("rows", installed, carried)
-
-
-def test_cargo_in_shells(installed, cases):
-    tries("run", installed, cases(1000))
-
-
-def test_windows(carried, tmp_path, quick):
-    if quick:
-        pytest.skip("--quick: no other targets")
-    target = "x86_64-pc-windows-gnu"
-    folder = copied(tmp_path, "bindings/rust", "bindings/shell") / "bindings/shell"
-    # Cargo of that age reads no lock of today, and rustc asks for what the source has that is newer.
-    cargo_for(target, folder, "build", "--release", "--ignore-rust-version",
-              env={"RUSTFLAGS": "-Zcrate-attr=feature(let_else)"})
-    wine = shutil.which(runner(target, tmp_path)[0])
-    by = wrapped(tmp_path / "by_wine", f"""#!/usr/bin/env bash
-# What wine itself says is left out.
-"{wine}" "{folder}/target/{target}/release/getopts_shell.exe" "$@" 2>"{tmp_path}/errors"
-status=$?
-sed '/^wine: /d' "{tmp_path}/errors" >&2
-exit $status
-""")
-    # The server stays, so that no run meets one that is ending. The first run makes wine's folder.
-    (tmp_path / "wine").mkdir(exist_ok=True)
-    server = shutil.which("wineserver") or next(map(str, Path("/usr/lib/wine").glob("wineserver*")), None)
-    if server:
-        run(server, "-p")
-    answer(by, "--help")
-    try:
-        tries("rows", "--short", by, carried)
-    finally:
-        if server:
-            run(server, "-k")
+def test_what_may_come(program):
+    complete.answers(program)

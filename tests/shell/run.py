@@ -26,8 +26,6 @@ from common import ROOT, expect, fail, main, run, shells
 from lines import canonical, case_of, random_lines, written
 from rows import TABLE, ask
 
-LINES = int(sys.argv[2]) if len(sys.argv) > 2 else 2000
-
 
 def without_variables(program):
     """Help and faults are the same with and without variables."""
@@ -315,7 +313,7 @@ def test(program, room):
     ask(program)
     without_variables(program)
     for way in ("words", "variables", "arrays"):
-        random_lines(program, found, room, LINES, way)
+        random_lines(program, found, room, int(sys.argv[2]) if len(sys.argv) > 2 else 2000, way)
     page(program, found, room)
     minds(program, found)
     beside_getopt(program)
