@@ -18,10 +18,10 @@ use std::alloc::{AllocError, Global};
 use std::marker::Model;
 
 /// The capacity once a first group is added: so many groups need no second request.
-pub(crate) const FIRST_GROUPS: usize = 8;
+pub(crate) const FIRST_GROUPS: usize = 32;
 
 /// The bytes of their names, likewise.
-const FIRST_NAMES: usize = 128;
+const FIRST_NAMES: usize = 512;
 
 /// What the first free word does to the words after it.
 #[derive(Debug, Clone, Copy, PartialEq, Eq)]

@@ -14,7 +14,7 @@ use std::alloc::{AllocError, Global};
 use std::marker::Model;
 
 /// The bytes of the hints and descriptions of the first groups: so many need no second request.
-const FIRST_HELP: usize = 256;
+const FIRST_HELP: usize = 1024;
 
 /// A group with its texts for usage, borrowed.
 #[derive(Clone, Copy)]

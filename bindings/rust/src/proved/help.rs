@@ -7,7 +7,7 @@ use super::groups::{Ends, FIRST_GROUPS, Kinds, Signature, Signatures, push_reser
 use crate::alloc::{AllocError, Global};
 
 /// The bytes of the hints and descriptions of the first groups: so many need no second request.
-const FIRST_HELP: usize = 256;
+const FIRST_HELP: usize = 1024;
 
 /// A group with its texts for usage, borrowed.
 #[derive(Clone, Copy)]
