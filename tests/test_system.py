@@ -147,8 +147,8 @@ def test_no_words(preload):
 
 
 # What the program for shell scripts is given, and what it answers.
-GIVEN = ["-w", "try", "[-v]..  say more\n[-o FILE]  write to FILE", "-vo", "it's"]
-CODE = rb"'--v' '--o=it'\''s' '--' 'x'" + b"\n"
+GIVEN = ["try", "[-v]..  say more\n[-o FILE]  write to FILE", "-vo", "it's"]
+CODE = rb"\set -- '--v' '--o=it'\''s' '--' 'x'" + b"\n"
 
 
 def test_outputs_that_take_nothing():
@@ -231,7 +231,7 @@ def test_large_words(preload):
                        ("many words", ["f"] * 20_000), ("no words", [])):
         status, wrote = run([*GIVEN, *free], SHELL)
         read = shlex.split(wrote.decode())
-        assert (status, read) == (SHOWN, ["--v", "--o=it's", "--", *free]), f"static, {what}: {status}: {read[:9]}"
+        assert (status, read) == (SHOWN, ["set", "--", "--v", "--o=it's", "--", *free]), f"static, {what}: {status}: {read[:9]}"
     with pytest.raises(OSError) as longer:
         run(["x" * (LONGEST + 1)])
     assert longer.value.errno == errno.E2BIG
