@@ -157,14 +157,16 @@ status=$?
 sed '/^wine: /d' "{tmp_path}/errors" >&2
 exit $status
 """)
-    # The server stays, so that no run meets one that is ending. The first run makes wine's folder.
+    # The server stays, so that no run meets one that is ending. The first run makes wine's folder, and begins what would
+    # hold a later run's pipes.
     (tmp_path / "wine").mkdir(exist_ok=True)
     server = shutil.which("wineserver") or next(map(str, Path("/usr/lib/wine").glob("wineserver*")), None)
+    alone = {"stdin": subprocess.DEVNULL, "stdout": subprocess.DEVNULL, "stderr": subprocess.DEVNULL, "timeout": 300}
     if server:
-        run(server, "-p")
-    answer(by, "--help")
+        subprocess.run([server, "-p"], **alone)
+    subprocess.run([by, "--help"], **alone)
     try:
         tries("rows", "--short", by, carried)
     finally:
         if server:
-            run(server, "-k")
+            subprocess.run([server, "-k"], **alone)
