@@ -64,7 +64,9 @@ fn put_texts<'a, A: AsRef<OsStr> + 'a>(
 ) -> std::result::Result<(), Fail> {
     for (word, arg) in words.iter_mut().zip(args) {
         let arg = arg.as_ref();
-        *word = arg.to_str().ok_or_else(|| Fail::UnrecognizedOption(format!("{arg:?}")))?;
+        *word = arg
+            .to_str()
+            .ok_or_else(|| Fail::UnrecognizedOption(format!("{arg:?}")))?;
     }
     Ok(())
 }
