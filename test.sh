@@ -25,9 +25,10 @@ get_pytest() {
     echo "test.sh: there is no pytest: $1"
     "${@:2}" >/dev/null 2>&1 && with_pytest
 }
-in_venv() { python3 -m venv $own && $own/bin/pip install --quiet pytest pytest-xdist pytest-timeout; }
 # shellcheck disable=SC2086
-with_pytest || get_pytest "apt-get install $packages" apt-get install -y $packages ||
+by_apt() { apt-get install -y $packages || { apt-get update && apt-get install -y $packages; }; }
+in_venv() { python3 -m venv $own && $own/bin/pip install --quiet pytest pytest-xdist pytest-timeout; }
+with_pytest || get_pytest "apt-get install $packages" by_apt ||
     get_pytest "a venv in $own" in_venv || stop "neither apt-get nor pip gave pytest. What is needed: $packages"
 
 # The tests, which wait for no one, and those of what is built, each by its own workers and behind the proofs.
