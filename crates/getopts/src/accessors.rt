@@ -5,7 +5,10 @@ ghost use Rattle.std.specs.Prelude.{MatchOption};
 ghost use Rattle.std.specs.List.{list_any};
 ghost use Rattle.std.specs.Option.{option_copied, option_map};
 ghost use Rattle.std.specs.String.{string_bytes};
-ghost use Rattle.getopts.specs.Accessors as Spec;
+ghost use Rattle.getopts.specs.Accessors.{AreDefined, AreHeldLawfully, IsDefined, IsReadAs};
+ghost use Rattle.getopts.specs.Accessors.{first_value, first_value_among, first_value_or, found_in};
+ghost use Rattle.getopts.specs.Accessors.{found_of, is_present, pair_view, pairs_of, place_of};
+ghost use Rattle.getopts.specs.Accessors.{positions_of, values_of};
 ghost use Rattle.getopts.specs.Names.{texts};
 
 use crate::matches::Matches;
@@ -31,8 +34,8 @@ impl Matches {
     /// Rust has no such call.
     #[inline]
     pub fn opt_place(&self, name: &str) -> Option<usize>
-        ensures place { result ≡ Spec.place_of self.now.groups name.now }
-        ensures lawful { Spec.AreHeldLawfully self.now.groups }
+        ensures place { result ≡ place_of self.now.groups name.now }
+        ensures lawful { AreHeldLawfully self.now.groups }
     {
         self.held.are_lawful();
         self.held.place_of(name)
@@ -45,21 +48,21 @@ impl Matches {
     /// position 1 and value `x`. The Rust crate has no such call.
     #[inline]
     pub fn occurrences_at(&self, place: usize) -> Occurrences<'_>
-        ensures { result ≡ Spec.found_in self.now.groups place }
+        ensures { result ≡ found_in self.now.groups place }
     {
         self.held.occurrences_at(place)
     }
 
     /// The groups that matches hold are lawfully named.
     pub(crate) fn are_held_lawfully(&self)
-        ensures { Spec.AreHeldLawfully self.now.groups }
+        ensures { AreHeldLawfully self.now.groups }
     {
         self.held.are_lawful();
     }
 
     /// Whether an option was given. An undefined one wasn't.
     fn has(&self, name: &str) -> bool
-        ensures { result ≡ Spec.is_present self.now.groups name.now }
+        ensures { result ≡ is_present self.now.groups name.now }
     {
         !self.held.occurrences_of(name).is_empty()
     }
@@ -71,8 +74,8 @@ impl Matches {
     /// without dashes: `opt_defined("verbose")`. Two names of one group get the same result from each
     /// call.
     pub fn opt_defined(&self, name: &str) -> bool
-        ensures defined { IsTrue result ↔ Spec.IsDefined self.now.groups name.now }
-        ensures lawful { Spec.AreHeldLawfully self.now.groups }
+        ensures defined { IsTrue result ↔ IsDefined self.now.groups name.now }
+        ensures lawful { AreHeldLawfully self.now.groups }
     {
         self.opt_place(name).is_some()
     }
@@ -81,8 +84,8 @@ impl Matches {
     ///
     /// The name has to be defined, which `opt_defined` tests.
     pub fn opt_count(&self, name: &str) -> usize
-        requires { Spec.IsDefined self.now.groups name.now }
-        ensures { result ≡ length (Spec.found_of self.now.groups name.now) }
+        requires { IsDefined self.now.groups name.now }
+        ensures { result ≡ length (found_of self.now.groups name.now) }
     {
         self.held.occurrences_of(name).len()
     }
@@ -91,9 +94,9 @@ impl Matches {
     ///
     /// The name has to be defined, which `opt_defined` tests.
     pub fn opt_present(&self, name: &str) -> bool
-        requires { Spec.IsDefined self.now.groups name.now }
-        ensures present { result ≡ Spec.is_present self.now.groups name.now }
-        ensures counted { IsTrue result ↔ (0 < length (Spec.found_of self.now.groups name.now)) }
+        requires { IsDefined self.now.groups name.now }
+        ensures present { result ≡ is_present self.now.groups name.now }
+        ensures counted { IsTrue result ↔ (0 < length (found_of self.now.groups name.now)) }
     {
         self.has(name)
     }
@@ -107,11 +110,11 @@ impl Matches {
     ///
     /// The Rust crate counts items: there a separate argument adds nothing.
     pub fn opt_positions(&self, alloc: Global, name: &str) -> Result<Vec<usize>, AllocError>
-        requires { Spec.IsDefined self.now.groups name.now }
+        requires { IsDefined self.now.groups name.now }
         ensures positions { IfOk result (λ positions. positions.items
-            ≡ Spec.positions_of (Spec.found_of self.now.groups name.now)) }
+            ≡ positions_of (found_of self.now.groups name.now)) }
         ensures count { IfOk result (λ positions. vec_len positions
-            ≡ length (Spec.found_of self.now.groups name.now)) }
+            ≡ length (found_of self.now.groups name.now)) }
     {
         self.held.occurrences_of(name).positions(alloc)
     }
@@ -122,9 +125,9 @@ impl Matches {
     /// there are none where the option wasn't given. The name has to be defined, which `opt_defined`
     /// tests. An error comes only where memory was refused.
     pub fn opt_strs(&self, alloc: Global, name: &str) -> Result<Vec<String>, AllocError>
-        requires { Spec.IsDefined self.now.groups name.now }
+        requires { IsDefined self.now.groups name.now }
         ensures { IfOk result (λ values. map string_bytes values.items
-            ≡ Spec.values_of (Spec.found_of self.now.groups name.now)) }
+            ≡ values_of (found_of self.now.groups name.now)) }
     {
         self.held.occurrences_of(name).values(alloc)
     }
@@ -140,11 +143,11 @@ impl Matches {
         alloc: Global,
         name: &str,
     ) -> Result<Vec<(usize, String)>, AllocError>
-        requires { Spec.IsDefined self.now.groups name.now }
-        ensures pairs { IfOk result (λ pairs. map Spec.pair_view pairs.items
-            ≡ Spec.pairs_of (Spec.found_of self.now.groups name.now)) }
+        requires { IsDefined self.now.groups name.now }
+        ensures pairs { IfOk result (λ pairs. map pair_view pairs.items
+            ≡ pairs_of (found_of self.now.groups name.now)) }
         ensures texts { IfOk result (λ pairs. map (λ pair. string_bytes pair.1) pairs.items
-            ≡ Spec.values_of (Spec.found_of self.now.groups name.now)) }
+            ≡ values_of (found_of self.now.groups name.now)) }
     {
         self.held.occurrences_of(name).pairs(alloc)
     }
@@ -156,9 +159,9 @@ impl Matches {
     /// argument it is there. The name has to be defined, which `opt_defined` tests. An error comes only
     /// where memory was refused.
     pub fn opt_str(&self, alloc: Global, name: &str) -> Result<Option<String>, AllocError>
-        requires { Spec.IsDefined self.now.groups name.now }
+        requires { IsDefined self.now.groups name.now }
         ensures { IfOk result (λ value. option_map string_bytes value
-            ≡ Spec.first_value (Spec.found_of self.now.groups name.now)) }
+            ≡ first_value (found_of self.now.groups name.now)) }
     {
         copied(alloc, self.held.occurrences_of(name).first_value())
     }
@@ -174,9 +177,9 @@ impl Matches {
         name: &str,
         def: &str,
     ) -> Result<Option<String>, AllocError>
-        requires { Spec.IsDefined self.now.groups name.now }
+        requires { IsDefined self.now.groups name.now }
         ensures { IfOk result (λ value. option_map string_bytes value
-            ≡ Spec.first_value_or (Spec.found_of self.now.groups name.now) def.now) }
+            ≡ first_value_or (found_of self.now.groups name.now) def.now) }
     {
         copied(alloc, self.held.occurrences_of(name).first_value_or(def))
     }
@@ -187,9 +190,9 @@ impl Matches {
     /// error is the one that reading gives. The name has to be defined, which `opt_defined` tests. The
     /// text is lent to the reading, where the Rust crate copies it first.
     pub fn opt_get<T: FromStr>(&self, name: &str) -> Result<Option<T>, T::Err>
-        requires { Spec.IsDefined self.now.groups name.now }
-        ensures { Spec.IsReadAs T.from_str_gives
-            (Spec.first_value (Spec.found_of self.now.groups name.now)) result }
+        requires { IsDefined self.now.groups name.now }
+        ensures { IsReadAs T.from_str_gives
+            (first_value (found_of self.now.groups name.now)) result }
     {
         match self.held.occurrences_of(name).first_value() {
             Some(text) => Ok(Some(text.parse()?)),
@@ -203,8 +206,8 @@ impl Matches {
     /// that can't be read isn't replaced by `def`. The name has to be defined, which `opt_defined`
     /// tests. The text is lent to the reading, where the Rust crate copies it first.
     pub fn opt_get_default<T: FromStr + Drop>(&self, name: &str, def: T) -> Result<T, T::Err>
-        requires { Spec.IsDefined self.now.groups name.now }
-        ensures { MatchOption (Spec.first_value (Spec.found_of self.now.groups name.now))
+        requires { IsDefined self.now.groups name.now }
+        ensures { MatchOption (first_value (found_of self.now.groups name.now))
             (result ≡ Ok def) (λ text. T.from_str_gives text result) }
     {
         match self.held.occurrences_of(name).first_value() {
@@ -229,7 +232,7 @@ impl Matches {
     /// A name that no option has counts as not given, so any names may be asked for.
     pub fn opts_present(&self, names: &[String]) -> bool
         ensures { result
-            ≡ list_any (λ name. Spec.is_present self.now.groups (string_bytes name)) names.now }
+            ≡ list_any (λ name. is_present self.now.groups (string_bytes name)) names.now }
     {
         names.iter().any(|name| self.has(name.as_str()))
     }
@@ -239,8 +242,8 @@ impl Matches {
     /// `opt_defined` tests a name. The result is false where none of the options was given. The Rust crate takes
     /// any list of texts, and doesn't look at the names after the first that was given.
     pub fn opts_present_any(&self, names: &[&str]) -> bool
-        requires { Spec.AreDefined self.now.groups (texts names.now) }
-        ensures { result ≡ list_any (λ name. Spec.is_present self.now.groups name.now) names.now }
+        requires { AreDefined self.now.groups (texts names.now) }
+        ensures { result ≡ list_any (λ name. is_present self.now.groups name.now) names.now }
     {
         names.iter().any(|name| self.has(name))
     }
@@ -248,7 +251,7 @@ impl Matches {
     /// The value of the first occurrence, by the first of these names whose option has one there.
     fn first_among<T: AsStr>(&self, names: &[T]) -> Option<&str>
         ensures { option_copied result
-            ≡ Spec.first_value_among self.now.groups (map T.text names.now) }
+            ≡ first_value_among self.now.groups (map T.text names.now) }
     {
         for name in names {
             if let Some(value) = self.held.occurrences_of(name.as_str()).first_value() {
@@ -264,9 +267,9 @@ impl Matches {
     /// names after that one. The result is `None` where no option of them has a value in its first
     /// occurrence, also where a later one has. An error comes only where memory was refused.
     pub fn opts_str(&self, alloc: Global, names: &[String]) -> Result<Option<String>, AllocError>
-        requires { Spec.AreDefined self.now.groups (map string_bytes names.now) }
+        requires { AreDefined self.now.groups (map string_bytes names.now) }
         ensures { IfOk result (λ value. option_map string_bytes value
-            ≡ Spec.first_value_among self.now.groups (map string_bytes names.now)) }
+            ≡ first_value_among self.now.groups (map string_bytes names.now)) }
     {
         copied(alloc, self.first_among(names))
     }
@@ -282,9 +285,9 @@ impl Matches {
         alloc: Global,
         names: &[&str],
     ) -> Result<Option<String>, AllocError>
-        requires { Spec.AreDefined self.now.groups (texts names.now) }
+        requires { AreDefined self.now.groups (texts names.now) }
         ensures { IfOk result (λ value. option_map string_bytes value
-            ≡ Spec.first_value_among self.now.groups (texts names.now)) }
+            ≡ first_value_among self.now.groups (texts names.now)) }
     {
         copied(alloc, self.first_among(names))
     }

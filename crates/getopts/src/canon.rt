@@ -4,8 +4,8 @@ ghost use Rattle.std.specs.Prelude.{◌≡◌, ◌<◌, length, map, IfOk, IfErr
 ghost use Rattle.std.specs.List.{AllByRecursion, list_all};
 ghost use Rattle.std.specs.Option.{option_copied, option_map};
 ghost use Rattle.std.specs.String.{string_bytes};
-ghost use Rattle.getopts.specs.Reading as Scan;
-ghost use Rattle.getopts.specs.Canon as Spec;
+ghost use Rattle.getopts.specs.Reading.{holds_equals, long_word, two};
+ghost use Rattle.getopts.specs.Canon.{canonical_line, canonical_word, main_at};
 ghost use Rattle.getopts.specs.Fail.{Tells};
 ghost use Rattle.getopts.specs.Held.Matches.{IsOfSignatures};
 ghost use Rattle.getopts.specs.Names.{texts};
@@ -23,7 +23,7 @@ use std::alloc::{AllocError, Global};
 
 /// Whether a text holds `=`.
 fn holds_equals(text: &str) -> bool
-    ensures { result ≡ Scan.holds_equals text.now }
+    ensures { result ≡ holds_equals text.now }
 {
     text.contains('=')
 }
@@ -32,7 +32,7 @@ fn holds_equals(text: &str) -> bool
 fn are_plain(groups: &Groups, read: &ReadLine) -> bool
     requires { IsOfSignatures (signatures_of groups.now) read.now }
     ensures { result
-        ≡ list_all (λ o. not (Scan.holds_equals (Spec.main_at groups.now o.mention.group)))
+        ≡ list_all (λ o. not (holds_equals (main_at groups.now o.mention.group)))
         read.now.line.found }
 {
     for place in 0..groups.len() {
@@ -46,7 +46,7 @@ fn are_plain(groups: &Groups, read: &ReadLine) -> bool
 /// The word of an occurrence: `--main`, or `--main=value` where it has a value.
 fn canonical_word(alloc: Global, main: &str, value: Option<&str>) -> Result<String, AllocError>
     ensures { IfOk result (λ word.
-        string_bytes word ≡ Scan.long_word Scan.two main.now (option_copied value.entry)) }
+        string_bytes word ≡ long_word two main.now (option_copied value.entry)) }
 {
     let room = main.len() + value.unwrap_or("").len();
     let mut word = String::with_capacity(alloc, room.saturating_add(3))?;
@@ -68,7 +68,7 @@ fn option_words(
 ) -> Result<Vec<String>, AllocError>
     requires { AllByRecursion (λ o. o.mention.group < length groups.now) found.now }
     ensures { IfOk result (λ words. map string_bytes words.items
-        ≡ map (Spec.canonical_word groups.now) (map (λ o. o.mention) found.now)) }
+        ≡ map (canonical_word groups.now) (map (λ o. o.mention) found.now)) }
 {
     let mut words = Vec::with_capacity(alloc, found.len().saturating_add(more))?;
     for place in 0..found.len() {
@@ -83,7 +83,7 @@ fn option_words(
 fn canonical_line(alloc: Global, groups: &Groups, line: Line) -> Result<Vec<String>, AllocError>
     requires { AllByRecursion (λ o. o.mention.group < length groups.now) line.found }
     ensures { IfOk result (λ words. map string_bytes words.items
-        ≡ Spec.canonical_line groups.now (line_content line)) }
+        ≡ canonical_line groups.now (line_content line)) }
 {
     let Line { found, free, .. } = line;
     let mut words = option_words(alloc, groups, &found, free.len().saturating_add(1))?;

@@ -3,7 +3,9 @@
 ghost use Rattle.std.specs.Prelude.{◌≡◌, ◌↔◌, Some, IfOk, IsTrue};
 ghost use Rattle.std.specs.Cmp.Rules.{comparing};
 ghost use Rattle.std.proofs.Common.{rules};
-ghost use Rattle.getopts.specs.Fail as Spec;
+ghost use Rattle.getopts.specs.Fail.{Tells, argument_missing, fail_text, fault_of};
+ghost use Rattle.getopts.specs.Fail.{option_duplicated, option_missing, unexpected_argument};
+ghost use Rattle.getopts.specs.Fail.{unrecognized_option};
 ghost use Rattle.getopts.specs.declared.fail.Fail.TheVariants.{OutOfMemory};
 
 use std::alloc::{AllocError, AllocFailed, Global};
@@ -33,12 +35,12 @@ pub enum Fail {
 }
 
 impl Clone for Fail {
-    ghost is_clone = { λ a b. Spec.fault_of b ≡ Spec.fault_of a };
+    ghost is_clone = { λ a b. fault_of b ≡ fault_of a };
 
     /// The same refusal with a copy of the name. An error comes only where memory was refused, and
     /// `OutOfMemory` is copied without any.
     fn clone(&self) -> Result<Fail, AllocError>
-        ensures same { IfOk result (λ copy. Spec.fault_of copy ≡ Spec.fault_of self.now) }
+        ensures same { IfOk result (λ copy. fault_of copy ≡ fault_of self.now) }
     {
         Ok(match self {
             Fail::ArgumentMissing(name) => Fail::ArgumentMissing(name.clone()?),
@@ -61,7 +63,7 @@ impl PartialEq for Fail {
     /// Whether both are of one variant, with the same name.
     fn eq(&self, other: &Fail) -> bool
         ensures answer { result ≡ same_fail self.now other.now }
-        ensures same { IsTrue result ↔ (Spec.fault_of self.now ≡ Spec.fault_of other.now) }
+        ensures same { IsTrue result ↔ (fault_of self.now ≡ fault_of other.now) }
     {
         match (self, other) {
             (Fail::ArgumentMissing(name), Fail::ArgumentMissing(named)) => name == named,
@@ -80,7 +82,7 @@ impl Eq for Fail {
 }
 
 impl fmt::Display for Fail {
-    ghost output = { λ fail. Some (Spec.fail_text fail) };
+    ghost output = { λ fail. Some (fail_text fail) };
 
     fn fmt<W: fmt::Write>(&self, f: &mut fmt::Formatter<W>) -> fmt::Result {
         match self {
@@ -117,31 +119,31 @@ impl<T: Drop> From<AllocFailed<T>> for Fail {
 // Each of these makes a fault with a copy of the name, or says that memory was refused.
 impl Fail {
     pub(crate) fn argument_missing(alloc: Global, name: &str) -> Fail
-        ensures { Spec.Tells result (λ fault. fault ≡ Spec.argument_missing name.now) }
+        ensures { Tells result (λ fault. fault ≡ argument_missing name.now) }
     {
         String::from_str(alloc, name).map_or(Fail::OutOfMemory, Fail::ArgumentMissing)
     }
 
     pub(crate) fn unrecognized_option(alloc: Global, name: &str) -> Fail
-        ensures { Spec.Tells result (λ fault. fault ≡ Spec.unrecognized_option name.now) }
+        ensures { Tells result (λ fault. fault ≡ unrecognized_option name.now) }
     {
         String::from_str(alloc, name).map_or(Fail::OutOfMemory, Fail::UnrecognizedOption)
     }
 
     pub(crate) fn option_missing(alloc: Global, name: &str) -> Fail
-        ensures { Spec.Tells result (λ fault. fault ≡ Spec.option_missing name.now) }
+        ensures { Tells result (λ fault. fault ≡ option_missing name.now) }
     {
         String::from_str(alloc, name).map_or(Fail::OutOfMemory, Fail::OptionMissing)
     }
 
     pub(crate) fn option_duplicated(alloc: Global, name: &str) -> Fail
-        ensures { Spec.Tells result (λ fault. fault ≡ Spec.option_duplicated name.now) }
+        ensures { Tells result (λ fault. fault ≡ option_duplicated name.now) }
     {
         String::from_str(alloc, name).map_or(Fail::OutOfMemory, Fail::OptionDuplicated)
     }
 
     pub(crate) fn unexpected_argument(alloc: Global, name: &str) -> Fail
-        ensures { Spec.Tells result (λ fault. fault ≡ Spec.unexpected_argument name.now) }
+        ensures { Tells result (λ fault. fault ≡ unexpected_argument name.now) }
     {
         String::from_str(alloc, name).map_or(Fail::OutOfMemory, Fail::UnexpectedArgument)
     }

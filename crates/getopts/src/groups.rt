@@ -10,7 +10,7 @@ ghost use Rattle.std.proofs.Common.{rules};
 ghost use Rattle.getopts.specs.Names.{AreLawful, is_empty, main_name};
 ghost use Rattle.getopts.specs.Held.Groups.{signature_view, names_view, names_in, signature_with};
 ghost use Rattle.getopts.specs.Held.Groups.{AreLawfulSignatures};
-ghost use Rattle.getopts.specs.Held.Names as Keys;
+ghost use Rattle.getopts.specs.Held.Names.{key_of, short_code};
 ghost use Rattle.getopts.specs.Held.Names.{names_at, name_at, HaveNamesOfBytes};
 
 use crate::names::{Names, is_of_bytes, key_of, short_byte};
@@ -260,7 +260,7 @@ impl Signatures {
     #[inline(always)]
     pub(crate) fn key_at(&self, place: usize) -> u64
         requires { place < length self.now }
-        ensures { result ≡ Keys.key_of (main_name (names_at (names_in self.now) place)) }
+        ensures { result ≡ key_of (main_name (names_at (names_in self.now) place)) }
     {
         self.records[place].key
     }
@@ -269,7 +269,7 @@ impl Signatures {
     #[inline(always)]
     pub(crate) fn short_at(&self, place: usize) -> u16
         requires { place < length self.now }
-        ensures { result ≡ Keys.short_code (names_at (names_in self.now) place).short }
+        ensures { result ≡ short_code (names_at (names_in self.now) place).short }
     {
         self.records[place].short
     }

@@ -5,7 +5,7 @@ ghost use Rattle.std.specs.Cmp.Lexicographic.{pointwise};
 ghost use Rattle.std.specs.Cmp.Rules.{comparing};
 ghost use Rattle.std.specs.String.{string_bytes};
 ghost use Rattle.std.proofs.Common.{rules};
-ghost use Rattle.getopts.specs.Accessors as Spec;
+ghost use Rattle.getopts.specs.Accessors.{AreHeldLawfully, found_in, found_of, place_of};
 ghost use Rattle.getopts.specs.Matches.{matched};
 ghost use Rattle.getopts.specs.Held.Matches.{IsOfSignatures};
 
@@ -175,14 +175,14 @@ impl MatchedGroups {
     /// The place of the group that a name resolves to.
     #[inline]
     pub(crate) fn place_of(&self, name: &str) -> Option<usize>
-        ensures { result ≡ Spec.place_of self.now name.now }
+        ensures { result ≡ place_of self.now name.now }
     {
         self.table.resolve(&self.signatures, name)
     }
 
     /// The groups are lawfully named: a law to cite, of which nothing is left once built.
     pub(crate) fn are_lawful(&self)
-        ensures { Spec.AreHeldLawfully self.now }
+        ensures { AreHeldLawfully self.now }
     {
         self.signatures.are_lawful();
     }
@@ -190,14 +190,14 @@ impl MatchedGroups {
     /// The occurrences of the group at a place.
     #[inline]
     pub(crate) fn occurrences_at(&self, place: usize) -> Occurrences<'_>
-        ensures { result ≡ Spec.found_in self.now place }
+        ensures { result ≡ found_in self.now place }
     {
         Occurrences::of(&self.found, self.index.places(place))
     }
 
     /// The occurrences of the group that a name resolves to. Of an undefined name there are none.
     pub(crate) fn occurrences_of(&self, name: &str) -> Occurrences<'_>
-        ensures { result ≡ Spec.found_of self.now name.now }
+        ensures { result ≡ found_of self.now name.now }
     {
         match self.place_of(name) {
             Some(place) => self.occurrences_at(place),

@@ -7,7 +7,8 @@ ghost use Rattle.std.specs.Cmp.Lexicographic.{pointwise};
 ghost use Rattle.std.specs.Iterator.{YieldsFirstBy, item_count};
 ghost use Rattle.std.specs.Option.{option_copied, option_map};
 ghost use Rattle.std.specs.String.{string_bytes};
-ghost use Rattle.getopts.specs.Accessors as Spec;
+ghost use Rattle.getopts.specs.Accessors.{first_value, first_value_or, held_found, pair_view};
+ghost use Rattle.getopts.specs.Accessors.{pairs_of, positions_of, values_of};
 ghost use Rattle.getopts.specs.Held.Occurrences.{founds_at, ArePlacesOf, value_ends};
 ghost use Rattle.getopts.specs.Reading.{at_position};
 ghost use Rattle.getopts.specs.Same.{same_found};
@@ -261,7 +262,7 @@ impl<'m> Occurrences<'m> {
     /// none.
     #[inline]
     pub fn get(&self, nth: usize) -> Option<(usize, Option<&'m str>)>
-        ensures { option_map Spec.held_found result ≡ slice_get self.now nth }
+        ensures { option_map held_found result ≡ slice_get self.now nth }
     {
         if nth < self.len() {
             Some(self.at(nth))
@@ -274,14 +275,14 @@ impl<'m> Occurrences<'m> {
     #[inline]
     fn at(&self, nth: usize) -> (usize, Option<&'m str>)
         requires { nth < length self.now }
-        ensures { slice_get self.now nth ≡ Some (Spec.held_found result) }
+        ensures { slice_get self.now nth ≡ Some (held_found result) }
     {
         let occurrence = self.found.at(self.places[nth]);
         (occurrence.position, occurrence.value)
     }
 
     pub(crate) fn positions(&self, alloc: Global) -> Result<Vec<usize>, AllocError>
-        ensures { IfOk result (λ positions. positions.items ≡ Spec.positions_of self.now) }
+        ensures { IfOk result (λ positions. positions.items ≡ positions_of self.now) }
     {
         let mut positions = Vec::with_capacity(alloc, self.len())?;
         for nth in 0..self.len() {
@@ -291,7 +292,7 @@ impl<'m> Occurrences<'m> {
     }
 
     pub(crate) fn values(&self, alloc: Global) -> Result<Vec<String>, AllocError>
-        ensures { IfOk result (λ values. map string_bytes values.items ≡ Spec.values_of self.now) }
+        ensures { IfOk result (λ values. map string_bytes values.items ≡ values_of self.now) }
     {
         let mut values = Vec::new(alloc);
         for nth in 0..self.len() {
@@ -303,7 +304,7 @@ impl<'m> Occurrences<'m> {
     }
 
     pub(crate) fn pairs(&self, alloc: Global) -> Result<Vec<(usize, String)>, AllocError>
-        ensures { IfOk result (λ pairs. map Spec.pair_view pairs.items ≡ Spec.pairs_of self.now) }
+        ensures { IfOk result (λ pairs. map pair_view pairs.items ≡ pairs_of self.now) }
     {
         let mut pairs = Vec::new(alloc);
         for nth in 0..self.len() {
@@ -316,7 +317,7 @@ impl<'m> Occurrences<'m> {
 
     /// The value of the first occurrence.
     pub(crate) fn first_value(&self) -> Option<&'m str>
-        ensures { option_copied result ≡ Spec.first_value self.now }
+        ensures { option_copied result ≡ first_value self.now }
     {
         let (_, value) = self.get(0)?;
         value
@@ -324,7 +325,7 @@ impl<'m> Occurrences<'m> {
 
     /// The value of the first occurrence, or this text where that has none.
     pub(crate) fn first_value_or(&self, fallback: &'m str) -> Option<&'m str>
-        ensures { option_copied result ≡ Spec.first_value_or self.now fallback.now }
+        ensures { option_copied result ≡ first_value_or self.now fallback.now }
     {
         let (_, value) = self.get(0)?;
         Some(value.unwrap_or(fallback))
@@ -382,7 +383,7 @@ impl<'m> Model for OccurrencesIter<'m> {
 impl<'m> Iterator for OccurrencesIter<'m> {
     type Item = (usize, Option<&'m str>);
 
-    ghost next_gives = { YieldsFirstBy Spec.held_found (λ rest. rest) };
+    ghost next_gives = { YieldsFirstBy held_found (λ rest. rest) };
 
     ghost remaining = { item_count (λ rest. rest) };
 

@@ -3,7 +3,7 @@
 ghost use Rattle.std.specs.Prelude.{◌≡◌, ◌↔◌, IsTrue, IfOk, IfErr, IfSome, OnOk, length};
 ghost use Rattle.std.specs.Iterator.{IsFinite};
 ghost use Rattle.std.specs.Iterator.Runs.{WholeRun};
-ghost use Rattle.getopts.specs.Matches as Spec;
+ghost use Rattle.getopts.specs.Matches.{FitsCount, IsCountFault, KeepsCounts, count_fault, matched};
 ghost use Rattle.getopts.specs.Fail.{Tells};
 ghost use Rattle.getopts.specs.Names.{texts};
 ghost use Rattle.getopts.specs.Held.Matches.{IsOfSignatures};
@@ -165,9 +165,9 @@ pub(crate) fn words_from<'a, I: Iterator<Item = &'a str> + Drop>(
 fn check_counts(alloc: Global, signatures: &Signatures, read: &ReadLine) -> Result<(), Fail>
     requires { IsOfSignatures signatures.now read.now }
     ensures ok { OnOk result
-        (Spec.KeepsCounts (Spec.matched 0 signatures.now read.now.line.found)) }
+        (KeepsCounts (matched 0 signatures.now read.now.line.found)) }
     ensures err { IfErr result (λ fail. Tells fail
-        (Spec.IsCountFault (Spec.matched 0 signatures.now read.now.line.found))) }
+        (IsCountFault (matched 0 signatures.now read.now.line.found))) }
 {
     for place in 0..signatures.len() {
         let count = read.index.count(place);
@@ -181,7 +181,7 @@ fn check_counts(alloc: Global, signatures: &Signatures, read: &ReadLine) -> Resu
 /// Whether an option may come so many times.
 #[inline(always)]
 fn fits_count(occurrence: Occur, count: usize) -> bool
-    ensures { IsTrue result ↔ Spec.FitsCount occurrence count }
+    ensures { IsTrue result ↔ FitsCount occurrence count }
 {
     match occurrence {
         Occur::Req => count == 1,
@@ -192,7 +192,7 @@ fn fits_count(occurrence: Occur, count: usize) -> bool
 
 /// The fault of an option that came so many times.
 fn count_fault(alloc: Global, main: &str, count: usize) -> Fail
-    ensures { Tells result (λ fault. fault ≡ Spec.count_fault main.now count) }
+    ensures { Tells result (λ fault. fault ≡ count_fault main.now count) }
 {
     if count == 0 {
         Fail::option_missing(alloc, main)

@@ -1,7 +1,8 @@
 //! The row of one group in a usage text: its head, and its description beside or below that.
 ghost use Rattle.std.specs.Prelude.{◌≡◌, ◌++◌, string_bytes, OnOk};
-ghost use Rattle.getopts.specs.Wrap as Wrap;
-ghost use Rattle.getopts.specs.Usage as Spec;
+ghost use Rattle.getopts.specs.Wrap.{width_of};
+ghost use Rattle.getopts.specs.Usage.{AddsTheOnly, IsUsageRow, argument_part, has_columns, head};
+ghost use Rattle.getopts.specs.Usage.{long_part, padding, short_part};
 ghost use Rattle.getopts.specs.Held.Groups.{names_view};
 ghost use Rattle.getopts.specs.Held.Help.{group_view};
 
@@ -34,8 +35,8 @@ pub(crate) fn push_row(
     layout: Layout,
     group: Group<'_>,
 ) -> Result<(), AllocError>
-    ensures { OnOk result (Spec.AddsTheOnly
-        (Spec.IsUsageRow layout.long_only layout.any_short (group_view group.entry))
+    ensures { OnOk result (AddsTheOnly
+        (IsUsageRow layout.long_only layout.any_short (group_view group.entry))
         (string_bytes text.old) (string_bytes text.new)) }
 {
     let start = text.len();
@@ -48,7 +49,7 @@ pub(crate) fn push_row(
 /// Adds what stands before a group's description.
 fn push_head(text: &mut String, layout: Layout, group: Group<'_>) -> Result<(), AllocError>
     ensures { OnOk result (string_bytes text.new ≡ string_bytes text.old
-        ++ Spec.head layout.long_only layout.any_short (group_view group.entry)) }
+        ++ head layout.long_only layout.any_short (group_view group.entry)) }
 {
     text.push_str("    ")?;
     let Signature { names, kinds } = group.signature;
@@ -66,9 +67,9 @@ fn push_short(
     names: Names<'_>,
     wide: bool,
 ) -> Result<(), AllocError>
-    requires { wide ≡ Spec.has_columns names.long.now }
+    requires { wide ≡ has_columns names.long.now }
     ensures { OnOk result (string_bytes text.new ≡ string_bytes text.old
-        ++ Spec.short_part layout.any_short (names_view names.entry)) }
+        ++ short_part layout.any_short (names_view names.entry)) }
 {
     if names.short.is_empty() {
         text.push_str(if layout.any_short { "    " } else { "" })
@@ -81,9 +82,9 @@ fn push_short(
 
 /// Adds the long name with its dashes, where it takes a column, as `wide` says.
 fn push_long(text: &mut String, layout: Layout, long: &str, wide: bool) -> Result<(), AllocError>
-    requires { wide ≡ Spec.has_columns long.now }
+    requires { wide ≡ has_columns long.now }
     ensures { OnOk result (string_bytes text.new ≡ string_bytes text.old
-        ++ Spec.long_part layout.long_only long.now) }
+        ++ long_part layout.long_only long.now) }
 {
     if !wide {
         return Ok(());
@@ -96,7 +97,7 @@ fn push_long(text: &mut String, layout: Layout, long: &str, wide: bool) -> Resul
 /// Adds the hint, in brackets where the argument may be left out.
 pub(crate) fn push_argument(text: &mut String, kind: HasArg, hint: &str) -> Result<(), AllocError>
     ensures { OnOk result (string_bytes text.new ≡ string_bytes text.old
-        ++ Spec.argument_part kind hint.now) }
+        ++ argument_part kind hint.now) }
 {
     match kind {
         HasArg::Yes => text.push_str(hint),
@@ -111,7 +112,7 @@ pub(crate) fn push_argument(text: &mut String, kind: HasArg, hint: &str) -> Resu
 
 /// What stands between a head and its description.
 fn padding_after(head: &str) -> &'static str
-    ensures { result.now ≡ Spec.padding head.now }
+    ensures { result.now ≡ padding head.now }
 {
     let columns = width_of(head);
     if columns < MARGIN {
@@ -123,7 +124,7 @@ fn padding_after(head: &str) -> &'static str
 
 /// Whether a text takes a column.
 fn has_columns(text: &str) -> bool
-    ensures { result ≡ Spec.has_columns text.now }
+    ensures { result ≡ has_columns text.now }
 {
     width_of(text) > 0
 }
@@ -131,7 +132,7 @@ fn has_columns(text: &str) -> bool
 /// The columns that a text takes.
 #[tactic(auto, unfolding(crate::specs::Wrap::width_of))]
 fn width_of(text: &str) -> usize
-    ensures { result ≡ Wrap.width_of text.now }
+    ensures { result ≡ width_of text.now }
 {
     text.width()
 }

@@ -4,7 +4,7 @@ ghost use Rattle.std.specs.Prelude.{◌≡◌, ◌≢◌, ◌<◌, ◌∷◌, �
 ghost use Rattle.std.specs.Prelude.{Some, None, Err, false, IfOk, IfErr, slice_index, OnOk, map};
 ghost use Rattle.std.specs.String.{string_bytes};
 ghost use Rattle.std.specs.Option.{option_copied};
-ghost use Rattle.getopts.specs.Reading as Spec;
+ghost use Rattle.getopts.specs.Reading.{Dashes, IsScanFault, dash, holds_equals, is_dashed};
 ghost use Rattle.getopts.specs.Fail.{Tells};
 ghost use Rattle.std.specs.Str.{IsCharBoundary, IsUtf8};
 ghost use Rattle.getopts.specs.Names.{AreTexts, Text, texts};
@@ -125,8 +125,8 @@ fn push_copies(alloc: Global, copies: &mut Vec<String>, words: &[&str]) -> Resul
 
 /// The text after a dash at the front.
 fn after_dash(text: &str) -> Option<&str>
-    ensures { MatchOption result ((rest : Text) → text.now ≢ Spec.dash ∷ rest)
-        (λ rest. text.now ≡ Spec.dash ∷ rest.now) }
+    ensures { MatchOption result ((rest : Text) → text.now ≢ dash ∷ rest)
+        (λ rest. text.now ≡ dash ∷ rest.now) }
 {
     if text.is_empty() || text.as_bytes()[0] != b'-' {
         return None;
@@ -137,7 +137,7 @@ fn after_dash(text: &str) -> Option<&str>
 /// The name of a text in long form, and its attached argument. Names are short, so its bytes are
 /// looked at one by one.
 fn name_and_argument(text: &str) -> (&str, Option<&str>)
-    ensures name { Spec.holds_equals result.0.now ≡ false }
+    ensures name { holds_equals result.0.now ≡ false }
     ensures text { text.now ≡ result.0.now ++ with_equals (option_copied result.1) }
 {
     let bytes = text.as_bytes();
@@ -151,7 +151,7 @@ fn name_and_argument(text: &str) -> (&str, Option<&str>)
 
 /// Whether a word is dashed: it begins with `-` and goes on.
 fn is_dashed(word: &str) -> bool
-    ensures { result ≡ Spec.is_dashed word.now }
+    ensures { result ≡ is_dashed word.now }
 {
     match word.as_bytes() {
         [b'-', _, ..] => true,
@@ -239,11 +239,11 @@ impl<'o> Scanner<'o> {
     ) -> Result<usize, Fail>
         requires lawful { IsLawfulScanner self.now }
         ensures ok { let grammar = scanner_grammar self.now in
-            IfOk result (λ used. (dashes : Spec.Dashes)
+            IfOk result (λ used. (dashes : Dashes)
             → AddsItem grammar (long_turn grammar dashes text.now (texts after.now)) position used
             found.old found.new) }
         ensures err { let grammar = scanner_grammar self.now in
-            IfErr result (λ fail. (dashes : Spec.Dashes) → Tells fail (λ fault.
+            IfErr result (λ fail. (dashes : Dashes) → Tells fail (λ fault.
             long_turn grammar dashes text.now (texts after.now) ≡ faults fault)) }
     {
         let (name, argument) = name_and_argument(text);
@@ -345,7 +345,7 @@ impl<'o> Scanner<'o> {
         ensures ok { IfOk result (λ line.
             ReadsLine (scanner_grammar self.now) (texts words.now) line) }
         ensures err { IfErr result (λ fail. Tells fail
-            (Spec.IsScanFault (scanner_grammar self.now) (texts words.now))) }
+            (IsScanFault (scanner_grammar self.now) (texts words.now))) }
     {
         let stops = self.options.style() == ParsingStyle::StopAtFirstFree;
         let mut line = Line::with_capacity(alloc, words.len().min(FIRST_ROOM))?;

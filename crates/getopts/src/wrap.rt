@@ -1,7 +1,8 @@
 //! Descriptions in rows: the lines of a text, each broken into as few rows as its words allow.
 ghost use Rattle.std.specs.Prelude.{◌≡◌, ◌+◌, ◌<◌, ◌≤◌, ◌∷◌, ◌++◌, map, string_bytes, IfOk, OnOk};
 ghost use Rattle.std.specs.Str.Lines.{lines};
-ghost use Rattle.getopts.specs.Wrap as Spec;
+ghost use Rattle.getopts.specs.Wrap.{AddsDescription, AddsLine, BreaksInto, IsDescriptionRows};
+ghost use Rattle.getopts.specs.Wrap.{IsFewestBreaking, parting, width_of};
 ghost use Rattle.getopts.specs.Only.{IsTheOnly};
 
 use std::alloc::{AllocError, Global};
@@ -32,11 +33,11 @@ pub fn each_split_within(alloc: Global, desc: &str, lim: usize) -> Result<Vec<St
     // These are the description's rows, byte for byte, and no other list is: in each line every row
     // fits or is one word, and none could take in the line's next word.
     ensures rows { IfOk result (λ rows.
-        IsTheOnly (Spec.IsDescriptionRows lim desc.now) (map string_bytes rows.items)) }
+        IsTheOnly (IsDescriptionRows lim desc.now) (map string_bytes rows.items)) }
 
     // In each line no fitting way to break its words has fewer rows.
     ensures fewest { IfOk result (λ rows.
-        Spec.BreaksInto (Spec.IsFewestBreaking lim) desc.now (map string_bytes rows.items)) }
+        BreaksInto (IsFewestBreaking lim) desc.now (map string_bytes rows.items)) }
 {
     // A row holds no line end, and all rows together are no longer than the description.
     let mut text = String::with_capacity(alloc, desc.len())?;
@@ -64,7 +65,7 @@ pub(crate) fn push_description(
     lim: usize,
     separator: &str,
 ) -> Result<(), AllocError>
-    ensures { OnOk result (Spec.AddsDescription lim separator.now desc.now
+    ensures { OnOk result (AddsDescription lim separator.now desc.now
         (string_bytes text.old) (string_bytes text.new)) }
 {
     let mut begun = false;
@@ -83,7 +84,7 @@ fn push_line(
     lim: usize,
     separator: &str,
 ) -> Result<bool, AllocError>
-    ensures { IfOk result (λ now_begun. Spec.AddsLine lim separator.now line.now begun now_begun
+    ensures { IfOk result (λ now_begun. AddsLine lim separator.now line.now begun now_begun
         (string_bytes text.old) (string_bytes text.new)) }
 {
     let mut words = line.split_whitespace();
@@ -110,11 +111,11 @@ fn push_word(
     lim: usize,
     separator: &str,
 ) -> Result<usize, AllocError>
-    ensures joins { columns + (1 + Spec.width_of word.now) ≤ lim → IfOk result (λ now.
-        (now ≡ columns + (1 + Spec.width_of word.now))
+    ensures joins { columns + (1 + width_of word.now) ≤ lim → IfOk result (λ now.
+        (now ≡ columns + (1 + width_of word.now))
         × (string_bytes text.new ≡ string_bytes text.old ++ 32 ∷ word.now)) }
-    ensures begins { lim < columns + (1 + Spec.width_of word.now) → IfOk result (λ now.
-        (now ≡ Spec.width_of word.now)
+    ensures begins { lim < columns + (1 + width_of word.now) → IfOk result (λ now.
+        (now ≡ width_of word.now)
         × (string_bytes text.new ≡ string_bytes text.old ++ (separator.now ++ word.now))) }
 {
     let width = word.width();
@@ -136,7 +137,7 @@ pub(crate) fn push_parting(
     separator: &str,
 ) -> Result<(), AllocError>
     ensures { OnOk result (string_bytes text.new ≡ string_bytes text.old
-        ++ Spec.parting begun separator.now) }
+        ++ parting begun separator.now) }
 {
     if begun {
         text.push_str(separator)

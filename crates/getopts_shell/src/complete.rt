@@ -13,7 +13,12 @@ ghost use Rattle.getopts.specs.Matches.{Matched};
 ghost use Rattle.getopts.specs.Names.{Names, Text, main_name, texts};
 ghost use Rattle.getopts.specs.Parse.{HasReading};
 ghost use Rattle.getopts.specs.Reading.{begins_with_dash, stop_word};
-ghost use Rattle.getopts_shell.specs.Completion as Spec;
+ghost use Rattle.getopts_shell.specs.Completion.{IsOffer, MayGoOn, bash_stub, fish_stub};
+ghost use Rattle.getopts_shell.specs.Completion.{is_last_after_stop, is_multi};
+ghost use Rattle.getopts_shell.specs.Completion.{lines_if_it_may_come, may_come, name_line};
+ghost use Rattle.getopts_shell.specs.Completion.{name_mark, offer_call, option_lines};
+ghost use Rattle.getopts_shell.specs.Completion.{options_lines, stub, stub_of, stub_quoted};
+ghost use Rattle.getopts_shell.specs.Completion.{takes_argument, zsh_stub};
 ghost use Rattle.getopts_shell.specs.Held.{HaveReading, group_of_row, groups_of};
 
 use crate::quote::{push_parting, push_replaced};
@@ -76,7 +81,7 @@ end
 /// Adds a word in quotes, as each of the three shells reads it: a quote and a backslash stand outside quotes,
 /// behind a backslash.
 fn push_stub_quoted(text: &mut String, word: &str) -> Result<(), AllocError>
-    ensures { OnOk result (string_bytes text.new ≡ string_bytes text.old ++ Spec.stub_quoted word.now) }
+    ensures { OnOk result (string_bytes text.new ≡ string_bytes text.old ++ stub_quoted word.now) }
 {
     text.push('\'')?;
     let mut begun = false;
@@ -90,7 +95,7 @@ fn push_stub_quoted(text: &mut String, word: &str) -> Result<(), AllocError>
 
 /// The mark of a name in names of functions.
 fn name_mark(alloc: Global, name: &str) -> Result<String, AllocError>
-    ensures { IfOk result (λ text. string_bytes text ≡ Spec.name_mark name.now) }
+    ensures { IfOk result (λ text. string_bytes text ≡ name_mark name.now) }
 {
     let mut text = String::new(alloc);
     let bytes = name.as_bytes();
@@ -103,7 +108,7 @@ fn name_mark(alloc: Global, name: &str) -> Result<String, AllocError>
 
 /// A word in quotes.
 fn stub_quoted(alloc: Global, word: &str) -> Result<String, AllocError>
-    ensures { IfOk result (λ text. string_bytes text ≡ Spec.stub_quoted word.now) }
+    ensures { IfOk result (λ text. string_bytes text ≡ stub_quoted word.now) }
 {
     let mut text = String::new(alloc);
     push_stub_quoted(&mut text, word)?;
@@ -120,7 +125,7 @@ fn offer_call(
     table: &str,
 ) -> Result<String, AllocError>
     ensures { IfOk result (λ text. string_bytes text
-        ≡ Spec.offer_call shell.now stop long_only name.now table.now) }
+        ≡ offer_call shell.now stop long_only name.now table.now) }
 {
     let mut text = String::from_str(alloc, "getopts_shell ")?;
     text.push_str(if stop { "--stop " } else { "" })?;
@@ -144,7 +149,7 @@ pub(crate) fn stub(
     table: &str,
 ) -> Result<Option<String>, AllocError>
     ensures { IfOk result (λ text. option_map string_bytes text
-        ≡ Spec.stub shell.now stop long_only name.now table.now) }
+        ≡ stub shell.now stop long_only name.now table.now) }
 {
     let mark = name_mark(alloc, name)?;
     let call = offer_call(alloc, shell, stop, long_only, name, table)?;
@@ -161,7 +166,7 @@ fn stub_of(
     name: &str,
 ) -> Result<Option<String>, AllocError>
     ensures { IfOk result (λ text. option_map string_bytes text
-        ≡ Spec.stub_of shell.now mark.now call.now name.now) }
+        ≡ stub_of shell.now mark.now call.now name.now) }
 {
     if shell == "bash" {
         Ok(Some(bash_stub(alloc, mark, call, name)?))
@@ -176,7 +181,7 @@ fn stub_of(
 
 /// The code for bash.
 fn bash_stub(alloc: Global, mark: &str, call: &str, name: &str) -> Result<String, AllocError>
-    ensures { IfOk result (λ text. string_bytes text ≡ Spec.bash_stub mark.now call.now name.now) }
+    ensures { IfOk result (λ text. string_bytes text ≡ bash_stub mark.now call.now name.now) }
 {
     format!(in alloc;
         "{BASH}_getopts_shell{mark}() {{ _getopts_shell_offer \"$2\" {call}; }}\ncomplete -F _getopts_shell{mark} -- {name}\n"
@@ -185,7 +190,7 @@ fn bash_stub(alloc: Global, mark: &str, call: &str, name: &str) -> Result<String
 
 /// The code for zsh.
 fn zsh_stub(alloc: Global, mark: &str, call: &str, name: &str) -> Result<String, AllocError>
-    ensures { IfOk result (λ text. string_bytes text ≡ Spec.zsh_stub mark.now call.now name.now) }
+    ensures { IfOk result (λ text. string_bytes text ≡ zsh_stub mark.now call.now name.now) }
 {
     format!(in alloc;
         "{ZSH}_getopts_shell{mark}() {{ _getopts_shell_offer {call}; }}\ncompdef _getopts_shell{mark} {name}\n"
@@ -194,7 +199,7 @@ fn zsh_stub(alloc: Global, mark: &str, call: &str, name: &str) -> Result<String,
 
 /// The code for fish.
 fn fish_stub(alloc: Global, mark: &str, call: &str, name: &str) -> Result<String, AllocError>
-    ensures { IfOk result (λ text. string_bytes text ≡ Spec.fish_stub mark.now call.now name.now) }
+    ensures { IfOk result (λ text. string_bytes text ≡ fish_stub mark.now call.now name.now) }
 {
     format!(in alloc;
         "{FISH}function _getopts_shell{mark}; _getopts_shell_offer {call}; end\ncomplete -c {name} -f -a '(_getopts_shell{mark})'\n"
@@ -213,7 +218,7 @@ pub(crate) fn offers(
     requires rows { options.now.groups ≡ groups_of rows.now }
     requires mode { options.now.long_only ≡ long_only }
     ensures { IfOk result (λ text.
-        Spec.IsOffer options.now (texts before.now) word.now (string_bytes text)) }
+        IsOffer options.now (texts before.now) word.now (string_bytes text)) }
 {
     if !begins_with_dash(word) {
         return String::from_str(alloc, "files\n");
@@ -234,8 +239,8 @@ fn begins_with_dash(word: &str) -> bool
 /// The matches of words after which an option may come, if one may.
 fn goes_on(alloc: Global, options: &Options, before: &[&str]) -> Result<Option<Matches>, AllocError>
     ensures { IfOk result (λ found. MatchOption found
-        ((matches : Matched) → ¬ (Spec.MayGoOn options.now (texts before.now) matches))
-        (Spec.MayGoOn options.now (texts before.now))) }
+        ((matches : Matched) → ¬ (MayGoOn options.now (texts before.now) matches))
+        (MayGoOn options.now (texts before.now))) }
 {
     let words = with_stop(alloc, before)?;
     let found = read_words(alloc, options, &words)?;
@@ -289,7 +294,7 @@ fn with_stop<'w>(alloc: Global, before: &[&'w str]) -> Result<Vec<&'w str>, Allo
 
 /// Whether one free word, the last, stands after a stop.
 fn is_last_after_stop(matches: &Matches) -> bool
-    ensures { result ≡ Spec.is_last_after_stop matches.now }
+    ensures { result ≡ is_last_after_stop matches.now }
 {
     match matches.free_trailing_start() {
         Some(start) => matches.free.len().saturating_sub(start) == 1,
@@ -306,7 +311,7 @@ fn options_lines(
     rows: &[Row<'_>],
 ) -> Result<String, AllocError>
     ensures { IfOk result (λ text. string_bytes text
-        ≡ Spec.options_lines matches.now long_only word.now (groups_of rows.now)) }
+        ≡ options_lines matches.now long_only word.now (groups_of rows.now)) }
 {
     let mut text = String::new(alloc);
     for row in rows {
@@ -324,7 +329,7 @@ fn push_row(
     row: &Row<'_>,
 ) -> Result<(), AllocError>
     ensures { OnOk result (string_bytes text.new ≡ string_bytes text.old
-        ++ Spec.lines_if_it_may_come matches.now long_only word.now (group_of_row row.now)) }
+        ++ lines_if_it_may_come matches.now long_only word.now (group_of_row row.now)) }
 {
     if may_come(matches, row) {
         push_option(text, long_only, word, row)
@@ -335,14 +340,14 @@ fn push_row(
 
 /// Whether an option may come once more.
 fn may_come(matches: &Matches, row: &Row<'_>) -> bool
-    ensures { result ≡ Spec.may_come matches.now (group_of_row row.now) }
+    ensures { result ≡ may_come matches.now (group_of_row row.now) }
 {
     is_multi(row.occurrence) || !is_given(matches, main_name(*row))
 }
 
 /// Whether an option may come any number of times.
 fn is_multi(occurrence: Occur) -> bool
-    ensures { result ≡ Spec.is_multi occurrence }
+    ensures { result ≡ is_multi occurrence }
 {
     matches!(occurrence, Occur::Multi)
 }
@@ -362,7 +367,7 @@ fn push_option(
     row: &Row<'_>,
 ) -> Result<(), AllocError>
     ensures { OnOk result (string_bytes text.new
-        ≡ string_bytes text.old ++ Spec.option_lines long_only word.now (group_of_row row.now)) }
+        ≡ string_bytes text.old ++ option_lines long_only word.now (group_of_row row.now)) }
 {
     let valued = takes_argument(row.kind);
     push_name(text, word, valued, "--", row.long, row.description)?;
@@ -380,7 +385,7 @@ fn push_option(
 
 /// Whether a kind takes an argument.
 fn takes_argument(kind: HasArg) -> bool
-    ensures { result ≡ Spec.takes_argument kind }
+    ensures { result ≡ takes_argument kind }
 {
     !matches!(kind, HasArg::No)
 }
@@ -395,7 +400,7 @@ fn push_name(
     description: &str,
 ) -> Result<(), AllocError>
     ensures { OnOk result (string_bytes text.new ≡ string_bytes text.old
-        ++ Spec.name_line word.now valued dashes.now name.now description.now) }
+        ++ name_line word.now valued dashes.now name.now description.now) }
 {
     if name.is_empty() {
         return Ok(());

@@ -12,7 +12,12 @@ ghost use Rattle.getopts.specs.Wrap.{lines_of, parting};
 ghost use Rattle.getopts_shell.specs.Held.{entries_of, group_of_row, groups_of, variable_fault_told};
 ghost use Rattle.getopts_shell.specs.Completion.{is_multi};
 ghost use Rattle.getopts_shell.specs.Quote.{quoted, quoted_words};
-ghost use Rattle.getopts_shell.specs.Variables as Spec;
+ghost use Rattle.getopts_shell.specs.Variables.{AreTextValues, CodeSetsVariables, HoldTexts};
+ghost use Rattle.getopts_shell.specs.Variables.{all_values, begins_variable, given_from};
+ghost use Rattle.getopts_shell.specs.Variables.{held_value, holds_all, is_prefix, is_variable};
+ghost use Rattle.getopts_shell.specs.Variables.{is_variable_byte, option_code, option_lines};
+ghost use Rattle.getopts_shell.specs.Variables.{prefix_fault, texts_found, value_line, variable};
+ghost use Rattle.getopts_shell.specs.Variables.{variable_byte, variable_of, variables_code};
 ghost use Rattle.getopts_shell.specs.Variables.{many, one};
 
 use crate::quote::{push_line, push_parting, push_quoted, push_replaced};
@@ -43,7 +48,7 @@ pub(crate) enum VariableError<'t> {
 
 /// A shell that runs the code holds what the matches do: a law to cite, which does nothing.
 pub fn code_sets_variables()
-    ensures { Spec.CodeSetsVariables }
+    ensures { CodeSetsVariables }
 {}
 
 /// The code that sets a variable for each option of a table, and then the words to the free words.
@@ -54,9 +59,9 @@ pub(crate) fn variables_code(
     matches: &Matches,
 ) -> Result<String, AllocError>
     ensures text { IfOk result (λ text. string_bytes text
-        ≡ Spec.variables_code variables.entry.prefix.now variables.entry.arrays
-        (Spec.given_from 0 (entries_of rows.now) matches.now.groups) matches.now.free) }
-    ensures values { OnOk result (Spec.HoldTexts (Spec.given_from 0 (entries_of rows.now) matches.now.groups)) }
+        ≡ variables_code variables.entry.prefix.now variables.entry.arrays
+        (given_from 0 (entries_of rows.now) matches.now.groups) matches.now.free) }
+    ensures values { OnOk result (HoldTexts (given_from 0 (entries_of rows.now) matches.now.groups)) }
     ensures free { OnOk result (AreTexts matches.now.free) }
 {
     let mut text = String::new(alloc);
@@ -82,14 +87,14 @@ fn push_option(
     given: &Occurrences<'_>,
 ) -> Result<(), AllocError>
     ensures text { OnOk result (string_bytes text.new ≡ string_bytes text.old
-        ++ Spec.option_code variables.entry.prefix.now variables.entry.arrays record {
+        ++ option_code variables.entry.prefix.now variables.entry.arrays record {
           names = (group_of_row row.entry).signature.names;
           kind = row.entry.kind;
-          all = Spec.holds_all row.entry.mark row.entry.occurrence;
+          all = holds_all row.entry.mark row.entry.occurrence;
           found = given.now;
         }) }
-    ensures values { OnOk result (Spec.AreTextValues row.entry.kind
-        (Spec.holds_all row.entry.mark row.entry.occurrence) given.now) }
+    ensures values { OnOk result (AreTextValues row.entry.kind
+        (holds_all row.entry.mark row.entry.occurrence) given.now) }
 {
     let name = main_name(row);
     text.push_str("\\unset -v ")?;
@@ -107,12 +112,12 @@ fn push_setting(
     given: &Occurrences<'_>,
 ) -> Result<(), AllocError>
     ensures text { OnOk result (string_bytes text.new ≡ string_bytes text.old
-        ++ Spec.value_line
-        (Spec.variable_of variables.entry.prefix.now (group_of_row row.entry).signature.names)
-        (Spec.held_value variables.entry.arrays row.entry.kind
-        (Spec.holds_all row.entry.mark row.entry.occurrence) given.now)) }
-    ensures values { OnOk result (Spec.AreTextValues row.entry.kind
-        (Spec.holds_all row.entry.mark row.entry.occurrence) given.now) }
+        ++ value_line
+        (variable_of variables.entry.prefix.now (group_of_row row.entry).signature.names)
+        (held_value variables.entry.arrays row.entry.kind
+        (holds_all row.entry.mark row.entry.occurrence) given.now)) }
+    ensures values { OnOk result (AreTextValues row.entry.kind
+        (holds_all row.entry.mark row.entry.occurrence) given.now) }
 {
     let name = main_name(row);
     match (row.kind, row.mark, row.occurrence) {
@@ -143,7 +148,7 @@ fn push_count(
     count: usize,
 ) -> Result<(), AllocError>
     ensures { OnOk result (string_bytes text.new ≡ string_bytes text.old
-        ++ Spec.value_line (Spec.variable prefix.now name.now) (Some (one (decimal count)))) }
+        ++ value_line (variable prefix.now name.now) (Some (one (decimal count)))) }
 {
     let count = format!(in alloc; "{count}")?;
     push_value(text, prefix, name, count.as_str())
@@ -157,9 +162,9 @@ fn push_last(
     given: &Occurrences<'_>,
 ) -> Result<(), AllocError>
     ensures text { OnOk result (string_bytes text.new ≡ string_bytes text.old
-        ++ Spec.value_line (Spec.variable prefix.now name.now)
-        (option_map one (last_or None (Spec.texts_found given.now)))) }
-    ensures values { OnOk result (MatchOption (last_or None (Spec.texts_found given.now)) ⊤ IsUtf8) }
+        ++ value_line (variable prefix.now name.now)
+        (option_map one (last_or None (texts_found given.now)))) }
+    ensures values { OnOk result (MatchOption (last_or None (texts_found given.now)) ⊤ IsUtf8) }
 {
     let count = given.len();
     if count == 0 {
@@ -171,7 +176,7 @@ fn push_last(
 /// Adds the command that sets a variable to a text.
 fn push_value(text: &mut String, prefix: &str, name: &str, value: &str) -> Result<(), AllocError>
     ensures { OnOk result (string_bytes text.new ≡ string_bytes text.old
-        ++ Spec.value_line (Spec.variable prefix.now name.now) (Some (one value.now))) }
+        ++ value_line (variable prefix.now name.now) (Some (one value.now))) }
 {
     push_variable(text, prefix, name)?;
     text.push('=')?;
@@ -188,9 +193,9 @@ fn push_values(
     given: &Occurrences<'_>,
 ) -> Result<(), AllocError>
     ensures text { OnOk result (string_bytes text.new ≡ string_bytes text.old
-        ++ Spec.value_line (Spec.variable variables.entry.prefix.now name.now)
-        (Some (Spec.all_values variables.entry.arrays given.now))) }
-    ensures values { OnOk result (AreTexts (Spec.texts_found given.now)) }
+        ++ value_line (variable variables.entry.prefix.now name.now)
+        (Some (all_values variables.entry.arrays given.now))) }
+    ensures values { OnOk result (AreTexts (texts_found given.now)) }
 {
     if variables.arrays {
         push_array(text, variables.prefix, name, given)
@@ -208,9 +213,9 @@ fn push_words(
     given: &Occurrences<'_>,
 ) -> Result<(), AllocError>
     ensures text { OnOk result (string_bytes text.new ≡ string_bytes text.old
-        ++ Spec.value_line (Spec.variable prefix.now name.now)
-        (Some (one (quoted_words (Spec.texts_found given.now))))) }
-    ensures values { OnOk result (AreTexts (Spec.texts_found given.now)) }
+        ++ value_line (variable prefix.now name.now)
+        (Some (one (quoted_words (texts_found given.now))))) }
+    ensures values { OnOk result (AreTexts (texts_found given.now)) }
 {
     let mut words = String::new(alloc);
     push_texts(&mut words, given)?;
@@ -226,9 +231,9 @@ fn push_array(
     given: &Occurrences<'_>,
 ) -> Result<(), AllocError>
     ensures text { OnOk result (string_bytes text.new ≡ string_bytes text.old
-        ++ Spec.value_line (Spec.variable prefix.now name.now)
-        (Some (many (Spec.texts_found given.now)))) }
-    ensures values { OnOk result (AreTexts (Spec.texts_found given.now)) }
+        ++ value_line (variable prefix.now name.now)
+        (Some (many (texts_found given.now)))) }
+    ensures values { OnOk result (AreTexts (texts_found given.now)) }
 {
     push_variable(text, prefix, name)?;
     text.push_str("=(${")?;
@@ -241,8 +246,8 @@ fn push_array(
 /// Adds the values of occurrences as words in quotes, with the empty text for one that has none.
 fn push_texts(text: &mut String, given: &Occurrences<'_>) -> Result<(), AllocError>
     ensures text { OnOk result (string_bytes text.new ≡ string_bytes text.old
-        ++ quoted_words (Spec.texts_found given.now)) }
-    ensures values { OnOk result (AreTexts (Spec.texts_found given.now)) }
+        ++ quoted_words (texts_found given.now)) }
+    ensures values { OnOk result (AreTexts (texts_found given.now)) }
 {
     for nth in 0..given.len() {
         push_word(text, nth > 0, text_at(given, nth))?;
@@ -261,7 +266,7 @@ fn push_word(text: &mut String, begun: bool, word: &str) -> Result<(), AllocErro
 
 /// The value of one of the occurrences, or the empty text where it has none.
 fn text_at<'m>(given: &Occurrences<'m>, nth: usize) -> &'m str
-    ensures { result.now ≡ get_or (Spec.texts_found given.now) nth [] }
+    ensures { result.now ≡ get_or (texts_found given.now) nth [] }
 {
     match given.get(nth) {
         Some((_, value)) => value.unwrap_or(""),
@@ -272,7 +277,7 @@ fn text_at<'m>(given: &Occurrences<'m>, nth: usize) -> &'m str
 /// Adds the variable of a main name: the prefix, and the name with `_` for each `-`.
 fn push_variable(text: &mut String, prefix: &str, name: &str) -> Result<(), AllocError>
     ensures { OnOk result (string_bytes text.new
-        ≡ string_bytes text.old ++ Spec.variable prefix.now name.now) }
+        ≡ string_bytes text.old ++ variable prefix.now name.now) }
 {
     text.push_str(prefix)?;
     push_replaced(text, name, '-', "_")?;
@@ -286,7 +291,7 @@ pub(crate) fn variable_error<'t>(
     rows: &[Row<'t>],
 ) -> Option<VariableError<'t>>
     ensures { option_map variable_fault_told result
-        ≡ Spec.prefix_fault prefix.now table.now (names_of (groups_of rows.now)) }
+        ≡ prefix_fault prefix.now table.now (names_of (groups_of rows.now)) }
 {
     if !is_prefix(prefix) {
         return Some(VariableError::NoPrefix(prefix));
@@ -305,7 +310,7 @@ pub(crate) fn variable_error<'t>(
 
 /// Whether a variable may begin with a text.
 fn is_prefix(prefix: &str) -> bool
-    ensures { result ≡ Spec.is_prefix prefix.now }
+    ensures { result ≡ is_prefix prefix.now }
 {
     prefix.is_empty() || makes_variable(prefix, "")
 }
@@ -313,21 +318,21 @@ fn is_prefix(prefix: &str) -> bool
 /// Whether a prefix and a main name make a variable.
 #[tactic(auto, using(crate::proofs::Assignments::variable_bytes))]
 fn makes_variable(prefix: &str, name: &str) -> bool
-    ensures { result ≡ Spec.is_variable (Spec.variable prefix.now name.now) }
+    ensures { result ≡ is_variable (variable prefix.now name.now) }
 {
     begins_variable(prefix, name) && are_variable_bytes(prefix) && make_variable_bytes(name)
 }
 
 /// Whether a variable may hold each byte of a text.
 fn are_variable_bytes(text: &str) -> bool
-    ensures { result ≡ list_all Spec.is_variable_byte text.now }
+    ensures { result ≡ list_all is_variable_byte text.now }
 {
     text.bytes().all(is_variable_byte)
 }
 
 /// Whether a variable may hold each byte of a main name, with `_` for each `-`.
 fn make_variable_bytes(name: &str) -> bool
-    ensures { result ≡ list_all (λ byte. Spec.is_variable_byte (Spec.variable_byte byte)) name.now }
+    ensures { result ≡ list_all (λ byte. is_variable_byte (variable_byte byte)) name.now }
 {
     name.bytes()
         .all(|byte| is_variable_byte(variable_byte(byte)))
@@ -335,7 +340,7 @@ fn make_variable_bytes(name: &str) -> bool
 
 /// Whether a prefix and a main name begin with no digit, and not both are empty.
 fn begins_variable(prefix: &str, name: &str) -> bool
-    ensures { result ≡ Spec.begins_variable (Spec.variable prefix.now name.now) }
+    ensures { result ≡ begins_variable (variable prefix.now name.now) }
 {
     match (prefix.as_bytes(), name.as_bytes()) {
         ([first, ..], _) => !first.is_ascii_digit(),
@@ -346,7 +351,7 @@ fn begins_variable(prefix: &str, name: &str) -> bool
 
 /// Whether the name of a variable may hold a byte: a letter, a digit or `_`.
 fn is_variable_byte(byte: u8) -> bool
-    ensures { result ≡ Spec.is_variable_byte byte }
+    ensures { result ≡ is_variable_byte byte }
 {
     byte.is_ascii_alphanumeric() || byte == b'_'
 }
@@ -354,15 +359,15 @@ fn is_variable_byte(byte: u8) -> bool
 /// Whether one of the rows makes the variable that a main name makes.
 fn any_has_variable(rows: &[Row<'_>], name: &str) -> bool
     ensures { result ≡ list_any (λ row. bytes_eq
-        (map Spec.variable_byte (main_name (group_of_row row).signature.names))
-        (map Spec.variable_byte name.now)) rows.now }
+        (map variable_byte (main_name (group_of_row row).signature.names))
+        (map variable_byte name.now)) rows.now }
 {
     rows.iter().any(|row| same_variable(main_name(*row), name))
 }
 
 /// Whether two main names make one variable.
 fn same_variable(name: &str, other: &str) -> bool
-    ensures { result ≡ bytes_eq (map Spec.variable_byte name.now) (map Spec.variable_byte other.now) }
+    ensures { result ≡ bytes_eq (map variable_byte name.now) (map variable_byte other.now) }
 {
     let bytes = name.as_bytes();
     let others = other.as_bytes();
@@ -379,14 +384,14 @@ fn same_variable(name: &str, other: &str) -> bool
 
 /// A byte of a main name, as it stands in a variable.
 fn variable_byte(byte: u8) -> u8
-    ensures { result ≡ Spec.variable_byte byte }
+    ensures { result ≡ variable_byte byte }
 {
     if byte == b'-' { b'_' } else { byte }
 }
 
 /// The number of the line of the option at a place, or 0 past the last.
 fn option_line(table: &str, place: usize) -> usize
-    ensures { result ≡ slice_index (Spec.option_lines 0 (lines_of table.now)) place }
+    ensures { result ≡ slice_index (option_lines 0 (lines_of table.now)) place }
 {
     let mut number = 0usize;
     let mut before = 0usize;
