@@ -1,21 +1,28 @@
--- The variables that are asked for.
-use Rattle.std.proofs.Common.{◌≡◌, ℕ, ◌+◌, Bool, true, false, cond, List, [], ◌∷◌, Option, Some, None, ap, refl, sym}
-use Rattle.std.proofs.Common.{subst, ◌∙◌, map, ◌<◌, zero, suc, add-one, arith, get_or, length, take, take_all}
-use Rattle.std.specs.Option.{option_map_or}
+-- The variables that are asked for, and the counts of matches.
+use Rattle.std.proofs.Common.{◌≡◌, ℕ, ◌+◌, ◌<◌, zero, suc, add-one, arith, Bool, true, false, cond, List, [], ◌∷◌}
+use Rattle.std.proofs.Common.{Option, Some, None, Ok, ap, drop, drop_of_length-le, get_or, length, map, refl, subst}
+use Rattle.std.proofs.Common.{sym, ◌∙◌}
+use Rattle.std.specs.Prelude.{if◌then◌else◌, ◌&&◌}
+use Rattle.std.specs.Option.{is_none, option_map_or}
+use Rattle.std.proofs.lemmas.Bool.{false≢true}
 use Rattle.getopts.specs.Accessors.{found_in}
-use Rattle.getopts.specs.Matches.{FitsCount, KeepsCounts, Matched, MatchedGroup, matched}
+use Rattle.getopts.specs.Fail.{Fault}
+use Rattle.getopts.specs.Matches.{Matched, MatchedGroup, matched, matches_of}
 use Rattle.getopts.specs.Names.{AreTexts, Text, Names}
 use Rattle.getopts.specs.Options.{Declared, Group, Signature, names_of, signatures_of}
-use Rattle.getopts.specs.Parse.{HasReading}
-use Rattle.getopts.specs.Reading.{Occurrence}
-use Rattle.getopts.specs.declared.groups.Occur.{Occur}
+use Rattle.getopts.specs.Reading.{Occurrence, Reading}
+use Rattle.getopts.specs.Results.{broken_count, first_count_fault, fits_count, line_result, made_of, parse_result}
+use Rattle.getopts.specs.Results.{read_result, reading_result, unless_fault, with_counts_kept}
 use Rattle.getopts.specs.Wrap.{lines_of}
-use Rattle.getopts_shell.specs.Held.{entries_of, entry_of_row, group_of_row, groups_as, groups_of, held_signatures}
-use Rattle.getopts_shell.specs.Program.{Asked, SetsMatched, asked_fault, read_groups}
-use Rattle.getopts_shell.specs.Table.{Entry, shown_group}
+use Rattle.getopts.specs.declared.groups.Occur.{Occur}
+use Rattle.getopts.proofs.MainTheorem.Results.{made_of-ok}
+use Rattle.getopts_shell.specs.Held.{group_of_row, groups_of, held_signatures}
+use Rattle.getopts_shell.specs.Program.{Answer, Asked, Script, TellsOptions, asked_fault, done, read_groups}
+use Rattle.getopts_shell.specs.Table.{Entry}
+use Rattle.getopts_shell.specs.Variables.{Given, HaveOwnVariables, HoldTexts, VariableFault, arrays_only}
+use Rattle.getopts_shell.specs.Variables.{first_fault, given_from, is_prefix, option_lines, prefix_fault}
+use Rattle.getopts_shell.specs.Variables.{variables_code}
 use Rattle.getopts_shell.specs.declared.row.Row.{Row}
-use Rattle.getopts_shell.specs.Variables.{HoldTexts, first_fault, Given, given_from, HaveOwnVariables, is_prefix, option_lines}
-use Rattle.getopts_shell.specs.Variables.{prefix_fault, VariableFault, arrays_only}
 use Rattle.getopts_shell.proofs.Assignments.{own_variables}
 use Rattle.getopts_shell.proofs.Written.{code_sets}
 
@@ -36,34 +43,25 @@ asked_own asked table prefix groups given none =
     (cond asked.arrays (Some arrays_only) None)) given)
     ∙ none))
 
-given_names : (place : ℕ) (entries : List Entry) (held : List MatchedGroup)
+pub given_names : (place : ℕ) (entries : List Entry) (held : List MatchedGroup)
     → map (λ (option : Given). option.names) (given_from place entries held) ≡ names_of (read_groups entries)
 given_names place [] held = refl
 given_names place (entry ∷ entries) held =
     ap (λ (names : List Names). entry.signature.names ∷ names) (given_names (place + 1) entries held)
 
 -- the code for options that make their own variables sets these
-pub asked_sets : (asked : Asked) (table prefix : Text) (entries : List Entry) (matches : Matched)
-    → asked.variables ≡ Some prefix → asked_fault asked table (read_groups entries) ≡ None
-    → HoldTexts (given_from 0 entries matches.groups) → AreTexts matches.free
-    → SetsMatched prefix asked entries matches
-asked_sets asked table prefix entries matches given none values free = record {
-  sets = code_sets prefix asked.arrays (given_from 0 entries matches.groups) matches.free
-      (subst (HaveOwnVariables prefix []) (sym (given_names 0 entries matches.groups))
-      (asked_own asked table prefix (read_groups entries) given none));
+pub asked_sets : (script : Script) (table prefix : Text) (options : List Given) (free : List Text) {answer : Answer}
+    → map (λ (option : Given). option.names) options ≡ names_of (read_groups script.entries)
+    → script.asked.variables ≡ Some prefix → asked_fault script.asked table (read_groups script.entries) ≡ None
+    → HoldTexts options → AreTexts free → answer ≡ done (variables_code prefix script.asked.arrays options free)
+    → TellsOptions script prefix options free answer
+asked_sets script table prefix options free names given none values free_values is = record {
+  sets = code_sets prefix script.asked.arrays options free (subst (HaveOwnVariables prefix []) (sym names)
+      (asked_own script.asked table prefix (read_groups script.entries) given none));
   values = values;
-  free = free;
+  free_values = free_values;
+  answer_is = is;
 }
-
--- the groups of rows are those of their entries
-pub rows_read : (rows : List Row) → groups_of rows ≡ read_groups (entries_of rows)
-rows_read [] = refl
-rows_read (row ∷ rows) = ap (λ (groups : List Group). group_of_row row ∷ groups) (rows_read rows)
-
--- and so are those that a help shows
-pub rows_shown : (rows : List Row) → groups_as true rows ≡ map shown_group (entries_of rows)
-rows_shown [] = refl
-rows_shown (row ∷ rows) = ap (λ (groups : List Group). shown_group (entry_of_row row) ∷ groups) (rows_shown rows)
 
 -- ---- counts
 
@@ -73,12 +71,30 @@ matched_signatures place [] occurrences = refl
 matched_signatures place (signature ∷ signatures) occurrences =
     ap (λ (others : List Signature). signature ∷ others) (matched_signatures (place + 1) signatures occurrences)
 
--- the matches of a reading have the signatures of the options
+-- matches that are read have the signatures of the options
 pub held_signatures_are : (options : Declared) (words : List Text) (matches : Matched)
-    → HasReading options words matches → held_signatures matches.groups ≡ signatures_of options.groups
+    → read_result options words ≡ Ok matches → held_signatures matches.groups ≡ signatures_of options.groups
 held_signatures_are options words matches is =
-    ap (λ (m : Matched). held_signatures m.groups) is.matches_are
+    let made = made_of-ok (matches_of options) (reading_result options words) matches is in
+    ap (λ (m : Matched). held_signatures m.groups) (sym made.2)
     ∙ matched_signatures 0 (signatures_of options.groups) _
+
+-- matches that are read and have no fault of counts are the result of the words
+pub kept_result : (options : Declared) (words : List Text) (matches : Matched)
+    → read_result options words ≡ Ok matches → is_none (first_count_fault matches.groups) ≡ true
+    → parse_result options words ≡ Ok matches
+unfolding reading_result line_result
+kept_result options words matches is kept =
+    let made = made_of-ok (matches_of options) (reading_result options words) matches is in
+    ap (λ outcome. made_of (matches_of options) (with_counts_kept options outcome)) made.1
+    ∙ by_fault made.0 (first_count_fault (matches_of options made.0).groups)
+    (ap (λ (m : Matched). is_none (first_count_fault m.groups)) made.2 ∙ kept) made.2
+  where
+    by_fault : (reading : Reading) (fault : Option Fault) → is_none fault ≡ true
+        → matches_of options reading ≡ matches
+        → made_of (matches_of options) (unless_fault reading fault) ≡ Ok matches
+    by_fault reading None none same = ap Ok same
+    by_fault reading (Some fault) none same = absurd (false≢true none)
 
 -- matches of as many groups as there are rows
 pub as_many : (groups : List MatchedGroup) (rows : List Row)
@@ -90,34 +106,42 @@ as_many (group ∷ groups) (row ∷ rows) same =
     let rest : held_signatures groups ≡ signatures_of (groups_of rows) = cc in
     ap suc (as_many groups rows rest)
 
--- one more group that keeps its count
-pub one_kept : (groups : List MatchedGroup) (rows : List Row) (place : ℕ) (row : Row)
+-- whether the groups from a place on keep their counts
+pub counts_from : (groups : List MatchedGroup) (rows : List Row) (place : ℕ) (row : Row)
     → held_signatures groups ≡ signatures_of (groups_of rows) → place < length rows → row ≡ get_or rows place row
-    → FitsCount row.occurrence (length (found_in groups place)) → KeepsCounts (take place groups)
-    → KeepsCounts (take (place + 1) groups)
-one_kept groups rows place row same below row_is fits kept =
-    subst (λ (n : ℕ). KeepsCounts (take n groups)) (sym (add-one place)) (by_place groups rows place same below row_is fits kept)
+    → is_none (first_count_fault (drop place groups))
+    ≡ (fits_count row.occurrence (length (found_in groups place))
+    && is_none (first_count_fault (drop (place + 1) groups)))
+counts_from groups rows place row same below row_is =
+    by_place groups rows place same below row_is
+    ∙ ap (λ (n : ℕ). fits_count row.occurrence (length (found_in groups place))
+    && is_none (first_count_fault (drop n groups))) (sym (add-one place))
   where
     by_place : (groups : List MatchedGroup) (rows : List Row) (place : ℕ)
         → held_signatures groups ≡ signatures_of (groups_of rows) → place < length rows → row ≡ get_or rows place row
-        → FitsCount row.occurrence (length (found_in groups place)) → KeepsCounts (take place groups)
-        → KeepsCounts (take (suc place) groups)
-    by_place groups [] place same below row_is fits kept = absurd (omega arith)
-    by_place [] (other ∷ rows) place same below row_is fits kept = cc
-    by_place (group ∷ groups) (other ∷ rows) zero same below row_is fits kept =
+        → is_none (first_count_fault (drop place groups))
+        ≡ (fits_count row.occurrence (length (found_in groups place))
+        && is_none (first_count_fault (drop (suc place) groups)))
+    by_place groups [] place same below row_is = absurd (omega arith)
+    by_place [] (other ∷ rows) place same below row_is = cc
+    by_place (group ∷ groups) (other ∷ rows) zero same below row_is =
         let is : group.signature ≡ (group_of_row other).signature = cc in
-        let same_row : row ≡ other = row_is in (
-          subst (λ (occurrence : Occur). FitsCount occurrence (length group.found))
-              (ap (λ (r : Row). r.occurrence) same_row ∙ sym (ap (λ (s : Signature). s.occurrence) is)) fits,
-          tt,
-        )
-    by_place (group ∷ groups) (other ∷ rows) (suc place) same below row_is fits kept =
+        let same_row : row ≡ other = row_is in
+        let occurrence : group.signature.occurrence ≡ row.occurrence =
+        ap (λ (s : Signature). s.occurrence) is ∙ sym (ap (λ (r : Row). r.occurrence) same_row) in
+        by_test (fits_count group.signature.occurrence (length group.found))
+        ∙ ap (λ (o : Occur). fits_count o (length group.found) && is_none (first_count_fault groups)) occurrence
+      where
+        by_test : (test : Bool)
+            → is_none (if test then first_count_fault groups else Some (broken_count group))
+            ≡ (test && is_none (first_count_fault groups))
+        by_test true = refl
+        by_test false = refl
+    by_place (group ∷ groups) (other ∷ rows) (suc place) same below row_is =
         let rest : held_signatures groups ≡ signatures_of (groups_of rows) = cc in
-        (kept.0, by_place groups rows place rest (omega arith) row_is fits kept.1)
+        by_place groups rows place rest (omega arith) row_is
 
--- where those of all rows are kept, all are
-pub all_kept : (groups : List MatchedGroup) (rows : List Row)
-    → held_signatures groups ≡ signatures_of (groups_of rows) → KeepsCounts (take (length rows) groups)
-    → KeepsCounts groups
-all_kept groups rows same kept =
-    subst KeepsCounts (take_all (length rows) groups (omega (arith, as_many groups rows same))) kept
+-- none is left after the last row
+pub none_left : (groups : List MatchedGroup) (rows : List Row)
+    → held_signatures groups ≡ signatures_of (groups_of rows) → drop (length rows) groups ≡ []
+none_left groups rows same = drop_of_length-le groups (omega (arith, as_many groups rows same))

@@ -18,9 +18,9 @@ use Rattle.getopts.specs.Matches.{Found, MatchedGroup}
 use Rattle.getopts.specs.Names.{Text, Names, main_name}
 use Rattle.getopts.specs.Options.{Group, names_of}
 use Rattle.getopts.specs.Wrap.{lines_of, parting}
-use Rattle.getopts_shell.specs.Held.{entries_of, group_of_row, groups_of}
+use Rattle.getopts_shell.specs.Held.{entries_of, entry_of_row, entries_of, group_of_row, groups_of}
 use Rattle.getopts_shell.specs.Quote.{quoted, quoted_words, replaced, spaced}
-use Rattle.getopts_shell.specs.Table.{is_passed, line_number}
+use Rattle.getopts_shell.specs.Table.{group_of_entry, is_passed, line_number}
 use Rattle.getopts_shell.specs.Variables.{any_has_variable, first_fault, Given, given_from, HaveOwnVariables, holds_all}
 use Rattle.getopts_shell.specs.Variables.{is_variable, is_variable_byte, name_fault, option_lines}
 use Rattle.getopts_shell.specs.Variables.{texts_found, variable, variable_byte, VariableFault, variable_of}
@@ -272,7 +272,8 @@ fault_from prefix lines rows place row below row_is =
     let others = names_of (groups_of (drop (place + 1) rows)) in
     let count : length before ≡ place =
     length-map (groups_of (take place rows)) (λ (group : Group). group.signature.names)
-    ∙ length-map (take place rows) group_of_row ∙ length-take-le place rows (omega arith) in
+    ∙ length-map (entries_of (take place rows)) group_of_entry
+    ∙ length-map (take place rows) entry_of_row ∙ length-take-le place rows (omega arith) in
     let rest : drop place rows ≡ row ∷ drop (place + 1) rows =
     at_drop_more (λ (t : List Row). t) rows place row below
     ∙ ap (λ (r : Row). r ∷ drop (place + 1) rows) (sym row_is) in

@@ -7,7 +7,6 @@ mod OneAnswer
 mod Plain
 mod Help
 mod Line
-mod Status
 -- texts cut at a byte, with another in its place
 mod Parts
 -- one thing is offered at a word

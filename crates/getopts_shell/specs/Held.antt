@@ -8,10 +8,10 @@ use Rattle.getopts.specs.Names.{Text, main_name}
 use Rattle.getopts.specs.Options.{Declared, Group, Signature, group_of, signatures_of, with_group}
 use Rattle.getopts.specs.Parse.{Reads}
 use Rattle.getopts.specs.Reading.{Occurrence, Reading, holds_equals}
-use Rattle.getopts_shell.specs.Program.{Answer, Asked, own_groups}
+use Rattle.getopts_shell.specs.Program.{Answer, Asked, own_groups, read_groups}
 use Rattle.getopts_shell.specs.Variables.{VariableFault, arrays_only, no_prefix, no_variable, variable_twice}
-use Rattle.getopts_shell.specs.Table.{Entry, shown_group, TableFault, no_option, name_twice}
-use Rattle.getopts_shell.specs.declared.answer.Asked.{Asked as AskedHeld}
+use Rattle.getopts_shell.specs.Table.{Entry, group_of_entry, shown_group, TableFault, no_option, name_twice}
+use Rattle.getopts_shell.specs.declared.script.Asked.{Asked as AskedHeld}
 use Rattle.getopts_shell.specs.declared.answer.Outcome.{Outcome}
 use Rattle.getopts_shell.specs.declared.row.Row.{Row}
 use Rattle.getopts_shell.specs.declared.table.TableError.{TableError}
@@ -39,12 +39,11 @@ group_of_row row = group_of row.short.now row.long.now row.description.now row.h
 
 -- the groups of rows
 abbrev pub groups_of : List Row → List Group
-groups_of rows = map group_of_row rows
+groups_of rows = read_groups (entries_of rows)
 
--- the groups of rows, as they are shown or as they are read
-abbrev pub groups_as : Bool → List Row → List Group
-groups_as shown rows =
-    map (λ row. if shown then shown_group (entry_of_row row) else group_of_row row) rows
+-- the groups of entries, as they are shown or as they are read
+abbrev pub groups_as : Bool → List Entry → List Group
+groups_as shown entries = map (λ entry. if shown then shown_group entry else group_of_entry entry) entries
 
 -- the fault that an error of a table tells, unless it tells that memory was refused
 abbrev pub fault_told : TableError → Option TableFault

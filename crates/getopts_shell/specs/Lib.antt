@@ -14,3 +14,4 @@ pub mod Program
 
 -- what the code holds, as the definitions see it
 pub mod Held
+pub mod HeldScript

@@ -1,6 +1,8 @@
 -- The program: what it answers to words, and with which status.
-use Rattle.std.specs.Prelude.{◌≡◌, ◌≢◌, ◌≤◌, ◌&&◌, ◌||◌, ◌-◌, ℕ, Bool, true, false, List, [], ◌∷◌, ◌++◌, Option}
-use Rattle.std.specs.Prelude.{Some, None, codes, decimal, if◌then◌else◌, length, map, take}
+use Rattle.std.specs.Prelude.{◌≡◌, ◌≢◌, ◌≤◌, ◌&&◌, ◌||◌, ◌-◌, ℕ, Bool, true, false}
+use Rattle.std.specs.Prelude.{List, [], ◌∷◌, ◌++◌, Option, Some, None, MatchOption, MatchResult}
+use Rattle.std.specs.Prelude.{codes, decimal, if◌then◌else◌, length, map, take}
+use Rattle.std.specs.Bool.{MatchBool}
 use Rattle.std.specs.Io.KnownBytes.{Appends}
 use Rattle.std.specs.List.{AllByRecursion, find, last_or, list_any}
 use Rattle.std.specs.Option.{option_map_or, unwrap_or}
@@ -13,23 +15,23 @@ use Rattle.getopts.specs.Matches.{Matched}
 use Rattle.getopts.specs.Names.{AreTexts, Text, main_name}
 use Rattle.getopts.specs.Only.{IsTheOnly}
 use Rattle.getopts.specs.Options.{Group, Declared, group_of, names_of}
-use Rattle.getopts.specs.Parse.{HasReading, IsAccepted, IsRefused}
 use Rattle.getopts.specs.Reading.{stop_word}
+use Rattle.getopts.specs.Results.{canonical_result, parse_result, read_result}
 use Rattle.getopts.specs.Usage.{IsUsageText, short_usage_text}
 use Rattle.getopts.specs.declared.groups.HasArg.{HasArg}
 use Rattle.getopts.specs.declared.groups.HasArg.TheVariants.{Yes, No}
 use Rattle.getopts.specs.declared.groups.Occur.TheVariants.{Optional}
 use Rattle.getopts.specs.declared.groups.ParsingStyle.TheVariants.{FloatingFrees, StopAtFirstFree}
-use Rattle.getopts_shell.specs.Completion.{IsOffer, stub}
 use Rattle.getopts_bytes.specs.Marks.{bytes_of}
+use Rattle.getopts_shell.specs.Completion.{IsOffer, stub}
 use Rattle.getopts_shell.specs.Quote.{quoted, shell_words}
+use Rattle.getopts_shell.specs.Table.{Entry, group_of_entry, shown_group, DeclaresOptions, IsTableFault}
+use Rattle.getopts_shell.specs.Table.{TableFault, no_option, name_twice, reason_of}
+use Rattle.getopts_shell.specs.Variables.{HoldTexts, SetsVariables, SetsWords, Given, given_from}
+use Rattle.getopts_shell.specs.Variables.{given_alone, line_code, variables_code, VariableFault}
+use Rattle.getopts_shell.specs.Variables.{arrays_only, no_prefix, no_variable, prefix_fault, variable_twice}
 use Rattle.getopts_shell.specs.declared.row.Mark.{Mark}
 use Rattle.getopts_shell.specs.declared.row.Mark.TheVariants.{Alone}
-use Rattle.getopts_shell.specs.Table.{Entry, group_of_entry, shown_group, DeclaresOptions, IsTableFault, TableFault}
-use Rattle.getopts_shell.specs.Table.{no_option, name_twice}
-use Rattle.getopts_shell.specs.Table.{reason_of}
-use Rattle.getopts_shell.specs.Variables.{HoldTexts, SetsVariables, SetsWords, VariableFault, arrays_only, given_from, line_code}
-use Rattle.getopts_shell.specs.Variables.{no_prefix, no_variable, prefix_fault, variable_twice, variables_code}
 
 -- ---- the program's own options
 
@@ -86,10 +88,6 @@ asked_by own = record {
   arrays = is_given own (codes "arrays");
 }
 
--- a script's words are read: neither its help nor what may come is asked for
-abbrev pub ReadsWords : Asked → Type 0
-ReadsWords asked = (asked.usage ≡ false) × (asked.complete_words ≡ None)
-
 -- ---- answers
 
 -- an answer: the text that is written, on the standard output where the status is 0, and else on the
@@ -119,32 +117,45 @@ table_fault_line (name_twice number name) = codes "getopts_shell: line "
 
 -- ---- a script
 
--- the options of a script, in the style and the mode that are asked for
-abbrev pub script_options : Asked → List Group → Declared
-script_options asked groups = record {
+-- a script: what is asked for it, its name, and the entries of its table
+pub record Script : Type 0 where
+  pub asked : Asked
+  pub name : Text
+  pub entries : List Entry
+
+-- the groups of entries, as words are read by them
+abbrev pub read_groups : List Entry → List Group
+read_groups entries = map group_of_entry entries
+
+-- options of these groups, in the style and the mode that are asked for
+abbrev pub options_in : Asked → List Group → Declared
+options_in asked groups = record {
   groups = groups;
   style = if asked.stop then StopAtFirstFree else FloatingFrees;
   long_only = asked.long_only;
 }
 
--- the options of a table as the script's words are read by them, and as its help shows them
-abbrev pub read_groups : List Entry → List Group
-read_groups entries = map group_of_entry entries
+-- the options that a script's words are read by, and those that its help shows
+abbrev pub read_options : Script → Declared
+read_options script = options_in script.asked (read_groups script.entries)
 
-abbrev pub shown_options : Asked → List Entry → Declared
-shown_options asked entries = script_options asked (map shown_group entries)
+abbrev pub shown_options : Script → Declared
+shown_options script = options_in script.asked (map shown_group script.entries)
 
 -- the text that a script's help begins with: the one that was given, or else the short usage
-abbrev pub brief_text : Asked → Text → Declared → Text
-brief_text asked name shown = unwrap_or asked.brief (short_usage_text shown name)
+abbrev pub brief_text : Script → Text
+brief_text script = unwrap_or script.asked.brief (short_usage_text (shown_options script) script.name)
 
 -- the help of a script
-abbrev pub IsHelp : Asked → Text → Declared → Text → Type 0
-IsHelp asked name shown help = IsTheOnly (IsUsageText shown (brief_text asked name shown)) help
+abbrev pub IsHelp : Script → Text → Type 0
+IsHelp script help = IsTheOnly (IsUsageText (shown_options script) (brief_text script)) help
 
--- a fault of the script's words, and the text that its help begins with
-abbrev pub refused_text : Asked → Declared → Text → Fault → Text
-refused_text asked shown name fault = fault_line name fault ++ (brief_text asked name shown ++ codes "\n")
+-- the answer to words that are refused: the fault, and the text that the help begins with
+abbrev pub refused : Script → Fault → Answer
+refused script fault = record {
+  text = fault_line script.name fault ++ (brief_text script ++ codes "\n");
+  status = 2;
+}
 
 -- a shell makes of this text in quotes one word, itself; and of the bytes of that the bytes of the text
 pub record IsOneWord (text : Text) : Type 0 where
@@ -160,15 +171,13 @@ abbrev pub is_no : HasArg → Bool
 is_no No = true
 is_no kind = false
 
--- whether one of the options is called `help`, and takes no argument
-abbrev pub offers_help : List Group → Bool
-offers_help groups =
-    list_any (λ group. bytes_eq group.signature.names.long (codes "help") && is_no group.signature.kind) groups
+-- whether an entry is called `help`, and takes no argument
+abbrev pub is_help : Entry → Bool
+is_help entry = bytes_eq entry.signature.names.long (codes "help") && is_no entry.signature.kind
 
--- the words ask for help: they have a reading, whatever its counts, with such an option
-abbrev pub AskHelp : Declared → List Text → Type 0
-AskHelp options words = (matches : Matched) × HasReading options words matches
-    × (offers_help options.groups ≡ true) × (is_present matches.groups (codes "help") ≡ true)
+-- whether matches ask for help: they have the option `help`, and one of the entries is that
+abbrev pub asks_help : List Entry → Matched → Bool
+asks_help entries matches = list_any is_help entries && is_given matches (codes "help")
 
 -- whether an option stands alone
 abbrev pub stands_alone : Mark → Bool
@@ -178,38 +187,21 @@ stands_alone mark = false
 -- whether the option of an entry does, and matches have it
 abbrev pub is_alone : Matched → Entry → Bool
 is_alone matches entry =
-    stands_alone entry.mark && is_present matches.groups (main_name entry.signature.names)
+    stands_alone entry.mark && is_given matches (main_name entry.signature.names)
 
--- The words ask for the option of this entry alone: they don't ask for help, and have a reading, whatever its counts,
--- with options that stand alone, of which it is the first in the table.
-pub record AskAlone (options : Declared) (entries : List Entry) (words : List Text) (entry : Entry)
-    : Type 0 where
-  pub no_help : ¬ (AskHelp options words)
-  pub matches : Matched
-  pub read : HasReading options words matches
-  pub first : find (is_alone matches) entries ≡ Some entry
-
--- the counts of the words are checked: they ask neither for help nor for one option alone
-abbrev pub AreCounted : Declared → List Entry → List Text → Type 0
-AreCounted options entries words =
-    ¬ (AskHelp options words) × ((entry : Entry) → ¬ (AskAlone options entries words entry))
-
--- the word of an option by its main name
-abbrev pub main_word : Entry → Text
-main_word entry = codes "--" ++ main_name entry.signature.names
-
--- the line of an option alone: that word, and the stop
+-- the line of an option alone: its word by its main name, and the stop
 abbrev pub alone_line : Entry → List Text
-alone_line entry = main_word entry ∷ stop_word ∷ []
+alone_line entry = (codes "--" ++ main_name entry.signature.names) ∷ stop_word ∷ []
 
 -- the line of a fault of variables
 abbrev pub variable_fault_line : VariableFault → Text
 variable_fault_line arrays_only = codes "getopts_shell: --arrays needs --variables\n"
-variable_fault_line (no_prefix prefix) = codes "getopts_shell: '" ++ (prefix ++ codes "' makes no variable\n")
-variable_fault_line (no_variable number name) = codes "getopts_shell: line "
-    ++ (decimal number ++ (codes " of the options: '" ++ (name ++ codes "' makes no variable\n")))
-variable_fault_line (variable_twice number name) = codes "getopts_shell: line "
-    ++ (decimal number ++ (codes " of the options: '" ++ (name ++ codes "' makes the variable of another option\n")))
+variable_fault_line (no_prefix prefix) =
+    codes "getopts_shell: '" ++ (prefix ++ codes "' makes no variable\n")
+variable_fault_line (no_variable number name) = codes "getopts_shell: line " ++ (decimal number
+    ++ (codes " of the options: '" ++ (name ++ codes "' makes no variable\n")))
+variable_fault_line (variable_twice number name) = codes "getopts_shell: line " ++ (decimal number
+    ++ (codes " of the options: '" ++ (name ++ codes "' makes the variable of another option\n")))
 
 -- the fault of the variables or the arrays that are asked for, with a table of these options
 abbrev pub asked_fault : Asked → Text → List Group → Option VariableFault
@@ -217,13 +209,15 @@ asked_fault asked table groups = option_map_or
     (λ prefix. prefix_fault prefix table (names_of groups)) asked.variables
     (if asked.arrays then Some arrays_only else None)
 
--- What a canonical line tells: a shell that runs its code holds its words; it is accepted in both styles and both
--- modes with the content of the words, and says nothing else; and of its words the first that is `--` is the stop.
+-- What a canonical line tells: a shell that runs its code holds its words; it is accepted in both
+-- styles and both modes with the content of the words, and says nothing else; and of its words the
+-- first that is `--` is the stop.
 pub record TellsWords (options : Declared) (words line : List Text) : Type 0 where
   pub shell : SetsWords line
   pub written : IsWritten options words line
   pub reads_back : HasCanonicalLine options written.content
-  pub stop_is_first : AllByRecursion (λ m. canonical_word options.groups m ≢ stop_word) written.content.mentions
+  pub stop_is_first :
+      AllByRecursion (λ m. canonical_word options.groups m ≢ stop_word) written.content.mentions
 
 -- whether there is completion in a shell
 abbrev pub has_completion : Text → Bool
@@ -231,85 +225,94 @@ has_completion shell = bytes_eq shell (codes "bash") || bytes_eq shell (codes "z
     || bytes_eq shell (codes "fish")
 
 -- what is said where there is none
-abbrev pub no_completion : Text → Text
-no_completion shell = codes "getopts_shell: no completion for '" ++ (shell ++ codes "'\n")
+abbrev pub no_completion : Text → Answer
+no_completion shell = misused (codes "getopts_shell: no completion for '" ++ (shell ++ codes "'\n"))
 
 -- the code that completes a script's words in a shell, or that there is none for it
 abbrev pub completion_answer : Asked → Text → Text → Text → Answer
 completion_answer asked shell name table =
-    option_map_or done (stub shell asked.stop asked.long_only name table) (misused (no_completion shell))
+    option_map_or done (stub shell asked.stop asked.long_only name table) (no_completion shell)
 
 -- the last of words, and those before it; of no words an empty one
 abbrev pub last_word : List Text → Text
 last_word words = unwrap_or (last_or None words) []
 
 -- the answer to a shell that asks what may come at the last word, if there is completion in it
-pub data AnswersOffer (shell : Text) (options : Declared) (words : List Text) : Answer → Type 0 where
-  offered : (text : Text) → has_completion shell ≡ true
-      → IsOffer options (take (length words - 1) words) (last_word words) text
-      → AnswersOffer shell options words (done text)
-  no_shell : has_completion shell ≡ false → AnswersOffer shell options words (misused (no_completion shell))
+abbrev pub AnswersOffer : Script → Text → List Text → Answer → Type 0
+AnswersOffer script shell words answer = MatchBool (has_completion shell)
+    ((text : Text) × IsOffer (read_options script) (take (length words - 1) words) (last_word words) text
+    × (answer ≡ done text))
+    (answer ≡ no_completion shell)
 
--- the code that sets variables to what matches hold
-abbrev pub code_for : Text → Asked → List Entry → Matched → Text
-code_for prefix asked entries matches =
-    variables_code prefix asked.arrays (given_from 0 entries matches.groups) matches.free
+-- The code that sets variables for options and free words: a shell that runs it holds these; and
+-- the values are UTF-8, so one that runs its bytes holds their bytes.
+pub record TellsOptions (script : Script) (prefix : Text) (options : List Given) (free : List Text)
+    (answer : Answer) : Type 0 where
+  pub sets : SetsVariables prefix script.asked.arrays options free
+  pub values : HoldTexts options
+  pub free_values : AreTexts free
+  pub answer_is : answer ≡ done (variables_code prefix script.asked.arrays options free)
 
--- A shell that runs it holds that, and the values are UTF-8, so one that runs its bytes holds their bytes.
-pub record SetsMatched (prefix : Text) (asked : Asked) (entries : List Entry) (matches : Matched) : Type 0 where
-  pub sets : SetsVariables prefix asked.arrays (given_from 0 entries matches.groups) matches.free
-  pub values : HoldTexts (given_from 0 entries matches.groups)
-  pub free : AreTexts matches.free
+-- the answer to words that ask for one option alone: its line, or variables where it alone is given
+abbrev pub AnswersAlone : Script → Entry → Answer → Type 0
+AnswersAlone script entry answer = MatchOption script.asked.variables
+    (SetsWords (alone_line entry) × (answer ≡ done (line_code (alone_line entry))))
+    (λ prefix. TellsOptions script prefix (given_alone script.entries entry) [] answer)
 
--- The answer to words that ask for one option alone: the code of its line, or the code that sets variables to what
--- its one word gives, whatever its counts.
-pub data AnswersAlone (asked : Asked) (options : Declared) (entries : List Entry) (entry : Entry)
-    : Answer → Type 0 where
-  as_line : asked.variables ≡ None → SetsWords (alone_line entry)
-      → AnswersAlone asked options entries entry (done (line_code (alone_line entry)))
-  as_variables : (prefix : Text) (matches : Matched) → asked.variables ≡ Some prefix
-      → HasReading options (main_word entry ∷ []) matches → SetsMatched prefix asked entries matches
-      → AnswersAlone asked options entries entry (done (code_for prefix asked entries matches))
+-- the answer to words whose counts are checked: their canonical line, variables for their matches, or
+-- the first fault
+abbrev pub AnswersLine : Script → List Text → Answer → Type 0
+AnswersLine script words answer = MatchResult (canonical_result (read_options script) words)
+    (λ written. MatchOption written ⊥ (λ line. TellsWords (read_options script) words line
+    × (answer ≡ done (line_code line))))
+    (λ fault. answer ≡ refused script fault)
 
--- The answer for a script with these entries, read by these options: its help, what may come at a word, or what its
--- words are. That is the code that prints its help where they ask for it, and else the code of the one option that
--- they ask for alone, their canonical line, the code that sets variables, or the first fault.
-pub data AnswersScript (asked : Asked) (name : Text) (options : Declared) (entries : List Entry)
-    (words : List Text) : Answer → Type 0 where
-  usage : (help : Text) → asked.usage ≡ true → IsHelp asked name (shown_options asked entries) help
-      → AnswersScript asked name options entries words (done help)
-  offers : (shell : Text) (answer : Answer) → asked.usage ≡ false → asked.complete_words ≡ Some shell
-      → AnswersOffer shell options words answer → AnswersScript asked name options entries words answer
-  help : (help : Text) → ReadsWords asked → AskHelp options words
-      → IsHelp asked name (shown_options asked entries) help → IsOneWord help
-      → AnswersScript asked name options entries words (done (help_code help))
-  alone : (entry : Entry) (answer : Answer) → ReadsWords asked → AskAlone options entries words entry
-      → AnswersAlone asked options entries entry answer → AnswersScript asked name options entries words answer
-  accepted : (line : List Text) → ReadsWords asked → AreCounted options entries words
-      → asked.variables ≡ None → TellsWords options words line
-      → AnswersScript asked name options entries words (done (line_code line))
-  variables : (prefix : Text) (matches : Matched) → ReadsWords asked → AreCounted options entries words
-      → asked.variables ≡ Some prefix → IsAccepted options words matches
-      → SetsMatched prefix asked entries matches
-      → AnswersScript asked name options entries words (done (code_for prefix asked entries matches))
-  refused : (fault : Fault) → ReadsWords asked → AreCounted options entries words
-      → IsRefused options words fault → AnswersScript asked name options entries words
-      (record { text = refused_text asked (shown_options asked entries) name fault; status = 2 })
+abbrev pub AnswersVariables : Script → Text → List Text → Answer → Type 0
+AnswersVariables script prefix words answer = MatchResult (parse_result (read_options script) words)
+    (λ matches. TellsOptions script prefix (given_from 0 script.entries matches.groups) matches.free
+    answer)
+    (λ fault. answer ≡ refused script fault)
 
--- The answer to a script's name, its table and its words: the fault of the table, the code that completes the
--- words, the fault of the table's variables, or the answer for the table's options.
-pub data AnswersTable (asked : Asked) (name table : Text) (words : List Text) : Answer → Type 0 where
+abbrev pub AnswersCounted : Script → List Text → Answer → Type 0
+AnswersCounted script words answer = MatchOption script.asked.variables
+    (AnswersLine script words answer) (λ prefix. AnswersVariables script prefix words answer)
+
+-- the answer to words with these matches, whatever their counts: the code that prints the help where
+-- they ask for it, else what the first option that stands alone gives, if they have one
+abbrev pub AnswersRead : Script → List Text → Matched → Answer → Type 0
+AnswersRead script words matches answer = MatchBool (asks_help script.entries matches)
+    ((help : Text) × IsHelp script help × IsOneWord help × (answer ≡ done (help_code help)))
+    (MatchOption (find (is_alone matches) script.entries) (AnswersCounted script words answer)
+    (λ entry. AnswersAlone script entry answer))
+
+-- the answer to a script's words
+abbrev pub AnswersWords : Script → List Text → Answer → Type 0
+AnswersWords script words answer = MatchResult (read_result (read_options script) words)
+    (λ matches. AnswersRead script words matches answer) (λ fault. answer ≡ refused script fault)
+
+-- the answer for a script: its help, what may come at a word, or what its words are
+abbrev pub AnswersScript : Script → List Text → Answer → Type 0
+AnswersScript script words answer = MatchBool script.asked.usage
+    ((help : Text) × IsHelp script help × (answer ≡ done help))
+    (MatchOption script.asked.complete_words (AnswersWords script words answer)
+    (λ shell. AnswersOffer script shell words answer))
+
+-- the answer where a table has these entries: the code that completes words, the fault of the
+-- variables, or the answer for the script
+abbrev pub AnswersDeclared : Script → Text → List Text → Answer → Type 0
+AnswersDeclared script table words answer = MatchOption script.asked.complete
+    (MatchOption (asked_fault script.asked table (read_groups script.entries))
+    (AnswersScript script words answer) (λ fault. answer ≡ misused (variable_fault_line fault)))
+    (λ shell. answer ≡ completion_answer script.asked shell script.name table)
+
+-- The answer to a script's name, its table and its words: the fault of the table, or what its entries
+-- give.
+pub data AnswersTable (asked : Asked) (name table : Text) (words : List Text) (answer : Answer)
+    : Type 0 where
   faulty : (fault : TableFault) → IsTableFault table fault
-      → AnswersTable asked name table words (misused (table_fault_line fault))
-  completion : (entries : List Entry) (shell : Text) → DeclaresOptions table entries
-      → asked.complete ≡ Some shell
-      → AnswersTable asked name table words (completion_answer asked shell name table)
-  no_variables : (entries : List Entry) (fault : VariableFault) → DeclaresOptions table entries
-      → asked.complete ≡ None → asked_fault asked table (read_groups entries) ≡ Some fault
-      → AnswersTable asked name table words (misused (variable_fault_line fault))
-  declared : (entries : List Entry) (answer : Answer) → DeclaresOptions table entries → asked.complete ≡ None
-      → asked_fault asked table (read_groups entries) ≡ None
-      → AnswersScript asked name (script_options asked (read_groups entries)) entries words answer
+      → answer ≡ misused (table_fault_line fault) → AnswersTable asked name table words answer
+  declared : (entries : List Entry) → DeclaresOptions table entries
+      → AnswersDeclared (record { asked = asked; name = name; entries = entries }) table words answer
       → AnswersTable asked name table words answer
 
 -- the answer to the free words of the program's own
@@ -318,19 +321,19 @@ AnswersFree asked (name ∷ table ∷ words) answer = AnswersTable asked name ta
 AnswersFree asked words answer =
     answer ≡ misused (codes "getopts_shell: a name and a table of options are needed\n")
 
--- The answer to words: the fault of the program's own words, its help or its version, or what these ask for.
-pub data IsAnswer (words : List Text) : Answer → Type 0 where
-  refused_own : (fault : Fault) → IsRefused own_options words fault
-      → IsAnswer words (misused (fault_line (codes "getopts_shell") fault))
-  own_help : (own : Matched) (help : Text) → IsAccepted own_options words own
-      → is_given own (codes "help") ≡ true
-      → IsTheOnly (IsUsageText own_options (codes "Usage: getopts_shell [options] NAME TABLE [WORD].."))
-      help → IsAnswer words (done help)
-  own_version : (own : Matched) → IsAccepted own_options words own → is_given own (codes "help") ≡ false
-      → is_given own (codes "version") ≡ true → IsAnswer words (done (codes "getopts_shell 0.2.24\n"))
-  accepted_own : (own : Matched) (answer : Answer) → IsAccepted own_options words own
-      → is_given own (codes "help") ≡ false → is_given own (codes "version") ≡ false → AnswersFree (asked_by own) own.free answer
-      → IsAnswer words answer
+-- the answer to the program's own words with these matches: its help, its version, or what they ask for
+abbrev pub AnswersOwn : Matched → Answer → Type 0
+AnswersOwn own answer = MatchBool (is_given own (codes "help"))
+    ((help : Text) × IsTheOnly
+    (IsUsageText own_options (codes "Usage: getopts_shell [options] NAME TABLE [WORD]..")) help
+    × (answer ≡ done help))
+    (MatchBool (is_given own (codes "version")) (answer ≡ done (codes "getopts_shell 0.2.24\n"))
+    (AnswersFree (asked_by own) own.free answer))
+
+-- the answer to words
+abbrev pub IsAnswer : List Text → Answer → Type 0
+IsAnswer words answer = MatchResult (parse_result own_options words) (λ own. AnswersOwn own answer)
+    (λ fault. answer ≡ misused (fault_line (codes "getopts_shell") fault))
 
 -- words have one answer: one status and one text
 abbrev pub OneAnswer : Type 0

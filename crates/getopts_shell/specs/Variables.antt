@@ -186,6 +186,15 @@ given_from place (entry ∷ entries) held = record {
   found = found_in held place;
 } ∷ given_from (place + 1) entries held
 
+-- the options of a table where nothing is given but one, once
+abbrev pub given_alone : List Entry → Entry → List Given
+given_alone entries alone = map (λ entry. record {
+  names = entry.signature.names;
+  kind = entry.signature.kind;
+  all = holds_all entry.mark entry.signature.occurrence;
+  found = if bytes_eq (main_name entry.signature.names) (main_name alone.signature.names) then record { position = 0; value = None } ∷ [] else [];
+}) entries
+
 -- the values of occurrences, with the empty text for one that has none
 abbrev pub texts_found : List Found → List Text
 texts_found founds = map (λ value. unwrap_or value []) (each_value founds)

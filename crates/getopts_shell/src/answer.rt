@@ -1,42 +1,44 @@
 //! What the program answers to words.
 
-ghost use Rattle.std.specs.Prelude.{◌≡◌, ◌≢◌, ◌⊎◌, ◌++◌, ◌-◌, ◌↔◌, ◌&&◌, codes, map, length, take, true, false, IsTrue, List};
-ghost use Rattle.std.specs.Prelude.{Option, IfOk, MatchOption, OnOk, Some, None, ◌∷◌, []};
-ghost use Rattle.std.specs.Option.{option_map};
+ghost use Rattle.std.specs.Prelude.{◌≡◌, ◌≢◌, ◌⊎◌, ◌++◌, ◌-◌, ◌↔◌, codes, map, length, take, true, false};
+ghost use Rattle.std.specs.Prelude.{List, Option, IfOk, OnOk, Some, None, ◌∷◌, [], IsTrue};
+ghost use Rattle.std.specs.Option.{is_none, option_map};
 ghost use Rattle.std.specs.Io.KnownBytes.{Appends};
 ghost use Rattle.std.specs.List.{find, list_any};
-ghost use Rattle.std.specs.Str.{IsUtf8, bytes_eq};
+ghost use Rattle.std.specs.Str.{IsUtf8};
 ghost use Rattle.std.specs.String.{string_bytes};
-ghost use Rattle.getopts.specs.Accessors.{is_present};
-ghost use Rattle.getopts.specs.Fail.{Fault, Tells, fault_of, fault_text};
-ghost use Rattle.getopts.specs.Matches.{FitsCount, KeepsCounts, Matched};
-ghost use Rattle.getopts.specs.Names.{AreTexts, Text, texts};
+ghost use Rattle.getopts.specs.Fail.{Fault, fault_of};
+ghost use Rattle.getopts.specs.Names.{Text, texts};
 ghost use Rattle.getopts.specs.Options.{signatures_of, with_group};
-ghost use Rattle.getopts.specs.Parse.{HasReading, IsAccepted, IsRefused};
-ghost use Rattle.getopts_shell.specs.Held.{entry_of_row, entries_of, group_of_row, groups_as, groups_of};
-ghost use Rattle.getopts_shell.specs.Held.{fault_told, answer_of, HasOwnGroups, held_signatures};
-ghost use Rattle.getopts_shell.specs.Held.{ArePlainlyNamed, HaveReading, asked_of, variable_fault_told};
-ghost use Rattle.getopts_shell.specs.Program.{own_groups, own_options, script_options, done, misused, brief_text, shown_options};
-ghost use Rattle.getopts_shell.specs.Program.{code_for};
-ghost use Rattle.getopts_shell.specs.Program.{table_fault_line, fault_line, refused_text};
-ghost use Rattle.getopts_shell.specs.Program.{IsHelp, help_code, AskHelp, is_no, offers_help, last_word};
-ghost use Rattle.getopts_shell.specs.Variables.{HoldTexts, given_from, line_code};
-ghost use Rattle.getopts_shell.specs.Program.{Asked, asked_by, ReadsWords, AnswersScript, AppendsFront, ShowsFront};
-ghost use Rattle.getopts_shell.specs.Program.{AnswersTable, AnswersFree, IsAnswer, IsOutput, IsStatus, ShowsAnswer};
-ghost use Rattle.getopts_shell.specs.Program.{AnswersOffer};
-ghost use Rattle.getopts_shell.specs.Program.{completion_answer, has_completion, no_completion};
-ghost use Rattle.getopts_shell.specs.Program.{asked_fault, variable_fault_line};
-ghost use Rattle.getopts_shell.specs.Program.{AreCounted, AnswersAlone, AskAlone, is_alone, main_word, stands_alone};
+ghost use Rattle.getopts.specs.Results.{first_count_fault, fits_count, read_result};
 ghost use Rattle.getopts_shell.specs.Completion.{IsOffer};
-ghost use Rattle.getopts_shell.specs.Table.{DeclaresOptions, Entry, TableFault, no_option, name_twice, shown_occurrence};
-ghost use Rattle.getopts_shell.specs.Held.{with_groups};
+ghost use Rattle.getopts_shell.specs.Held.{HasOwnGroups, answer_of, asked_of, entries_of, entry_of_row};
+ghost use Rattle.getopts_shell.specs.Held.{fault_told, groups_as, groups_of, held_signatures};
+ghost use Rattle.getopts_shell.specs.Held.{variable_fault_told, with_groups};
+ghost use Rattle.getopts_shell.specs.HeldScript.{script_of};
+ghost use Rattle.getopts_shell.specs.Program.{AnswersAlone, AnswersCounted, AnswersDeclared, AnswersFree};
+ghost use Rattle.getopts_shell.specs.Program.{AnswersLine, AnswersOffer, AnswersOwn, AnswersRead};
+ghost use Rattle.getopts_shell.specs.Program.{AnswersScript, AnswersVariables, AnswersWords, AppendsFront};
+ghost use Rattle.getopts_shell.specs.Program.{IsAnswer, IsHelp, IsOneWord, IsOutput, IsStatus};
+ghost use Rattle.getopts_shell.specs.Program.{ShowsAnswer, ShowsFront, TellsOptions, alone_line};
+ghost use Rattle.getopts_shell.specs.Program.{asked_by, asked_fault, asks_help, brief_text};
+ghost use Rattle.getopts_shell.specs.Program.{completion_answer, done, fault_line, has_completion};
+ghost use Rattle.getopts_shell.specs.Program.{help_code, is_alone, is_help, last_word, misused};
+ghost use Rattle.getopts_shell.specs.Program.{no_completion, options_in, own_groups, own_options};
+ghost use Rattle.getopts_shell.specs.Program.{read_options, refused, shown_options, stands_alone};
+ghost use Rattle.getopts_shell.specs.Program.{table_fault_line, variable_fault_line};
+ghost use Rattle.getopts_shell.specs.Table.{TableFault, shown_occurrence};
+ghost use Rattle.getopts_shell.specs.Variables.{given_from, line_code};
 
-use crate::complete::{is_given, offers, read_words, stub};
+use crate::complete::{is_given, offers, stub};
 use crate::item::reason_of;
 use crate::quote::{push_line, push_quoted};
 use crate::row::{Mark, Row};
+use crate::script::{Asked, Script};
 use crate::table::{TableError, rows_of};
-use crate::variables::{VariableError, Variables, main_name, variable_error, variables_code};
+use crate::variables::{
+    VariableError, Variables, alone_code, main_name, variable_error, variables_code,
+};
 use crate::words::texts_of;
 use getopts::{Fail, HasArg, Matches, Occur, Options, ParsingStyle, names_resolve};
 use getopts_bytes::push_bytes;
@@ -78,28 +80,23 @@ struct Output {
     status: u8,
 }
 
-/// What the program's own words ask for.
-#[derive(Drop)]
-struct Asked {
-    brief: Option<String>,
-    stop: bool,
-    long_only: bool,
-    usage: bool,
-    complete: Option<String>,
-    complete_words: Option<String>,
-    variables: Option<String>,
-    arrays: bool,
-}
+impl Outcome {
+    /// Text for the script.
+    fn done(text: String) -> Outcome
+        ensures { answer_of result ≡ done (string_bytes text) }
+    {
+        Outcome { text, status: DONE }
+    }
 
-/// A script: what is asked for it, its name, its table, and its options, as the rows of the table declare
-/// them.
-#[derive(Clone, Copy)]
-struct Script<'s> {
-    asked: &'s Asked,
-    name: &'s str,
-    table: &'s str,
-    rows: &'s [Row<'s>],
-    options: &'s Options,
+    /// A fault in how the script calls the program.
+    fn misused(text: String) -> Outcome
+        ensures { answer_of result ≡ misused (string_bytes text) }
+    {
+        Outcome {
+            text,
+            status: MISUSED,
+        }
+    }
 }
 
 /// Reads a script's words by a table of options, and writes what the script does with them.
@@ -202,10 +199,7 @@ fn answer_to(alloc: Global, words: &[&str]) -> Result<Outcome, AllocError>
     let options = own_options(alloc)?;
     match options.parse_words(alloc, words) {
         Ok(own) => own_answer(alloc, &options, &own),
-        Err(fail) => Ok(Outcome {
-            text: fault_line(alloc, "getopts_shell", &fail)?,
-            status: MISUSED,
-        }),
+        Err(fail) => Ok(Outcome::misused(fault_line(alloc, "getopts_shell", &fail)?)),
     }
 }
 
@@ -267,24 +261,17 @@ fn fault_line(alloc: Global, name: &str, fail: &Fail) -> Result<String, AllocErr
     }
 }
 
-/// The answer to the program's own words, where they are accepted with these matches.
+/// The answer to the program's own words with these matches.
 fn own_answer(alloc: Global, options: &Options, own: &Matches) -> Result<Outcome, AllocError>
     requires options { options.now ≡ own_options }
     requires own { HasOwnGroups own.now.groups }
-    ensures { IfOk result (λ outcome. (words : List Text) → IsAccepted own_options words own.now
-        → IsAnswer words (answer_of outcome)) }
+    ensures { IfOk result (λ outcome. AnswersOwn own.now (answer_of outcome)) }
 {
     if own.opt_present("help") {
-        return Ok(Outcome {
-            text: options.usage(alloc, BRIEF)?,
-            status: DONE,
-        });
+        return Ok(Outcome::done(options.usage(alloc, BRIEF)?));
     }
     if own.opt_present("version") {
-        return Ok(Outcome {
-            text: String::from_str(alloc, VERSION)?,
-            status: DONE,
-        });
+        return Ok(Outcome::done(String::from_str(alloc, VERSION)?));
     }
     let asked = asked_by(alloc, own)?;
     let words = texts_of(alloc, &own.free)?;
@@ -308,42 +295,22 @@ fn asked_by(alloc: Global, own: &Matches) -> Result<Asked, AllocError>
     })
 }
 
-/// The answer to the free words of the program's own.
+/// The answer to the free words of the program's own: a script's name, its table and its words.
 fn free_answer(alloc: Global, asked: &Asked, words: &[&str]) -> Result<Outcome, AllocError>
     ensures { IfOk result (λ outcome. AnswersFree (asked_of asked.now) (texts words.now) (answer_of outcome)) }
 {
-    match words {
-        [name, table, words @ ..] => table_answer(alloc, asked, name, table, words),
-        _ => Ok(Outcome {
-            text: String::from_str(alloc, NEEDED)?,
-            status: MISUSED,
-        }),
-    }
-}
-
-/// The answer to a script's name, its table and its words.
-fn table_answer(
-    alloc: Global,
-    asked: &Asked,
-    name: &str,
-    table: &str,
-    words: &[&str],
-) -> Result<Outcome, AllocError>
-    ensures { IfOk result (λ outcome.
-        AnswersTable (asked_of asked.now) name.now table.now (texts words.now) (answer_of outcome)) }
-{
+    let [name, table, words @ ..] = words else {
+        return Ok(Outcome::misused(String::from_str(alloc, NEEDED)?));
+    };
     match rows_of(alloc, table) {
-        Ok(rows) => completed_answer(alloc, asked, name, table, &rows, words),
-        Err(error) => Ok(Outcome {
-            text: table_refusal(alloc, error)?,
-            status: MISUSED,
-        }),
+        Ok(rows) => declared_answer(alloc, asked, name, table, &rows, words),
+        Err(error) => Ok(Outcome::misused(table_refusal(alloc, error)?)),
     }
 }
 
-/// The answer to a script's name, the options of its table and its words: the code that completes the words, where
-/// it is asked for, or the answer to the words.
-fn completed_answer(
+/// The answer where a table has these rows: the code that completes words, the fault of the variables, or the answer
+/// for the script.
+fn declared_answer(
     alloc: Global,
     asked: &Asked,
     name: &str,
@@ -351,14 +318,25 @@ fn completed_answer(
     rows: &[Row<'_>],
     words: &[&str],
 ) -> Result<Outcome, AllocError>
-    requires declared { DeclaresOptions table.now (entries_of rows.now) }
-    ensures { IfOk result (λ outcome.
-        AnswersTable (asked_of asked.now) name.now table.now (texts words.now) (answer_of outcome)) }
+    ensures { IfOk result (λ outcome. AnswersDeclared
+        record { asked = asked_of asked.now; name = name.now; entries = entries_of rows.now }
+        table.now (texts words.now) (answer_of outcome)) }
 {
-    match &asked.complete {
-        Some(shell) => completion_answer(alloc, asked, shell.as_str(), name, table),
-        None => declared_answer(alloc, asked, name, table, rows, words),
+    if let Some(shell) = &asked.complete {
+        return completion_answer(alloc, asked, shell.as_str(), name, table);
     }
+    if let Some(error) = asked_error(asked, table, rows) {
+        return Ok(Outcome::misused(variable_refusal(alloc, error)?));
+    }
+    let options = options_of(alloc, asked, rows, false)?;
+    let script = Script {
+        asked,
+        name,
+        table,
+        rows,
+        options: &options,
+    };
+    script_answer(alloc, script, words)
 }
 
 /// The line of the fault of a table.
@@ -375,29 +353,6 @@ fn table_refusal(alloc: Global, error: TableError<'_>) -> Result<String, AllocEr
             "getopts_shell: line {number} of the options: the name '{name}' stands there already\n"
         ),
         TableError::OutOfMemory => Err(AllocError),
-    }
-}
-
-/// The answer to a script's name, the options of its table and its words.
-fn declared_answer(
-    alloc: Global,
-    asked: &Asked,
-    name: &str,
-    table: &str,
-    rows: &[Row<'_>],
-    words: &[&str],
-) -> Result<Outcome, AllocError>
-    requires declared { DeclaresOptions table.now (entries_of rows.now) }
-    requires no_code { (asked_of asked.now).complete ≡ None }
-    ensures { IfOk result (λ outcome.
-        AnswersTable (asked_of asked.now) name.now table.now (texts words.now) (answer_of outcome)) }
-{
-    match asked_error(asked, table, rows) {
-        Some(error) => Ok(Outcome {
-            text: variable_refusal(alloc, error)?,
-            status: MISUSED,
-        }),
-        None => rows_answer(alloc, asked, name, table, rows, words),
     }
 }
 
@@ -434,32 +389,6 @@ fn variable_refusal(alloc: Global, error: VariableError<'_>) -> Result<String, A
     }
 }
 
-/// The answer to words by the options of a table.
-fn rows_answer(
-    alloc: Global,
-    asked: &Asked,
-    name: &str,
-    table: &str,
-    rows: &[Row<'_>],
-    words: &[&str],
-) -> Result<Outcome, AllocError>
-    requires declared { DeclaresOptions table.now (entries_of rows.now) }
-    requires variables { asked_fault (asked_of asked.now) table.now (groups_of rows.now) ≡ None }
-    ensures { IfOk result (λ outcome. AnswersScript (asked_of asked.now) name.now
-        (script_options (asked_of asked.now) (groups_of rows.now)) (entries_of rows.now) (texts words.now)
-        (answer_of outcome)) }
-{
-    let options = options_of(alloc, asked, rows, false)?;
-    let script = Script {
-        asked,
-        name,
-        table,
-        rows,
-        options: &options,
-    };
-    script_answer(alloc, script, words)
-}
-
 /// The options of a table, in the style and the mode that are asked for: as a help shows them, or as words are read.
 fn options_of(
     alloc: Global,
@@ -467,7 +396,7 @@ fn options_of(
     rows: &[Row<'_>],
     shown: bool,
 ) -> Result<Options, AllocError>
-    ensures { IfOk result (λ options. options ≡ script_options (asked_of asked.now) (groups_as shown rows.now)) }
+    ensures { IfOk result (λ options. options ≡ options_in (asked_of asked.now) (groups_as shown (entries_of rows.now))) }
 {
     let mut options = Options::new(alloc);
     if asked.stop {
@@ -481,7 +410,7 @@ fn options_of(
 /// Adds the options of a table.
 fn add_rows(options: &mut Options, rows: &[Row<'_>], shown: bool) -> Result<(), AllocError>
     ensures { OnOk result (options.new
-        ≡ record options.old { groups = options.old.groups ++ groups_as shown rows.now }) }
+        ≡ record options.old { groups = options.old.groups ++ groups_as shown (entries_of rows.now) }) }
 {
     for row in rows {
         let occurrence = if shown {
@@ -513,18 +442,10 @@ fn shown_occurrence(mark: Mark, occurrence: Occur) -> Occur
 
 /// The answer for a script and its words.
 fn script_answer(alloc: Global, script: Script<'_>, words: &[&str]) -> Result<Outcome, AllocError>
-    requires rows { script.options.now.groups ≡ groups_of script.rows.now }
-    requires mode { script.options.now.long_only ≡ script.asked.now.long_only }
-    requires declared { DeclaresOptions script.table.now (entries_of script.rows.now) }
-    requires variables { asked_fault (asked_of script.asked.now) script.table.now (groups_of script.rows.now) ≡ None }
-    ensures { IfOk result (λ outcome. AnswersScript (asked_of script.entry.asked.now) script.entry.name.now
-        script.entry.options.now (entries_of script.entry.rows.now) (texts words.now) (answer_of outcome)) }
+    ensures { IfOk result (λ outcome. AnswersScript (script_of script.entry) (texts words.now) (answer_of outcome)) }
 {
     if script.asked.usage {
-        return Ok(Outcome {
-            text: help_of(alloc, script)?,
-            status: DONE,
-        });
+        return Ok(Outcome::done(help_of(alloc, script)?));
     }
     match &script.asked.complete_words {
         Some(shell) => offer_answer(alloc, shell.as_str(), script, words),
@@ -534,16 +455,15 @@ fn script_answer(alloc: Global, script: Script<'_>, words: &[&str]) -> Result<Ou
 
 /// The options of a script as its help shows them.
 fn shown_options(alloc: Global, script: Script<'_>) -> Result<Options, AllocError>
-    ensures { IfOk result (λ options. options
-        ≡ shown_options (asked_of script.entry.asked.now) (entries_of script.entry.rows.now)) }
+    ensures { IfOk result (λ options. options ≡ shown_options (script_of script.entry)) }
 {
     options_of(alloc, script.asked, script.rows, true)
 }
 
 /// The text that the help of a script begins with.
 fn brief_text(alloc: Global, script: Script<'_>, shown: &Options) -> Result<String, AllocError>
-    ensures { IfOk result (λ text. string_bytes text
-        ≡ brief_text (asked_of script.entry.asked.now) script.entry.name.now shown.now) }
+    requires { shown.now ≡ shown_options (script_of script) }
+    ensures { IfOk result (λ text. string_bytes text ≡ brief_text (script_of script.entry)) }
 {
     match &script.asked.brief {
         Some(brief) => String::from_str(alloc, brief.as_str()),
@@ -553,8 +473,7 @@ fn brief_text(alloc: Global, script: Script<'_>, shown: &Options) -> Result<Stri
 
 /// The help of a script.
 fn help_of(alloc: Global, script: Script<'_>) -> Result<String, AllocError>
-    ensures { IfOk result (λ text. IsHelp (asked_of script.entry.asked.now) script.entry.name.now
-        (shown_options (asked_of script.entry.asked.now) (entries_of script.entry.rows.now)) (string_bytes text)) }
+    ensures { IfOk result (λ text. IsHelp (script_of script.entry) (string_bytes text)) }
 {
     let shown = shown_options(alloc, script)?;
     let brief = brief_text(alloc, script, &shown)?;
@@ -573,19 +492,17 @@ fn completion_answer(
         ≡ completion_answer (asked_of asked.now) shell.now name.now table.now) }
 {
     match stub(alloc, shell, asked.stop, asked.long_only, name, table)? {
-        Some(text) => Ok(Outcome { text, status: DONE }),
+        Some(text) => Ok(Outcome::done(text)),
         None => no_completion(alloc, shell),
     }
 }
 
 /// What is said where there is no completion in a shell.
 fn no_completion(alloc: Global, shell: &str) -> Result<Outcome, AllocError>
-    ensures { IfOk result (λ outcome. answer_of outcome ≡ misused (no_completion shell.now)) }
+    ensures { IfOk result (λ outcome. answer_of outcome ≡ no_completion shell.now) }
 {
-    Ok(Outcome {
-        text: format!(in alloc; "getopts_shell: no completion for '{shell}'\n")?,
-        status: MISUSED,
-    })
+    let text = format!(in alloc; "getopts_shell: no completion for '{shell}'\n")?;
+    Ok(Outcome::misused(text))
 }
 
 /// Whether there is completion in a shell.
@@ -602,25 +519,18 @@ fn offer_answer(
     script: Script<'_>,
     words: &[&str],
 ) -> Result<Outcome, AllocError>
-    requires rows { script.options.now.groups ≡ groups_of script.rows.now }
-    requires mode { script.options.now.long_only ≡ script.asked.now.long_only }
-    ensures { IfOk result (λ outcome. AnswersOffer shell.now script.entry.options.now
-        (texts words.now) (answer_of outcome)) }
+    ensures { IfOk result (λ outcome.
+        AnswersOffer (script_of script.entry) shell.now (texts words.now) (answer_of outcome)) }
 {
     if !has_completion(shell) {
         return no_completion(alloc, shell);
     }
-    Ok(Outcome {
-        text: last_offers(alloc, script, words)?,
-        status: DONE,
-    })
+    Ok(Outcome::done(last_offers(alloc, script, words)?))
 }
 
 /// What may come at the last word.
 fn last_offers(alloc: Global, script: Script<'_>, words: &[&str]) -> Result<String, AllocError>
-    requires rows { script.options.now.groups ≡ groups_of script.rows.now }
-    requires mode { script.options.now.long_only ≡ script.asked.now.long_only }
-    ensures { IfOk result (λ text. IsOffer script.entry.options.now
+    ensures { IfOk result (λ text. IsOffer (read_options (script_of script.entry))
         (take (length (texts words.now) - 1) (texts words.now)) (last_word (texts words.now)) (string_bytes text)) }
 {
     let options = script.options;
@@ -636,17 +546,11 @@ fn last_offers(alloc: Global, script: Script<'_>, words: &[&str]) -> Result<Stri
 
 /// The answer to the words of a script. They are read once, whatever their counts.
 fn words_answer(alloc: Global, script: Script<'_>, words: &[&str]) -> Result<Outcome, AllocError>
-    requires asked { ReadsWords (asked_of script.asked.now) }
-    requires rows { script.options.now.groups ≡ groups_of script.rows.now }
-    requires declared { DeclaresOptions script.table.now (entries_of script.rows.now) }
-    requires variables { asked_fault (asked_of script.asked.now) script.table.now (groups_of script.rows.now) ≡ None }
-    ensures { IfOk result (λ outcome. AnswersScript (asked_of script.entry.asked.now) script.entry.name.now
-        script.entry.options.now (entries_of script.entry.rows.now) (texts words.now) (answer_of outcome)) }
+    ensures { IfOk result (λ outcome. AnswersWords (script_of script.entry) (texts words.now) (answer_of outcome)) }
 {
-    let found = read_words(alloc, script.options, words)?;
-    match found {
-        Some(matches) => read_answer(alloc, script, words, &matches),
-        None => counted_answer(alloc, script, words),
+    match script.options.parse_ignoring_counts(alloc, words) {
+        Ok(matches) => read_answer(alloc, script, words, &matches),
+        Err(fail) => refusal(alloc, script, &fail),
     }
 }
 
@@ -658,108 +562,29 @@ fn read_answer(
     words: &[&str],
     matches: &Matches,
 ) -> Result<Outcome, AllocError>
-    requires read { HasReading script.options.now (texts words.now) matches.now }
-    requires asked { ReadsWords (asked_of script.asked.now) }
-    requires rows { script.options.now.groups ≡ groups_of script.rows.now }
-    requires declared { DeclaresOptions script.table.now (entries_of script.rows.now) }
-    requires variables { asked_fault (asked_of script.asked.now) script.table.now (groups_of script.rows.now) ≡ None }
-    ensures { IfOk result (λ outcome. AnswersScript (asked_of script.entry.asked.now) script.entry.name.now
-        script.entry.options.now (entries_of script.entry.rows.now) (texts words.now) (answer_of outcome)) }
+    requires { read_result (read_options (script_of script)) (texts words.now) ≡ Ok matches.now }
+    ensures { IfOk result (λ outcome.
+        AnswersRead (script_of script.entry) (texts words.now) matches.now (answer_of outcome)) }
 {
     if asks_help(script.rows, matches) {
-        return Ok(Outcome {
-            text: help_code(alloc, script)?,
-            status: DONE,
-        });
+        return Ok(Outcome::done(help_code(alloc, script)?));
     }
-    let alone = first_alone(script.rows, matches);
-    match alone {
+    match first_alone(script.rows, matches) {
         Some(row) => alone_answer(alloc, script, row),
-        None => kept_answer(alloc, script, words, matches),
+        None => counted_answer(alloc, script, words, matches),
     }
 }
 
 /// Whether matches ask for a help that one of the rows offers.
 fn asks_help(rows: &[Row<'_>], matches: &Matches) -> bool
-    ensures { result ≡ (list_any (λ row. bytes_eq row.long.now (codes "help") && is_no row.kind) rows.now
-        && is_present matches.now.groups (codes "help")) }
+    ensures { result ≡ asks_help (entries_of rows.now) matches.now }
 {
     offers_help(rows) && is_given(matches, "help")
 }
 
-/// The answer to words with these matches, whose counts are checked: the code that sets variables where they keep them,
-/// or what they are.
-fn kept_answer(
-    alloc: Global,
-    script: Script<'_>,
-    words: &[&str],
-    matches: &Matches,
-) -> Result<Outcome, AllocError>
-    requires read { HasReading script.options.now (texts words.now) matches.now }
-    requires counted { AreCounted script.options.now (entries_of script.rows.now) (texts words.now) }
-    requires asked { ReadsWords (asked_of script.asked.now) }
-    requires rows { script.options.now.groups ≡ groups_of script.rows.now }
-    requires declared { DeclaresOptions script.table.now (entries_of script.rows.now) }
-    requires variables { asked_fault (asked_of script.asked.now) script.table.now (groups_of script.rows.now) ≡ None }
-    ensures { IfOk result (λ outcome. AnswersScript (asked_of script.entry.asked.now) script.entry.name.now
-        script.entry.options.now (entries_of script.entry.rows.now) (texts words.now) (answer_of outcome)) }
-{
-    match &script.asked.variables {
-        Some(prefix) if keep_counts(script.rows, matches) => Ok(Outcome {
-            text: matched_code(alloc, script, prefix.as_str(), matches)?,
-            status: DONE,
-        }),
-        _ => counted_answer(alloc, script, words),
-    }
-}
-
-/// The code that sets variables to what matches hold.
-fn matched_code(
-    alloc: Global,
-    script: Script<'_>,
-    prefix: &str,
-    matches: &Matches,
-) -> Result<String, AllocError>
-    ensures text { IfOk result (λ text. string_bytes text ≡ code_for prefix.now (asked_of script.entry.asked.now)
-        (entries_of script.entry.rows.now) matches.now) }
-    ensures values { OnOk result (HoldTexts (given_from 0 (entries_of script.entry.rows.now) matches.now.groups)) }
-    ensures free { OnOk result (AreTexts matches.now.free) }
-{
-    let variables = Variables {
-        prefix,
-        arrays: script.asked.arrays,
-    };
-    variables_code(alloc, variables, script.rows, matches)
-}
-
-/// Whether matches keep the counts of these rows.
-fn keep_counts(rows: &[Row<'_>], matches: &Matches) -> bool
-    requires { held_signatures matches.now.groups ≡ signatures_of (groups_of rows.now) }
-    ensures { result ≡ true → KeepsCounts matches.now.groups }
-{
-    for place in 0..rows.len() {
-        let row = rows[place];
-        if !keeps_count(row.occurrence, matches.occurrences_at(place).len()) {
-            return false;
-        }
-    }
-    true
-}
-
-/// Whether an option may come so many times.
-fn keeps_count(occurrence: Occur, count: usize) -> bool
-    ensures { result ≡ true → FitsCount occurrence count }
-{
-    match occurrence {
-        Occur::Req => count == 1,
-        Occur::Optional => count <= 1,
-        Occur::Multi => true,
-    }
-}
-
 /// Whether one of the rows is called `help`, and takes no argument.
 fn offers_help(rows: &[Row<'_>]) -> bool
-    ensures { result ≡ list_any (λ row. bytes_eq row.long.now (codes "help") && is_no row.kind) rows.now }
+    ensures { result ≡ list_any is_help (entries_of rows.now) }
 {
     rows.iter()
         .any(|row| row.long == "help" && matches!(row.kind, HasArg::No))
@@ -792,74 +617,34 @@ fn is_alone(row: Row<'_>, matches: &Matches) -> bool
     stands_alone(row.mark) && is_given(matches, main_name(row))
 }
 
-/// The answer to words that ask for one option alone: its line, or the code that sets variables to what it gives.
+/// The answer to words that ask for one option alone: its line, or variables where it alone is given.
 fn alone_answer(alloc: Global, script: Script<'_>, row: Row<'_>) -> Result<Outcome, AllocError>
-    requires rows { script.options.now.groups ≡ groups_of script.rows.now }
-    requires variables { asked_fault (asked_of script.asked.now) script.table.now (groups_of script.rows.now) ≡ None }
-    requires readable { HaveReading script.options.now (main_word (entry_of_row row) ∷ []) }
-    ensures { IfOk result (λ outcome. AnswersAlone (asked_of script.entry.asked.now)
-        script.entry.options.now (entries_of script.entry.rows.now) (entry_of_row row.entry) (answer_of outcome)) }
+    ensures { IfOk result (λ outcome.
+        AnswersAlone (script_of script.entry) (entry_of_row row.entry) (answer_of outcome)) }
 {
     match &script.asked.variables {
-        Some(prefix) => alone_variables(alloc, script, prefix.as_str(), row),
-        None => alone_line(alloc, script, row),
+        Some(prefix) => {
+            let variables = script.variables(prefix.as_str());
+            Ok(Outcome::done(alone_code(alloc, variables, script.rows, row)?))
+        }
+        None => Ok(Outcome::done(alone_line(alloc, row)?)),
     }
 }
 
 /// The code of the line of one option alone.
-fn alone_line(alloc: Global, script: Script<'_>, row: Row<'_>) -> Result<Outcome, AllocError>
-    requires no_variables { (asked_of script.asked.now).variables ≡ None }
-    ensures { IfOk result (λ outcome. AnswersAlone (asked_of script.entry.asked.now)
-        script.entry.options.now (entries_of script.entry.rows.now) (entry_of_row row.entry) (answer_of outcome)) }
-{
-    let word = main_word(alloc, row)?;
-    let stop = String::from_str(alloc, "--")?;
-    Ok(Outcome {
-        text: line_code(alloc, &[word, stop])?,
-        status: DONE,
-    })
-}
-
-/// The code that sets variables to what the word of one option gives.
-fn alone_variables(
-    alloc: Global,
-    script: Script<'_>,
-    prefix: &str,
-    row: Row<'_>,
-) -> Result<Outcome, AllocError>
-    requires prefix { (asked_of script.asked.now).variables ≡ Some prefix.now }
-    requires rows { script.options.now.groups ≡ groups_of script.rows.now }
-    requires variables { asked_fault (asked_of script.asked.now) script.table.now (groups_of script.rows.now) ≡ None }
-    requires readable { HaveReading script.options.now (main_word (entry_of_row row) ∷ []) }
-    ensures { IfOk result (λ outcome. AnswersAlone (asked_of script.entry.asked.now)
-        script.entry.options.now (entries_of script.entry.rows.now) (entry_of_row row.entry) (answer_of outcome)) }
-{
-    let word = main_word(alloc, row)?;
-    let found = read_words(alloc, script.options, &[word.as_str()])?;
-    match found {
-        Some(matches) => Ok(Outcome {
-            text: matched_code(alloc, script, prefix, &matches)?,
-            status: DONE,
-        }),
-        None => unreachable!(),
-    }
-}
-
-/// The word of an option by its main name.
-fn main_word(alloc: Global, row: Row<'_>) -> Result<String, AllocError>
-    ensures { IfOk result (λ word. string_bytes word ≡ main_word (entry_of_row row.entry)) }
+fn alone_line(alloc: Global, row: Row<'_>) -> Result<String, AllocError>
+    ensures { IfOk result (λ text. string_bytes text ≡ line_code (alone_line (entry_of_row row.entry))) }
 {
     let mut word = String::from_str(alloc, "--")?;
     word.push_str(main_name(row))?;
-    Ok(word)
+    let stop = String::from_str(alloc, "--")?;
+    line_code(alloc, &[word, stop])
 }
 
 /// The code that prints the help of a script, and ends it.
 fn help_code(alloc: Global, script: Script<'_>) -> Result<String, AllocError>
     ensures { IfOk result (λ text. (help : Text)
-        × IsHelp (asked_of script.entry.asked.now) script.entry.name.now
-        (shown_options (asked_of script.entry.asked.now) (entries_of script.entry.rows.now)) help
-        × IsUtf8 help × (string_bytes text ≡ help_code help)) }
+        × IsHelp (script_of script.entry) help × IsUtf8 help × (string_bytes text ≡ help_code help)) }
 {
     let help = help_of(alloc, script)?;
     let mut text = String::from_str(alloc, "\\printf %s ")?;
@@ -868,69 +653,94 @@ fn help_code(alloc: Global, script: Script<'_>) -> Result<String, AllocError>
     Ok(text)
 }
 
-/// The answer to words whose counts are checked: variables or the canonical line, or the first fault.
-fn counted_answer(alloc: Global, script: Script<'_>, words: &[&str]) -> Result<Outcome, AllocError>
-    requires asked { ReadsWords (asked_of script.asked.now) }
-    requires counted { AreCounted script.options.now (entries_of script.rows.now) (texts words.now) }
-    requires rows { script.options.now.groups ≡ groups_of script.rows.now }
-    requires declared { DeclaresOptions script.table.now (entries_of script.rows.now) }
-    requires variables { asked_fault (asked_of script.asked.now) script.table.now (groups_of script.rows.now) ≡ None }
-    ensures { IfOk result (λ outcome. AnswersScript (asked_of script.entry.asked.now) script.entry.name.now
-        script.entry.options.now (entries_of script.entry.rows.now) (texts words.now) (answer_of outcome)) }
+/// The answer to words with these matches, whose counts are checked: variables or the canonical line, or the first
+/// fault. Only where they break a count are they read once more for variables.
+fn counted_answer(
+    alloc: Global,
+    script: Script<'_>,
+    words: &[&str],
+    matches: &Matches,
+) -> Result<Outcome, AllocError>
+    requires { read_result (read_options (script_of script)) (texts words.now) ≡ Ok matches.now }
+    ensures { IfOk result (λ outcome.
+        AnswersCounted (script_of script.entry) (texts words.now) (answer_of outcome)) }
 {
     match &script.asked.variables {
-        Some(prefix) => variables_answer(alloc, script, prefix.as_str(), words),
+        Some(prefix) if keep_counts(script.rows, matches) => {
+            variables_answer(alloc, script, prefix.as_str(), matches)
+        }
+        Some(prefix) => parsed_answer(alloc, script, prefix.as_str(), words),
         None => line_answer(alloc, script, words),
     }
 }
 
-/// The canonical line of words whose counts are checked, or the first fault.
-fn line_answer(alloc: Global, script: Script<'_>, words: &[&str]) -> Result<Outcome, AllocError>
-    requires asked { ReadsWords (asked_of script.asked.now) }
-    requires no_variables { (asked_of script.asked.now).variables ≡ None }
-    requires counted { AreCounted script.options.now (entries_of script.rows.now) (texts words.now) }
-    requires plain { ArePlainlyNamed script.options.now.groups }
-    ensures { IfOk result (λ outcome. AnswersScript (asked_of script.entry.asked.now) script.entry.name.now
-        script.entry.options.now (entries_of script.entry.rows.now) (texts words.now) (answer_of outcome)) }
+/// Whether matches keep the counts of these rows.
+fn keep_counts(rows: &[Row<'_>], matches: &Matches) -> bool
+    requires { held_signatures matches.now.groups ≡ signatures_of (groups_of rows.now) }
+    ensures { result ≡ is_none (first_count_fault matches.now.groups) }
 {
-    names_resolve(script.options);
-    match script.options.canonical_words(alloc, words) {
-        Ok(Some(line)) => Ok(Outcome {
-            text: line_code(alloc, &line)?,
-            status: DONE,
-        }),
-        Ok(None) => unreachable!(),
-        Err(fail) => Ok(Outcome {
-            text: refusal(alloc, script, &fail)?,
-            status: REFUSED,
-        }),
+    for place in 0..rows.len() {
+        let row = rows[place];
+        if !keeps_count(row.occurrence, matches.occurrences_at(place).len()) {
+            return false;
+        }
+    }
+    true
+}
+
+/// Whether an option may come so many times.
+fn keeps_count(occurrence: Occur, count: usize) -> bool
+    ensures { result ≡ fits_count occurrence count }
+{
+    match occurrence {
+        Occur::Req => count == 1,
+        Occur::Optional => count <= 1,
+        Occur::Multi => true,
     }
 }
 
-/// The code that sets variables by words whose counts are checked, or the first fault.
-fn variables_answer(
+/// The variables of words, or their first fault.
+fn parsed_answer(
     alloc: Global,
     script: Script<'_>,
     prefix: &str,
     words: &[&str],
 ) -> Result<Outcome, AllocError>
-    requires asked { ReadsWords (asked_of script.asked.now) }
-    requires prefix { (asked_of script.asked.now).variables ≡ Some prefix.now }
-    requires counted { AreCounted script.options.now (entries_of script.rows.now) (texts words.now) }
-    requires rows { script.options.now.groups ≡ groups_of script.rows.now }
-    requires variables { asked_fault (asked_of script.asked.now) script.table.now (groups_of script.rows.now) ≡ None }
-    ensures { IfOk result (λ outcome. AnswersScript (asked_of script.entry.asked.now) script.entry.name.now
-        script.entry.options.now (entries_of script.entry.rows.now) (texts words.now) (answer_of outcome)) }
+    requires { (asked_of script.asked.now).variables ≡ Some prefix.now }
+    ensures { IfOk result (λ outcome.
+        AnswersVariables (script_of script.entry) prefix.now (texts words.now) (answer_of outcome)) }
 {
     match script.options.parse_words(alloc, words) {
-        Ok(matches) => Ok(Outcome {
-            text: matched_code(alloc, script, prefix, &matches)?,
-            status: DONE,
-        }),
-        Err(fail) => Ok(Outcome {
-            text: refusal(alloc, script, &fail)?,
-            status: REFUSED,
-        }),
+        Ok(matches) => variables_answer(alloc, script, prefix, &matches),
+        Err(fail) => refusal(alloc, script, &fail),
+    }
+}
+
+/// The code that sets variables to what matches hold.
+fn variables_answer(
+    alloc: Global,
+    script: Script<'_>,
+    prefix: &str,
+    matches: &Matches,
+) -> Result<Outcome, AllocError>
+    requires { (asked_of script.asked.now).variables ≡ Some prefix.now }
+    ensures { IfOk result (λ outcome. TellsOptions (script_of script.entry) prefix.now
+        (given_from 0 (script_of script.entry).entries matches.now.groups) matches.now.free (answer_of outcome)) }
+{
+    let variables = script.variables(prefix);
+    Ok(Outcome::done(variables_code(alloc, variables, script.rows, matches)?))
+}
+
+/// The canonical line of words, or their first fault.
+fn line_answer(alloc: Global, script: Script<'_>, words: &[&str]) -> Result<Outcome, AllocError>
+    ensures { IfOk result (λ outcome.
+        AnswersLine (script_of script.entry) (texts words.now) (answer_of outcome)) }
+{
+    names_resolve(script.options);
+    match script.options.canonical_words(alloc, words) {
+        Ok(Some(line)) => Ok(Outcome::done(line_code(alloc, &line)?)),
+        Ok(None) => unreachable!(),
+        Err(fail) => refusal(alloc, script, &fail),
     }
 }
 
@@ -944,16 +754,17 @@ fn line_code(alloc: Global, line: &[String]) -> Result<String, AllocError>
 }
 
 /// Why a script's words are refused, and the text that its help begins with.
-fn refusal(alloc: Global, script: Script<'_>, fail: &Fail) -> Result<String, AllocError>
-    ensures { IfOk result (λ text. (fault : Fault) × (fault_of fail.now ≡ Some fault)
-        × (string_bytes text ≡ refused_text (asked_of script.entry.asked.now)
-        (shown_options (asked_of script.entry.asked.now) (entries_of script.entry.rows.now))
-        script.entry.name.now fault)) }
+fn refusal(alloc: Global, script: Script<'_>, fail: &Fail) -> Result<Outcome, AllocError>
+    ensures { IfOk result (λ outcome. (fault : Fault) × (fault_of fail.now ≡ Some fault)
+        × (answer_of outcome ≡ refused (script_of script.entry) fault)) }
 {
     let mut text = fault_line(alloc, script.name, fail)?;
     let shown = shown_options(alloc, script)?;
     let brief = brief_text(alloc, script, &shown)?;
     text.push_str(brief.as_str())?;
     text.push('\n')?;
-    Ok(text)
+    Ok(Outcome {
+        text,
+        status: REFUSED,
+    })
 }

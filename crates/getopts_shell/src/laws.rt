@@ -3,14 +3,10 @@
 ghost use Rattle.getopts_shell.specs.Completion.{OptionsComeAtTheLineEnd};
 ghost use Rattle.getopts_shell.specs.Program.{OneAnswer};
 
-use getopts::equal_input_equal_answers;
-
 /// Words have one status and one text: a law to cite, which does nothing.
 pub fn words_have_one_answer()
     ensures { OneAnswer }
-{
-    equal_input_equal_answers();
-}
+{}
 
 /// An option may come only after words that have a reading that ends with the line, and what was given is what it
 /// gives: a law to cite, which does nothing.

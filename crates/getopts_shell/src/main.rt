@@ -10,6 +10,7 @@ mod item;
 mod laws;
 mod quote;
 mod row;
+mod script;
 mod table;
 mod variables;
 mod words;

@@ -1,6 +1,6 @@
 //! A row of a table of options: the option that a line declares.
 
-ghost use Rattle.getopts.specs.Names.{AreLawful};
+ghost use Rattle.getopts_shell.specs.Table.{MayBeNames};
 
 use getopts::{HasArg, Occur};
 
@@ -25,5 +25,5 @@ pub struct Row<'t> {
     pub hint: &'t str,
     pub description: &'t str,
     pub mark: Mark,
-    ghost lawful: { AreLawful short.now long.now },
+    ghost may_be: { MayBeNames short.now long.now },
 }

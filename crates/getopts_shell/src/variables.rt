@@ -9,9 +9,10 @@ ghost use Rattle.std.specs.Str.{IsUtf8, bytes_eq};
 ghost use Rattle.getopts.specs.Names.{AreTexts, Text, main_name};
 ghost use Rattle.getopts.specs.Options.{names_of};
 ghost use Rattle.getopts.specs.Wrap.{lines_of, parting};
-ghost use Rattle.getopts_shell.specs.Held.{entries_of, group_of_row, groups_of, variable_fault_told};
+ghost use Rattle.getopts_shell.specs.Held.{entry_of_row, entries_of, group_of_row, groups_of, variable_fault_told};
 ghost use Rattle.getopts_shell.specs.Completion.{is_multi};
 ghost use Rattle.getopts_shell.specs.Quote.{quoted, quoted_words};
+ghost use Rattle.getopts_shell.specs.Variables.{given_alone};
 ghost use Rattle.getopts_shell.specs.Variables.{AreTextValues, CodeSetsVariables, HoldTexts};
 ghost use Rattle.getopts_shell.specs.Variables.{all_values, begins_variable, given_from};
 ghost use Rattle.getopts_shell.specs.Variables.{held_value, holds_all, is_prefix, is_variable};
@@ -76,6 +77,20 @@ pub(crate) fn variables_code(
     }
     push_line(&mut text, &matches.free)?;
     Ok(text)
+}
+
+/// PROVISIONAL
+pub(crate) fn alone_code(
+    alloc: Global,
+    variables: Variables<'_>,
+    rows: &[Row<'_>],
+    alone: Row<'_>,
+) -> Result<String, AllocError>
+    ensures { IfOk result (λ text. string_bytes text
+        ≡ variables_code variables.entry.prefix.now variables.entry.arrays
+        (given_alone (entries_of rows.now) (entry_of_row alone.entry)) []) }
+{
+    Err(AllocError)
 }
 
 /// Adds the commands for an option: its variable is taken away, and then set if it has a value.

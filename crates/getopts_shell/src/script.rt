@@ -1,0 +1,47 @@
+//! What is asked of the program, and the script that it is asked for.
+
+ghost use Rattle.std.specs.Prelude.{◌≡◌, None};
+ghost use Rattle.getopts_shell.specs.Held.{asked_of, groups_of};
+ghost use Rattle.getopts_shell.specs.Program.{asked_fault, options_in};
+
+use crate::row::Row;
+use crate::variables::Variables;
+use getopts::Options;
+
+/// What the program's own words ask for.
+#[derive(Drop)]
+pub(crate) struct Asked {
+    pub brief: Option<String>,
+    pub stop: bool,
+    pub long_only: bool,
+    pub usage: bool,
+    pub complete: Option<String>,
+    pub complete_words: Option<String>,
+    pub variables: Option<String>,
+    pub arrays: bool,
+}
+
+/// A script: what is asked for it, its name, its table, and its options, as the rows of the table declare
+/// them.
+#[derive(Clone, Copy)]
+pub(crate) struct Script<'s> {
+    pub asked: &'s Asked,
+    pub name: &'s str,
+    pub table: &'s str,
+    pub rows: &'s [Row<'s>],
+    pub options: &'s Options,
+    ghost options_are: { options.now ≡ options_in (asked_of asked.now) (groups_of rows.now) },
+    ghost no_fault: { asked_fault (asked_of asked.now) table.now (groups_of rows.now) ≡ None },
+}
+
+impl<'s> Script<'s> {
+    /// How its options become variables that begin with a prefix.
+    pub(crate) fn variables(self, prefix: &'s str) -> Variables<'s>
+        ensures { (result.prefix.now ≡ prefix.now) × (result.arrays ≡ self.entry.asked.now.arrays) }
+    {
+        Variables {
+            prefix,
+            arrays: self.asked.arrays,
+        }
+    }
+}
