@@ -1,6 +1,6 @@
 -- What a shell makes of the bytes that are written.
 use Rattle.std.proofs.Common.{◌≡◌, ℕ, ◌<◌, ◌%◌, ◌/◌, zero, suc, Bool, true, false, eqb, List, [], ◌∷◌, ◌++◌, Option, Some, None}
-use Rattle.std.proofs.Common.{refl, sym, ap, subst, ◌∙◌, length, map, string_bytes, arith, append_assoc}
+use Rattle.std.proofs.Common.{refl, sym, ap, subst, ◌∙◌, length, map, string_bytes, arith, append_assoc, cond}
 use Rattle.std.specs.Prelude.{MatchOption, decimal, ⊤}
 use Rattle.std.specs.declared.alloc.Global.{Global}
 use Rattle.std.specs.declared.string.String.{String}
@@ -17,11 +17,14 @@ use Rattle.getopts.specs.Names.{AreTexts, Names, Text}
 use Rattle.getopts.specs.declared.groups.HasArg.{HasArg}
 use Rattle.getopts.specs.declared.groups.HasArg.TheVariants.{Yes, No, Maybe}
 use Rattle.getopts_bytes.specs.Marks.{bytes_of}
-use Rattle.getopts_shell.specs.Program.{IsOneWord}
+use Rattle.getopts.specs.Options.{names_of}
+use Rattle.getopts_shell.specs.Program.{IsOneWord, read_groups}
+use Rattle.getopts_shell.specs.Table.{Entry}
 use Rattle.getopts_shell.specs.Quote.{quoted, quoted_words, words_after}
 use Rattle.getopts_shell.specs.Variables.{begins_variable, CodeSetsVariables, found_in_bytes, Given}
 use Rattle.getopts_shell.specs.Variables.{AreTextValues, HaveOwnVariables, held_value, HoldTexts, in_bytes}
 use Rattle.getopts_shell.specs.Variables.{is_variable_byte, line_code, many, one, option_code, own_variable, RunsTo}
+use Rattle.getopts_shell.specs.Variables.{given_alone, holds_all, once, SetsVariables}
 use Rattle.getopts_shell.specs.Variables.{Runs, SetsWords, texts_found, unset_line, Value, value_line}
 use Rattle.getopts_shell.proofs.Quoting.{word_same}
 use Rattle.getopts_shell.proofs.QuotedBytes.{append_gives, ascii_gives, Gives, quoted_gives, words_give}
@@ -242,6 +245,42 @@ code_sets prefix arrays options free own = record {
       (subst (HaveOwnVariables prefix []) (sym (names_kept options)) own));
   once_more = once_more options;
 }
+
+-- ---- one option alone
+
+-- what a variable holds where its option came once without a value, or not at all, is UTF-8
+bare_texts : (kind : HasArg) (all given : Bool) → AreTextValues kind all (cond given once [])
+bare_texts No all given = tt
+bare_texts Yes true true = ((ascii_gives [] tt).utf8, tt)
+bare_texts Yes true false = tt
+bare_texts Yes false true = (ascii_gives [] tt).utf8
+bare_texts Yes false false = tt
+bare_texts Maybe true true = ((ascii_gives [] tt).utf8, tt)
+bare_texts Maybe true false = tt
+bare_texts Maybe false true = (ascii_gives [] tt).utf8
+bare_texts Maybe false false = tt
+
+pub alone_holds_texts : (entries : List Entry) (alone : Entry) → HoldTexts (given_alone entries alone)
+alone_holds_texts [] alone = tt
+alone_holds_texts (entry ∷ entries) alone =
+    (bare_texts entry.signature.kind (holds_all entry.mark entry.signature.occurrence) _, alone_holds_texts entries alone)
+
+-- its names are those of the table
+alone_names : (entries : List Entry) (alone : Entry)
+    → map (λ (option : Given). option.names) (given_alone entries alone) ≡ names_of (read_groups entries)
+alone_names [] alone = refl
+alone_names (entry ∷ entries) alone =
+    ap (λ (names : List Names). entry.signature.names ∷ names) (alone_names entries alone)
+
+-- so the text for it sets variables where the table's options make them
+pub alone_sets : (prefix : Text) (arrays : Bool) (entries : List Entry) (alone : Entry)
+    → HaveOwnVariables prefix [] (names_of (read_groups entries))
+    → SetsVariables prefix arrays (given_alone entries alone) []
+alone_sets prefix arrays entries alone own =
+    code_sets prefix arrays (given_alone entries alone) []
+    (subst (HaveOwnVariables prefix []) (sym (alone_names entries alone)) own)
+
+-- ---- words
 
 -- a help is one word
 pub one_word : (text : Text) → IsUtf8 text → IsOneWord text

@@ -18,6 +18,8 @@ use Rattle.getopts_shell.specs.Completion.{is_multi}
 use Rattle.getopts_shell.specs.Quote.{quoted, quoted_words, shell_words, words_after}
 use Rattle.getopts.specs.declared.groups.Occur.{Occur}
 use Rattle.getopts_shell.specs.declared.row.Mark.{Mark}
+use Rattle.getopts_shell.specs.declared.variables.Came.{Came}
+use Rattle.getopts_shell.specs.declared.variables.Came.TheVariants as came
 use Rattle.getopts_shell.specs.declared.row.Mark.TheVariants.{Last}
 use Rattle.getopts_shell.specs.Table.{Entry, is_passed, line_number}
 
@@ -176,15 +178,39 @@ abbrev pub holds_all : Mark → Occur → Bool
 holds_all Last occurrence = false
 holds_all mark occurrence = is_multi occurrence
 
--- the options of a table as matches give them, where the first has this place
-abbrev pub given_from : ℕ → List Entry → List MatchedGroup → List Given
-given_from place [] held = []
-given_from place (entry ∷ entries) held = record {
+-- the option of an entry, with these occurrences
+abbrev pub given_as : Entry → List Found → Given
+given_as entry found = record {
   names = entry.signature.names;
   kind = entry.signature.kind;
   all = holds_all entry.mark entry.signature.occurrence;
-  found = found_in held place;
-} ∷ given_from (place + 1) entries held
+  found = found;
+}
+
+-- the options of a table as matches give them, where the first has this place
+abbrev pub given_from : ℕ → List Entry → List MatchedGroup → List Given
+given_from place [] held = []
+given_from place (entry ∷ entries) held =
+    given_as entry (found_in held place) ∷ given_from (place + 1) entries held
+
+-- one occurrence without a value
+abbrev pub once : List Found
+once = record { position = 0; value = None } ∷ []
+
+-- what is found of an option where nothing is given but this one, once and without a value
+abbrev pub found_alone : Entry → Entry → List Found
+found_alone entry alone =
+    if bytes_eq (main_name entry.signature.names) (main_name alone.signature.names) then once else []
+
+-- the options of a table where nothing else is given
+abbrev pub given_alone : List Entry → Entry → List Given
+given_alone entries alone = map (λ entry. given_as entry (found_alone entry alone)) entries
+
+-- the occurrences of an option, as the code holds them
+abbrev pub founds_of : Came → List Found
+founds_of (came.Held held) = held.now
+founds_of came.Once = once
+founds_of came.Never = []
 
 -- the values of occurrences, with the empty text for one that has none
 abbrev pub texts_found : List Found → List Text
