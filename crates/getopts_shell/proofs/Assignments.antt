@@ -2,10 +2,11 @@
 use Rattle.std.proofs.Common.{◌≡◌, ◌≢◌, ℕ, Bool, true, false, cond, eqb, List, [], ◌∷◌, ◌++◌, Option, Some, None}
 use Rattle.std.proofs.Common.{refl, sym, ap, ◌∙◌, suc, zero, length, take, drop, map, append_assoc, append-nil}
 use Rattle.std.proofs.Common.{add-one, add-zero, arith, min, get_or, ◌+◌, ◌-◌, ◌^◌, ◌<◌, ◌≤◌}
-use Rattle.std.specs.Prelude.{nat_lt, slice_get, ◌&&◌, ◌||◌}
+use Rattle.std.specs.Prelude.{nat_lt, not, slice_get, ◌&&◌, ◌||◌}
+use Rattle.std.specs.Char.{is_ascii_digit}
 use Rattle.std.specs.Borrow.{Bor}
 use Rattle.std.specs.List.{flat_map, last_or, list_all, list_any}
-use Rattle.std.specs.Option.{option_copied, option_or, unwrap_or}
+use Rattle.std.specs.Option.{option_copied, option_map_or, option_or, unwrap_or}
 use Rattle.std.specs.Str.{bytes_eq}
 use Rattle.std.proofs.lemmas.Bool.{eq-eqb}
 use Rattle.std.proofs.lemmas.Bool.Decides.{nat_tests}
@@ -220,11 +221,20 @@ no_line_found table lines number before place all so_far =
 
 -- ---- variables
 
-pub variable_bytes : (prefix name : Text) → list_all is_variable_byte (variable prefix name)
-    ≡ (list_all is_variable_byte prefix && list_all (λ byte. is_variable_byte (variable_byte byte)) name)
-variable_bytes prefix name =
-    list_all-append is_variable_byte prefix (map variable_byte name)
-    ∙ ap (λ (b : Bool). list_all is_variable_byte prefix && b) (list_all-map is_variable_byte variable_byte name)
+-- what stands in front, and its bytes, make a name of a variable
+pub variable_parts : (prefix name : Text) → is_variable (variable prefix name)
+    ≡ (option_map_or (λ byte. not (is_ascii_digit byte)) (slice_get (variable prefix name) 0) false
+    && (list_all is_variable_byte prefix && list_all (λ byte. is_variable_byte (variable_byte byte)) name))
+variable_parts prefix name =
+    by_first (variable prefix name)
+    ∙ ap (λ (b : Bool). option_map_or (λ byte. not (is_ascii_digit byte)) (slice_get (variable prefix name) 0) false && b)
+    (list_all-append is_variable_byte prefix (map variable_byte name)
+    ∙ ap (λ (b : Bool). list_all is_variable_byte prefix && b) (list_all-map is_variable_byte variable_byte name))
+  where
+    by_first : (text : Text) → is_variable text
+        ≡ (option_map_or (λ byte. not (is_ascii_digit byte)) (slice_get text 0) false && list_all is_variable_byte text)
+    by_first [] = refl
+    by_first (byte ∷ text) = refl
 
 same_front : (front name other : Text) → bytes_eq (front ++ name) (front ++ other) ≡ bytes_eq name other
 same_front [] name other = refl

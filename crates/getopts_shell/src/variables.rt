@@ -1,8 +1,9 @@
 //! Options as variables of a script: the code that sets them, and why a table has none.
 
 ghost use Rattle.std.specs.Prelude.{◌≡◌, ◌++◌, [], codes, length, map, IfOk, OnOk};
-ghost use Rattle.std.specs.Prelude.{decimal, slice_index, get_or, None, Some, MatchOption, true, false, ⊤};
-ghost use Rattle.std.specs.Option.{option_map};
+ghost use Rattle.std.specs.Prelude.{false, not, slice_get, decimal, slice_index, get_or, None, Some, MatchOption, true, ⊤};
+ghost use Rattle.std.specs.Char.{is_ascii_digit};
+ghost use Rattle.std.specs.Option.{option_map, option_map_or};
 ghost use Rattle.std.specs.List.{flat_map, last_or, list_all, list_any};
 ghost use Rattle.std.specs.String.{string_bytes};
 ghost use Rattle.std.specs.Str.{IsUtf8, bytes_eq};
@@ -14,7 +15,7 @@ ghost use Rattle.getopts_shell.specs.Held.{variable_fault_told};
 ghost use Rattle.getopts_shell.specs.Completion.{is_multi};
 ghost use Rattle.getopts_shell.specs.Quote.{quoted, quoted_words};
 ghost use Rattle.getopts_shell.specs.Variables.{AreTextValues, CodeSetsVariables, HoldTexts};
-ghost use Rattle.getopts_shell.specs.Variables.{all_values, begins_variable, found_alone, founds_of, given_alone};
+ghost use Rattle.getopts_shell.specs.Variables.{all_values, found_alone, founds_of, given_alone};
 ghost use Rattle.getopts_shell.specs.Variables.{given_as, given_from};
 ghost use Rattle.getopts_shell.specs.Variables.{held_value, holds_all, is_prefix, is_variable};
 ghost use Rattle.getopts_shell.specs.Variables.{is_variable_byte, option_code, option_lines};
@@ -365,7 +366,7 @@ fn is_prefix(prefix: &str) -> bool
 }
 
 /// Whether a prefix and a main name make a variable.
-#[tactic(auto, using(crate::proofs::Assignments::variable_bytes))]
+#[tactic(auto, using(crate::proofs::Assignments::variable_parts))]
 fn makes_variable(prefix: &str, name: &str) -> bool
     ensures { result ≡ is_variable (variable prefix.now name.now) }
 {
@@ -389,7 +390,8 @@ fn make_variable_bytes(name: &str) -> bool
 
 /// Whether a prefix and a main name begin with no digit, and not both are empty.
 fn begins_variable(prefix: &str, name: &str) -> bool
-    ensures { result ≡ begins_variable (variable prefix.now name.now) }
+    ensures { result ≡ option_map_or (λ byte. not (is_ascii_digit byte))
+        (slice_get (variable prefix.now name.now) 0) false }
 {
     match (prefix.as_bytes(), name.as_bytes()) {
         ([first, ..], _) => !first.is_ascii_digit(),
