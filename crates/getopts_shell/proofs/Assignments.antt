@@ -2,10 +2,11 @@
 use Rattle.std.proofs.Common.{◌≡◌, ◌≢◌, ℕ, Bool, true, false, cond, eqb, List, [], ◌∷◌, ◌++◌, Option, Some, None}
 use Rattle.std.proofs.Common.{refl, sym, ap, ◌∙◌, suc, zero, length, take, drop, map, append_assoc, append-nil}
 use Rattle.std.proofs.Common.{add-one, add-zero, arith, min, get_or, ◌+◌, ◌-◌, ◌^◌, ◌<◌, ◌≤◌}
-use Rattle.std.specs.Prelude.{nat_lt, slice_get, ◌&&◌, ◌||◌}
+use Rattle.std.specs.Prelude.{nat_lt, not, slice_get, ◌&&◌, ◌||◌}
+use Rattle.std.specs.Char.{is_ascii_digit}
 use Rattle.std.specs.Borrow.{Bor}
 use Rattle.std.specs.List.{flat_map, last_or, list_all, list_any}
-use Rattle.std.specs.Option.{option_copied, option_or, unwrap_or}
+use Rattle.std.specs.Option.{option_copied, option_map_or, option_or, unwrap_or}
 use Rattle.std.specs.Str.{bytes_eq}
 use Rattle.std.proofs.lemmas.Bool.{eq-eqb}
 use Rattle.std.proofs.lemmas.Bool.Decides.{nat_tests}
@@ -18,10 +19,11 @@ use Rattle.getopts.specs.Matches.{Found, MatchedGroup}
 use Rattle.getopts.specs.Names.{Text, Names, main_name}
 use Rattle.getopts.specs.Options.{Group, names_of}
 use Rattle.getopts.specs.Wrap.{lines_of, parting}
-use Rattle.getopts_shell.specs.Held.{entries_of, entry_of_row, entries_of, group_of_row, groups_of}
+use Rattle.getopts_shell.specs.Held.{entries_of, entry_of_row, group_of_row, groups_of}
 use Rattle.getopts_shell.specs.Quote.{quoted, quoted_words, replaced, spaced}
 use Rattle.getopts_shell.specs.Table.{group_of_entry, is_passed, line_number}
-use Rattle.getopts_shell.specs.Variables.{any_has_variable, first_fault, Given, given_from, HaveOwnVariables, holds_all}
+use Rattle.getopts_shell.specs.Variables.{any_has_variable, first_fault, Given, given_as, given_from}
+use Rattle.getopts_shell.specs.Variables.{HaveOwnVariables}
 use Rattle.getopts_shell.specs.Variables.{is_variable, is_variable_byte, name_fault, option_lines}
 use Rattle.getopts_shell.specs.Variables.{texts_found, variable, variable_byte, VariableFault, variable_of}
 use Rattle.getopts_shell.specs.declared.row.Row.{Row}
@@ -99,37 +101,28 @@ last_text (text ∷ other ∷ texts) before some =
     last_text (other ∷ texts) (Some text) (omega arith)
     ∙ ap (λ (n : ℕ). Some (get_or (text ∷ other ∷ texts) n [])) next
 
--- the option of a row as it was given
-abbrev pub given_row : Row → List Found → Given
-given_row row found = record {
-  names = (group_of_row row).signature.names;
-  kind = row.kind;
-  all = holds_all row.mark row.occurrence;
-  found = found;
-}
-
 -- one more option
 pub given_more : (from place : ℕ) (rows : List Row) (held : List MatchedGroup) (row : Row) → place < length rows
     → row ≡ get_or rows place row
     → given_from from (entries_of (take (place + 1) rows)) held
-    ≡ given_from from (entries_of (take place rows)) held ++ given_row row (found_in held (from + place)) ∷ []
+    ≡ given_from from (entries_of (take place rows)) held ++ given_as (entry_of_row row) (found_in held (from + place)) ∷ []
 given_more from place rows held row below is =
     ap (λ (n : ℕ). given_from from (entries_of (take n rows)) held) (add-one place) ∙ by_place from place rows below is
   where
     by_place : (from place : ℕ) (rows : List Row) → place < length rows → row ≡ get_or rows place row
         → given_from from (entries_of (take (suc place) rows)) held
-        ≡ given_from from (entries_of (take place rows)) held ++ given_row row (found_in held (from + place)) ∷ []
+        ≡ given_from from (entries_of (take place rows)) held ++ given_as (entry_of_row row) (found_in held (from + place)) ∷ []
     by_place from place [] below is = absurd (omega arith)
     by_place from zero (other ∷ rows) below is =
         let same : row ≡ other = is in
-        ap (λ (r : Row). given_row r (found_in held from) ∷ []) (sym same)
-        ∙ ap (λ (n : ℕ). given_row row (found_in held n) ∷ []) (sym (add-zero from))
+        ap (λ (r : Row). given_as (entry_of_row r) (found_in held from) ∷ []) (sym same)
+        ∙ ap (λ (n : ℕ). given_as (entry_of_row row) (found_in held n) ∷ []) (sym (add-zero from))
     by_place from (suc place) (other ∷ rows) below is =
         let next : from + 1 + place ≡ from + suc place = omega arith in
-        ap (λ (options : List Given). given_row other (found_in held from) ∷ options)
+        ap (λ (options : List Given). given_as (entry_of_row other) (found_in held from) ∷ options)
         (by_place (from + 1) place rows (omega arith) is)
-        ∙ ap (λ (n : ℕ). given_row other (found_in held from)
-        ∷ given_from (from + 1) (entries_of (take place rows)) held ++ given_row row (found_in held n) ∷ []) next
+        ∙ ap (λ (n : ℕ). given_as (entry_of_row other) (found_in held from)
+        ∷ given_from (from + 1) (entries_of (take place rows)) held ++ given_as (entry_of_row row) (found_in held n) ∷ []) next
 
 -- ---- lines
 
@@ -228,11 +221,20 @@ no_line_found table lines number before place all so_far =
 
 -- ---- variables
 
-pub variable_bytes : (prefix name : Text) → list_all is_variable_byte (variable prefix name)
-    ≡ (list_all is_variable_byte prefix && list_all (λ byte. is_variable_byte (variable_byte byte)) name)
-variable_bytes prefix name =
-    list_all-append is_variable_byte prefix (map variable_byte name)
-    ∙ ap (λ (b : Bool). list_all is_variable_byte prefix && b) (list_all-map is_variable_byte variable_byte name)
+-- what stands in front, and its bytes, make a name of a variable
+pub variable_parts : (prefix name : Text) → is_variable (variable prefix name)
+    ≡ (option_map_or (λ byte. not (is_ascii_digit byte)) (slice_get (variable prefix name) 0) false
+    && (list_all is_variable_byte prefix && list_all (λ byte. is_variable_byte (variable_byte byte)) name))
+variable_parts prefix name =
+    by_first (variable prefix name)
+    ∙ ap (λ (b : Bool). option_map_or (λ byte. not (is_ascii_digit byte)) (slice_get (variable prefix name) 0) false && b)
+    (list_all-append is_variable_byte prefix (map variable_byte name)
+    ∙ ap (λ (b : Bool). list_all is_variable_byte prefix && b) (list_all-map is_variable_byte variable_byte name))
+  where
+    by_first : (text : Text) → is_variable text
+        ≡ (option_map_or (λ byte. not (is_ascii_digit byte)) (slice_get text 0) false && list_all is_variable_byte text)
+    by_first [] = refl
+    by_first (byte ∷ text) = refl
 
 same_front : (front name other : Text) → bytes_eq (front ++ name) (front ++ other) ≡ bytes_eq name other
 same_front [] name other = refl

@@ -19,3 +19,4 @@ mod Assignments
 mod Asked
 mod GoesOn
 mod Alone
+mod Chosen

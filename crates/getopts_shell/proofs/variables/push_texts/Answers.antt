@@ -6,15 +6,15 @@ use Rattle.getopts.proofs.Lists.{AllByRecursion-append}
 use Rattle.getopts.specs.Names.{AreTexts, Text}
 use Rattle.getopts.specs.Wrap.{parting}
 use Rattle.getopts_shell.specs.Quote.{quoted, quoted_words}
-use Rattle.getopts_shell.specs.Variables.{texts_found}
+use Rattle.getopts_shell.specs.Variables.{founds_of, texts_found}
 use Rattle.getopts_shell.proofs.Assignments.{length_texts, quoted_words_more}
 use Rattle.getopts_shell.proofs.variables.push_texts.Goals as goal
 
 pub loop-nth-preserved : goal.loop-nth-preserved
 loop-nth-preserved c =
-    let texts = texts_found c.args.given.now in
+    let texts = texts_found (founds_of c.args.given) in
     let nth = c.loop-nth.nth in
-    let below : nth < length texts = omega (arith, length_texts c.args.given.now, c.len-nth-end.ensures) in (
+    let below : nth < length texts = omega (arith, length_texts (founds_of c.args.given), c.count-nth-end.ensures) in (
       c.in_ok-push_word.ensures
           ∙ ap (λ (word : Text). string_bytes c.loop-nth.text ++ (parting (nat_lt 0 nth) (32 ∷ []) ++ quoted word))
           c.text_at.ensures
