@@ -1,5 +1,5 @@
 -- The variables that are asked for, and the counts of matches.
-use Rattle.std.proofs.Common.{◌≡◌, ℕ, ◌+◌, ◌<◌, zero, suc, add-one, arith, Bool, true, false, cond, List, [], ◌∷◌}
+use Rattle.std.proofs.Common.{◌≡◌, ℕ, ◌+◌, ◌<◌, ◌≤◌, zero, suc, add-one, arith, Bool, true, false, cond, List, [], ◌∷◌}
 use Rattle.std.proofs.Common.{Option, Some, None, Ok, ap, drop, drop_of_length-le, get_or, length, map, refl, subst}
 use Rattle.std.proofs.Common.{sym, ◌∙◌}
 use Rattle.std.specs.Prelude.{if◌then◌else◌, ◌&&◌}
@@ -8,7 +8,7 @@ use Rattle.std.proofs.lemmas.Bool.{false≢true}
 use Rattle.getopts.specs.Accessors.{found_in}
 use Rattle.getopts.specs.Fail.{Fault}
 use Rattle.getopts.specs.Matches.{Matched, MatchedGroup, matched, matches_of}
-use Rattle.getopts.specs.Names.{AreTexts, Text, Names}
+use Rattle.getopts.specs.Names.{Text, Names}
 use Rattle.getopts.specs.Options.{Declared, Group, Signature, names_of, signatures_of}
 use Rattle.getopts.specs.Reading.{Occurrence, Reading}
 use Rattle.getopts.specs.Results.{broken_count, first_count_fault, fits_count, line_result, made_of, parse_result}
@@ -17,11 +17,10 @@ use Rattle.getopts.specs.Wrap.{lines_of}
 use Rattle.getopts.specs.declared.groups.Occur.{Occur}
 use Rattle.getopts.proofs.MainTheorem.Results.{made_of-ok}
 use Rattle.getopts_shell.specs.Held.{group_of_row, groups_of, held_signatures}
-use Rattle.getopts_shell.specs.Program.{Answer, Asked, Script, TellsOptions, asked_fault, done, read_groups}
+use Rattle.getopts_shell.specs.Program.{Asked, asked_fault, read_groups}
 use Rattle.getopts_shell.specs.Table.{Entry}
-use Rattle.getopts_shell.specs.Variables.{Given, HaveOwnVariables, HoldTexts, VariableFault, arrays_only}
+use Rattle.getopts_shell.specs.Variables.{Given, HaveOwnVariables, SetsVariables, VariableFault, arrays_only}
 use Rattle.getopts_shell.specs.Variables.{first_fault, given_from, is_prefix, option_lines, prefix_fault}
-use Rattle.getopts_shell.specs.Variables.{variables_code}
 use Rattle.getopts_shell.specs.declared.row.Row.{Row}
 use Rattle.getopts_shell.proofs.Assignments.{own_variables}
 use Rattle.getopts_shell.proofs.Written.{code_sets}
@@ -32,7 +31,7 @@ begun true first fault is = is
 begun false first fault is = absurd cc
 
 -- where there is no fault, the options make their own variables
-asked_own : (asked : Asked) (table prefix : Text) (groups : List Group) → asked.variables ≡ Some prefix
+pub asked_own : (asked : Asked) (table prefix : Text) (groups : List Group) → asked.variables ≡ Some prefix
     → asked_fault asked table groups ≡ None → HaveOwnVariables prefix [] (names_of groups)
 asked_own asked table prefix groups given none =
     let lines = option_lines 0 (lines_of table) in
@@ -43,25 +42,20 @@ asked_own asked table prefix groups given none =
     (cond asked.arrays (Some arrays_only) None)) given)
     ∙ none))
 
-pub given_names : (place : ℕ) (entries : List Entry) (held : List MatchedGroup)
+given_names : (place : ℕ) (entries : List Entry) (held : List MatchedGroup)
     → map (λ (option : Given). option.names) (given_from place entries held) ≡ names_of (read_groups entries)
 given_names place [] held = refl
 given_names place (entry ∷ entries) held =
     ap (λ (names : List Names). entry.signature.names ∷ names) (given_names (place + 1) entries held)
 
--- the code for options that make their own variables sets these
-pub asked_sets : (script : Script) (table prefix : Text) (options : List Given) (free : List Text) {answer : Answer}
-    → map (λ (option : Given). option.names) options ≡ names_of (read_groups script.entries)
-    → script.asked.variables ≡ Some prefix → asked_fault script.asked table (read_groups script.entries) ≡ None
-    → HoldTexts options → AreTexts free → answer ≡ done (variables_code prefix script.asked.arrays options free)
-    → TellsOptions script prefix options free answer
-asked_sets script table prefix options free names given none values free_values is = record {
-  sets = code_sets prefix script.asked.arrays options free (subst (HaveOwnVariables prefix []) (sym names)
-      (asked_own script.asked table prefix (read_groups script.entries) given none));
-  values = values;
-  free_values = free_values;
-  answer_is = is;
-}
+-- so the code for matches sets variables
+pub asked_sets : (asked : Asked) (table prefix : Text) (entries : List Entry) (held : List MatchedGroup)
+    (free : List Text) → asked.variables ≡ Some prefix → asked_fault asked table (read_groups entries) ≡ None
+    → SetsVariables prefix asked.arrays (given_from 0 entries held) free
+asked_sets asked table prefix entries held free given none =
+    code_sets prefix asked.arrays (given_from 0 entries held) free
+    (subst (HaveOwnVariables prefix []) (sym (given_names 0 entries held))
+    (asked_own asked table prefix (read_groups entries) given none))
 
 -- ---- counts
 
@@ -142,6 +136,7 @@ counts_from groups rows place row same below row_is =
         by_place groups rows place rest (omega arith) row_is
 
 -- none is left after the last row
-pub none_left : (groups : List MatchedGroup) (rows : List Row)
-    → held_signatures groups ≡ signatures_of (groups_of rows) → drop (length rows) groups ≡ []
-none_left groups rows same = drop_of_length-le groups (omega (arith, as_many groups rows same))
+pub none_left : (groups : List MatchedGroup) (rows : List Row) (place : ℕ)
+    → held_signatures groups ≡ signatures_of (groups_of rows) → length rows ≤ place → drop place groups ≡ []
+none_left groups rows place same past =
+    drop_of_length-le groups (omega (arith, as_many groups rows same, past))

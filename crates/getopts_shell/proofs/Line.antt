@@ -8,23 +8,32 @@ use Rattle.getopts.specs.CanonAnswers.{IsUnwritable, IsWritten, KeepsLineLaws}
 use Rattle.getopts.specs.Names.{AreTexts, Text, resolution, EmptyResolvesNot}
 use Rattle.getopts.specs.Options.{Declared, Group, names_of}
 use Rattle.getopts.specs.Reading.{Mention, holds_equals, stop_word}
-use Rattle.getopts_shell.specs.Held.{ArePlainlyNamed}
+use Rattle.getopts_shell.specs.Held.{ArePlainlyNamed, group_of_row, groups_of}
 use Rattle.getopts_shell.specs.Program.{TellsWords}
+use Rattle.getopts_shell.specs.declared.row.Row.{Row}
+use Rattle.getopts_shell.proofs.Plain.{plain_main}
 use Rattle.getopts_shell.proofs.Written.{sets_words}
 
--- no main name holds `=`
-plain_main : (groups : List Group) → ArePlainlyNamed groups → (place : ℕ)
+-- no main name of a row holds `=`
+pub plain_rows : (rows : List Row) → ArePlainlyNamed (groups_of rows)
+plain_rows [] = tt
+plain_rows (row ∷ rows) = (
+  plain_main (group_of_row row).signature.names row.may_be.short_name row.may_be.long_name,
+  plain_rows rows,
+)
+
+plain_at : (groups : List Group) → ArePlainlyNamed groups → (place : ℕ)
     → holds_equals (main_at groups place) ≡ false
-plain_main [] plain zero = refl
-plain_main [] plain (suc place) = refl
-plain_main (group ∷ groups) plain zero = plain.0
-plain_main (group ∷ groups) plain (suc place) = plain_main groups plain.1 place
+plain_at [] plain zero = refl
+plain_at [] plain (suc place) = refl
+plain_at (group ∷ groups) plain zero = plain.0
+plain_at (group ∷ groups) plain (suc place) = plain_at groups plain.1 place
 
 -- each content is plain
 always_plain : (groups : List Group) → ArePlainlyNamed groups → (mentioned : List Mention)
     → AllByRecursion (λ (m : Mention). holds_equals (main_at groups m.group) ≡ false) mentioned
 always_plain groups plain [] = tt
-always_plain groups plain (m ∷ mentioned) = (plain_main groups plain m.group, always_plain groups plain mentioned)
+always_plain groups plain (m ∷ mentioned) = (plain_at groups plain m.group, always_plain groups plain mentioned)
 
 -- there are no words whose content can't be written
 pub never_unwritable : (options : Declared) (words : List Text) → ArePlainlyNamed options.groups

@@ -1,14 +1,14 @@
 //! What the program answers to words.
 
-ghost use Rattle.std.specs.Prelude.{◌≡◌, ◌≢◌, ◌⊎◌, ◌++◌, ◌-◌, ◌↔◌, codes, map, length, take, true, false};
+ghost use Rattle.std.specs.Prelude.{◌≡◌, ◌≢◌, ◌⊎◌, ◌++◌, ◌-◌, ◌&&◌, codes, map, length, take, true, false};
 ghost use Rattle.std.specs.Prelude.{List, Option, IfOk, OnOk, Some, None, ◌∷◌, [], IsTrue};
 ghost use Rattle.std.specs.Option.{is_none, option_map};
 ghost use Rattle.std.specs.Io.KnownBytes.{Appends};
 ghost use Rattle.std.specs.List.{find, list_any};
-ghost use Rattle.std.specs.Str.{IsUtf8};
+ghost use Rattle.std.specs.Str.{IsUtf8, bytes_eq};
 ghost use Rattle.std.specs.String.{string_bytes};
 ghost use Rattle.getopts.specs.Fail.{Fault, fault_of};
-ghost use Rattle.getopts.specs.Names.{Text, texts};
+ghost use Rattle.getopts.specs.Names.{AreTexts, Text, texts};
 ghost use Rattle.getopts.specs.Options.{signatures_of, with_group};
 ghost use Rattle.getopts.specs.Results.{first_count_fault, fits_count, read_result};
 ghost use Rattle.getopts_shell.specs.Completion.{IsOffer};
@@ -18,12 +18,12 @@ ghost use Rattle.getopts_shell.specs.Held.{variable_fault_told, with_groups};
 ghost use Rattle.getopts_shell.specs.HeldScript.{script_of};
 ghost use Rattle.getopts_shell.specs.Program.{AnswersAlone, AnswersCounted, AnswersDeclared, AnswersFree};
 ghost use Rattle.getopts_shell.specs.Program.{AnswersLine, AnswersOffer, AnswersOwn, AnswersRead};
-ghost use Rattle.getopts_shell.specs.Program.{AnswersScript, AnswersVariables, AnswersWords, AppendsFront};
+ghost use Rattle.getopts_shell.specs.Program.{AnswersScript, AnswersTable, AnswersVariables, AnswersWords, AppendsFront};
 ghost use Rattle.getopts_shell.specs.Program.{IsAnswer, IsHelp, IsOneWord, IsOutput, IsStatus};
 ghost use Rattle.getopts_shell.specs.Program.{ShowsAnswer, ShowsFront, TellsOptions, alone_line};
 ghost use Rattle.getopts_shell.specs.Program.{asked_by, asked_fault, asks_help, brief_text};
 ghost use Rattle.getopts_shell.specs.Program.{completion_answer, done, fault_line, has_completion};
-ghost use Rattle.getopts_shell.specs.Program.{help_code, is_alone, is_help, last_word, misused};
+ghost use Rattle.getopts_shell.specs.Program.{help_code, is_alone, is_no, last_word, misused};
 ghost use Rattle.getopts_shell.specs.Program.{no_completion, options_in, own_groups, own_options};
 ghost use Rattle.getopts_shell.specs.Program.{read_options, refused, shown_options, stands_alone};
 ghost use Rattle.getopts_shell.specs.Program.{table_fault_line, variable_fault_line};
@@ -299,9 +299,23 @@ fn asked_by(alloc: Global, own: &Matches) -> Result<Asked, AllocError>
 fn free_answer(alloc: Global, asked: &Asked, words: &[&str]) -> Result<Outcome, AllocError>
     ensures { IfOk result (λ outcome. AnswersFree (asked_of asked.now) (texts words.now) (answer_of outcome)) }
 {
-    let [name, table, words @ ..] = words else {
-        return Ok(Outcome::misused(String::from_str(alloc, NEEDED)?));
-    };
+    match words {
+        [name, table, words @ ..] => table_answer(alloc, asked, name, table, words),
+        _ => Ok(Outcome::misused(String::from_str(alloc, NEEDED)?)),
+    }
+}
+
+/// The answer to a script's name, its table and its words.
+fn table_answer(
+    alloc: Global,
+    asked: &Asked,
+    name: &str,
+    table: &str,
+    words: &[&str],
+) -> Result<Outcome, AllocError>
+    ensures { IfOk result (λ outcome.
+        AnswersTable (asked_of asked.now) name.now table.now (texts words.now) (answer_of outcome)) }
+{
     match rows_of(alloc, table) {
         Ok(rows) => declared_answer(alloc, asked, name, table, &rows, words),
         Err(error) => Ok(Outcome::misused(table_refusal(alloc, error)?)),
@@ -584,7 +598,7 @@ fn asks_help(rows: &[Row<'_>], matches: &Matches) -> bool
 
 /// Whether one of the rows is called `help`, and takes no argument.
 fn offers_help(rows: &[Row<'_>]) -> bool
-    ensures { result ≡ list_any is_help (entries_of rows.now) }
+    ensures { result ≡ list_any (λ row. bytes_eq row.long.now (codes "help") && is_no row.kind) rows.now }
 {
     rows.iter()
         .any(|row| row.long == "help" && matches!(row.kind, HasArg::No))
@@ -633,10 +647,11 @@ fn alone_answer(alloc: Global, script: Script<'_>, row: Row<'_>) -> Result<Outco
 
 /// The code of the line of one option alone.
 fn alone_line(alloc: Global, row: Row<'_>) -> Result<String, AllocError>
-    ensures { IfOk result (λ text. string_bytes text ≡ line_code (alone_line (entry_of_row row.entry))) }
+    ensures text { IfOk result (λ text. string_bytes text ≡ line_code (alone_line (entry_of_row row.entry))) }
+    ensures words { OnOk result (AreTexts (alone_line (entry_of_row row.entry))) }
 {
-    let mut word = String::from_str(alloc, "--")?;
-    word.push_str(main_name(row))?;
+    let name = main_name(row);
+    let word = format!(in alloc; "--{name}")?;
     let stop = String::from_str(alloc, "--")?;
     line_code(alloc, &[word, stop])
 }

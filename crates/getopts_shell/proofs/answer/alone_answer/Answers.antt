@@ -1,0 +1,31 @@
+use Rattle.std.proofs.Common.{Some, ap, string_bytes, sym, ◌∙◌}
+use Rattle.std.specs.Option.{option_map}
+use Rattle.getopts_shell.specs.Held.{asked_of, entries_of, entry_of_row, groups_of}
+use Rattle.getopts_shell.specs.Program.{alone_line, done}
+use Rattle.getopts_shell.proofs.Asked.{asked_own}
+use Rattle.getopts_shell.proofs.Chosen.{at_none, at_some}
+use Rattle.getopts_shell.proofs.Written.{alone_holds_texts, alone_sets, sets_words}
+use Rattle.getopts_shell.proofs.answer.alone_answer.Goals as goal
+
+pub returns-in_ok-alone_code-in-Some : goal.returns-in_ok-alone_code-in-Some
+returns-in_ok-alone_code-in-Some c =
+    let script = c.args.script in
+    let asked = asked_of script.asked.now in
+    let entries = entries_of script.rows.now in
+    let entry = entry_of_row c.args.row in
+    let prefix = ap (option_map string_bytes) c.in-Some.is ∙ ap Some (sym c.as_str.ensures.value) in
+    at_some _ _ c.as_str.result.now prefix (record {
+      sets = alone_sets c.as_str.result.now asked.arrays entries entry
+          (asked_own asked script.table.now c.as_str.result.now (groups_of script.rows.now) prefix script.no_fault);
+      values = alone_holds_texts entries entry;
+      free_values = tt;
+      answer_is = c.done.ensures
+          ∙ ap done (rw (c.variables-variables.ensures.0, c.variables-variables.ensures.1) at c.in_ok-alone_code-in-Some.ensures);
+    })
+
+pub returns-in_ok-alone_line-in-None : goal.returns-in_ok-alone_line-in-None
+returns-in_ok-alone_line-in-None c =
+    at_none _ _ (ap (option_map string_bytes) c.in-None.is) (
+      sets_words (alone_line (entry_of_row c.args.row)) c.in_ok-alone_line-in-None.ensures.words,
+      c.done-in-None.ensures ∙ ap done c.in_ok-alone_line-in-None.ensures.text,
+    )

@@ -1,0 +1,38 @@
+use Rattle.std.proofs.Common.{◌≡◌, Some, ap, map, string_bytes, subst, sym, ◌∙◌}
+use Rattle.std.specs.Prelude.{List}
+use Rattle.std.proofs.lemmas.Result.{IfOk-weaker}
+use Rattle.getopts.specs.Names.{texts}
+use Rattle.getopts.specs.Options.{Declared, Group}
+use Rattle.getopts_shell.specs.Held.{ArePlainlyNamed}
+use Rattle.getopts_shell.specs.Program.{done}
+use Rattle.getopts_shell.specs.Variables.{line_code}
+use Rattle.getopts_shell.proofs.Chosen.{at_err, at_ok}
+use Rattle.getopts_shell.proofs.Line.{never_unwritable, plain_rows, tells_words}
+use Rattle.getopts_shell.proofs.Written.{strings_are_texts}
+use Rattle.getopts_shell.proofs.answer.line_answer.Goals as goal
+
+pub unreachable-requires : goal.unreachable-requires
+unreachable-requires c =
+    never_unwritable c.args.script.options.now (texts c.args.words.now)
+    (subst (λ (options : Declared). ArePlainlyNamed options.groups) (sym c.args.script.options_are)
+    (plain_rows c.args.script.rows.now))
+    (rw c.in-Ok-None.field-0-is at c.in-Ok-None.ensures.unwritable)
+
+pub returns-in_ok-line_code-in-Ok-Some : goal.returns-in_ok-line_code-in-Ok-Some
+returns-in_ok-line_code-in-Ok-Some c =
+    let line = map string_bytes c.in-Ok-Some.line.items in
+    let tells = tells_words c.args.script.options.now (texts c.args.words.now) line
+    (strings_are_texts c.in-Ok-Some.line.items) c.names_resolve.ensures.empty c.in-Ok-Some.ensures.laws
+    (rw c.in-Ok-Some.field-0-is at c.in-Ok-Some.ensures.written) in
+    at_ok _ _ (Some line)
+    (rw (c.in-Ok-Some.field-0-is, c.args.script.options_are) at c.in-Ok-Some.ensures.result) (
+      rw c.args.script.options_are at tells,
+      c.done.ensures ∙ ap done (c.in_ok-line_code-in-Ok-Some.ensures
+          ∙ ap (λ items. line_code (map string_bytes items)) c.deref.ensures.value),
+    )
+
+pub returns-in-Err : goal.returns-in-Err
+returns-in-Err c =
+    IfOk-weaker c.refusal.result _ _
+    (λ outcome is. at_err _ _ is.0 (rw (is.1, c.args.script.options_are) at c.in-Err.ensures.result) is.2)
+    c.refusal.ensures

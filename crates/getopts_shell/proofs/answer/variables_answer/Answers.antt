@@ -1,0 +1,18 @@
+use Rattle.std.proofs.Common.{ap, ◌∙◌}
+use Rattle.getopts_shell.specs.Held.{asked_of, entries_of}
+use Rattle.getopts_shell.specs.Program.{done}
+use Rattle.getopts_shell.proofs.Asked.{asked_sets}
+use Rattle.getopts_shell.proofs.answer.variables_answer.Goals as goal
+
+pub returns : goal.returns
+returns c =
+    let script = c.args.script in
+    let matches = c.args.matches.now in
+    record {
+      sets = asked_sets (asked_of script.asked.now) script.table.now c.args.prefix.now
+          (entries_of script.rows.now) matches.groups matches.free c.requires script.no_fault;
+      values = c.in_ok-variables_code.ensures.values;
+      free_values = c.in_ok-variables_code.ensures.free;
+      answer_is = c.done.ensures
+          ∙ ap done (rw (c.variables-variables.ensures.0, c.variables-variables.ensures.1) at c.in_ok-variables_code.ensures.text);
+    }
