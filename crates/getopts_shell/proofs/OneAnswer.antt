@@ -15,7 +15,7 @@ use Rattle.getopts_shell.specs.Completion.{IsOffer, stub}
 use Rattle.getopts_shell.specs.Program.{Answer, AnswersAlone, AnswersCounted, AnswersDeclared, AnswersFree}
 use Rattle.getopts_shell.specs.Program.{AnswersLine, AnswersOffer, AnswersOwn, AnswersRead, AnswersScript}
 use Rattle.getopts_shell.specs.Program.{AnswersTable, AnswersVariables, AnswersWords, Asked, IsAnswer}
-use Rattle.getopts_shell.specs.Program.{IsHelp, IsOneWord, IsStatus, OneAnswer, Script, TellsOptions}
+use Rattle.getopts_shell.specs.Program.{IsHelp, IsOneWord, IsStatus, OneAnswer, PrintsHelp, Script, TellsOptions}
 use Rattle.getopts_shell.specs.Program.{asked_by, asked_fault, asks_help, completion_answer, declared}
 use Rattle.getopts_shell.specs.Program.{done, faulty, has_completion, help_code, is_alone, is_given}
 use Rattle.getopts_shell.specs.Program.{last_word, misused, no_completion, own_options, read_groups}
@@ -123,13 +123,26 @@ one_variables : (script : Script) (prefix : Text) (words : List Text)
 one_variables script prefix words = one_result (parse_result (read_options script) words)
     (λ matches. one_tells script prefix _ matches.free) (λ fault. one_equal _ is_refused)
 
+one_counted : (script : Script) (words : List Text) → IsOne (AnswersCounted script words)
+one_counted script words = one_option script.asked.variables (one_line script words)
+    (λ prefix. one_variables script prefix words)
+
+one_printed : (script : Script) → IsOne (PrintsHelp script)
+one_printed script = record {
+  only = λ answer other is also. also.3
+      ∙ ap (λ (help : Text). done (help_code help)) (only_text _ is.0 also.0 is.1 also.1) ∙ sym is.3;
+  by = λ answer is. subst (λ (a : Answer). AnswersBy a.status) (sym is.3) is_done;
+}
+
+one_uncounted : (script : Script) (words : List Text) (alone : Option Entry)
+    → IsOne (λ answer. MatchOption alone (AnswersCounted script words answer)
+    (λ entry. AnswersAlone script entry answer))
+one_uncounted script words alone = one_option alone (one_counted script words) (one_alone script)
+
 one_read : (script : Script) (words : List Text) (matches : Matched)
     → IsOne (AnswersRead script words matches)
-one_read script words matches = one_bool (asks_help script.entries matches)
-    (one_help script (λ help. one_with {Fact = IsOneWord help} (one_equal (done (help_code help)) is_done)))
-    (one_option (find (is_alone matches) script.entries)
-    (one_option script.asked.variables (one_line script words)
-    (λ prefix. one_variables script prefix words)) (one_alone script))
+one_read script words matches = one_bool (asks_help script.entries matches) (one_printed script)
+    (one_uncounted script words (find (is_alone matches) script.entries))
 
 one_words : (script : Script) (words : List Text) → IsOne (AnswersWords script words)
 one_words script words = one_result (read_result (read_options script) words)

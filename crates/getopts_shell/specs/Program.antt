@@ -277,11 +277,16 @@ abbrev pub AnswersCounted : Script → List Text → Answer → Type 0
 AnswersCounted script words answer = MatchOption script.asked.variables
     (AnswersLine script words answer) (λ prefix. AnswersVariables script prefix words answer)
 
+-- the answer to words that ask for help: the code that prints it
+abbrev pub PrintsHelp : Script → Answer → Type 0
+PrintsHelp script answer = (help : Text) × IsHelp script help × IsOneWord help
+    × (answer ≡ done (help_code help))
+
 -- the answer to words with these matches, whatever their counts: the code that prints the help where
 -- they ask for it, else what the first option that stands alone gives, if they have one
 abbrev pub AnswersRead : Script → List Text → Matched → Answer → Type 0
 AnswersRead script words matches answer = MatchBool (asks_help script.entries matches)
-    ((help : Text) × IsHelp script help × IsOneWord help × (answer ≡ done (help_code help)))
+    (PrintsHelp script answer)
     (MatchOption (find (is_alone matches) script.entries) (AnswersCounted script words answer)
     (λ entry. AnswersAlone script entry answer))
 

@@ -1,6 +1,6 @@
 use Rattle.getopts.specs.Names.{texts}
 use Rattle.getopts_shell.proofs.Fronts.{shows_front}
-use Rattle.getopts_shell.proofs.Status.{answers_by}
+use Rattle.getopts_shell.proofs.OneAnswer.{answers_by}
 use Rattle.getopts_shell.proofs.answer.answer.Goals as goal
 
 pub returns-in-Ok-write_output-clause-status : goal.returns-in-Ok-write_output-clause-status
@@ -15,5 +15,10 @@ returns-in-Ok-write_output-clause-nothing_written g c =
 
 pub returns-in-Ok-clause-cut : goal.returns-in-Ok-clause-cut
 returns-in-Ok-clause-cut g c = λ _.
+    shows_front _ _ _ _ (texts c.args.words.now) _ c.in-Ok.output.status c.in-Ok.ensures c.write_output.ensures.out_front
+    c.write_output.ensures.err_front
+
+pub returns-in-Ok-write_output-clause-cut : goal.returns-in-Ok-write_output-clause-cut
+returns-in-Ok-write_output-clause-cut g c = λ _.
     shows_front _ _ _ _ (texts c.args.words.now) _ c.in-Ok.output.status c.in-Ok.ensures c.write_output.ensures.out_front
     c.write_output.ensures.err_front

@@ -16,4 +16,4 @@ returns-in-Ok c =
 pub returns-in_ok-table_refusal-in-Err : goal.returns-in_ok-table_refusal-in-Err
 returns-in_ok-table_refusal-in-Err c =
     let said = c.in_ok-table_refusal-in-Err.ensures in
-    faulty said.0 (rw said.1 at c.in-Err.ensures) (c.misused-in-Err.ensures ∙ ap misused said.2)
+    faulty said.0 (rw said.1 at c.in-Err.ensures) (c.misused.ensures ∙ ap misused said.2)
