@@ -1,13 +1,13 @@
 -- The text that sets variables, as it is written, and the faults of their names.
 use Rattle.std.proofs.Common.{◌≡◌, ◌≢◌, ℕ, Bool, true, false, cond, eqb, List, [], ◌∷◌, ◌++◌, Option, Some, None}
-use Rattle.std.proofs.Common.{refl, sym, ap, ◌∙◌, suc, zero, length, take, drop, map, append_assoc, append-nil}
+use Rattle.std.proofs.Common.{refl, sym, ap, subst, ◌∙◌, suc, zero, length, take, drop, map, append_assoc, append-nil}
 use Rattle.std.proofs.Common.{add-one, add-zero, arith, min, get_or, ◌+◌, ◌-◌, ◌^◌, ◌<◌, ◌≤◌}
 use Rattle.std.specs.Prelude.{nat_lt, not, slice_get, ◌&&◌, ◌||◌}
 use Rattle.std.specs.Char.{is_ascii_digit}
 use Rattle.std.specs.Borrow.{Bor}
 use Rattle.std.specs.List.{flat_map, last_or, list_all, list_any}
 use Rattle.std.specs.Option.{option_copied, option_map_or, option_or, unwrap_or}
-use Rattle.std.specs.Str.{bytes_eq}
+use Rattle.std.specs.Str.{IsUtf8, bytes_eq}
 use Rattle.std.proofs.lemmas.Bool.{eq-eqb}
 use Rattle.std.proofs.lemmas.Bool.Decides.{nat_tests}
 use Rattle.std.proofs.lemmas.List.{at_drop_more, get_or-append-add, get_or_past, length-append, length-map}
@@ -16,7 +16,8 @@ use Rattle.std.proofs.lemmas.List.Concat.{flat_map-append}
 use Rattle.std.proofs.lemmas.List.Folds.{list_all-append, list_all-map}
 use Rattle.getopts.specs.Accessors.{each_value, found_in}
 use Rattle.getopts.specs.Matches.{Found, MatchedGroup}
-use Rattle.getopts.specs.Names.{Text, Names, main_name}
+use Rattle.getopts.proofs.Lists.{AllByRecursion-append}
+use Rattle.getopts.specs.Names.{AreTexts, Text, Names, main_name}
 use Rattle.getopts.specs.Options.{Group, names_of}
 use Rattle.getopts.specs.Wrap.{lines_of, parting}
 use Rattle.getopts_shell.specs.Held.{entries_of, entry_of_row, group_of_row, groups_of}
@@ -36,33 +37,21 @@ some_lt n = grind (arith, nat_tests)
 -- each byte of a name as it stands in a variable
 pub name_written : (name : Text) → flat_map (replaced 45 (95 ∷ [])) name ≡ map variable_byte name
 name_written [] = refl
-name_written (byte ∷ name) = by_test (name_written name) (eqb byte 45) refl
+name_written (byte ∷ name) = rw (name_written name) (by_test (eqb byte 45))
   where
-    by_test : flat_map (replaced 45 (95 ∷ [])) name ≡ map variable_byte name → (test : Bool) → eqb byte 45 ≡ test
-        → flat_map (replaced 45 (95 ∷ [])) (byte ∷ name) ≡ map variable_byte (byte ∷ name)
-    by_test rest true is = simp is (ap (λ (text : Text). 95 ∷ text) rest)
-    by_test rest false is = simp is (ap (λ (text : Text). byte ∷ text) rest)
+    by_test : (test : Bool)
+        → cond test (95 ∷ []) (byte ∷ []) ++ map variable_byte name ≡ cond test 95 byte ∷ map variable_byte name
+    by_test true = refl
+    by_test false = refl
 
 -- ---- values
 
 -- the value of an occurrence, or the empty text
-pub text_found : (founds : List Found) (nth : ℕ) (found : Found) → slice_get founds nth ≡ Some found
-    → get_or (texts_found founds) nth [] ≡ unwrap_or found.value []
-text_found [] nth found is = cc
-text_found (first ∷ founds) zero found is = ap (λ (o : Option Found). unwrap_or (unwrap_or o first).value []) is
-text_found (first ∷ founds) (suc nth) found is = text_found founds nth found is
-
-pub none_found : (founds : List Found) (nth : ℕ) → slice_get founds nth ≡ None
-    → get_or (texts_found founds) nth [] ≡ []
-none_found [] nth is = refl
-none_found (first ∷ founds) zero is = cc
-none_found (first ∷ founds) (suc nth) is = none_found founds nth is
-
--- the value of an occurrence that is lent, or the empty text
-pub lent_text : (value : Option (Bor Text)) (other text : Bor Text) → text ≡ unwrap_or value other
-    → other.now ≡ [] → text.now ≡ unwrap_or (option_copied value) []
-lent_text None other text is empty = ap (λ (t : Bor Text). t.now) is ∙ empty
-lent_text (Some value) other text is empty = ap (λ (t : Bor Text). t.now) is
+pub text_of : (founds : List Found) (nth : ℕ)
+    → get_or (texts_found founds) nth [] ≡ option_map_or (λ found. unwrap_or found.value []) (slice_get founds nth) []
+text_of [] nth = refl
+text_of (first ∷ founds) zero = refl
+text_of (first ∷ founds) (suc nth) = text_of founds nth
 
 pub length_texts : (founds : List Found) → length (texts_found founds) ≡ length founds
 length_texts founds =
@@ -101,28 +90,31 @@ last_text (text ∷ other ∷ texts) before some =
     last_text (other ∷ texts) (Some text) (omega arith)
     ∙ ap (λ (n : ℕ). Some (get_or (text ∷ other ∷ texts) n [])) next
 
+-- the value of the last of so many occurrences
+pub last_found : (founds : List Found) (count : ℕ) → count ≡ length founds → count ≢ 0
+    → last_or None (texts_found founds) ≡ Some (get_or (texts_found founds) (count - 1) [])
+last_found founds count is some =
+    last_text (texts_found founds) None (omega (arith, length_texts founds))
+    ∙ ap (λ (n : ℕ). Some (get_or (texts_found founds) (n - 1) [])) (length_texts founds ∙ sym is)
+
 -- one more option
 pub given_more : (from place : ℕ) (rows : List Row) (held : List MatchedGroup) (row : Row) → place < length rows
     → row ≡ get_or rows place row
     → given_from from (entries_of (take (place + 1) rows)) held
-    ≡ given_from from (entries_of (take place rows)) held ++ given_as (entry_of_row row) (found_in held (from + place)) ∷ []
-given_more from place rows held row below is =
-    ap (λ (n : ℕ). given_from from (entries_of (take n rows)) held) (add-one place) ∙ by_place from place rows below is
+    ≡ given_from from (entries_of (take place rows)) held
+    ++ given_as (entry_of_row row) (found_in held (from + place)) ∷ []
+given_more from place rows held row below is = rw (add-one place) (by_place from place rows below is)
   where
     by_place : (from place : ℕ) (rows : List Row) → place < length rows → row ≡ get_or rows place row
         → given_from from (entries_of (take (suc place) rows)) held
-        ≡ given_from from (entries_of (take place rows)) held ++ given_as (entry_of_row row) (found_in held (from + place)) ∷ []
+        ≡ given_from from (entries_of (take place rows)) held
+        ++ given_as (entry_of_row row) (found_in held (from + place)) ∷ []
     by_place from place [] below is = absurd (omega arith)
     by_place from zero (other ∷ rows) below is =
-        let same : row ≡ other = is in
-        ap (λ (r : Row). given_as (entry_of_row r) (found_in held from) ∷ []) (sym same)
-        ∙ ap (λ (n : ℕ). given_as (entry_of_row row) (found_in held n) ∷ []) (sym (add-zero from))
+        let same : other ≡ row = sym is in rw (same, add-zero from) refl
     by_place from (suc place) (other ∷ rows) below is =
         let next : from + 1 + place ≡ from + suc place = omega arith in
-        ap (λ (options : List Given). given_as (entry_of_row other) (found_in held from) ∷ options)
-        (by_place (from + 1) place rows (omega arith) is)
-        ∙ ap (λ (n : ℕ). given_as (entry_of_row other) (found_in held from)
-        ∷ given_from (from + 1) (entries_of (take place rows)) held ++ given_as (entry_of_row row) (found_in held n) ∷ []) next
+        rw (by_place (from + 1) place rows (omega arith) is, next) refl
 
 -- ---- lines
 

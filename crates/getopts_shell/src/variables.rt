@@ -141,30 +141,10 @@ fn push_option(
     text.push_str("\\unset -v ")?;
     push_variable(text, variables.prefix, name)?;
     text.push('\n')?;
-    push_setting(alloc, text, variables, row, given)
-}
-
-/// Adds the command that sets the variable of an option, if it has a value.
-fn push_setting(
-    alloc: Global,
-    text: &mut String,
-    variables: Variables<'_>,
-    row: Row<'_>,
-    given: Came<'_>,
-) -> Result<(), AllocError>
-    ensures text { OnOk result (string_bytes text.new ≡ string_bytes text.old
-        ++ value_line
-        (variable_of variables.entry.prefix.now (group_of_row row.entry).signature.names)
-        (held_value variables.entry.arrays row.entry.kind
-        (holds_all row.entry.mark row.entry.occurrence) (founds_of given.entry))) }
-    ensures values { OnOk result (AreTextValues row.entry.kind
-        (holds_all row.entry.mark row.entry.occurrence) (founds_of given.entry)) }
-{
-    let name = main_name(row);
     match (row.kind, row.mark, row.occurrence) {
         (HasArg::No, _, _) => push_count(alloc, text, variables.prefix, name, count(given)),
         (_, Mark::Last, _) => push_last(text, variables.prefix, name, given),
-        (_, _, Occur::Multi) => push_values(alloc, text, variables, name, given),
+        (_, _, Occur::Multi) => push_all(alloc, text, variables, name, given),
         _ => push_last(text, variables.prefix, name, given),
     }
 }
@@ -196,6 +176,7 @@ fn push_count(
 }
 
 /// Adds the command that sets a variable to the value of an option's last occurrence, if it has one.
+#[tactic(auto, using(crate::proofs::Assignments::last_found))]
 fn push_last(text: &mut String, prefix: &str, name: &str, given: Came<'_>) -> Result<(), AllocError>
     ensures text { OnOk result (string_bytes text.new ≡ string_bytes text.old
         ++ value_line (variable prefix.now name.now)
@@ -220,8 +201,9 @@ fn push_value(text: &mut String, prefix: &str, name: &str, value: &str) -> Resul
     text.push('\n')
 }
 
-/// Adds the command that sets a variable to all values of an option, as an array or as words in quotes.
-fn push_values(
+/// Adds the command that sets a variable to all values of an option, as words in quotes or as an array. `${NAME+}` is
+/// no word: the Korn shell takes a first word such as `typeset` for a declaration, and `()` for no array.
+fn push_all(
     alloc: Global,
     text: &mut String,
     variables: Variables<'_>,
@@ -233,49 +215,16 @@ fn push_values(
         (Some (all_values variables.entry.arrays (founds_of given.entry)))) }
     ensures values { OnOk result (AreTexts (texts_found (founds_of given.entry))) }
 {
-    if variables.arrays {
-        push_array(text, variables.prefix, name, given)
-    } else {
-        push_words(alloc, text, variables.prefix, name, given)
-    }
-}
-
-/// Adds the command that sets a variable to all values as words in quotes, which are quoted once more.
-fn push_words(
-    alloc: Global,
-    text: &mut String,
-    prefix: &str,
-    name: &str,
-    given: Came<'_>,
-) -> Result<(), AllocError>
-    ensures text { OnOk result (string_bytes text.new ≡ string_bytes text.old
-        ++ value_line (variable prefix.now name.now)
-        (Some (one (quoted_words (texts_found (founds_of given.entry)))))) }
-    ensures values { OnOk result (AreTexts (texts_found (founds_of given.entry))) }
-{
     let mut words = String::new(alloc);
     push_texts(&mut words, given)?;
-    push_value(text, prefix, name, words.as_str())
-}
-
-/// Adds the command that sets a variable to all values as an array. `${NAME+}` is no word: the Korn shell takes a first
-/// word such as `typeset` for a declaration, and `()` for no array.
-fn push_array(
-    text: &mut String,
-    prefix: &str,
-    name: &str,
-    given: Came<'_>,
-) -> Result<(), AllocError>
-    ensures text { OnOk result (string_bytes text.new ≡ string_bytes text.old
-        ++ value_line (variable prefix.now name.now)
-        (Some (many (texts_found (founds_of given.entry))))) }
-    ensures values { OnOk result (AreTexts (texts_found (founds_of given.entry))) }
-{
-    push_variable(text, prefix, name)?;
+    if !variables.arrays {
+        return push_value(text, variables.prefix, name, words.as_str());
+    }
+    push_variable(text, variables.prefix, name)?;
     text.push_str("=(${")?;
-    push_variable(text, prefix, name)?;
+    push_variable(text, variables.prefix, name)?;
     text.push_str("+} ")?;
-    push_texts(text, given)?;
+    text.push_str(words.as_str())?;
     text.push_str(")\n")
 }
 
@@ -312,13 +261,14 @@ fn count(given: Came<'_>) -> usize
 }
 
 /// The value of one of the occurrences, or the empty text where it has none.
+#[tactic(auto, using(crate::proofs::Assignments::text_of))]
 fn text_at<'m>(given: Came<'m>, nth: usize) -> &'m str
     ensures { result.now ≡ get_or (texts_found (founds_of given.entry)) nth [] }
 {
     match given {
         Came::Held(found) => match found.get(nth) {
-            Some((_, value)) => value.unwrap_or(""),
-            None => "",
+            Some((_, Some(value))) => value,
+            _ => "",
         },
         _ => "",
     }
