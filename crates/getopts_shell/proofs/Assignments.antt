@@ -98,23 +98,25 @@ last_found founds count is some =
     ∙ ap (λ (n : ℕ). Some (get_or (texts_found founds) (n - 1) [])) (length_texts founds ∙ sym is)
 
 -- one more option
-pub given_more : (from place : ℕ) (rows : List Row) (held : List MatchedGroup) (row : Row) → place < length rows
-    → row ≡ get_or rows place row
-    → given_from from (entries_of (take (place + 1) rows)) held
-    ≡ given_from from (entries_of (take place rows)) held
-    ++ given_as (entry_of_row row) (found_in held (from + place)) ∷ []
-given_more from place rows held row below is = rw (add-one place) (by_place from place rows below is)
+pub given_more : (place : ℕ) (rows : List Row) (held : List MatchedGroup) (row : Row) (found : List Found)
+    → place < length rows → row ≡ get_or rows place row → found ≡ found_in held place
+    → given_from 0 (entries_of (take (place + 1) rows)) held
+    ≡ given_from 0 (entries_of (take place rows)) held ++ given_as (entry_of_row row) found ∷ []
+given_more place rows held row found below is found_is =
+    rw (add-one place, found_is) (by_place 0 place rows below is (omega arith))
   where
-    by_place : (from place : ℕ) (rows : List Row) → place < length rows → row ≡ get_or rows place row
-        → given_from from (entries_of (take (suc place) rows)) held
-        ≡ given_from from (entries_of (take place rows)) held
-        ++ given_as (entry_of_row row) (found_in held (from + place)) ∷ []
-    by_place from place [] below is = absurd (omega arith)
-    by_place from zero (other ∷ rows) below is =
-        let same : other ≡ row = sym is in rw (same, add-zero from) refl
-    by_place from (suc place) (other ∷ rows) below is =
-        let next : from + 1 + place ≡ from + suc place = omega arith in
-        rw (by_place (from + 1) place rows (omega arith) is, next) refl
+    by_place : (from before : ℕ) (rows : List Row) → before < length rows → row ≡ get_or rows before row
+        → from + before ≡ place
+        → given_from from (entries_of (take (suc before) rows)) held
+        ≡ given_from from (entries_of (take before rows)) held
+        ++ given_as (entry_of_row row) (found_in held place) ∷ []
+    by_place from before [] below is here = absurd (omega arith)
+    by_place from zero (other ∷ rows) below is here =
+        let same : other ≡ row = sym is in
+        let at : from ≡ place = omega arith in
+        rw (same, at) refl
+    by_place from (suc before) (other ∷ rows) below is here =
+        rw (by_place (from + 1) before rows (omega arith) is (omega arith)) refl
 
 -- ---- lines
 
