@@ -10,7 +10,7 @@ use Rattle.std.specs.Option.{option_copied, option_map_or, option_or, unwrap_or}
 use Rattle.std.specs.Str.{IsUtf8, bytes_eq}
 use Rattle.std.proofs.lemmas.Bool.{eq-eqb}
 use Rattle.std.proofs.lemmas.Bool.Decides.{nat_tests}
-use Rattle.std.proofs.lemmas.List.{at_drop_more, get_or-append-add, get_or_past, length-append, length-map}
+use Rattle.std.proofs.lemmas.List.{at_drop_more, get_or-append-add, get_or_past, length-append, length-map, map-append}
 use Rattle.std.proofs.lemmas.List.{length-take-le, take-append-drop, take_more}
 use Rattle.std.proofs.lemmas.List.Concat.{flat_map-append}
 use Rattle.std.proofs.lemmas.List.Folds.{list_all-append, list_all-map}
@@ -58,6 +58,10 @@ length_texts founds =
     length-map (each_value founds) (λ (value : Option Text). unwrap_or value [])
     ∙ length-map founds (λ (found : Found). found.value)
 
+spaced_last : (front : Text) (words : List Text) (word : Text)
+    → front ++ flat_map spaced (words ++ word ∷ []) ≡ (front ++ flat_map spaced words) ++ (32 ∷ quoted word)
+spaced_last front words word = rw flat_map-append (simp (append-nil, append_assoc))
+
 -- one more word in quotes
 pub quoted_words_more : (texts : List Text) (nth : ℕ) → nth < length texts
     → quoted_words (take (nth + 1) texts)
@@ -70,13 +74,7 @@ quoted_words_more texts nth below = ap quoted_words (take_more texts nth [] belo
     by_place [] nth below = absurd (omega arith)
     by_place (first ∷ texts) zero below = append-nil (quoted first)
     by_place (first ∷ texts) (suc nth) below =
-        let word = get_or texts nth [] in
-        ap (λ (text : Text). quoted first ++ text)
-        (flat_map-append spaced (take nth texts) (word ∷ [])
-        ∙ ap (λ (text : Text). flat_map spaced (take nth texts) ++ text) (append-nil (spaced word)))
-        ∙ sym (append_assoc (quoted first) (flat_map spaced (take nth texts)) (spaced word))
-        ∙ ap (λ (begun : Bool). (quoted first ++ flat_map spaced (take nth texts))
-        ++ (parting begun (32 ∷ []) ++ quoted word)) (some_lt nth)
+        rw (← some_lt nth) (spaced_last (quoted first) (take nth texts) (get_or texts nth []))
 
 -- ---- options
 
@@ -87,8 +85,7 @@ last_text [] before some = absurd (omega arith)
 last_text (text ∷ []) before some = refl
 last_text (text ∷ other ∷ texts) before some =
     let next : suc (length (other ∷ texts) - 1) ≡ length (text ∷ other ∷ texts) - 1 = omega arith in
-    last_text (other ∷ texts) (Some text) (omega arith)
-    ∙ ap (λ (n : ℕ). Some (get_or (text ∷ other ∷ texts) n [])) next
+    rw (← next) (last_text (other ∷ texts) (Some text) (omega arith))
 
 -- the value of the last of so many occurrences
 pub last_found : (founds : List Found) (count : ℕ) → count ≡ length founds → count ≢ 0
@@ -126,33 +123,25 @@ pub record LinesPassed (lines : List Text) (number before place : ℕ) : Type 0 
   pub before_is : before ≡ length (option_lines 0 lines)
   pub below : before ≤ place
 
+-- the number of a line before others, where it has one
+before_others : (passed : Bool) (number : ℕ) (numbers others : List ℕ)
+    → cond passed (numbers ++ others) (number ∷ numbers ++ others)
+    ≡ cond passed numbers (number ∷ numbers) ++ others
+before_others true number numbers others = refl
+before_others false number numbers others = refl
+
 option_lines-append : (before : ℕ) (lines others : List Text)
     → option_lines before (lines ++ others)
     ≡ option_lines before lines ++ option_lines (before + length lines) others
-option_lines-append before [] others = ap (λ (n : ℕ). option_lines n others) (sym (add-zero before))
+option_lines-append before [] others = rw (add-zero before) refl
 option_lines-append before (line ∷ lines) others =
-    by_test (is_passed line) (option_lines-append (before + 1) lines others
-    ∙ ap (λ (n : ℕ). option_lines (before + 1) lines ++ option_lines n others) next)
-  where
-    next : (before + 1) + length lines ≡ before + length (line ∷ lines)
-    next = omega arith
-
-    by_test : (test : Bool)
-        → option_lines (before + 1) (lines ++ others)
-        ≡ option_lines (before + 1) lines ++ option_lines (before + length (line ∷ lines)) others
-        → cond test (option_lines (before + 1) (lines ++ others))
-        (line_number before ∷ option_lines (before + 1) (lines ++ others))
-        ≡ cond test (option_lines (before + 1) lines) (line_number before ∷ option_lines (before + 1) lines)
-        ++ option_lines (before + length (line ∷ lines)) others
-    by_test true more = more
-    by_test false more = ap (λ (numbers : List ℕ). line_number before ∷ numbers) more
+    let next : (before + 1) + length lines ≡ before + length (line ∷ lines) = omega arith in
+    rw (option_lines-append (before + 1) lines others, next) (before_others (is_passed line) _ _ _)
 
 in_parts : (all : List Text) (n : ℕ) (x : Text) → n < length all → x ≡ get_or all n x
     → all ≡ take n all ++ x ∷ drop (n + 1) all
 in_parts all n x below is =
-    sym (take-append-drop n all)
-    ∙ ap (λ (t : List Text). take n all ++ t) (at_drop_more (λ (t : List Text). t) all n x below
-    ∙ ap (λ (y : Text). y ∷ drop (n + 1) all) (sym is))
+    sym (take-append-drop n all) ∙ rw (at_drop_more (λ (t : List Text). t) all n x below, ← is) refl
 
 pub none_passed : (place : ℕ) → LinesPassed [] 0 0 place
 none_passed place = record { number_is = refl; before_is = refl; below = omega arith }
@@ -193,17 +182,14 @@ line_found table lines line number next before place lines_are below line_is so_
     let others = drop (length lines + 1) (lines_of table) in
     let numbers = option_lines 0 lines in
     let more = option_lines ((0 + length lines) + 1) others in
-    let number_at : next ≡ line_number (0 + length lines) = omega (arith, so_far.number_is) in
     let all : lines_of table ≡ lines ++ line ∷ others =
     in_parts (lines_of table) (length lines) line below line_is
     ∙ ap (λ (t : List Text). t ++ line ∷ others) (sym lines_are) in
     let numbers_are : option_lines 0 (lines_of table) ≡ numbers ++ line_number (0 + length lines) ∷ more =
     ap (option_lines 0) all ∙ option_lines-append 0 lines (line ∷ others) ∙ rw there refl in
     let place_is : place ≡ length numbers + 0 = omega (arith, so_far.before_is) in
-    number_at
-    ∙ sym (get_or-append-add numbers (line_number (0 + length lines) ∷ more) 0 0)
-    ∙ ap (λ (n : ℕ). get_or (numbers ++ line_number (0 + length lines) ∷ more) n 0) (sym place_is)
-    ∙ ap (λ (all : List ℕ). get_or all place 0) (sym numbers_are)
+    let number_at : next ≡ line_number (0 + length lines) = omega (arith, so_far.number_is) in
+    rw (numbers_are, place_is, number_at) (sym (get_or-append-add numbers (line_number (0 + length lines) ∷ more) 0 0))
 
 -- past the last option
 pub no_line_found : (table : Text) (lines : List Text) (number before place : ℕ) → lines ≡ lines_of table
@@ -220,10 +206,7 @@ pub variable_parts : (prefix name : Text) → is_variable (variable prefix name)
     ≡ (option_map_or (λ byte. not (is_ascii_digit byte)) (slice_get (variable prefix name) 0) false
     && (list_all is_variable_byte prefix && list_all (λ byte. is_variable_byte (variable_byte byte)) name))
 variable_parts prefix name =
-    by_first (variable prefix name)
-    ∙ ap (λ (b : Bool). option_map_or (λ byte. not (is_ascii_digit byte)) (slice_get (variable prefix name) 0) false && b)
-    (list_all-append is_variable_byte prefix (map variable_byte name)
-    ∙ ap (λ (b : Bool). list_all is_variable_byte prefix && b) (list_all-map is_variable_byte variable_byte name))
+    by_first (variable prefix name) ∙ simp (list_all-append, list_all-map)
   where
     by_first : (text : Text) → is_variable text
         ≡ (option_map_or (λ byte. not (is_ascii_digit byte)) (slice_get text 0) false && list_all is_variable_byte text)
@@ -242,17 +225,7 @@ pub any_variable : (prefix : Text) (rows : List Row) (names : Names)
     (map variable_byte (main_name names))) rows
 any_variable prefix [] names = refl
 any_variable prefix (row ∷ rows) names =
-    let part = map variable_byte (main_name (group_of_row row).signature.names) in
-    let own = map variable_byte (main_name names) in
-    ap (λ (test : Bool). test || any_has_variable prefix (names_of (groups_of rows)) names)
-    (same_front prefix part own)
-    ∙ ap (λ (test : Bool). bytes_eq part own || test) (any_variable prefix rows names)
-
-names_of_rows-append : (front back : List Row)
-    → names_of (groups_of (front ++ back)) ≡ names_of (groups_of front) ++ names_of (groups_of back)
-names_of_rows-append [] back = refl
-names_of_rows-append (row ∷ front) back =
-    ap (λ (names : List Names). (group_of_row row).signature.names ∷ names) (names_of_rows-append front back)
+    rw (same_front prefix _ (map variable_byte (main_name names)), any_variable prefix rows names) refl
 
 -- the fault from a row on: its own, or else that from the next one on
 pub fault_from : (prefix : Text) (lines : List ℕ) (rows : List Row) (place : ℕ) (row : Row) → place < length rows
@@ -265,22 +238,15 @@ pub fault_from : (prefix : Text) (lines : List ℕ) (rows : List Row) (place : �
 fault_from prefix lines rows place row below row_is =
     let before = names_of (groups_of (take place rows)) in
     let names = (group_of_row row).signature.names in
-    let others = names_of (groups_of (drop (place + 1) rows)) in
     let count : length before ≡ place =
     length-map (groups_of (take place rows)) (λ (group : Group). group.signature.names)
     ∙ length-map (take place rows) group_of_row ∙ length-take-le place rows (omega arith) in
     let rest : drop place rows ≡ row ∷ drop (place + 1) rows =
     at_drop_more (λ (t : List Row). t) rows place row below
     ∙ ap (λ (r : Row). r ∷ drop (place + 1) rows) (sym row_is) in
-    let more : before ++ names ∷ [] ≡ names_of (groups_of (take (place + 1) rows)) =
-    sym (names_of_rows-append (take place rows) (row ∷ []))
-    ∙ ap (λ (rows : List Row). names_of (groups_of rows))
-    (ap (λ (r : Row). take place rows ++ r ∷ []) row_is ∙ sym (take_more rows place row below)) in
-    ap (λ (rows : List Row). first_fault prefix lines before (names_of (groups_of rows))) rest
-    ∙ ap (λ (n : ℕ). option_or (name_fault prefix before names (get_or lines n 0))
-    (first_fault prefix lines (before ++ names ∷ []) others)) count
-    ∙ ap (λ (front : List Names). option_or (name_fault prefix before names (get_or lines place 0))
-    (first_fault prefix lines front others)) more
+    let more : names_of (groups_of (take (place + 1) rows)) ≡ before ++ names ∷ [] =
+    rw (take_more rows place row below, ← row_is) (simp map-append) in
+    rw (rest, count, more) refl
 
 -- names without a fault make their own variables
 no_fault : (made again : Bool) (one two : VariableFault) (rest : Option VariableFault)
