@@ -1,7 +1,8 @@
 //! Options as variables of a script: the code that sets them, and why a table has none.
 
-ghost use Rattle.std.specs.Prelude.{◌≡◌, ◌++◌, [], codes, length, map, IfOk, OnOk};
-ghost use Rattle.std.specs.Prelude.{false, not, slice_get, decimal, slice_index, get_or, None, Some, MatchOption, true, ⊤};
+ghost use Rattle.std.specs.Prelude.{◌≡◌, ◌++◌, [], codes, length, map, IfOk, OnOk, false, not};
+ghost use Rattle.std.specs.Prelude.{slice_get, decimal, slice_index, get_or, None, Some};
+ghost use Rattle.std.specs.Prelude.{MatchOption, true, ⊤};
 ghost use Rattle.std.specs.Char.{is_ascii_digit};
 ghost use Rattle.std.specs.Option.{option_map, option_map_or};
 ghost use Rattle.std.specs.List.{flat_map, last_or, list_all, list_any};
@@ -16,12 +17,11 @@ ghost use Rattle.getopts_shell.specs.Completion.{is_multi};
 ghost use Rattle.getopts_shell.specs.Quote.{quoted, quoted_words};
 ghost use Rattle.getopts_shell.specs.Variables.{AreTextValues, CodeSetsVariables, HoldTexts};
 ghost use Rattle.getopts_shell.specs.Variables.{all_values, found_alone, founds_of, given_alone};
-ghost use Rattle.getopts_shell.specs.Variables.{given_as, given_from};
-ghost use Rattle.getopts_shell.specs.Variables.{held_value, holds_all, is_prefix, is_variable};
-ghost use Rattle.getopts_shell.specs.Variables.{is_variable_byte, option_code, option_lines};
-ghost use Rattle.getopts_shell.specs.Variables.{prefix_fault, texts_found, value_line, variable};
-ghost use Rattle.getopts_shell.specs.Variables.{variable_byte, variable_of, variables_code};
-ghost use Rattle.getopts_shell.specs.Variables.{many, one};
+ghost use Rattle.getopts_shell.specs.Variables.{given_as, given_from, held_value, holds_all};
+ghost use Rattle.getopts_shell.specs.Variables.{is_prefix, is_variable, is_variable_byte};
+ghost use Rattle.getopts_shell.specs.Variables.{option_code, option_lines, prefix_fault};
+ghost use Rattle.getopts_shell.specs.Variables.{texts_found, value_line, variable, variable_byte};
+ghost use Rattle.getopts_shell.specs.Variables.{variable_of, variables_code, many, one};
 
 use crate::quote::{push_line, push_parting, push_quoted, push_replaced};
 use crate::row::{Mark, Row};
@@ -56,7 +56,8 @@ pub(crate) enum VariableError<'t> {
     NoPrefix(&'t str),
     /// The option in the line with this number makes no variable. Holds its main name.
     NoVariable(usize, &'t str),
-    /// The option in the line with this number makes the variable of one before it. Holds its main name.
+    /// The option in the line with this number makes the variable of one before it. Holds its main
+    /// name.
     VariableTwice(usize, &'t str),
 }
 
@@ -75,7 +76,8 @@ pub(crate) fn variables_code(
     ensures text { IfOk result (λ text. string_bytes text
         ≡ variables_code variables.entry.prefix.now variables.entry.arrays
         (given_from 0 (entries_of rows.now) matches.now.groups) matches.now.free) }
-    ensures values { OnOk result (HoldTexts (given_from 0 (entries_of rows.now) matches.now.groups)) }
+    ensures values { OnOk result (HoldTexts
+        (given_from 0 (entries_of rows.now) matches.now.groups)) }
     ensures free { OnOk result (AreTexts matches.now.free) }
 {
     let mut text = String::new(alloc);
@@ -175,13 +177,15 @@ fn push_count(
     push_value(text, prefix, name, count.as_str())
 }
 
-/// Adds the command that sets a variable to the value of an option's last occurrence, if it has one.
+/// Adds the command that sets a variable to the value of an option's last occurrence, if it has
+/// one.
 #[tactic(auto, using(crate::proofs::Assignments::last_found))]
 fn push_last(text: &mut String, prefix: &str, name: &str, given: Came<'_>) -> Result<(), AllocError>
     ensures text { OnOk result (string_bytes text.new ≡ string_bytes text.old
         ++ value_line (variable prefix.now name.now)
         (option_map one (last_or None (texts_found (founds_of given.entry))))) }
-    ensures values { OnOk result (MatchOption (last_or None (texts_found (founds_of given.entry))) ⊤ IsUtf8) }
+    ensures values { OnOk result (MatchOption
+        (last_or None (texts_found (founds_of given.entry))) ⊤ IsUtf8) }
 {
     let count = count(given);
     if count == 0 {
@@ -201,8 +205,9 @@ fn push_value(text: &mut String, prefix: &str, name: &str, value: &str) -> Resul
     text.push('\n')
 }
 
-/// Adds the command that sets a variable to all values of an option, as words in quotes or as an array. `${NAME+}` is
-/// no word: the Korn shell takes a first word such as `typeset` for a declaration, and `()` for no array.
+/// Adds the command that sets a variable to all values of an option, as words in quotes or as an
+/// array. `${NAME+}` is no word: the Korn shell takes a first word such as `typeset` for a
+/// declaration, and `()` for no array.
 fn push_all(
     alloc: Global,
     text: &mut String,

@@ -13,14 +13,18 @@ loop-place-preserved c =
     let rows = c.args.rows.now in
     let held = c.args.matches.now.groups in
     let place = c.loop-place.place in
-    let more = given_more place rows held c.index-rows-place.result c.occurrences_at.result c.loop-place-test.true
+    let more =
+    given_more place rows held c.index-rows-place.result c.occurrences_at.result
+    c.loop-place-test.true
     c.index-rows-place.is c.occurrences_at.ensures in
     let texts = λ (option : Given). AreTextValues option.kind option.all option.found in (
-      c.in_ok-push_option.ensures.text ∙ simp (c.loop-place.invariant.0, more, flat_map-append, append-nil),
+      c.in_ok-push_option.ensures.text
+          ∙ simp (c.loop-place.invariant.0, more, flat_map-append, append-nil),
       rw more (AllByRecursion-append texts (given_from 0 (entries_of (take place rows)) held) _
           c.loop-place.invariant.1 (c.in_ok-push_option.ensures.values, tt)),
     )
 
 pub returns-clause-free : goal.returns-clause-free
 returns-clause-free c =
-    rw (← ap (λ (matches : Matched). matches.free) c.matches.view_is) (strings_are_texts c.matches.inside.free.items)
+    rw (← ap (λ (matches : Matched). matches.free) c.matches.view_is)
+    (strings_are_texts c.matches.inside.free.items)
