@@ -1,12 +1,12 @@
 -- A shell makes the words of the quoted words' bytes.
-use Rattle.std.proofs.Common.{◌≡◌, ℕ, zero, suc, ◌<◌, ◌≤◌, Bool, true, false, eqb, ltb, List, [], ◌∷◌, ◌++◌, Some}
-use Rattle.std.proofs.Common.{length, map, refl, sym, ap, ◌∙◌, append-nil, arith}
+use Rattle.std.proofs.Common.{◌≡◌, ℕ, zero, suc, ◌<◌, ◌≤◌, Bool, true, false, eqb, ltb, List, []}
+use Rattle.std.proofs.Common.{◌∷◌, ◌++◌, Some, length, map, refl, sym, ap, ◌∙◌, append-nil, arith}
 use Rattle.std.proofs.Math.Utf8.{encode, encodes, scalar, scalars}
 use Rattle.std.proofs.lemmas.Bool.{and_parts, or_parts}
 use Rattle.std.proofs.lemmas.Bool.Decides.{nat_tests}
 use Rattle.std.proofs.lemmas.Grind.{flat_map-append}
-use Rattle.std.proofs.lemmas.Str.{IsUtf8-append, IsUtf8-encode, IsUtf8-from_ascii, chars-encodes, encodes-chars}
-use Rattle.std.proofs.lemmas.Str.{encode_ascii, scalars-chars}
+use Rattle.std.proofs.lemmas.Str.{IsUtf8-append, IsUtf8-encode, IsUtf8-from_ascii, chars-encodes}
+use Rattle.std.proofs.lemmas.Str.{encodes-chars, encode_ascii, scalars-chars}
 use Rattle.std.specs.Prelude.{codes}
 use Rattle.std.specs.Char.{is_ascii}
 use Rattle.std.specs.List.{AllByRecursion, flat_map, list_all, list_any}
@@ -28,7 +28,8 @@ pub append_gives : {text more bytes others : List ℕ} → Gives text bytes → 
 append_gives {text} {more} {bytes} {others} is also = record {
   utf8 = IsUtf8-append text more is.utf8 also.utf8;
   bytes_are = bytes_append text more is.utf8
-      ∙ ap (λ (l : List ℕ). l ++ bytes_of more) is.bytes_are ∙ ap (λ (l : List ℕ). bytes ++ l) also.bytes_are;
+      ∙ ap (λ (l : List ℕ). l ++ bytes_of more) is.bytes_are
+      ∙ ap (λ (l : List ℕ). bytes ++ l) also.bytes_are;
 }
 
 are_ascii : (text : List ℕ) → list_all is_ascii text ≡ true → IsAscii text
@@ -36,19 +37,26 @@ are_ascii [] are i = omega arith
 are_ascii (byte ∷ text) are zero =
     let first : is_ascii byte ≡ true = (and_parts (is_ascii byte) (list_all is_ascii text) are).0 in
     grind (arith, nat_tests)
-are_ascii (byte ∷ text) are (suc i) = are_ascii text (and_parts (is_ascii byte) (list_all is_ascii text) are).1 i
+are_ascii (byte ∷ text) are (suc i) =
+    are_ascii text (and_parts (is_ascii byte) (list_all is_ascii text) are).1 i
 
 -- a text of ASCII has itself for its bytes
 pub ascii_gives : (text : List ℕ) → list_all is_ascii text ≡ true → Gives text text
 ascii_gives text are =
     let ascii = are_ascii text are in
     let utf8 = IsUtf8-from_ascii text ascii in
-    record { utf8 = utf8; bytes_are = plain_bytes text (record { utf8 = utf8; unmarked = ascii_no_marks text ascii }) }
+    record {
+      utf8 = utf8;
+      bytes_are =
+          plain_bytes text (record { utf8 = utf8; unmarked = ascii_no_marks text ascii });
+    }
 
 char_gives : (c : ℕ) → scalar c ≡ true → Gives (encode c) (written c)
 char_gives c is = record {
   utf8 = IsUtf8-encode c is;
-  bytes_are = ap (flat_map written) (ap chars (sym (append-nil (encode c))) ∙ chars-encodes (c ∷ []) (simp is refl))
+  bytes_are =
+      ap (flat_map written)
+      (ap chars (sym (append-nil (encode c))) ∙ chars-encodes (c ∷ []) (simp is refl))
       ∙ append-nil (written c);
 }
 
@@ -83,15 +91,18 @@ written_past c large = by (is_mark c) refl
 -- ---- words in quotes
 
 -- an ASCII byte in quotes
-quoted_ascii : (c : ℕ) → is_ascii c ≡ true → list_all is_ascii (flat_map quoted_byte (c ∷ [])) ≡ true
+quoted_ascii : (c : ℕ) → is_ascii c ≡ true
+    → list_all is_ascii (flat_map quoted_byte (c ∷ [])) ≡ true
 quoted_ascii c ascii = by (eqb c 39) refl
   where
-    by : (quote : Bool) → eqb c 39 ≡ quote → list_all is_ascii (flat_map quoted_byte (c ∷ [])) ≡ true
+    by : (quote : Bool) → eqb c 39 ≡ quote
+        → list_all is_ascii (flat_map quoted_byte (c ∷ [])) ≡ true
     by true is = simp is refl
     by false is = simp (is, ascii) refl
 
 -- a character in quotes
-quoted_char : (c : ℕ) → scalar c ≡ true → Gives (flat_map quoted_byte (encode c)) (flat_map quoted_byte (written c))
+quoted_char : (c : ℕ) → scalar c ≡ true
+    → Gives (flat_map quoted_byte (encode c)) (flat_map quoted_byte (written c))
 quoted_char c is = by (is_ascii c) refl
   where
     by : (small : Bool) → is_ascii c ≡ small
@@ -99,17 +110,24 @@ quoted_char c is = by (is_ascii c) refl
     by true small =
         let ascii : c < 128 = grind (arith, nat_tests) in
         let unmarked : is_mark c ≡ false = grind (arith, nat_tests) in
-        simp (unmarked, encode_ascii c ascii) (ascii_gives (flat_map quoted_byte (c ∷ [])) (quoted_ascii c small))
+        simp (unmarked, encode_ascii c ascii)
+        (ascii_gives (flat_map quoted_byte (c ∷ [])) (quoted_ascii c small))
     by false large =
         let past : 128 ≤ c = grind (arith, nat_tests) in
-        simp (past_stays (encode c) (encode_past c past), past_stays (written c) (written_past c past)) (char_gives c is)
+        simp (
+          past_stays (encode c) (encode_past c past),
+          past_stays (written c) (written_past c past),
+        ) (char_gives c is)
 
 quoted_chars : (cs : List ℕ) → scalars cs ≡ true
     → Gives (flat_map quoted_byte (encodes cs)) (flat_map quoted_byte (flat_map written cs))
 quoted_chars [] are = ascii_gives [] refl
 quoted_chars (c ∷ cs) are =
     let each = and_parts (scalar c) (scalars cs) are in
-    simp (flat_map-append quoted_byte (encode c) (encodes cs), flat_map-append quoted_byte (written c) (flat_map written cs))
+    simp (
+      flat_map-append quoted_byte (encode c) (encodes cs),
+      flat_map-append quoted_byte (written c) (flat_map written cs),
+    )
     (append_gives (quoted_char c each.0) (quoted_chars cs each.1))
 
 pub text_gives : (text : Text) → IsUtf8 text → Gives text (bytes_of text)
@@ -127,17 +145,21 @@ spaced_gives : (words : List Text) → AreTexts words
     → Gives (flat_map spaced words) (flat_map spaced (map bytes_of words))
 spaced_gives [] are = ascii_gives [] refl
 spaced_gives (word ∷ words) are =
-    append_gives (append_gives (ascii_gives (codes " ") refl) (quoted_gives (text_gives word are.0)))
+    append_gives
+    (append_gives (ascii_gives (codes " ") refl) (quoted_gives (text_gives word are.0)))
     (spaced_gives words are.1)
 
-pub words_give : (words : List Text) → AreTexts words → Gives (quoted_words words) (quoted_words (map bytes_of words))
+pub words_give : (words : List Text) → AreTexts words
+    → Gives (quoted_words words) (quoted_words (map bytes_of words))
 words_give [] are = ascii_gives [] refl
-words_give (word ∷ words) are = append_gives (quoted_gives (text_gives word are.0)) (spaced_gives words are.1)
+words_give (word ∷ words) are =
+    append_gives (quoted_gives (text_gives word are.0)) (spaced_gives words are.1)
 
 -- a shell makes of the bytes of quoted words the bytes of the words
 pub bytes_same : (words : List Text) → AreTexts words
     → shell_words (bytes_of (quoted_words words)) ≡ Some (map bytes_of words)
-bytes_same words are = ap shell_words (words_give words are).bytes_are ∙ words_same (map bytes_of words)
+bytes_same words are =
+    ap shell_words (words_give words are).bytes_are ∙ words_same (map bytes_of words)
 
 -- the texts of words have the words as their bytes
 texts_back : (words : List (List ℕ)) → AllByRecursion AreBytes words

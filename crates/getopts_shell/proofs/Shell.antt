@@ -9,10 +9,11 @@ use Rattle.std.proofs.lemmas.Slice.Eq.{bytes_eq-Decides}
 use Rattle.getopts.specs.Names.{Text, Names}
 use Rattle.getopts_shell.specs.Quote.{quoted, quoted_words, shell_words}
 use Rattle.getopts_shell.specs.Variables.{array_front, array_words, assigns, Given}
-use Rattle.getopts_shell.specs.Variables.{HaveOwnVariables, is_variable, command_line, last_command, line_code, many, no_command}
-use Rattle.getopts_shell.specs.Variables.{one, option_code, own_value, Runs, RunsCommand, RunsText, sets}
-use Rattle.getopts_shell.specs.Variables.{Shell, texts_found, unsets, value_line, variable_of}
-use Rattle.getopts_shell.specs.Variables.{Value, variables_code, with_options, with_variable, one_word}
+use Rattle.getopts_shell.specs.Variables.{HaveOwnVariables, is_variable, command_line, last_command}
+use Rattle.getopts_shell.specs.Variables.{line_code, many, no_command, one, option_code, own_value}
+use Rattle.getopts_shell.specs.Variables.{Runs, RunsCommand, RunsText, sets, Shell, texts_found}
+use Rattle.getopts_shell.specs.Variables.{unsets, value_line, variable_of, Value, variables_code}
+use Rattle.getopts_shell.specs.Variables.{with_options, with_variable, one_word}
 use Rattle.getopts_shell.proofs.Quoting.{word_same, words_same}
 
 -- what stands before the words of `set`, and before the name of `unset`
@@ -26,7 +27,8 @@ unset_front = codes "\\unset -v "
 line_then : (before next after : Shell) (command more text : Text) → RunsCommand before command next
     → RunsText next more after → command ++ 10 ∷ more ≡ text → RunsText before text after
 line_then before next after command more text does runs is =
-    subst (λ (t : Text). RunsText before t after) is (command_line before next after command more does runs)
+    subst (λ (t : Text). RunsText before t after) is
+    (command_line before next after command more does runs)
 
 -- ---- the commands for one option
 
@@ -64,12 +66,14 @@ after_value_line shell after name (Some (many words)) more is runs =
 
 after_option : (prefix : Text) (arrays : Bool) (shell after : Shell) (option : Given) (more : Text)
     → is_variable (variable_of prefix option.names) ≡ true
-    → RunsText (with_variable shell (variable_of prefix option.names) (own_value arrays option)) more after
+    → RunsText
+    (with_variable shell (variable_of prefix option.names) (own_value arrays option)) more after
     → RunsText shell (option_code prefix arrays option ++ more) after
 after_option prefix arrays shell after option more is runs =
     let name = variable_of prefix option.names in
     let value = own_value arrays option in
-    line_then shell (with_variable shell name None) after (unset_front ++ name) (value_line name value ++ more) _
+    line_then shell (with_variable shell name None) after (unset_front ++ name)
+    (value_line name value ++ more) _
     (unsets name is)
     (after_value_line shell after name value more is
     (subst (λ (s : Shell). RunsText s more after) (sym (set_again shell name value)) runs))
@@ -78,7 +82,8 @@ after_option prefix arrays shell after option more is runs =
 -- ---- all commands
 
 -- the commands for options and then the words, and what is written after these
-after_codes : (prefix : Text) (arrays : Bool) (before : List Names) (shell : Shell) (options : List Given)
+after_codes : (prefix : Text) (arrays : Bool) (before : List Names) (shell : Shell)
+    (options : List Given)
     (free : List Text) (more : Text)
     → HaveOwnVariables prefix before (map (λ (option : Given). option.names) options)
     → ((held : Shell) → RunsText held more (record held { words = free }))
@@ -97,7 +102,8 @@ after_codes prefix arrays before shell (option ∷ options) free more own last =
 -- a shell that runs the text holds what the options do; also where its last line end has gone
 pub code_runs : (prefix : Text) (arrays : Bool) (options : List Given) (free : List Text)
     → HaveOwnVariables prefix [] (map (λ (option : Given). option.names) options) → (before : Shell)
-    → Runs before (variables_code prefix arrays options free) (with_options prefix arrays options free before)
+    → Runs before (variables_code prefix arrays options free)
+    (with_options prefix arrays options free before)
 code_runs prefix arrays options free own before =
     let front = flat_map (option_code prefix arrays) options in
     let last = set_front ++ quoted_words free in record {
@@ -111,12 +117,15 @@ code_runs prefix arrays options free own before =
     }
 
 -- a shell that runs the command holds the words
-pub line_runs : (words : List Text) (before : Shell) → Runs before (line_code words) (record before { words = words })
+pub line_runs : (words : List Text) (before : Shell)
+    → Runs before (line_code words) (record before { words = words })
 line_runs words before = code_runs [] false [] words tt before
 
 -- the values that a text of words gives
 pub once_more : (options : List Given)
-    → AllByRecursion (λ option. shell_words (quoted_words (texts_found option.found)) ≡ Some (texts_found option.found))
+    → AllByRecursion
+    (λ option. shell_words (quoted_words (texts_found option.found))
+    ≡ Some (texts_found option.found))
     options
 once_more [] = tt
 once_more (option ∷ options) = (words_same (texts_found option.found), once_more options)

@@ -1,7 +1,7 @@
 -- What a shell makes of the bytes that are written.
-use Rattle.std.proofs.Common.{◌≡◌, ℕ, ◌%◌, ◌/◌, zero, suc, Bool, true, false, cond, eqb, List, [], ◌∷◌, ◌++◌}
-use Rattle.std.proofs.Common.{Option, Some, None, refl, sym, ap, subst, ◌∙◌, length, map, string_bytes}
-use Rattle.std.proofs.Common.{arith}
+use Rattle.std.proofs.Common.{◌≡◌, ℕ, ◌%◌, ◌/◌, zero, suc, Bool, true, false, cond, eqb, List, []}
+use Rattle.std.proofs.Common.{◌∷◌, ◌++◌, Option, Some, None, refl, sym, ap, subst, ◌∙◌, length, map}
+use Rattle.std.proofs.Common.{string_bytes, arith}
 use Rattle.std.specs.Prelude.{MatchOption, codes, decimal, not, ⊤}
 use Rattle.std.specs.Char.{is_ascii, is_ascii_digit}
 use Rattle.std.specs.declared.alloc.Global.{Global}
@@ -24,10 +24,10 @@ use Rattle.getopts_shell.specs.Program.{IsOneWord, read_groups}
 use Rattle.getopts_shell.specs.Quote.{words_after}
 use Rattle.getopts_shell.specs.Table.{Entry}
 use Rattle.getopts_shell.specs.Variables.{AreTextValues, CodeSetsVariables, found_in_bytes, Given}
-use Rattle.getopts_shell.specs.Variables.{given_alone, HaveOwnVariables, held_value, holds_all, HoldTexts}
-use Rattle.getopts_shell.specs.Variables.{in_bytes, is_variable, is_variable_byte, line_code, many, once}
-use Rattle.getopts_shell.specs.Variables.{one, option_code, SetsVariables, SetsWords, texts_found}
-use Rattle.getopts_shell.specs.Variables.{Value, value_line, variable_of}
+use Rattle.getopts_shell.specs.Variables.{given_alone, HaveOwnVariables, held_value, holds_all}
+use Rattle.getopts_shell.specs.Variables.{HoldTexts, in_bytes, is_variable, is_variable_byte}
+use Rattle.getopts_shell.specs.Variables.{line_code, many, once, one, option_code, SetsVariables}
+use Rattle.getopts_shell.specs.Variables.{SetsWords, texts_found, Value, value_line, variable_of}
 use Rattle.getopts_shell.proofs.Quoting.{word_same}
 use Rattle.getopts_shell.proofs.QuotedBytes.{append_gives, ascii_gives, Gives, quoted_gives}
 use Rattle.getopts_shell.proofs.QuotedBytes.{text_gives, words_give}
@@ -35,12 +35,14 @@ use Rattle.getopts_shell.proofs.Shell.{code_runs, line_runs, once_more}
 
 -- ---- ASCII
 
-variable_bytes_ascii : (name : Text) → list_all is_variable_byte name ≡ true → list_all is_ascii name ≡ true
+variable_bytes_ascii : (name : Text) → list_all is_variable_byte name ≡ true
+    → list_all is_ascii name ≡ true
 variable_bytes_ascii [] is = refl
 variable_bytes_ascii (byte ∷ name) is =
     let each = and_parts (is_variable_byte byte) (list_all is_variable_byte name) is in
     let first : is_variable_byte byte ≡ true = each.0 in
-    and_from (is_ascii byte) (list_all is_ascii name) (grind (arith, nat_tests)) (variable_bytes_ascii name each.1)
+    and_from (is_ascii byte) (list_all is_ascii name) (grind (arith, nat_tests))
+    (variable_bytes_ascii name each.1)
 
 -- the name of a variable has itself for its bytes
 variable_gives : (name : Text) → is_variable name ≡ true → Gives name name
@@ -68,7 +70,8 @@ decimal_gives n = ascii_gives (decimal n) (digits_ascii 64 n [] refl)
 
 -- ---- values
 
-texts_in_bytes : (founds : List Found) → texts_found (map found_in_bytes founds) ≡ map bytes_of (texts_found founds)
+texts_in_bytes : (founds : List Found)
+    → texts_found (map found_in_bytes founds) ≡ map bytes_of (texts_found founds)
 texts_in_bytes [] = refl
 texts_in_bytes (found ∷ founds) = by_value found.value (texts_in_bytes founds)
   where
@@ -80,7 +83,8 @@ texts_in_bytes (found ∷ founds) = by_value found.value (texts_in_bytes founds)
     by_value (Some text) others = rw others refl
 
 last_in_bytes : (texts : List Text) (before : Option Text)
-    → last_or (option_map bytes_of before) (map bytes_of texts) ≡ option_map bytes_of (last_or before texts)
+    → last_or (option_map bytes_of before) (map bytes_of texts)
+    ≡ option_map bytes_of (last_or before texts)
 last_in_bytes [] before = refl
 last_in_bytes (text ∷ texts) before = last_in_bytes texts (Some text)
 
@@ -92,7 +96,8 @@ one_gives name text bytes named is =
     (append_gives (quoted_gives is) (ascii_gives (codes "\n") refl)))
 
 many_give : (name : Text) (texts : List Text) → Gives name name → AreTexts texts
-    → Gives (value_line name (Some (many texts))) (value_line name (Some (many (map bytes_of texts))))
+    → Gives (value_line name (Some (many texts)))
+    (value_line name (Some (many (map bytes_of texts))))
 many_give name texts named are =
     append_gives named (append_gives (ascii_gives (codes "=") refl)
     (append_gives (append_gives (ascii_gives (codes "(${") refl)
@@ -109,7 +114,8 @@ argument_gives name true true founds named are =
 argument_gives name false true founds named are =
     rw (texts_in_bytes founds) (one_gives name _ _ named (words_give (texts_found founds) are))
 argument_gives name arrays false founds named are =
-    rw (texts_in_bytes founds, last_in_bytes (texts_found founds) None) (by_last (last_or None (texts_found founds)) are)
+    rw (texts_in_bytes founds, last_in_bytes (texts_found founds) None)
+    (by_last (last_or None (texts_found founds)) are)
   where
     by_last : (last : Option Text) → MatchOption last ⊤ IsUtf8
         → Gives (value_line name (option_map {U = Value} (λ text. one text) last))
@@ -117,27 +123,34 @@ argument_gives name arrays false founds named are =
     by_last None utf8 = ascii_gives [] refl
     by_last (Some text) utf8 = one_gives name text _ named (text_gives text utf8)
 
-value_gives : (name : Text) (arrays all : Bool) (kind : HasArg) (founds : List Found) → Gives name name
+value_gives : (name : Text) (arrays all : Bool) (kind : HasArg) (founds : List Found)
+    → Gives name name
     → AreTextValues kind all founds
     → Gives (value_line name (held_value arrays kind all founds))
     (value_line name (held_value arrays kind all (map found_in_bytes founds)))
 value_gives name arrays all No founds named are =
     rw (length-map founds found_in_bytes) (one_gives name _ _ named (decimal_gives (length founds)))
 value_gives name arrays true Yes founds named are = argument_gives name arrays true founds named are
-value_gives name arrays false Yes founds named are = argument_gives name arrays false founds named are
-value_gives name arrays true Maybe founds named are = argument_gives name arrays true founds named are
-value_gives name arrays false Maybe founds named are = argument_gives name arrays false founds named are
+value_gives name arrays false Yes founds named are =
+    argument_gives name arrays false founds named are
+value_gives name arrays true Maybe founds named are =
+    argument_gives name arrays true founds named are
+value_gives name arrays false Maybe founds named are =
+    argument_gives name arrays false founds named are
 
 -- ---- the text
 
-line_code_gives : (words : List Text) → AreTexts words → Gives (line_code words) (line_code (map bytes_of words))
+line_code_gives : (words : List Text) → AreTexts words
+    → Gives (line_code words) (line_code (map bytes_of words))
 line_code_gives words are =
     append_gives (ascii_gives (codes "\\set -- ") refl)
     (append_gives (words_give words are) (ascii_gives (codes "\n") refl))
 
 codes_give : (prefix : Text) (arrays : Bool) (before : List Names) (options : List Given)
-    → HaveOwnVariables prefix before (map (λ (option : Given). option.names) options) → HoldTexts options
-    → Gives (flat_map (option_code prefix arrays) options) (flat_map (option_code prefix arrays) (map in_bytes options))
+    → HaveOwnVariables prefix before (map (λ (option : Given). option.names) options)
+    → HoldTexts options
+    → Gives (flat_map (option_code prefix arrays) options)
+    (flat_map (option_code prefix arrays) (map in_bytes options))
 codes_give prefix arrays before [] own hold = ascii_gives [] refl
 codes_give prefix arrays before (option ∷ options) own hold =
     let name = variable_of prefix option.names in
@@ -148,9 +161,11 @@ codes_give prefix arrays before (option ∷ options) own hold =
     (codes_give prefix arrays (before ++ option.names ∷ []) options own.2 hold.1)
 
 names_kept : (options : List Given)
-    → map (λ (option : Given). option.names) (map in_bytes options) ≡ map (λ (option : Given). option.names) options
+    → map (λ (option : Given). option.names) (map in_bytes options)
+    ≡ map (λ (option : Given). option.names) options
 names_kept [] = refl
-names_kept (option ∷ options) = ap (λ (names : List Names). option.names ∷ names) (names_kept options)
+names_kept (option ∷ options) =
+    ap (λ (names : List Names). option.names ∷ names) (names_kept options)
 
 -- ---- what a shell makes of it
 
@@ -158,7 +173,8 @@ names_kept (option ∷ options) = ap (λ (names : List Names). option.names ∷ 
 pub sets_words : (words : List Text) → AreTexts words → SetsWords words
 sets_words words are = record {
   shell = line_runs words;
-  bytes = λ before. rw (line_code_gives words are).bytes_are (line_runs (map bytes_of words) before);
+  bytes = λ before.
+      rw (line_code_gives words are).bytes_are (line_runs (map bytes_of words) before);
 }
 
 -- the text for options sets variables
@@ -167,7 +183,8 @@ code_sets prefix arrays options free own = record {
   own = own;
   shell = code_runs prefix arrays options free own;
   bytes = λ hold are before. rw
-      (append_gives (codes_give prefix arrays [] options own hold) (line_code_gives free are)).bytes_are
+      (append_gives (codes_give prefix arrays [] options own hold)
+      (line_code_gives free are)).bytes_are
       (code_runs prefix arrays (map in_bytes options) (map bytes_of free)
       (subst (HaveOwnVariables prefix []) (sym (names_kept options)) own) before);
   once_more = once_more options;
@@ -187,14 +204,18 @@ bare_texts Maybe true false = tt
 bare_texts Maybe false true = (ascii_gives [] refl).utf8
 bare_texts Maybe false false = tt
 
-pub alone_holds_texts : (entries : List Entry) (alone : Entry) → HoldTexts (given_alone entries alone)
+pub alone_holds_texts : (entries : List Entry) (alone : Entry)
+    → HoldTexts (given_alone entries alone)
 alone_holds_texts [] alone = tt
-alone_holds_texts (entry ∷ entries) alone =
-    (bare_texts entry.signature.kind (holds_all entry.mark entry.signature.occurrence) _, alone_holds_texts entries alone)
+alone_holds_texts (entry ∷ entries) alone = (
+  bare_texts entry.signature.kind (holds_all entry.mark entry.signature.occurrence) _,
+  alone_holds_texts entries alone,
+)
 
 -- its names are those of the table
 alone_names : (entries : List Entry) (alone : Entry)
-    → map (λ (option : Given). option.names) (given_alone entries alone) ≡ names_of (read_groups entries)
+    → map (λ (option : Given). option.names) (given_alone entries alone)
+    ≡ names_of (read_groups entries)
 alone_names [] alone = refl
 alone_names (entry ∷ entries) alone =
     ap (λ (names : List Names). entry.signature.names ∷ names) (alone_names entries alone)
@@ -213,7 +234,8 @@ alone_sets prefix arrays entries alone own =
 pub one_word : (text : Text) → IsUtf8 text → IsOneWord text
 one_word text utf8 = record {
   shell = word_same None text refl;
-  bytes = ap (words_after None) (quoted_gives (text_gives text utf8)).bytes_are ∙ word_same None (bytes_of text) refl;
+  bytes = ap (words_after None) (quoted_gives (text_gives text utf8)).bytes_are
+      ∙ word_same None (bytes_of text) refl;
 }
 
 -- the texts of strings are texts

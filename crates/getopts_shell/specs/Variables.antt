@@ -1,7 +1,7 @@
 -- Options as variables: what a shell does with a text of commands, and the text that is written.
-use Rattle.std.specs.Prelude.{◌≡◌, ◌==◌, ◌||◌, ◌&&◌, not, ⊤, ℕ, ◌+◌, Bool, true, false}
-use Rattle.std.specs.Prelude.{List, [], ◌∷◌, ◌++◌, Option, Some, None, codes, decimal, fold}
-use Rattle.std.specs.Prelude.{if◌then◌else◌, length, map, MatchOption, slice_index}
+use Rattle.std.specs.Prelude.{◌≡◌, ◌==◌, ◌||◌, ◌&&◌, not, ⊤, ℕ, ◌+◌, Bool, true, false, List, []}
+use Rattle.std.specs.Prelude.{◌∷◌, ◌++◌, Option, Some, None, codes, decimal, fold, if◌then◌else◌}
+use Rattle.std.specs.Prelude.{length, map, MatchOption, slice_index}
 use Rattle.std.specs.Char.{is_ascii_alphanumeric, is_ascii_digit}
 use Rattle.std.specs.List.{AllByRecursion, flat_map, last_or, list_all, list_any}
 use Rattle.std.specs.Option.{option_map, option_or, unwrap_or}
@@ -48,8 +48,8 @@ abbrev pub is_variable : Text → Bool
 is_variable [] = false
 is_variable (byte ∷ more) = not (is_ascii_digit byte) && list_all is_variable_byte (byte ∷ more)
 
--- What stands before the words of an array that is assigned to NAME. `${NAME+}` is no word, but keeps
--- the first of them from being the name of a command, as `(typeset)` is.
+-- What stands before the words of an array that is assigned to NAME. `${NAME+}` is no word, but
+-- keeps the first of them from being the name of a command, as `(typeset)` is.
 abbrev pub array_front : Text → Text
 array_front name = codes "(${" ++ (name ++ codes "+} ")
 
@@ -61,8 +61,8 @@ pub data Assigns (name : Text) : Text → Value → Type 0 where
       → Assigns name (array_front name ++ (code ++ codes ")")) (many words)
 
 -- What a shell that held `before` holds after a command, in which no quotes are open at the end.
--- Nothing is said of other commands, nor of `NAME=` where NAME is set: an array would keep its other
--- texts.
+-- Nothing is said of other commands, nor of `NAME=` where NAME is set: an array would keep its
+-- other texts.
 pub data RunsCommand (before : Shell) : Text → Shell → Type 0 where
   sets : (code : Text) (words : List Text) → shell_words code ≡ Some words
       → RunsCommand before (codes "\\set -- " ++ code) (record before { words = words })
@@ -72,7 +72,8 @@ pub data RunsCommand (before : Shell) : Text → Shell → Type 0 where
       → before.value name ≡ None → Assigns name code value
       → RunsCommand before (name ++ (codes "=" ++ code)) (with_variable before name (Some value))
 
--- what a shell holds before and after a text: commands with a line end after each, but perhaps the last
+-- what a shell holds before and after a text: commands with a line end after each, but perhaps the
+-- last
 pub data RunsText : Shell → Text → Shell → Type 0 where
   no_command : (shell : Shell) → RunsText shell [] shell
   last_command : (before after : Shell) (command : Text) → RunsCommand before command after
@@ -80,8 +81,8 @@ pub data RunsText : Shell → Text → Shell → Type 0 where
   command_line : (before next after : Shell) (command more : Text) → RunsCommand before command next
       → RunsText next more after → RunsText before (command ++ (codes "\n" ++ more)) after
 
--- A shell that held `before` and runs a text holds `after`; also where the text has lost its last line
--- end, as `$(..)` takes it away.
+-- A shell that held `before` and runs a text holds `after`; also where the text has lost its last
+-- line end, as `$(..)` takes it away.
 pub record Runs (before : Shell) (text : Text) (after : Shell) : Type 0 where
   pub whole : RunsText before text after
   pub cut : Text
@@ -114,15 +115,16 @@ HaveOwnVariables prefix before (names ∷ more) = (is_variable (variable_of pref
     × (any_has_variable prefix before names ≡ false)
     × HaveOwnVariables prefix (before ++ names ∷ []) more
 
--- An option as words give it: its names, its kind, whether its variable holds all values, and its occurrences.
+-- An option as words give it: its names, its kind, whether its variable holds all values, and its
+-- occurrences.
 pub record Given : Type 0 where
   pub names : Names
   pub kind : HasArg
   pub all : Bool
   pub found : List Found
 
--- whether the variable of an entry's option holds all values: it may come any number of times, and not only its last
--- value counts
+-- whether the variable of an entry's option holds all values: it may come any number of times, and
+-- not only its last value counts
 abbrev pub holds_all : Mark → Occur → Bool
 holds_all Last occurrence = false
 holds_all mark occurrence = is_multi occurrence
@@ -149,7 +151,8 @@ once = record { position = 0; value = None } ∷ []
 -- what is found of an option where nothing is given but this one, once and without a value
 abbrev pub found_alone : Entry → Entry → List Found
 found_alone entry alone =
-    if bytes_eq (main_name entry.signature.names) (main_name alone.signature.names) then once else []
+    if bytes_eq (main_name entry.signature.names)
+    (main_name alone.signature.names) then once else []
 
 -- the options of a table where nothing else is given
 abbrev pub given_alone : List Entry → Entry → List Given
@@ -167,10 +170,11 @@ texts_found founds = map (λ value. unwrap_or value []) (each_value founds)
 
 -- all values, as an array or as words to read once more
 abbrev pub all_values : Bool → List Found → Value
-all_values arrays founds = if arrays then many (texts_found founds) else one (quoted_words (texts_found founds))
+all_values arrays founds =
+    if arrays then many (texts_found founds) else one (quoted_words (texts_found founds))
 
--- what a variable holds: how often the option came where it takes no argument, all values, or the last value, if
--- there is one
+-- what a variable holds: how often the option came where it takes no argument, all values, or the
+-- last value, if there is one
 abbrev pub held_value : Bool → HasArg → Bool → List Found → Option Value
 held_value arrays No all founds = Some (one (decimal (length founds)))
 held_value arrays kind true founds = Some (all_values arrays founds)
@@ -180,8 +184,8 @@ held_value arrays kind false founds = option_map one (last_or None (texts_found 
 abbrev pub own_value : Bool → Given → Option Value
 own_value arrays option = held_value arrays option.kind option.all option.found
 
--- a shell where each option's variable has its value, or none, all other variables are as they were, and
--- the words are the free words
+-- a shell where each option's variable has its value, or none, all other variables are as they
+-- were, and the words are the free words
 abbrev pub with_options : Text → Bool → List Given → List Text → Shell → Shell
 with_options prefix arrays options free shell = record (fold
     (λ held option. with_variable held (variable_of prefix option.names) (own_value arrays option))
@@ -207,7 +211,8 @@ line_code words = codes "\\set -- " ++ (quoted_words words ++ codes "\n")
 
 -- the text for options and free words
 abbrev pub variables_code : Text → Bool → List Given → List Text → Text
-variables_code prefix arrays options free = flat_map (option_code prefix arrays) options ++ line_code free
+variables_code prefix arrays options free =
+    flat_map (option_code prefix arrays) options ++ line_code free
 
 -- ---- what a shell makes of the text, and of its bytes
 
@@ -225,16 +230,19 @@ AreTextValues kind true founds = AreTexts (texts_found founds)
 AreTextValues kind false founds = MatchOption (last_or None (texts_found founds)) ⊤ IsUtf8
 
 abbrev pub HoldTexts : List Given → Type 0
-HoldTexts options = AllByRecursion (λ option. AreTextValues option.kind option.all option.found) options
+HoldTexts options =
+    AllByRecursion (λ option. AreTextValues option.kind option.all option.found) options
 
--- A shell that runs the command holds these words; and one that runs its bytes holds the bytes of the words.
+-- A shell that runs the command holds these words; and one that runs its bytes holds the bytes of
+-- the words.
 pub record SetsWords (words : List Text) : Type 0 where
   pub shell : (before : Shell) → Runs before (line_code words) (record before { words = words })
-  pub bytes : (before : Shell) → Runs before (bytes_of (line_code words)) (record before { words = map bytes_of words })
+  pub bytes : (before : Shell)
+      → Runs before (bytes_of (line_code words)) (record before { words = map bytes_of words })
 
--- A shell that runs the text for options and free words holds these, each option in a variable of its
--- own, and the words of a text of values are these values. Where the values are UTF-8, a shell that runs
--- the bytes of the text holds the bytes of all.
+-- A shell that runs the text for options and free words holds these, each option in a variable of
+-- its own, and the words of a text of values are these values. Where the values are UTF-8, a shell
+-- that runs the bytes of the text holds the bytes of all.
 pub record SetsVariables (prefix : Text) (arrays : Bool) (options : List Given) (free : List Text)
     : Type 0 where
   pub own : HaveOwnVariables prefix [] (map (λ option. option.names) options)
@@ -254,8 +262,8 @@ CodeSetsVariables = (prefix : Text) (arrays : Bool) (options : List Given) (free
 
 -- ---- faults
 
--- a fault of variables: arrays are asked for without them, or that of the prefix, or of a name in the line with this
--- number
+-- a fault of variables: arrays are asked for without them, or that of the prefix, or of a name in
+-- the line with this number
 pub data VariableFault : Type 0 where
   arrays_only : VariableFault
   no_prefix : Text → VariableFault
@@ -270,7 +278,8 @@ is_prefix prefix = is_empty prefix || is_variable prefix
 abbrev pub name_fault : Text → List Names → Names → ℕ → Option VariableFault
 name_fault prefix before names number =
     if is_variable (variable_of prefix names) then
-    (if any_has_variable prefix before names then Some (variable_twice number (main_name names)) else None)
+    (if any_has_variable prefix before names then Some
+    (variable_twice number (main_name names)) else None)
     else Some (no_variable number (main_name names))
 
 -- the first fault of names after others, where the lines of all are these

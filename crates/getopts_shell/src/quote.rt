@@ -11,8 +11,8 @@ ghost use Rattle.getopts_shell.specs.Variables.{line_code};
 
 use std::alloc::AllocError;
 
-/// A shell makes of words in quotes the same words; also where they are words of any bytes, read as texts and written
-/// as bytes. No other words are written alike. A law to cite, which does nothing.
+/// A shell makes of words in quotes the same words; also where they are words of any bytes, read as
+/// texts and written as bytes. No other words are written alike. A law to cite, which does nothing.
 pub fn words_come_back()
     ensures same { (words : List Text) → shell_words (quoted_words words) ≡ Some words }
     ensures bytes { (words : List (List ℕ)) → AllByRecursion AreBytes words

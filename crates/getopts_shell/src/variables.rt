@@ -1,7 +1,8 @@
 //! Options as variables of a script: the code that sets them, and why a table has none.
 
-ghost use Rattle.std.specs.Prelude.{◌≡◌, ◌++◌, [], codes, length, map, IfOk, OnOk};
-ghost use Rattle.std.specs.Prelude.{false, not, slice_get, decimal, slice_index, get_or, None, Some, MatchOption, true, ⊤};
+ghost use Rattle.std.specs.Prelude.{◌≡◌, ◌++◌, [], codes, length, map, IfOk, OnOk, false, not};
+ghost use Rattle.std.specs.Prelude.{slice_get, decimal, slice_index, get_or, None, Some};
+ghost use Rattle.std.specs.Prelude.{MatchOption, true, ⊤};
 ghost use Rattle.std.specs.Char.{is_ascii_digit};
 ghost use Rattle.std.specs.Option.{option_map, option_map_or};
 ghost use Rattle.std.specs.List.{flat_map, last_or, list_all, list_any};
@@ -16,12 +17,11 @@ ghost use Rattle.getopts_shell.specs.Completion.{is_multi};
 ghost use Rattle.getopts_shell.specs.Quote.{quoted, quoted_words};
 ghost use Rattle.getopts_shell.specs.Variables.{AreTextValues, CodeSetsVariables, HoldTexts};
 ghost use Rattle.getopts_shell.specs.Variables.{all_values, found_alone, founds_of, given_alone};
-ghost use Rattle.getopts_shell.specs.Variables.{given_as, given_from};
-ghost use Rattle.getopts_shell.specs.Variables.{held_value, holds_all, is_prefix, is_variable};
-ghost use Rattle.getopts_shell.specs.Variables.{is_variable_byte, option_code, option_lines};
-ghost use Rattle.getopts_shell.specs.Variables.{prefix_fault, texts_found, value_line, variable};
-ghost use Rattle.getopts_shell.specs.Variables.{variable_byte, variable_of, variables_code};
-ghost use Rattle.getopts_shell.specs.Variables.{many, one};
+ghost use Rattle.getopts_shell.specs.Variables.{given_as, given_from, held_value, holds_all};
+ghost use Rattle.getopts_shell.specs.Variables.{is_prefix, is_variable, is_variable_byte};
+ghost use Rattle.getopts_shell.specs.Variables.{option_code, option_lines, prefix_fault};
+ghost use Rattle.getopts_shell.specs.Variables.{texts_found, value_line, variable, variable_byte};
+ghost use Rattle.getopts_shell.specs.Variables.{variable_of, variables_code, many, one};
 
 use crate::quote::{push_line, push_parting, push_quoted, push_replaced};
 use crate::row::{Mark, Row};
@@ -56,7 +56,8 @@ pub(crate) enum VariableError<'t> {
     NoPrefix(&'t str),
     /// The option in the line with this number makes no variable. Holds its main name.
     NoVariable(usize, &'t str),
-    /// The option in the line with this number makes the variable of one before it. Holds its main name.
+    /// The option in the line with this number makes the variable of one before it. Holds its main
+    /// name.
     VariableTwice(usize, &'t str),
 }
 
@@ -75,7 +76,8 @@ pub(crate) fn variables_code(
     ensures text { IfOk result (λ text. string_bytes text
         ≡ variables_code variables.entry.prefix.now variables.entry.arrays
         (given_from 0 (entries_of rows.now) matches.now.groups) matches.now.free) }
-    ensures values { OnOk result (HoldTexts (given_from 0 (entries_of rows.now) matches.now.groups)) }
+    ensures values { OnOk result (HoldTexts
+        (given_from 0 (entries_of rows.now) matches.now.groups)) }
     ensures free { OnOk result (AreTexts matches.now.free) }
 {
     let mut text = String::new(alloc);
@@ -141,30 +143,10 @@ fn push_option(
     text.push_str("\\unset -v ")?;
     push_variable(text, variables.prefix, name)?;
     text.push('\n')?;
-    push_setting(alloc, text, variables, row, given)
-}
-
-/// Adds the command that sets the variable of an option, if it has a value.
-fn push_setting(
-    alloc: Global,
-    text: &mut String,
-    variables: Variables<'_>,
-    row: Row<'_>,
-    given: Came<'_>,
-) -> Result<(), AllocError>
-    ensures text { OnOk result (string_bytes text.new ≡ string_bytes text.old
-        ++ value_line
-        (variable_of variables.entry.prefix.now (group_of_row row.entry).signature.names)
-        (held_value variables.entry.arrays row.entry.kind
-        (holds_all row.entry.mark row.entry.occurrence) (founds_of given.entry))) }
-    ensures values { OnOk result (AreTextValues row.entry.kind
-        (holds_all row.entry.mark row.entry.occurrence) (founds_of given.entry)) }
-{
-    let name = main_name(row);
     match (row.kind, row.mark, row.occurrence) {
         (HasArg::No, _, _) => push_count(alloc, text, variables.prefix, name, count(given)),
         (_, Mark::Last, _) => push_last(text, variables.prefix, name, given),
-        (_, _, Occur::Multi) => push_values(alloc, text, variables, name, given),
+        (_, _, Occur::Multi) => push_all(alloc, text, variables, name, given),
         _ => push_last(text, variables.prefix, name, given),
     }
 }
@@ -195,12 +177,15 @@ fn push_count(
     push_value(text, prefix, name, count.as_str())
 }
 
-/// Adds the command that sets a variable to the value of an option's last occurrence, if it has one.
+/// Adds the command that sets a variable to the value of an option's last occurrence, if it has
+/// one.
+#[tactic(auto, using(crate::proofs::Assignments::last_found))]
 fn push_last(text: &mut String, prefix: &str, name: &str, given: Came<'_>) -> Result<(), AllocError>
     ensures text { OnOk result (string_bytes text.new ≡ string_bytes text.old
         ++ value_line (variable prefix.now name.now)
         (option_map one (last_or None (texts_found (founds_of given.entry))))) }
-    ensures values { OnOk result (MatchOption (last_or None (texts_found (founds_of given.entry))) ⊤ IsUtf8) }
+    ensures values { OnOk result (MatchOption
+        (last_or None (texts_found (founds_of given.entry))) ⊤ IsUtf8) }
 {
     let count = count(given);
     if count == 0 {
@@ -220,8 +205,10 @@ fn push_value(text: &mut String, prefix: &str, name: &str, value: &str) -> Resul
     text.push('\n')
 }
 
-/// Adds the command that sets a variable to all values of an option, as an array or as words in quotes.
-fn push_values(
+/// Adds the command that sets a variable to all values of an option, as words in quotes or as an
+/// array. `${NAME+}` is no word: the Korn shell takes a first word such as `typeset` for a
+/// declaration, and `()` for no array.
+fn push_all(
     alloc: Global,
     text: &mut String,
     variables: Variables<'_>,
@@ -233,49 +220,16 @@ fn push_values(
         (Some (all_values variables.entry.arrays (founds_of given.entry)))) }
     ensures values { OnOk result (AreTexts (texts_found (founds_of given.entry))) }
 {
-    if variables.arrays {
-        push_array(text, variables.prefix, name, given)
-    } else {
-        push_words(alloc, text, variables.prefix, name, given)
-    }
-}
-
-/// Adds the command that sets a variable to all values as words in quotes, which are quoted once more.
-fn push_words(
-    alloc: Global,
-    text: &mut String,
-    prefix: &str,
-    name: &str,
-    given: Came<'_>,
-) -> Result<(), AllocError>
-    ensures text { OnOk result (string_bytes text.new ≡ string_bytes text.old
-        ++ value_line (variable prefix.now name.now)
-        (Some (one (quoted_words (texts_found (founds_of given.entry)))))) }
-    ensures values { OnOk result (AreTexts (texts_found (founds_of given.entry))) }
-{
     let mut words = String::new(alloc);
     push_texts(&mut words, given)?;
-    push_value(text, prefix, name, words.as_str())
-}
-
-/// Adds the command that sets a variable to all values as an array. `${NAME+}` is no word: the Korn shell takes a first
-/// word such as `typeset` for a declaration, and `()` for no array.
-fn push_array(
-    text: &mut String,
-    prefix: &str,
-    name: &str,
-    given: Came<'_>,
-) -> Result<(), AllocError>
-    ensures text { OnOk result (string_bytes text.new ≡ string_bytes text.old
-        ++ value_line (variable prefix.now name.now)
-        (Some (many (texts_found (founds_of given.entry))))) }
-    ensures values { OnOk result (AreTexts (texts_found (founds_of given.entry))) }
-{
-    push_variable(text, prefix, name)?;
+    if !variables.arrays {
+        return push_value(text, variables.prefix, name, words.as_str());
+    }
+    push_variable(text, variables.prefix, name)?;
     text.push_str("=(${")?;
-    push_variable(text, prefix, name)?;
+    push_variable(text, variables.prefix, name)?;
     text.push_str("+} ")?;
-    push_texts(text, given)?;
+    text.push_str(words.as_str())?;
     text.push_str(")\n")
 }
 
@@ -312,13 +266,14 @@ fn count(given: Came<'_>) -> usize
 }
 
 /// The value of one of the occurrences, or the empty text where it has none.
+#[tactic(auto, using(crate::proofs::Assignments::text_of))]
 fn text_at<'m>(given: Came<'m>, nth: usize) -> &'m str
     ensures { result.now ≡ get_or (texts_found (founds_of given.entry)) nth [] }
 {
     match given {
         Came::Held(found) => match found.get(nth) {
-            Some((_, value)) => value.unwrap_or(""),
-            None => "",
+            Some((_, Some(value))) => value,
+            _ => "",
         },
         _ => "",
     }

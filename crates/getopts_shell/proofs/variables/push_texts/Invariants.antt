@@ -7,5 +7,6 @@ use Rattle.getopts_shell.proofs.variables.push_texts.Given as goal
 -- the values so far stand in the text
 abbrev pub invariant-loop-nth : goal.invariant-loop-nth
 invariant-loop-nth l =
-    (string_bytes l.text ≡ string_bytes l.initial.text ++ quoted_words (take l.nth (texts_found (founds_of l.given))))
+    (string_bytes l.text
+    ≡ string_bytes l.initial.text ++ quoted_words (take l.nth (texts_found (founds_of l.given))))
     × AreTexts (take l.nth (texts_found (founds_of l.given)))
