@@ -36,13 +36,10 @@ abbrev pub is_long_byte : ℕ → Bool
 is_long_byte byte = is_ascii_alphanumeric byte || byte == 45 || byte == 95 || byte == 46 || byte == 43
     || byte == 58 || nat_lt 127 byte
 
--- whether a text ends in a byte
-abbrev pub ends_in : ℕ → Text → Bool
-ends_in byte text = not (is_empty text) && slice_index text (length text - 1) == byte
-
 -- whether a text may be a long name: it doesn't begin with `-` nor end in `:`, and its bytes may stand there
 abbrev pub is_long_name : Text → Bool
-is_long_name text = not (begins_with_dash text) && (list_all is_long_byte text && not (ends_in 58 text))
+is_long_name text = not (begins_with_dash text)
+    && (list_all is_long_byte text && not (ends_with ◌==◌ text (codes ":")))
 
 -- a byte that a hint may hold: no space, no tab, no `[` and no `]`
 abbrev pub is_hint_byte : ℕ → Bool
@@ -273,8 +270,8 @@ reasons item =
     ∷ (not (is_name (drop 1 short)), LETTER.now)
     ∷ (not (is_empty long) && nat_lt (length long) 4, LONG.now)
     ∷ (not (list_all is_long_byte long), BYTES.now)
-    ∷ (ends_in 58 long, COLON.now)
-    ∷ (ends_in 33 item, MARK.now)
+    ∷ (ends_with ◌==◌ long (codes ":"), COLON.now)
+    ∷ (ends_with ◌==◌ item (codes "!"), MARK.now)
     ∷ []
 
 -- why a text is no option: the first reason whose claim is so, or else BRACKETS

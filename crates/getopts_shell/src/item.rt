@@ -11,7 +11,7 @@ ghost use Rattle.getopts.specs.declared.groups.HasArg.{HasArg as Kind};
 ghost use Rattle.getopts.specs.declared.groups.Occur.{Occur as Occurrence};
 ghost use Rattle.getopts_shell.specs.Held.{entry_of_row};
 ghost use Rattle.getopts_shell.specs.Table.{is_name, is_name_byte, is_hint, is_hint_byte, AreNames};
-ghost use Rattle.getopts_shell.specs.Table.{is_long_name, is_long_byte, ends_in, MayBeNames};
+ghost use Rattle.getopts_shell.specs.Table.{is_long_name, is_long_byte, MayBeNames};
 ghost use Rattle.getopts_shell.specs.Table.{IsArgument, HasParts, IsBracketed, IsItem, end_means, fits};
 ghost use Rattle.getopts_shell.specs.Table.{after, before, dashed, holds, names_in, reason_of};
 ghost use Rattle.getopts_shell.specs.declared.row.Mark.{Mark as Behind};
@@ -141,10 +141,7 @@ fn lawful_names<'t>(short: &'t str, long: &'t str) -> Option<(&'t str, &'t str)>
 fn is_name(bytes: &[u8]) -> bool
     ensures { result ≡ is_name bytes.now }
 {
-    match bytes {
-        [b'-', ..] => false,
-        _ => are_name_bytes(bytes),
-    }
+    !bytes.starts_with(b"-") && are_name_bytes(bytes)
 }
 
 /// Whether bytes may stand in a short name.
@@ -169,10 +166,7 @@ fn is_name_byte(byte: u8) -> bool
 fn is_long_name(bytes: &[u8]) -> bool
     ensures { result ≡ is_long_name bytes.now }
 {
-    match bytes {
-        [b'-', ..] => false,
-        _ => are_long_bytes(bytes) && !ends_in(bytes, b':'),
-    }
+    !bytes.starts_with(b"-") && are_long_bytes(bytes) && !bytes.ends_with(b":")
 }
 
 /// Whether bytes may stand in a long name.
@@ -180,13 +174,6 @@ fn are_long_bytes(bytes: &[u8]) -> bool
     ensures { result ≡ list_all is_long_byte bytes.now }
 {
     bytes.iter().all(|byte| is_long_byte(*byte))
-}
-
-/// Whether bytes end in a byte.
-fn ends_in(bytes: &[u8], byte: u8) -> bool
-    ensures { result ≡ ends_in byte bytes.now }
-{
-    !bytes.is_empty() && bytes[bytes.len() - 1] == byte
 }
 
 /// Whether a byte may stand in a long name.
@@ -219,25 +206,18 @@ fn hinted(kind: HasArg, hint: &str) -> Option<(HasArg, &str)>
     ensures { MatchOption result (is_hint hint.now ≡ false)
         (λ found. (is_hint hint.now ≡ true) × (found.0 ≡ kind) × (found.1.now ≡ hint.now)) }
 {
-    if is_hint(hint) {
+    if is_hint(hint.as_bytes()) {
         Some((kind, hint))
     } else {
         None
     }
 }
 
-/// Whether a text may be a hint.
-fn is_hint(text: &str) -> bool
-    ensures { result ≡ is_hint text.now }
+/// Whether bytes may be a hint.
+fn is_hint(bytes: &[u8]) -> bool
+    ensures { result ≡ is_hint bytes.now }
 {
-    !text.is_empty() && are_hint_bytes(text.as_bytes()) && !ends_in_dots(text)
-}
-
-/// Whether a text ends in two dots.
-fn ends_in_dots(text: &str) -> bool
-    ensures { result ≡ ends_with ◌==◌ text.now (codes "..") }
-{
-    text.ends_with("..")
+    !bytes.is_empty() && are_hint_bytes(bytes) && !bytes.ends_with(b"..")
 }
 
 /// Whether bytes may stand in a hint.
@@ -261,7 +241,7 @@ const APART: &str = "names are written as -s|--long, without a blank or a comma"
 /// Where a space stands after the first `]`.
 const GAP: &str = "a tab or two spaces have to come before the description";
 /// Where it has two spaces else.
-const SPACE: &str = "an argument holds no space; a tab or two come before the description";
+const SPACE: &str = "an argument holds no space, and a tab or two spaces come before a description";
 /// Where its names hold `=`.
 const EQUALS: &str = "an argument comes after a space, as in '--long ARG'";
 /// Where its names hold `[`, or no other reason is so.
@@ -289,13 +269,14 @@ pub(crate) fn reason_of(item: &str) -> &'static str
     ensures { result.now ≡ reason_of item.now }
 {
     let item = item.as_bytes();
-    let argument = after(item, b' ');
+    let (_, argument) = cut_at(item, b' ');
+    let (_, end) = cut_at(item, b']');
     let names = names_in(item);
     let (short, long) = dashed(names);
     let reasons = [
         (is_open(item), OPEN),
         (begins_name(argument), APART),
-        (after(item, b']').contains(&b' '), GAP),
+        (end.contains(&b' '), GAP),
         (argument.contains(&b' '), SPACE),
         (names.contains(&b'='), EQUALS),
         (names.contains(&b'['), BRACKETS),
@@ -307,8 +288,8 @@ pub(crate) fn reason_of(item: &str) -> &'static str
         (!is_name(without_first(short)), LETTER),
         (is_too_short(long), LONG),
         (!are_long_bytes(long), BYTES),
-        (ends_in(long, b':'), COLON),
-        (ends_in(item, b'!'), MARK),
+        (long.ends_with(b":"), COLON),
+        (item.ends_with(b"!"), MARK),
     ];
     first_so(&reasons, BRACKETS)
 }
@@ -370,7 +351,7 @@ fn names_in(item: &[u8]) -> &[u8]
     } else {
         item
     };
-    before(before(opened, b']'), b' ')
+    cut_at(cut_at(opened, b']').0, b' ').0
 }
 
 /// The two names that names are, right or wrong, each with its dashes.
@@ -381,22 +362,17 @@ fn dashed(names: &[u8]) -> (&[u8], &[u8])
     if names.starts_with(b"--") {
         (&[], names)
     } else {
-        (before(names, b'|'), after(names, b'|'))
+        cut_at(names, b'|')
     }
 }
 
-/// What stands before the first such byte, or all.
-fn before(bytes: &[u8], byte: u8) -> &[u8]
-    ensures { result.now ≡ before byte bytes.now }
+/// What stands before the first such byte, or all, and what stands after it, or nothing.
+fn cut_at(bytes: &[u8], byte: u8) -> (&[u8], &[u8])
+    ensures before { result.0.now ≡ before byte bytes.now }
+    ensures after { result.1.now ≡ after byte bytes.now }
 {
-    &bytes[..place_of(bytes, byte)]
-}
-
-/// What stands after the first such byte, or nothing.
-fn after(bytes: &[u8], byte: u8) -> &[u8]
-    ensures { result.now ≡ after byte bytes.now }
-{
-    without_first(&bytes[place_of(bytes, byte)..])
+    let place = place_of(bytes, byte);
+    (&bytes[..place], without_first(&bytes[place..]))
 }
 
 /// The place of the first such byte, or the end.

@@ -16,7 +16,7 @@ same claim other reason reasons others is rest = cc
 pub returns : goal.returns
 returns c =
     let value = c.as_bytes-item.ensures.value in
-    let argument = rw value at c.after-argument.ensures in
+    let argument = rw value at c.cut_at.ensures.after in
     let names = rw value at c.names_in-names.ensures in
     let short = rw names at c.dashed.ensures.short in
     let long = rw names at c.dashed.ensures.long in
@@ -25,7 +25,7 @@ returns c =
     (find (λ (reason : Bool × Text). reason.0) reasons) BRACKETS.now)
     (same _ _ _ _ _ (rw value at c.is_open.ensures)
     (same _ _ _ _ _ (rw argument at c.begins_name.ensures)
-    (same _ _ _ _ _ (rw (c.after.ensures, value) at c.contains.ensures.value)
+    (same _ _ _ _ _ (rw (c.cut_at-2.ensures.after, value) at c.contains.ensures.value)
     (same _ _ _ _ _ (rw argument at c.contains-2.ensures.value)
     (same _ _ _ _ _ (rw names at c.contains-3.ensures.value)
     (same _ _ _ _ _ (rw names at c.contains-4.ensures.value)
@@ -37,5 +37,5 @@ returns c =
     (same _ _ _ _ _ (ap not (rw (c.without_first.ensures, short) at c.is_name.ensures))
     (same _ _ _ _ _ (rw long at c.is_too_short.ensures)
     (same _ _ _ _ _ (ap not (rw long at c.are_long_bytes.ensures))
-    (same _ _ _ _ _ (rw long at c.ends_in.ensures)
-    (same _ _ _ [] [] (rw value at c.ends_in-2.ensures) refl))))))))))))))))
+    (same _ _ _ _ _ (rw long at c.ends_with.ensures.value)
+    (same _ _ _ [] [] (rw value at c.ends_with-2.ensures.value) refl))))))))))))))))
