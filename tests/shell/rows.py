@@ -113,8 +113,8 @@ ORDER = "the short name comes first, then one long one"
 COLON = "a long name doesn't end in ':'"
 EQUALS = "an argument comes after a space, as in '--long ARG'"
 APART = "names are written as -s|--long, without a blank or a comma"
-ONE = "an argument holds no space"
-SPACES = "a tab or two spaces have to come before the description"
+SPACE = "an argument holds no space, and a tab or two spaces come before a description"
+GAP = "a tab or two spaces have to come before the description"
 
 # The program's own options, and how it is called.
 OWN = [
@@ -272,20 +272,20 @@ REFUSED = [
     ("--out=FILE", 1, "--out=FILE", EQUALS), ("[-o|--out=FILE]  to FILE", 1, "[-o|--out=FILE]", EQUALS),
     ("--[no-]color", 1, "--[no-]color", BRACKETS), ("-a | --all  all", 1, "-a | --all", APART),
     ("-a, --all  all", 1, "-a, --all", APART), ("-a|--all: d", 1, "-a|--all: d", COLON),
-    ("[-a FOO BAR]  x", 1, "[-a FOO BAR]", ONE), ("-a [FOO BAR]  x", 1, "-a [FOO BAR]", ONE),
+    ("[-a FOO BAR]  x", 1, "[-a FOO BAR]", SPACE), ("-a [FOO BAR]  x", 1, "-a [FOO BAR]", SPACE),
     ("-é", 1, "-é", SHORT), ("[-a", 1, "[-a", OPEN), ("-a]", 1, "-a]", BRACKETS), ("[-a].", 1, "[-a].", BRACKETS),
     ("[-a]....", 1, "[-a]....", BRACKETS), ("-a..", 1, "-a..", SHORT), ("[[-a]]", 1, "[[-a]]", BRACKETS),
-    ("-a []", 1, "-a []", BRACKETS), ("-a [b", 1, "-a [b", OPEN), ("-a b c", 1, "-a b c", SPACES),
+    ("-a []", 1, "-a []", BRACKETS), ("-a [b", 1, "-a [b", OPEN), ("-a b c", 1, "-a b c", SPACE),
     ("-v\n-\n-v\n", 2, "-", DASHES), ("-\x7f", 1, "-\x7f", LETTER), ("-;", 1, "-;", LETTER), ("-!", 1, "-!", LETTER),
-    ("[-x|--exclude PATTERN].. leave PATTERN out", 1, "[-x|--exclude PATTERN].. leave PATTERN out", SPACES),
-    ("[-v] verbose", 1, "[-v] verbose", SPACES), ("[-v] say more", 1, "[-v] say more", SPACES), ("-s X..", 1, "-s X..", BRACKETS),
+    ("[-x|--exclude PATTERN].. leave PATTERN out", 1, "[-x|--exclude PATTERN].. leave PATTERN out", GAP),
+    ("[-v] verbose", 1, "[-v] verbose", GAP), ("[-v] say more", 1, "[-v] say more", GAP), ("-s X..", 1, "-s X..", BRACKETS),
     ("--semi;colon", 1, "--semi;colon", BYTES), ("-=", 1, "-=", EQUALS),
     ("[-x ARG]!", 1, "[-x ARG]!", MARK), ("[-x [ARG]]!", 1, "[-x [ARG]]!", MARK), ("-x [ARG]!", 1, "-x [ARG]!", MARK),
     ("[-v]..!", 1, "[-v]..!", MARK), ("[-v]!!", 1, "[-v]!!", MARK), ("[-v]!..", 1, "[-v]!..", BRACKETS),
     ("[-v]**", 1, "[-v]**", BRACKETS), ("[-v]*..", 1, "[-v]*..", BRACKETS), ("-v*", 1, "-v*", SHORT),
     ("-v!", 1, "-v!", SHORT), ("--version!", 1, "--version!", BYTES), ("[-v!]", 1, "[-v!]", SHORT),
     ("[-vw]!", 1, "[-vw]!", SHORT), ("[v]!", 1, "[v]!", DASHES), ("]!", 1, "]!", DASHES), ("[]!", 1, "[]!", DASHES),
-    ("[-v]! say more!", 1, "[-v]! say more!", SPACES), ("[-v!", 1, "[-v!", OPEN),
+    ("[-v]! say more!", 1, "[-v]! say more!", GAP), ("[-v!", 1, "[-v!", OPEN),
 ]
 
 # Large tables and long lines, near the longest word that Linux hands on.

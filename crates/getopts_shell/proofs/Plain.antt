@@ -2,13 +2,13 @@
 use Rattle.std.proofs.Common.{◌≡◌, ℕ, Bool, true, false, cond, eqb, List, [], ◌∷◌, Option, Some, None}
 use Rattle.std.proofs.Common.{refl, sym, subst, arith}
 use Rattle.std.specs.Prelude.{◌&&◌, not}
-use Rattle.std.specs.List.{AllByRecursion, AllZip, filter_map, list_all}
+use Rattle.std.specs.List.{AllByRecursion, AllZip, ends_with, filter_map, list_all}
 use Rattle.getopts.specs.Names.{Text, Names, is_empty, main_name}
 use Rattle.getopts.specs.Reading.{begins_with_dash, holds_equals}
 use Rattle.getopts_shell.specs.Held.{ArePlainlyNamed}
 use Rattle.getopts_shell.specs.Program.{read_groups}
 use Rattle.getopts_shell.specs.Table.{is_long_byte, is_long_name, is_name, is_name_byte, Declares, DeclareOptions}
-use Rattle.getopts_shell.specs.Table.{Entry, MayBeNames, ends_in, fits}
+use Rattle.getopts_shell.specs.Table.{Entry, MayBeNames, fits}
 use Rattle.std.proofs.lemmas.Bool.{and_parts, or_from}
 use Rattle.std.proofs.lemmas.Bool.Decides.{nat_tests}
 
@@ -34,9 +34,9 @@ plain_main names short long = by_test (is_empty names.long)
     by_test true = plain_bytes is_name_byte plain_byte names.short
         (and_parts (not (begins_with_dash names.short)) (list_all is_name_byte names.short) short).1
     by_test false = plain_bytes is_long_byte plain_long_byte names.long
-        (and_parts (list_all is_long_byte names.long) (not (ends_in 58 names.long))
+        (and_parts (list_all is_long_byte names.long) (not (ends_with eqb names.long (58 ∷ [])))
         (and_parts (not (begins_with_dash names.long))
-        (list_all is_long_byte names.long && not (ends_in 58 names.long)) long).1).0
+        (list_all is_long_byte names.long && not (ends_with eqb names.long (58 ∷ []))) long).1).0
 
 -- the names of an entry may stand in a table, and its kind fits the mark
 pub record MayStand (entry : Entry) : Type 0 where
