@@ -1,21 +1,20 @@
 //! What completes a script's words: the code for bash, zsh and fish, and what it is answered.
 
 ghost use Rattle.std.specs.Prelude.{◌≡◌, ◌++◌, ◌∷◌, [], Option, Some, IfOk, OnOk, MatchOption, codes, map};
-ghost use Rattle.std.specs.Prelude.{if◌then◌else◌, nat_eq};
+ghost use Rattle.std.specs.Prelude.{◌==◌, ◌-◌, List, false, if◌then◌else◌, length, nat_eq};
 ghost use Rattle.getopts.specs.Wrap.{parting};
 ghost use Rattle.getopts_shell.specs.Quote.{quoted};
 ghost use Rattle.std.specs.List.{flat_map, starts_with};
-ghost use Rattle.std.specs.Option.{option_map};
+ghost use Rattle.std.specs.Option.{option_map, option_map_or};
 ghost use Rattle.std.specs.String.{string_bytes};
 ghost use Rattle.getopts.specs.Accessors.{is_present};
 ghost use Rattle.getopts.specs.Fail.{Fault, fault_of};
-ghost use Rattle.getopts.specs.Matches.{Matched};
+ghost use Rattle.getopts.specs.Matches.{MatchedGroup};
 ghost use Rattle.getopts.specs.Names.{Names, Text, main_name, texts};
 ghost use Rattle.getopts.specs.Parse.{HasReading};
 ghost use Rattle.getopts.specs.Reading.{begins_with_dash, stop_word};
 ghost use Rattle.getopts_shell.specs.Completion.{IsOffer, MayGoOn, bash_stub, fish_stub};
-ghost use Rattle.getopts_shell.specs.Completion.{is_last_after_stop, is_multi};
-ghost use Rattle.getopts_shell.specs.Completion.{lines_if_it_may_come, may_come, name_line};
+ghost use Rattle.getopts_shell.specs.Completion.{is_multi, may_come, name_line};
 ghost use Rattle.getopts_shell.specs.Completion.{name_mark, offer_call, option_lines};
 ghost use Rattle.getopts_shell.specs.Completion.{options_lines, stub, stub_of, stub_quoted};
 ghost use Rattle.getopts_shell.specs.Completion.{takes_argument, zsh_stub};
@@ -236,11 +235,11 @@ fn begins_with_dash(word: &str) -> bool
     matches!(word.as_bytes(), [b'-', ..])
 }
 
-/// The matches of words after which an option may come, if one may.
+/// The matches of words after which an option may come, if one may: a `--` after them is a stop.
 fn goes_on(alloc: Global, options: &Options, before: &[&str]) -> Result<Option<Matches>, AllocError>
     ensures { IfOk result (λ found. MatchOption found
-        ((matches : Matched) → ¬ (MayGoOn options.now (texts before.now) matches))
-        (MayGoOn options.now (texts before.now))) }
+        ((groups : List MatchedGroup) → ¬ (MayGoOn options.now (texts before.now) groups))
+        (λ matches. MayGoOn options.now (texts before.now) matches.groups)) }
 {
     let words = with_stop(alloc, before)?;
     let found = read_words(alloc, options, &words)?;
@@ -294,7 +293,8 @@ fn with_stop<'w>(alloc: Global, before: &[&'w str]) -> Result<Vec<&'w str>, Allo
 
 /// Whether one free word, the last, stands after a stop.
 fn is_last_after_stop(matches: &Matches) -> bool
-    ensures { result ≡ is_last_after_stop matches.now }
+    ensures { result ≡ option_map_or (λ start. length matches.now.free - start == 1)
+        matches.now.trailing_start false }
 {
     match matches.free_trailing_start() {
         Some(start) => matches.free.len().saturating_sub(start) == 1,
@@ -311,36 +311,20 @@ fn options_lines(
     rows: &[Row<'_>],
 ) -> Result<String, AllocError>
     ensures { IfOk result (λ text. string_bytes text
-        ≡ options_lines matches.now long_only word.now (groups_of rows.now)) }
+        ≡ options_lines matches.now.groups long_only word.now (groups_of rows.now)) }
 {
     let mut text = String::new(alloc);
     for row in rows {
-        push_row(&mut text, matches, long_only, word, row)?;
+        if may_come(matches, row) {
+            push_option(&mut text, long_only, word, row)?;
+        }
     }
     Ok(text)
 }
 
-/// Adds what is offered of an option, if it may come once more.
-fn push_row(
-    text: &mut String,
-    matches: &Matches,
-    long_only: bool,
-    word: &str,
-    row: &Row<'_>,
-) -> Result<(), AllocError>
-    ensures { OnOk result (string_bytes text.new ≡ string_bytes text.old
-        ++ lines_if_it_may_come matches.now long_only word.now (group_of_row row.now)) }
-{
-    if may_come(matches, row) {
-        push_option(text, long_only, word, row)
-    } else {
-        Ok(())
-    }
-}
-
 /// Whether an option may come once more.
 fn may_come(matches: &Matches, row: &Row<'_>) -> bool
-    ensures { result ≡ may_come matches.now (group_of_row row.now) }
+    ensures { result ≡ may_come matches.now.groups (group_of_row row.now) }
 {
     is_multi(row.occurrence) || !is_given(matches, main_name(*row))
 }
