@@ -1,7 +1,8 @@
 -- Completion: the code that a shell runs at a script's words, and what the program offers it there.
-use Rattle.std.specs.Prelude.{◌≡◌, ◌==◌, ◌&&◌, ◌||◌, not, ℕ, nat_eq, Bool, true, false, List, [], ◌∷◌, ◌++◌}
-use Rattle.std.specs.Prelude.{Option, Some, None, codes, decimal, if◌then◌else◌}
+use Rattle.std.specs.Prelude.{◌≡◌, ◌==◌, ◌&&◌, ◌||◌, not, ℕ, nat_eq, Bool, true, false, List, [], ◌++◌}
+use Rattle.std.specs.Prelude.{Option, Some, None, codes, if◌then◌else◌}
 use Rattle.std.specs.List.{filter, flat_map, starts_with}
+use Rattle.std.specs.Option.{option_map}
 use Rattle.std.specs.Str.{bytes_eq}
 use Rattle.getopts.specs.Accessors.{is_present}
 use Rattle.getopts.specs.Matches.{MatchedGroup, matches_of}
@@ -15,6 +16,8 @@ use Rattle.getopts.specs.declared.groups.HasArg.TheVariants.{No}
 use Rattle.getopts.specs.declared.groups.Occur.{Occur}
 use Rattle.getopts.specs.declared.groups.Occur.TheVariants.{Multi}
 use Rattle.getopts_shell.specs.declared.complete.TheConstants.{BASH, ZSH, FISH}
+use Rattle.getopts_shell.specs.Quote.{quoted_byte}
+use Rattle.getopts_shell.specs.Table.{is_long_name}
 
 -- ---- which options may come
 
@@ -80,47 +83,37 @@ pub data IsOffer (options : Declared) (before : List Text) (word : Text) : Text 
 -- a byte in quotes, as each of the three shells reads it: a quote and a backslash stand outside quotes,
 -- behind a backslash
 abbrev pub stub_byte : ℕ → Text
-stub_byte byte = if byte == 39 then codes "'\\''" else (if byte == 92 then codes "'\\\\'" else byte ∷ [])
+stub_byte byte = if byte == 92 then codes "'\\\\'" else quoted_byte byte
 
 -- a word in quotes, as each of the three shells reads it
 abbrev pub stub_quoted : Text → Text
 stub_quoted word = codes "'" ++ (flat_map stub_byte word ++ codes "'")
 
--- a script's name in names of functions: `_` and the number of each byte
-abbrev pub name_mark : Text → Text
-name_mark name = flat_map (λ byte. codes "_" ++ decimal byte) name
+-- In zsh the first line names the script, so that a file in `$fpath` completes its words. A name that couldn't be a long
+-- one, so might end the line, has no such line.
+abbrev pub first_line : Text → Text → Text
+first_line shell name = if bytes_eq shell (codes "zsh") && is_long_name name
+    then codes "#compdef " ++ (name ++ codes "\n") else []
 
--- the call that offers words for a script, in its style and its mode
-abbrev pub offer_call : Text → Bool → Bool → Text → Text → Text
-offer_call shell stop long_only name table =
-    codes "getopts_shell " ++ ((if stop then codes "--stop " else [])
-    ++ ((if long_only then codes "--long-only " else []) ++ (codes "--complete-words " ++ (shell
-    ++ (codes " " ++ (stub_quoted name ++ (codes " " ++ stub_quoted table)))))))
+-- the functions for all scripts in a shell, if there is completion in it
+abbrev pub functions : Text → Option Text
+functions shell =
+    if bytes_eq shell (codes "bash") then Some BASH.now
+    else (if bytes_eq shell (codes "zsh") then Some ZSH.now
+    else (if bytes_eq shell (codes "fish") then Some FISH.now else None))
 
--- in bash a function for all scripts, the function of this script, and that this completes its words
-unfoldable pub bash_stub : Text → Text → Text → Text
-bash_stub mark call name = BASH.now ++ (codes "_getopts_shell" ++ (mark ++ (codes "() { _getopts_shell_offer \"$2\" "
-    ++ (call ++ (codes "; }\ncomplete -F _getopts_shell" ++ (mark ++ (codes " -- " ++ (name ++ codes "\n"))))))))
+-- the program's own options for a style and a mode
+abbrev pub modes : Bool → Bool → Text
+modes stop long_only =
+    (if stop then codes " --stop" else []) ++ (if long_only then codes " --long-only" else [])
 
--- the same in zsh
-unfoldable pub zsh_stub : Text → Text → Text → Text
-zsh_stub mark call name = ZSH.now ++ (codes "_getopts_shell" ++ (mark ++ (codes "() { _getopts_shell_offer "
-    ++ (call ++ (codes "; }\ncompdef _getopts_shell" ++ (mark ++ (codes " " ++ (name ++ codes "\n"))))))))
-
--- the same in fish
-unfoldable pub fish_stub : Text → Text → Text → Text
-fish_stub mark call name = FISH.now ++ (codes "function _getopts_shell" ++ (mark ++ (codes "; _getopts_shell_offer "
-    ++ (call ++ (codes "; end\ncomplete -c " ++ (name ++ (codes " -f -a '(_getopts_shell" ++ (mark ++ codes ")'\n"))))))))
-
--- the code of a shell, if it is one of the three
-abbrev pub stub_of : Text → Text → Text → Text → Option Text
-stub_of shell mark call name =
-    if bytes_eq shell (codes "bash") then Some (bash_stub mark call name)
-    else (if bytes_eq shell (codes "zsh") then Some (zsh_stub mark call name)
-    else (if bytes_eq shell (codes "fish") then Some (fish_stub mark call name) else None))
+-- the call of such a function with a script's name, its table, its style and its mode
+abbrev pub stub_call : Bool → Bool → Text → Text → Text
+stub_call stop long_only name table = codes "_getopts_shell_complete " ++ (stub_quoted name
+    ++ (codes " " ++ (stub_quoted table ++ (modes stop long_only ++ codes "\n"))))
 
 -- the code that completes the words of a script with this name, style, mode and table, if there is one
 -- for the shell
 abbrev pub stub : Text → Bool → Bool → Text → Text → Option Text
-stub shell stop long_only name table =
-    stub_of shell (name_mark name) (offer_call shell stop long_only name table) (stub_quoted name)
+stub shell stop long_only name table = option_map
+    (λ text. first_line shell name ++ (text ++ stub_call stop long_only name table)) (functions shell)
