@@ -19,10 +19,10 @@ pub returns-in-Some : goal.returns-in-Some
 returns-in-Some c =
     IfOk-weaker c.options_lines.result _ _
     (λ text is. subst (λ (t : Text). IsOffer c.args.options.now (texts c.args.before.now) c.args.word.now t)
-    (sym (is ∙ ap (λ (mode : Bool). options_lines c.in-Some.matches mode c.args.word.now (groups_of c.args.rows.now)) (sym c.requires.mode)
-    ∙ ap (λ (groups : List Group). options_lines c.in-Some.matches c.args.options.now.long_only c.args.word.now groups)
+    (sym (is ∙ ap (λ (mode : Bool). options_lines c.in-Some.matches.groups mode c.args.word.now (groups_of c.args.rows.now)) (sym c.requires.mode)
+    ∙ ap (λ (groups : List Group). options_lines c.in-Some.matches.groups c.args.options.now.long_only c.args.word.now groups)
     (sym c.requires.rows)))
-    (offers_options c.in-Some.matches (sym c.begins_with_dash.ensures ∙ c.if-not-begins_with_dash.false)
+    (offers_options c.in-Some.matches.groups (sym c.begins_with_dash.ensures ∙ c.if-not-begins_with_dash.false)
     (rw c.in-Some.is at c.in_ok-matches.ensures)))
     c.options_lines.ensures
 
