@@ -5,18 +5,16 @@ use Rattle.std.specs.Prelude.{MatchOption, MatchResult, codes}
 use Rattle.std.specs.Bool.{MatchBool}
 use Rattle.std.specs.Option.{option_map_or}
 use Rattle.std.specs.List.{find}
-use Rattle.getopts.specs.Fail.{Fault}
 use Rattle.getopts.specs.Matches.{Matched}
 use Rattle.getopts.specs.Names.{Text}
 use Rattle.getopts.specs.Only.{IsTheOnly}
 use Rattle.getopts.specs.Results.{canonical_result, parse_result, read_result}
-use Rattle.getopts.specs.Usage.{IsUsageText}
-use Rattle.getopts_shell.specs.Completion.{IsOffer, stub}
+use Rattle.getopts_shell.specs.Completion.{stub}
 use Rattle.getopts_shell.specs.Program.{Answer, AnswersAlone, AnswersCounted, AnswersDeclared, AnswersFree}
 use Rattle.getopts_shell.specs.Program.{AnswersLine, AnswersOffer, AnswersOwn, AnswersRead, AnswersScript}
 use Rattle.getopts_shell.specs.Program.{AnswersTable, AnswersVariables, AnswersWords, Asked, IsAnswer}
-use Rattle.getopts_shell.specs.Program.{IsHelp, IsOneWord, IsStatus, OneAnswer, PrintsHelp, Script, TellsOptions}
-use Rattle.getopts_shell.specs.Program.{asked_by, asked_fault, asks_help, completion_answer, declared}
+use Rattle.getopts_shell.specs.Program.{IsHelp, IsStatus, OneAnswer, PrintsHelp, Script, TellsOptions}
+use Rattle.getopts_shell.specs.Program.{asked_by, asked_fault, asks_help, declared}
 use Rattle.getopts_shell.specs.Program.{done, faulty, has_completion, help_code, is_alone, is_given}
 use Rattle.getopts_shell.specs.Program.{last_word, misused, no_completion, own_options, read_groups}
 use Rattle.getopts_shell.specs.Program.{read_options, table_fault_line}

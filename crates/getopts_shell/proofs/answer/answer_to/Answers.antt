@@ -1,5 +1,5 @@
 use Rattle.std.proofs.lemmas.Result.{IfOk-weaker}
-use Rattle.getopts_shell.proofs.Chosen.{at_err, at_ok}
+use Rattle.getopts_shell.proofs.Chosen.{at_ok}
 use Rattle.getopts_shell.proofs.answer.answer_to.Goals as goal
 
 pub returns-in-Ok : goal.returns-in-Ok

@@ -1,4 +1,4 @@
-use Rattle.std.proofs.Common.{◌≡◌, ◌+◌, ℕ, Bool, List, true, false, ap, arith, drop, length, sym, ◌∙◌}
+use Rattle.std.proofs.Common.{◌+◌, ℕ, Bool, List, ap, arith, drop, length, sym, ◌∙◌}
 use Rattle.std.specs.Prelude.{◌&&◌}
 use Rattle.std.specs.Option.{is_none}
 use Rattle.getopts.specs.Matches.{MatchedGroup}

@@ -1,8 +1,7 @@
-use Rattle.std.proofs.Common.{◌≡◌, Some, ap, map, string_bytes, subst, sym, ◌∙◌}
-use Rattle.std.specs.Prelude.{List}
+use Rattle.std.proofs.Common.{Some, ap, map, string_bytes, subst, sym, ◌∙◌}
 use Rattle.std.proofs.lemmas.Result.{IfOk-weaker}
 use Rattle.getopts.specs.Names.{texts}
-use Rattle.getopts.specs.Options.{Declared, Group}
+use Rattle.getopts.specs.Options.{Declared}
 use Rattle.getopts_shell.specs.Held.{ArePlainlyNamed}
 use Rattle.getopts_shell.specs.Program.{done}
 use Rattle.getopts_shell.specs.Variables.{line_code}

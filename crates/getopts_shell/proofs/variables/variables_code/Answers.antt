@@ -1,4 +1,4 @@
-use Rattle.std.proofs.Common.{[], ◌∷◌, ap, append-nil, take, ◌∙◌}
+use Rattle.std.proofs.Common.{ap, append-nil, take, ◌∙◌}
 use Rattle.std.proofs.lemmas.List.Concat.{flat_map-append}
 use Rattle.getopts.proofs.Lists.{AllByRecursion-append}
 use Rattle.getopts.specs.Matches.{Matched}
