@@ -1,7 +1,7 @@
 -- The variables that are asked for, and the counts of matches.
-use Rattle.std.proofs.Common.{◌≡◌, ℕ, ◌+◌, ◌<◌, ◌≤◌, zero, suc, add-one, arith, Bool, true, false, cond, List, [], ◌∷◌}
-use Rattle.std.proofs.Common.{Option, Some, None, Ok, ap, drop, drop_of_length-le, get_or, length, map, refl, subst}
-use Rattle.std.proofs.Common.{sym, ◌∙◌}
+use Rattle.std.proofs.Common.{◌≡◌, ℕ, ◌+◌, ◌<◌, ◌≤◌, zero, suc, add-one, arith, Bool, true, false}
+use Rattle.std.proofs.Common.{cond, List, [], ◌∷◌, Option, Some, None, Ok, ap, drop}
+use Rattle.std.proofs.Common.{drop_of_length-le, get_or, length, map, refl, subst, sym, ◌∙◌}
 use Rattle.std.specs.Prelude.{if◌then◌else◌, ◌&&◌}
 use Rattle.std.specs.Option.{is_none, option_map_or}
 use Rattle.std.proofs.lemmas.Bool.{false≢true}
@@ -11,27 +11,31 @@ use Rattle.getopts.specs.Matches.{Matched, MatchedGroup, matched, matches_of}
 use Rattle.getopts.specs.Names.{Text, Names}
 use Rattle.getopts.specs.Options.{Declared, Group, Signature, names_of, signatures_of}
 use Rattle.getopts.specs.Reading.{Occurrence, Reading}
-use Rattle.getopts.specs.Results.{broken_count, first_count_fault, fits_count, line_result, made_of, parse_result}
-use Rattle.getopts.specs.Results.{read_result, reading_result, unless_fault, with_counts_kept}
+use Rattle.getopts.specs.Results.{broken_count, first_count_fault, fits_count, line_result, made_of}
+use Rattle.getopts.specs.Results.{parse_result, read_result, reading_result, unless_fault}
+use Rattle.getopts.specs.Results.{with_counts_kept}
 use Rattle.getopts.specs.Wrap.{lines_of}
 use Rattle.getopts.specs.declared.groups.Occur.{Occur}
 use Rattle.getopts.proofs.MainTheorem.Results.{made_of-ok}
 use Rattle.getopts_shell.specs.Held.{group_of_row, groups_of, held_signatures}
 use Rattle.getopts_shell.specs.Program.{Asked, asked_fault, read_groups}
 use Rattle.getopts_shell.specs.Table.{Entry}
-use Rattle.getopts_shell.specs.Variables.{Given, HaveOwnVariables, SetsVariables, VariableFault, arrays_only}
-use Rattle.getopts_shell.specs.Variables.{first_fault, given_from, is_prefix, option_lines, prefix_fault}
+use Rattle.getopts_shell.specs.Variables.{Given, HaveOwnVariables, SetsVariables, VariableFault}
+use Rattle.getopts_shell.specs.Variables.{arrays_only, first_fault, given_from, is_prefix}
+use Rattle.getopts_shell.specs.Variables.{option_lines, prefix_fault}
 use Rattle.getopts_shell.specs.declared.row.Row.{Row}
 use Rattle.getopts_shell.proofs.Assignments.{own_variables}
 use Rattle.getopts_shell.proofs.Written.{code_sets}
 
-begun : (begins : Bool) (first : Option VariableFault) (fault : VariableFault) → cond begins first (Some fault) ≡ None
+begun : (begins : Bool) (first : Option VariableFault) (fault : VariableFault) → cond begins first
+    (Some fault) ≡ None
     → first ≡ None
 begun true first fault is = is
 begun false first fault is = absurd cc
 
 -- where there is no fault, the options make their own variables
-pub asked_own : (asked : Asked) (table prefix : Text) (groups : List Group) → asked.variables ≡ Some prefix
+pub asked_own : (asked : Asked) (table prefix : Text) (groups : List Group) → asked.variables
+    ≡ Some prefix
     → asked_fault asked table groups ≡ None → HaveOwnVariables prefix [] (names_of groups)
 asked_own asked table prefix groups given none =
     let lines = option_lines 0 (lines_of table) in
@@ -43,14 +47,18 @@ asked_own asked table prefix groups given none =
     ∙ none))
 
 given_names : (place : ℕ) (entries : List Entry) (held : List MatchedGroup)
-    → map (λ (option : Given). option.names) (given_from place entries held) ≡ names_of (read_groups entries)
+    → map (λ (option : Given). option.names) (given_from place entries held)
+    ≡ names_of (read_groups entries)
 given_names place [] held = refl
 given_names place (entry ∷ entries) held =
-    ap (λ (names : List Names). entry.signature.names ∷ names) (given_names (place + 1) entries held)
+    ap (λ (names : List Names). entry.signature.names ∷ names) (given_names (place + 1) entries
+    held)
 
 -- so the code for matches sets variables
-pub asked_sets : (asked : Asked) (table prefix : Text) (entries : List Entry) (held : List MatchedGroup)
-    (free : List Text) → asked.variables ≡ Some prefix → asked_fault asked table (read_groups entries) ≡ None
+pub asked_sets : (asked : Asked) (table prefix : Text) (entries : List Entry)
+    (held : List MatchedGroup)
+    (free : List Text) → asked.variables ≡ Some prefix → asked_fault asked table
+    (read_groups entries) ≡ None
     → SetsVariables prefix asked.arrays (given_from 0 entries held) free
 asked_sets asked table prefix entries held free given none =
     code_sets prefix asked.arrays (given_from 0 entries held) free
@@ -63,11 +71,13 @@ matched_signatures : (place : ℕ) (signatures : List Signature) (occurrences : 
     → held_signatures (matched place signatures occurrences) ≡ signatures
 matched_signatures place [] occurrences = refl
 matched_signatures place (signature ∷ signatures) occurrences =
-    ap (λ (others : List Signature). signature ∷ others) (matched_signatures (place + 1) signatures occurrences)
+    ap (λ (others : List Signature). signature ∷ others) (matched_signatures (place + 1) signatures
+    occurrences)
 
 -- matches that are read have the signatures of the options
 pub held_signatures_are : (options : Declared) (words : List Text) (matches : Matched)
-    → read_result options words ≡ Ok matches → held_signatures matches.groups ≡ signatures_of options.groups
+    → read_result options words ≡ Ok matches → held_signatures matches.groups
+    ≡ signatures_of options.groups
 held_signatures_are options words matches is =
     let made = made_of-ok (matches_of options) (reading_result options words) matches is in
     ap (λ (m : Matched). held_signatures m.groups) (sym made.2)
@@ -102,7 +112,8 @@ as_many (group ∷ groups) (row ∷ rows) same =
 
 -- whether the groups from a place on keep their counts
 pub counts_from : (groups : List MatchedGroup) (rows : List Row) (place : ℕ) (row : Row)
-    → held_signatures groups ≡ signatures_of (groups_of rows) → place < length rows → row ≡ get_or rows place row
+    → held_signatures groups ≡ signatures_of (groups_of rows) → place < length rows → row
+    ≡ get_or rows place row
     → is_none (first_count_fault (drop place groups))
     ≡ (fits_count row.occurrence (length (found_in groups place))
     && is_none (first_count_fault (drop (place + 1) groups)))
@@ -112,7 +123,8 @@ counts_from groups rows place row same below row_is =
     && is_none (first_count_fault (drop n groups))) (sym (add-one place))
   where
     by_place : (groups : List MatchedGroup) (rows : List Row) (place : ℕ)
-        → held_signatures groups ≡ signatures_of (groups_of rows) → place < length rows → row ≡ get_or rows place row
+        → held_signatures groups ≡ signatures_of (groups_of rows) → place < length rows → row
+        ≡ get_or rows place row
         → is_none (first_count_fault (drop place groups))
         ≡ (fits_count row.occurrence (length (found_in groups place))
         && is_none (first_count_fault (drop (suc place) groups)))
@@ -124,7 +136,8 @@ counts_from groups rows place row same below row_is =
         let occurrence : group.signature.occurrence ≡ row.occurrence =
         ap (λ (s : Signature). s.occurrence) is ∙ sym (ap (λ (r : Row). r.occurrence) same_row) in
         by_test (fits_count group.signature.occurrence (length group.found))
-        ∙ ap (λ (o : Occur). fits_count o (length group.found) && is_none (first_count_fault groups)) occurrence
+        ∙ ap (λ (o : Occur). fits_count o (length group.found)
+        && is_none (first_count_fault groups)) occurrence
       where
         by_test : (test : Bool)
             → is_none (if test then first_count_fault groups else Some (broken_count group))
@@ -137,6 +150,7 @@ counts_from groups rows place row same below row_is =
 
 -- none is left after the last row
 pub none_left : (groups : List MatchedGroup) (rows : List Row) (place : ℕ)
-    → held_signatures groups ≡ signatures_of (groups_of rows) → length rows ≤ place → drop place groups ≡ []
+    → held_signatures groups ≡ signatures_of (groups_of rows) → length rows ≤ place
+    → drop place groups ≡ []
 none_left groups rows place same past =
     drop_of_length-le groups (omega (arith, as_many groups rows same, past))

@@ -30,7 +30,8 @@ one_reading options words matches others is also =
     also.matches_are ∙ ap (matches_of options) same ∙ sym is.matches_are
 
 -- words that have the matches of one reading have a reading
-pub has_reading : (options : Declared) (words : List Text) (matches : Matched) → HasReading options words matches
+pub has_reading : (options : Declared) (words : List Text) (matches : Matched) → HasReading options
+    words matches
     → HaveReading options words
 has_reading options words matches read = (read.reading, (read.only read.reading).1 refl)
 

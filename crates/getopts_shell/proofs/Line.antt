@@ -1,6 +1,6 @@
 -- The canonical line of a script's words.
-use Rattle.std.proofs.Common.{◌≡◌, ◌≢◌, ℕ, zero, suc, false, List, [], ◌∷◌, ◌++◌, Some, None}
-use Rattle.std.proofs.Common.{refl, sym, ◌∙◌}
+use Rattle.std.proofs.Common.{◌≡◌, ◌≢◌, ℕ, zero, suc, false, List, [], ◌∷◌, ◌++◌, Some, None, refl}
+use Rattle.std.proofs.Common.{sym, ◌∙◌}
 use Rattle.std.specs.List.{AllByRecursion}
 use Rattle.std.specs.Option.{option_map_or}
 use Rattle.getopts.specs.Canon.{canonical_word, main_at}
@@ -33,12 +33,16 @@ plain_at (group ∷ groups) plain (suc place) = plain_at groups plain.1 place
 always_plain : (groups : List Group) → ArePlainlyNamed groups → (mentioned : List Mention)
     → AllByRecursion (λ (m : Mention). holds_equals (main_at groups m.group) ≡ false) mentioned
 always_plain groups plain [] = tt
-always_plain groups plain (m ∷ mentioned) = (plain_at groups plain m.group, always_plain groups plain mentioned)
+always_plain groups plain (m ∷ mentioned) = (
+  plain_at groups plain m.group,
+  always_plain groups plain mentioned,
+)
 
 -- there are no words whose content can't be written
 pub never_unwritable : (options : Declared) (words : List Text) → ArePlainlyNamed options.groups
     → IsUnwritable options words → ⊥
-never_unwritable options words plain is = is.not_plain (always_plain options.groups plain is.content.mentions)
+never_unwritable options words plain is = is.not_plain (always_plain options.groups plain
+    is.content.mentions)
 
 -- a word of a main name isn't the stop
 main_no_stop : (groups : List Group) → EmptyResolvesNot (names_of groups) → (m : Mention)
@@ -47,12 +51,14 @@ main_no_stop : (groups : List Group) → EmptyResolvesNot (names_of groups) → 
 main_no_stop groups empty m sound = λ same. by_main (main_at groups m.group) sound same
   where
     by_main : (main : Text) → resolution (names_of groups) main ≡ Some m.group
-        → 45 ∷ 45 ∷ (main ++ option_map_or (λ (text : Text). 61 ∷ text) m.value []) ≡ 45 ∷ 45 ∷ [] → ⊥
+        → 45 ∷ 45 ∷ (main ++ option_map_or (λ (text : Text). 61 ∷ text) m.value []) ≡ 45 ∷ 45 ∷ []
+        → ⊥
     by_main [] sound same = let both : None ≡ Some m.group = sym empty ∙ sound in cc
     by_main (byte ∷ main) sound same = cc
 
 no_stops : (groups : List Group) → EmptyResolvesNot (names_of groups) → (mentioned : List Mention)
-    → AllByRecursion (λ (m : Mention). resolution (names_of groups) (main_at groups m.group) ≡ Some m.group) mentioned
+    → AllByRecursion (λ (m : Mention). resolution (names_of groups) (main_at groups m.group)
+    ≡ Some m.group) mentioned
     → AllByRecursion (λ (m : Mention). canonical_word groups m ≢ stop_word) mentioned
 no_stops groups empty [] sound = tt
 no_stops groups empty (m ∷ mentioned) sound =
@@ -66,5 +72,6 @@ tells_words options words line are empty laws written = record {
   shell = sets_words line are;
   written = written;
   reads_back = laws words line written;
-  stop_is_first = no_stops options.groups empty written.content.mentions (laws words line written).sound;
+  stop_is_first = no_stops options.groups empty written.content.mentions
+      (laws words line written).sound;
 }

@@ -1,6 +1,7 @@
 -- Words have one answer, with a status of 0, 2 or 5.
-use Rattle.std.proofs.Common.{◌≡◌, ◌≢◌, ◌≤◌, ◌-◌, ℕ, Bool, true, false, Result, Ok, Err, List, [], ◌∷◌}
-use Rattle.std.proofs.Common.{Option, Some, None, arith, ap, length, refl, subst, sym, take, ◌∙◌}
+use Rattle.std.proofs.Common.{◌≡◌, ◌≢◌, ◌≤◌, ◌-◌, ℕ, Bool, true, false, Result, Ok, Err, List, []}
+use Rattle.std.proofs.Common.{◌∷◌, Option, Some, None, arith, ap, length, refl, subst, sym, take}
+use Rattle.std.proofs.Common.{◌∙◌}
 use Rattle.std.specs.Prelude.{MatchOption, MatchResult, codes}
 use Rattle.std.specs.Bool.{MatchBool}
 use Rattle.std.specs.Option.{option_map_or}
@@ -10,14 +11,15 @@ use Rattle.getopts.specs.Names.{Text}
 use Rattle.getopts.specs.Only.{IsTheOnly}
 use Rattle.getopts.specs.Results.{canonical_result, parse_result, read_result}
 use Rattle.getopts_shell.specs.Completion.{stub}
-use Rattle.getopts_shell.specs.Program.{Answer, AnswersAlone, AnswersCounted, AnswersDeclared, AnswersFree}
-use Rattle.getopts_shell.specs.Program.{AnswersLine, AnswersOffer, AnswersOwn, AnswersRead, AnswersScript}
-use Rattle.getopts_shell.specs.Program.{AnswersTable, AnswersVariables, AnswersWords, Asked, IsAnswer}
-use Rattle.getopts_shell.specs.Program.{IsHelp, IsStatus, OneAnswer, PrintsHelp, Script, TellsOptions}
-use Rattle.getopts_shell.specs.Program.{asked_by, asked_fault, asks_help, declared}
-use Rattle.getopts_shell.specs.Program.{done, faulty, has_completion, help_code, is_alone, is_given}
-use Rattle.getopts_shell.specs.Program.{last_word, misused, no_completion, own_options, read_groups}
-use Rattle.getopts_shell.specs.Program.{read_options, table_fault_line}
+use Rattle.getopts_shell.specs.Program.{Answer, AnswersAlone, AnswersCounted, AnswersDeclared}
+use Rattle.getopts_shell.specs.Program.{AnswersFree, AnswersLine, AnswersOffer, AnswersOwn}
+use Rattle.getopts_shell.specs.Program.{AnswersRead, AnswersScript, AnswersTable, AnswersVariables}
+use Rattle.getopts_shell.specs.Program.{AnswersWords, Asked, IsAnswer, IsHelp, IsStatus, OneAnswer}
+use Rattle.getopts_shell.specs.Program.{PrintsHelp, Script, TellsOptions, asked_by, asked_fault}
+use Rattle.getopts_shell.specs.Program.{asks_help, declared, done, faulty, has_completion}
+use Rattle.getopts_shell.specs.Program.{help_code, is_alone, is_given, last_word, misused}
+use Rattle.getopts_shell.specs.Program.{no_completion, own_options, read_groups, read_options}
+use Rattle.getopts_shell.specs.Program.{table_fault_line}
 use Rattle.getopts_shell.specs.Table.{Entry, TableFault}
 use Rattle.getopts_shell.proofs.Offers.{one_offer}
 use Rattle.getopts_shell.proofs.Only.{one_table, one_fault, no_fault}
@@ -65,7 +67,8 @@ one_with one = record {
 
 -- an answer that is made of the one text of which a fact is so
 one_made : {Fact : Text → Type 0} {Is : Text → Answer → Type 0}
-    → ((text other : Text) → Fact text → Fact other → other ≡ text) → ((text : Text) → IsOne (Is text))
+    → ((text other : Text) → Fact text → Fact other → other ≡ text)
+    → ((text : Text) → IsOne (Is text))
     → IsOne (λ answer. (text : Text) × Fact text × Is text answer)
 one_made {Fact} {Is} same one = record {
   only = λ answer other is also. (one is.0).only answer other is.2
@@ -84,7 +87,8 @@ one_option : {X : Type 0} (option : Option X) {Nothing : Answer → Type 0} {Is 
 one_option None nothing one = nothing
 one_option (Some x) nothing one = one x
 
-one_result : {X E : Type 0} (result : Result X E) {Is : X → Answer → Type 0} {Fails : E → Answer → Type 0}
+one_result : {X E : Type 0} (result : Result X E) {Is : X → Answer → Type 0} {Fails : E → Answer
+    → Type 0}
     → ((x : X) → IsOne (Is x)) → ((error : E) → IsOne (Fails error))
     → IsOne (λ answer. MatchResult result (λ x. Is x answer) (λ error. Fails error answer))
 one_result (Ok x) one fails = one x
@@ -128,7 +132,8 @@ one_counted script words = one_option script.asked.variables (one_line script wo
 one_printed : (script : Script) → IsOne (PrintsHelp script)
 one_printed script = record {
   only = λ answer other is also. also.3
-      ∙ ap (λ (help : Text). done (help_code help)) (only_text _ is.0 also.0 is.1 also.1) ∙ sym is.3;
+      ∙ ap (λ (help : Text). done (help_code help)) (only_text _ is.0 also.0 is.1 also.1)
+      ∙ sym is.3;
   by = λ answer is. subst (λ (a : Answer). AnswersBy a.status) (sym is.3) is_done;
 }
 
@@ -182,7 +187,8 @@ one_of_table asked name table words = record { only = only; by = by }
     only : (answer other : Answer) → AnswersTable asked name table words answer
         → AnswersTable asked name table words other → other ≡ answer
     only answer other (faulty fault is said) (faulty another also again) =
-        again ∙ ap (λ (f : TableFault). misused (table_fault_line f)) (one_fault table fault another is also)
+        again ∙ ap (λ (f : TableFault). misused (table_fault_line f)) (one_fault table fault another
+        is also)
         ∙ sym said
     only answer other (faulty fault is said) (declared entries are answers) =
         absurd (no_fault table entries fault are is)
@@ -194,7 +200,8 @@ one_of_table asked name table words = record { only = only; by = by }
         (one_table table entries others are also) again)
 
     by : (answer : Answer) → AnswersTable asked name table words answer → AnswersBy answer.status
-    by answer (faulty fault is said) = subst (λ (a : Answer). AnswersBy a.status) (sym said) is_misused
+    by answer (faulty fault is said) = subst (λ (a : Answer). AnswersBy a.status) (sym said)
+        is_misused
     by answer (declared entries are answers) =
         (one_declared (script entries) table words).by answer answers
 
@@ -206,7 +213,8 @@ one_free asked (name ∷ table ∷ words) = one_of_table asked name table words
 one_own : (own : Matched) → IsOne (AnswersOwn own)
 one_own own = one_bool (is_given own (codes "help"))
     (one_made (only_text _) (λ help. one_equal _ is_done))
-    (one_bool (is_given own (codes "version")) (one_equal _ is_done) (one_free (asked_by own) own.free))
+    (one_bool (is_given own (codes "version")) (one_equal _ is_done)
+    (one_free (asked_by own) own.free))
 
 one : (words : List Text) → IsOne (IsAnswer words)
 one words = one_result (parse_result own_options words) one_own (λ fault. one_equal _ is_misused)
@@ -216,5 +224,6 @@ pub one_answer : OneAnswer
 one_answer words = (one words).only
 
 -- and it has one of these statuses
-pub answers_by : (words : List Text) (answer : Answer) → IsAnswer words answer → AnswersBy answer.status
+pub answers_by : (words : List Text) (answer : Answer) → IsAnswer words answer
+    → AnswersBy answer.status
 answers_by words = (one words).by

@@ -1,5 +1,6 @@
 -- What the code holds, as the definitions see it.
-use Rattle.std.specs.Prelude.{Bool, if◌then◌else◌, ◌≡◌, ⊤, List, [], ◌∷◌, Option, Some, None, map, MatchOption, false}
+use Rattle.std.specs.Prelude.{Bool, if◌then◌else◌, ◌≡◌, ⊤, List, [], ◌∷◌, Option, Some, None, map}
+use Rattle.std.specs.Prelude.{MatchOption, false}
 use Rattle.std.specs.List.{AllByRecursion}
 use Rattle.std.specs.Option.{option_map}
 use Rattle.std.specs.String.{string_bytes}
@@ -9,8 +10,10 @@ use Rattle.getopts.specs.Options.{Declared, Group, Signature, group_of, signatur
 use Rattle.getopts.specs.Parse.{Reads}
 use Rattle.getopts.specs.Reading.{Occurrence, Reading, holds_equals}
 use Rattle.getopts_shell.specs.Program.{Answer, Asked, own_groups, read_groups}
-use Rattle.getopts_shell.specs.Variables.{VariableFault, arrays_only, no_prefix, no_variable, variable_twice}
-use Rattle.getopts_shell.specs.Table.{Entry, group_of_entry, shown_group, TableFault, no_option, name_twice}
+use Rattle.getopts_shell.specs.Variables.{VariableFault, arrays_only, no_prefix, no_variable}
+use Rattle.getopts_shell.specs.Variables.{variable_twice}
+use Rattle.getopts_shell.specs.Table.{Entry, group_of_entry, shown_group, TableFault, no_option}
+use Rattle.getopts_shell.specs.Table.{name_twice}
 use Rattle.getopts_shell.specs.declared.script.Asked.{Asked as AskedHeld}
 use Rattle.getopts_shell.specs.declared.answer.Outcome.{Outcome}
 use Rattle.getopts_shell.specs.declared.row.Row.{Row}
@@ -43,7 +46,8 @@ groups_of rows = read_groups (entries_of rows)
 
 -- the groups of entries, as they are shown or as they are read
 abbrev pub groups_as : Bool → List Entry → List Group
-groups_as shown entries = map (λ entry. if shown then shown_group entry else group_of_entry entry) entries
+groups_as shown entries = map (λ entry. if shown then shown_group entry else group_of_entry entry)
+    entries
 
 -- the fault that an error of a table tells, unless it tells that memory was refused
 abbrev pub fault_told : TableError → Option TableFault
@@ -74,7 +78,8 @@ asked_of asked = record {
 
 -- the groups are the program's own, each with its share of some occurrences
 abbrev pub HasOwnGroups : List MatchedGroup → Type 0
-HasOwnGroups groups = (occurrences : List Occurrence) × (groups ≡ matched 0 (signatures_of own_groups) occurrences)
+HasOwnGroups groups = (occurrences : List Occurrence) × (groups
+    ≡ matched 0 (signatures_of own_groups) occurrences)
 
 -- no main name holds `=`
 abbrev pub ArePlainlyNamed : List Group → Type 0

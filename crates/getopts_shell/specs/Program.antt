@@ -1,7 +1,7 @@
 -- The program: what it answers to words, and with which status.
-use Rattle.std.specs.Prelude.{◌≡◌, ◌≢◌, ◌≤◌, ◌&&◌, ◌||◌, ◌-◌, ℕ, Bool, true, false}
-use Rattle.std.specs.Prelude.{List, [], ◌∷◌, ◌++◌, Option, Some, None, MatchOption, MatchResult}
-use Rattle.std.specs.Prelude.{codes, decimal, if◌then◌else◌, length, map, take}
+use Rattle.std.specs.Prelude.{◌≡◌, ◌≢◌, ◌≤◌, ◌&&◌, ◌||◌, ◌-◌, ℕ, Bool, true, false, List, [], ◌∷◌}
+use Rattle.std.specs.Prelude.{◌++◌, Option, Some, None, MatchOption, MatchResult, codes, decimal}
+use Rattle.std.specs.Prelude.{if◌then◌else◌, length, map, take}
 use Rattle.std.specs.Bool.{MatchBool}
 use Rattle.std.specs.Io.KnownBytes.{Appends}
 use Rattle.std.specs.List.{AllByRecursion, find, last_or, list_any}
@@ -25,11 +25,12 @@ use Rattle.getopts.specs.declared.groups.ParsingStyle.TheVariants.{FloatingFrees
 use Rattle.getopts_bytes.specs.Marks.{bytes_of}
 use Rattle.getopts_shell.specs.Completion.{IsOffer, stub}
 use Rattle.getopts_shell.specs.Quote.{quoted, shell_words}
-use Rattle.getopts_shell.specs.Table.{Entry, group_of_entry, shown_group, DeclaresOptions, IsTableFault}
-use Rattle.getopts_shell.specs.Table.{TableFault, no_option, name_twice, reason_of}
+use Rattle.getopts_shell.specs.Table.{Entry, group_of_entry, shown_group, DeclaresOptions}
+use Rattle.getopts_shell.specs.Table.{IsTableFault, TableFault, no_option, name_twice, reason_of}
 use Rattle.getopts_shell.specs.Variables.{HoldTexts, SetsVariables, SetsWords, Given, given_from}
 use Rattle.getopts_shell.specs.Variables.{given_alone, line_code, variables_code, VariableFault}
-use Rattle.getopts_shell.specs.Variables.{arrays_only, no_prefix, no_variable, prefix_fault, variable_twice}
+use Rattle.getopts_shell.specs.Variables.{arrays_only, no_prefix, no_variable, prefix_fault}
+use Rattle.getopts_shell.specs.Variables.{variable_twice}
 use Rattle.getopts_shell.specs.declared.row.Mark.{Mark}
 use Rattle.getopts_shell.specs.declared.row.Mark.TheVariants.{Alone}
 
@@ -37,14 +38,20 @@ use Rattle.getopts_shell.specs.declared.row.Mark.TheVariants.{Alone}
 
 abbrev pub own_groups : List Group
 own_groups =
-    group_of (codes "b") (codes "brief") (codes "begin the help with TEXT") (codes "TEXT") Yes Optional
-    ∷ group_of (codes "s") (codes "stop") (codes "leave all words from the first free one on free") [] No Optional
-    ∷ group_of (codes "l") (codes "long-only") (codes "let long names follow one dash too") [] No Optional
-    ∷ group_of (codes "V") (codes "variables") (codes "set a variable for each option, named PREFIX and its name")
+    group_of (codes "b") (codes "brief") (codes "begin the help with TEXT") (codes "TEXT") Yes
+    Optional
+    ∷ group_of (codes "s") (codes "stop") (codes "leave all words from the first free one on free")
+    [] No Optional
+    ∷ group_of (codes "l") (codes "long-only") (codes "let long names follow one dash too") [] No
+    Optional
+    ∷ group_of (codes "V") (codes "variables")
+    (codes "set a variable for each option, named PREFIX and its name")
     (codes "PREFIX") Yes Optional
-    ∷ group_of (codes "A") (codes "arrays") (codes "with --variables, make an array of values") [] No Optional
+    ∷ group_of (codes "A") (codes "arrays") (codes "with --variables, make an array of values") []
+    No Optional
     ∷ group_of (codes "u") (codes "usage") (codes "write the help of TABLE") [] No Optional
-    ∷ group_of (codes "c") (codes "complete") (codes "write a completion script for bash, zsh or fish")
+    ∷ group_of (codes "c") (codes "complete")
+    (codes "write a completion script for bash, zsh or fish")
     (codes "SHELL") Yes Optional
     ∷ group_of [] (codes "complete-words") (codes "write what may come at the last WORD")
     (codes "SHELL") Yes Optional
@@ -90,8 +97,8 @@ asked_by own = record {
 
 -- ---- answers
 
--- an answer: the text that is written, on the standard output where the status is 0, and else on the
--- standard error
+-- an answer: the text that is written, on the standard output where the status is 0, and else on
+-- the standard error
 pub record Answer : Type 0 where
   pub text : Text
   pub status : ℕ
@@ -111,9 +118,11 @@ fault_line name fault = name ++ (codes ": " ++ (fault_text fault ++ codes "\n"))
 -- the line of a fault of a table
 abbrev pub table_fault_line : TableFault → Text
 table_fault_line (no_option number item) = codes "getopts_shell: line "
-    ++ (decimal number ++ (codes " of the options: " ++ (item ++ (codes ": " ++ (reason_of item ++ codes "\n")))))
+    ++ (decimal number ++ (codes " of the options: " ++ (item
+    ++ (codes ": " ++ (reason_of item ++ codes "\n")))))
 table_fault_line (name_twice number name) = codes "getopts_shell: line "
-    ++ (decimal number ++ (codes " of the options: the name '" ++ (name ++ codes "' stands there already\n")))
+    ++ (decimal number ++ (codes " of the options: the name '"
+    ++ (name ++ codes "' stands there already\n")))
 
 -- ---- a script
 
@@ -144,7 +153,8 @@ shown_options script = options_in script.asked (map shown_group script.entries)
 
 -- the text that a script's help begins with: the one that was given, or else the short usage
 abbrev pub brief_text : Script → Text
-brief_text script = unwrap_or script.asked.brief (short_usage_text (shown_options script) script.name)
+brief_text script = unwrap_or script.asked.brief (short_usage_text (shown_options script)
+    script.name)
 
 -- the help of a script
 abbrev pub IsHelp : Script → Text → Type 0
@@ -157,7 +167,8 @@ refused script fault = record {
   status = 2;
 }
 
--- a shell makes of this text in quotes one word, itself; and of the bytes of that the bytes of the text
+-- a shell makes of this text in quotes one word, itself; and of the bytes of that the bytes of the
+-- text
 pub record IsOneWord (text : Text) : Type 0 where
   pub shell : shell_words (quoted text) ≡ Some (text ∷ [])
   pub bytes : shell_words (bytes_of (quoted text)) ≡ Some (bytes_of text ∷ [])
@@ -240,7 +251,8 @@ last_word words = unwrap_or (last_or None words) []
 -- the answer to a shell that asks what may come at the last word, if there is completion in it
 abbrev pub AnswersOffer : Script → Text → List Text → Answer → Type 0
 AnswersOffer script shell words answer = MatchBool (has_completion shell)
-    ((text : Text) × IsOffer (read_options script) (take (length words - 1) words) (last_word words) text
+    ((text : Text) × IsOffer (read_options script) (take (length words - 1) words) (last_word words)
+    text
     × (answer ≡ done text))
     (answer ≡ no_completion shell)
 
@@ -259,8 +271,8 @@ AnswersAlone script entry answer = MatchOption script.asked.variables
     (SetsWords (alone_line entry) × (answer ≡ done (line_code (alone_line entry))))
     (λ prefix. TellsOptions script prefix (given_alone script.entries entry) [] answer)
 
--- the answer to words whose counts are checked: their canonical line, variables for their matches, or
--- the first fault
+-- the answer to words whose counts are checked: their canonical line, variables for their matches,
+-- or the first fault
 abbrev pub AnswersLine : Script → List Text → Answer → Type 0
 AnswersLine script words answer = MatchResult (canonical_result (read_options script) words)
     (λ written. MatchOption written ⊥ (λ line. TellsWords (read_options script) words line
@@ -282,8 +294,8 @@ abbrev pub PrintsHelp : Script → Answer → Type 0
 PrintsHelp script answer = (help : Text) × IsHelp script help × IsOneWord help
     × (answer ≡ done (help_code help))
 
--- the answer to words with these matches, whatever their counts: the code that prints the help where
--- they ask for it, else what the first option that stands alone gives, if they have one
+-- the answer to words with these matches, whatever their counts: the code that prints the help
+-- where they ask for it, else what the first option that stands alone gives, if they have one
 abbrev pub AnswersRead : Script → List Text → Matched → Answer → Type 0
 AnswersRead script words matches answer = MatchBool (asks_help script.entries matches)
     (PrintsHelp script answer)
@@ -310,14 +322,15 @@ AnswersDeclared script table words answer = MatchOption script.asked.complete
     (AnswersScript script words answer) (λ fault. answer ≡ misused (variable_fault_line fault)))
     (λ shell. answer ≡ completion_answer script.asked shell script.name table)
 
--- The answer to a script's name, its table and its words: the fault of the table, or what its entries
--- give.
+-- The answer to a script's name, its table and its words: the fault of the table, or what its
+-- entries give.
 pub data AnswersTable (asked : Asked) (name table : Text) (words : List Text) (answer : Answer)
     : Type 0 where
   faulty : (fault : TableFault) → IsTableFault table fault
       → answer ≡ misused (table_fault_line fault) → AnswersTable asked name table words answer
   declared : (entries : List Entry) → DeclaresOptions table entries
-      → AnswersDeclared (record { asked = asked; name = name; entries = entries }) table words answer
+      → AnswersDeclared (record { asked = asked; name = name; entries = entries }) table words
+      answer
       → AnswersTable asked name table words answer
 
 -- the answer to the free words of the program's own
@@ -326,7 +339,8 @@ AnswersFree asked (name ∷ table ∷ words) answer = AnswersTable asked name ta
 AnswersFree asked words answer =
     answer ≡ misused (codes "getopts_shell: a name and a table of options are needed\n")
 
--- the answer to the program's own words with these matches: its help, its version, or what they ask for
+-- the answer to the program's own words with these matches: its help, its version, or what they ask
+-- for
 abbrev pub AnswersOwn : Matched → Answer → Type 0
 AnswersOwn own answer = MatchBool (is_given own (codes "help"))
     ((help : Text) × IsTheOnly
@@ -342,13 +356,14 @@ IsAnswer words answer = MatchResult (parse_result own_options words) (λ own. An
 
 -- words have one answer: one status and one text
 abbrev pub OneAnswer : Type 0
-OneAnswer = (words : List Text) (answer other : Answer) → IsAnswer words answer → IsAnswer words other
+OneAnswer = (words : List Text) (answer other : Answer) → IsAnswer words answer
+    → IsAnswer words other
     → other ≡ answer
 
 -- ---- statuses
 
--- 0 where text was written for the script, 2 where its words are refused, 3 where memory was refused, 4
--- where a write or a flush failed, 5 where the script calls the program wrongly
+-- 0 where text was written for the script, 2 where its words are refused, 3 where memory was
+-- refused, 4 where a write or a flush failed, 5 where the script calls the program wrongly
 abbrev pub IsStatus : ℕ → Type 0
 IsStatus status = (status ≤ 5) × (status ≢ 1)
 
@@ -357,7 +372,8 @@ abbrev pub IsOutput : List Text → List ℕ → ℕ → Type 0
 IsOutput words bytes status = (text : Text)
     × IsAnswer words (record { text = text; status = status }) × (bytes ≡ bytes_of text)
 
--- what a writer holds has grown by the bytes of the text of the answer to these words, which has this status
+-- what a writer holds has grown by the bytes of the text of the answer to these words, which has
+-- this status
 abbrev pub ShowsAnswer : Option (List ℕ) → Option (List ℕ) → List Text → ℕ → Type 0
 ShowsAnswer old new words status = (bytes : List ℕ)
     × IsOutput words bytes status × Appends old new bytes
@@ -366,8 +382,8 @@ ShowsAnswer old new words status = (bytes : List ℕ)
 abbrev pub AppendsFront : Option (List ℕ) → Option (List ℕ) → List ℕ → Type 0
 AppendsFront old new bytes = (front rest : List ℕ) × (bytes ≡ front ++ rest) × Appends old new front
 
--- what a writer holds has grown by a front of the bytes of the text of the answer to these words, which
--- has such a status
+-- what a writer holds has grown by a front of the bytes of the text of the answer to these words,
+-- which has such a status
 abbrev pub ShowsFront : Option (List ℕ) → Option (List ℕ) → List Text → (ℕ → Type 0) → Type 0
 ShowsFront old new words IsItsStatus = (bytes : List ℕ) × (status : ℕ) × IsItsStatus status
     × IsOutput words bytes status × AppendsFront old new bytes

@@ -1,7 +1,7 @@
 //! What the program answers to words.
 
-ghost use Rattle.std.specs.Prelude.{◌≡◌, ◌≢◌, ◌⊎◌, ◌++◌, ◌-◌, ◌&&◌, codes, map, length, take, true, false};
-ghost use Rattle.std.specs.Prelude.{List, Option, IfOk, OnOk, Some, None, ◌∷◌, [], IsTrue};
+ghost use Rattle.std.specs.Prelude.{◌≡◌, ◌≢◌, ◌⊎◌, ◌++◌, ◌-◌, ◌&&◌, codes, map, length, take, true};
+ghost use Rattle.std.specs.Prelude.{false, List, Option, IfOk, OnOk, Some, None, ◌∷◌, [], IsTrue};
 ghost use Rattle.std.specs.Option.{is_none, option_map};
 ghost use Rattle.std.specs.Io.KnownBytes.{Appends};
 ghost use Rattle.std.specs.List.{find, list_any};
@@ -12,13 +12,14 @@ ghost use Rattle.getopts.specs.Names.{AreTexts, Text, texts};
 ghost use Rattle.getopts.specs.Options.{signatures_of, with_group};
 ghost use Rattle.getopts.specs.Results.{first_count_fault, fits_count, read_result};
 ghost use Rattle.getopts_shell.specs.Completion.{IsOffer};
-ghost use Rattle.getopts_shell.specs.Held.{HasOwnGroups, answer_of, asked_of, entries_of, entry_of_row};
-ghost use Rattle.getopts_shell.specs.Held.{fault_told, groups_as, groups_of, held_signatures};
-ghost use Rattle.getopts_shell.specs.Held.{variable_fault_told, with_groups};
+ghost use Rattle.getopts_shell.specs.Held.{HasOwnGroups, answer_of, asked_of, entries_of};
+ghost use Rattle.getopts_shell.specs.Held.{entry_of_row, fault_told, groups_as, groups_of};
+ghost use Rattle.getopts_shell.specs.Held.{held_signatures, variable_fault_told, with_groups};
 ghost use Rattle.getopts_shell.specs.HeldScript.{script_of};
-ghost use Rattle.getopts_shell.specs.Program.{AnswersAlone, AnswersCounted, AnswersDeclared, AnswersFree};
-ghost use Rattle.getopts_shell.specs.Program.{AnswersLine, AnswersOffer, AnswersOwn, AnswersRead};
-ghost use Rattle.getopts_shell.specs.Program.{AnswersScript, AnswersTable, AnswersVariables, AnswersWords, AppendsFront};
+ghost use Rattle.getopts_shell.specs.Program.{AnswersAlone, AnswersCounted, AnswersDeclared};
+ghost use Rattle.getopts_shell.specs.Program.{AnswersFree, AnswersLine, AnswersOffer, AnswersOwn};
+ghost use Rattle.getopts_shell.specs.Program.{AnswersRead, AnswersScript, AnswersTable};
+ghost use Rattle.getopts_shell.specs.Program.{AnswersVariables, AnswersWords, AppendsFront};
 ghost use Rattle.getopts_shell.specs.Program.{IsAnswer, IsHelp, IsOneWord, IsOutput, IsStatus};
 ghost use Rattle.getopts_shell.specs.Program.{ShowsAnswer, ShowsFront, TellsOptions, alone_line};
 ghost use Rattle.getopts_shell.specs.Program.{asked_by, asked_fault, asks_help, brief_text};
@@ -101,17 +102,19 @@ impl Outcome {
 
 /// Reads a script's words by a table of options, and writes what the script does with them.
 ///
-/// The words are the program's own options, the script's name, its table and its words. The text is made
-/// whole, then written once and flushed: on `out` where the status is 0, and on `err` where it is 2 or 5.
+/// The words are the program's own options, the script's name, its table and its words. The text is
+/// made whole, then written once and flushed: on `out` where the status is 0, and on `err` where it
+/// is 2 or 5.
 ///
-/// - 0: code that sets the script's words to those of the canonical line, or, with `--variables`, that sets
-///   variables, or that prints the script's help; with `--usage` the help itself, with `--complete` the code
-///   that completes words in a shell, with `--complete-words` what may come at the last word, with `--help` the
-///   program's help
+/// - 0: code that sets the script's words to those of the canonical line, or, with `--variables`,
+///   that sets variables, or that prints the script's help; with `--usage` the help itself, with
+///   `--complete` the code that completes words in a shell, with `--complete-words` what may come at
+///   the last word, with `--help` the program's help
 /// - 2: why the script's words are refused, and its short usage
 /// - 3: out of memory, with nothing written
 /// - 4: a write or a flush failed, and what was written is a front of the text
-/// - 5: what is wrong with the call: its own words, an unknown shell, a missing table, or a line of it
+/// - 5: what is wrong with the call: its own words, an unknown shell, a missing table, or a line of
+///   it
 pub fn answer<W: Write, E: Write>(alloc: Global, words: &[&str], out: &mut W, err: &mut E) -> u8
     ensures status { IsStatus result }
     ensures shown { result ≡ 0
@@ -121,8 +124,10 @@ pub fn answer<W: Write, E: Write>(alloc: Global, words: &[&str], out: &mut W, er
         → ShowsAnswer (E.contents err.old) (E.contents err.new) (texts words.now) result }
     ensures refused_only { (result ≡ 2) ⊎ (result ≡ 5) → out.new ≡ out.old }
     ensures cut { result ≡ 4
-        → ShowsFront (W.contents out.old) (W.contents out.new) (texts words.now) (λ status. status ≡ 0)
-        ⊎ ShowsFront (E.contents err.old) (E.contents err.new) (texts words.now) (λ status. status ≢ 0) }
+        → ShowsFront (W.contents out.old) (W.contents out.new) (texts words.now)
+        (λ status. status ≡ 0)
+        ⊎ ShowsFront (E.contents err.old) (E.contents err.new) (texts words.now)
+        (λ status. status ≢ 0) }
     ensures one_stream { (out.new ≡ out.old) ⊎ (err.new ≡ err.old) }
     ensures nothing_written { result ≡ 3 → (out.new ≡ out.old) × (err.new ≡ err.old) }
 {
@@ -135,8 +140,8 @@ pub fn answer<W: Write, E: Write>(alloc: Global, words: &[&str], out: &mut W, er
     }
 }
 
-/// Writes an output: on `out` where the status is 0, and else on `err`. Where that fails, what was written is a
-/// front of it.
+/// Writes an output: on `out` where the status is 0, and else on `err`. Where that fails, what was
+/// written is a front of it.
 fn write_output<W: Write, E: Write>(output: &Output, out: &mut W, err: &mut E) -> io::Result<()>
     ensures out { OnOk result (output.now.status ≡ 0
         → Appends (W.contents out.old) (W.contents out.new) output.now.bytes.items) }
@@ -297,7 +302,8 @@ fn asked_by(alloc: Global, own: &Matches) -> Result<Asked, AllocError>
 
 /// The answer to the free words of the program's own: a script's name, its table and its words.
 fn free_answer(alloc: Global, asked: &Asked, words: &[&str]) -> Result<Outcome, AllocError>
-    ensures { IfOk result (λ outcome. AnswersFree (asked_of asked.now) (texts words.now) (answer_of outcome)) }
+    ensures { IfOk result (λ outcome. AnswersFree (asked_of asked.now) (texts words.now)
+        (answer_of outcome)) }
 {
     match words {
         [name, table, words @ ..] => table_answer(alloc, asked, name, table, words),
@@ -322,8 +328,8 @@ fn table_answer(
     }
 }
 
-/// The answer where a table has these rows: the code that completes words, the fault of the variables, or the answer
-/// for the script.
+/// The answer where a table has these rows: the code that completes words, the fault of the
+/// variables, or the answer for the script.
 fn declared_answer(
     alloc: Global,
     asked: &Asked,
@@ -403,14 +409,16 @@ fn variable_refusal(alloc: Global, error: VariableError<'_>) -> Result<String, A
     }
 }
 
-/// The options of a table, in the style and the mode that are asked for: as a help shows them, or as words are read.
+/// The options of a table, in the style and the mode that are asked for: as a help shows them, or
+/// as words are read.
 fn options_of(
     alloc: Global,
     asked: &Asked,
     rows: &[Row<'_>],
     shown: bool,
 ) -> Result<Options, AllocError>
-    ensures { IfOk result (λ options. options ≡ options_in (asked_of asked.now) (groups_as shown (entries_of rows.now))) }
+    ensures { IfOk result (λ options. options ≡ options_in (asked_of asked.now)
+        (groups_as shown (entries_of rows.now))) }
 {
     let mut options = Options::new(alloc);
     if asked.stop {
@@ -424,7 +432,9 @@ fn options_of(
 /// Adds the options of a table.
 fn add_rows(options: &mut Options, rows: &[Row<'_>], shown: bool) -> Result<(), AllocError>
     ensures { OnOk result (options.new
-        ≡ record options.old { groups = options.old.groups ++ groups_as shown (entries_of rows.now) }) }
+        ≡ record options.old {
+          groups = options.old.groups ++ groups_as shown (entries_of rows.now);
+        }) }
 {
     for row in rows {
         let occurrence = if shown {
@@ -456,7 +466,8 @@ fn shown_occurrence(mark: Mark, occurrence: Occur) -> Occur
 
 /// The answer for a script and its words.
 fn script_answer(alloc: Global, script: Script<'_>, words: &[&str]) -> Result<Outcome, AllocError>
-    ensures { IfOk result (λ outcome. AnswersScript (script_of script.entry) (texts words.now) (answer_of outcome)) }
+    ensures { IfOk result (λ outcome. AnswersScript (script_of script.entry) (texts words.now)
+        (answer_of outcome)) }
 {
     if script.asked.usage {
         return Ok(Outcome::done(help_of(alloc, script)?));
@@ -545,7 +556,8 @@ fn offer_answer(
 /// What may come at the last word.
 fn last_offers(alloc: Global, script: Script<'_>, words: &[&str]) -> Result<String, AllocError>
     ensures { IfOk result (λ text. IsOffer (read_options (script_of script.entry))
-        (take (length (texts words.now) - 1) (texts words.now)) (last_word (texts words.now)) (string_bytes text)) }
+        (take (length (texts words.now) - 1) (texts words.now)) (last_word (texts words.now))
+        (string_bytes text)) }
 {
     let options = script.options;
     let long_only = script.asked.long_only;
@@ -560,7 +572,8 @@ fn last_offers(alloc: Global, script: Script<'_>, words: &[&str]) -> Result<Stri
 
 /// The answer to the words of a script. They are read once, whatever their counts.
 fn words_answer(alloc: Global, script: Script<'_>, words: &[&str]) -> Result<Outcome, AllocError>
-    ensures { IfOk result (λ outcome. AnswersWords (script_of script.entry) (texts words.now) (answer_of outcome)) }
+    ensures { IfOk result (λ outcome. AnswersWords (script_of script.entry) (texts words.now)
+        (answer_of outcome)) }
 {
     match script.options.parse_ignoring_counts(alloc, words) {
         Ok(matches) => read_answer(alloc, script, words, &matches),
@@ -568,8 +581,8 @@ fn words_answer(alloc: Global, script: Script<'_>, words: &[&str]) -> Result<Out
     }
 }
 
-/// The answer to words with these matches: the code that prints the help where they ask for it, the code of the one
-/// option that they ask for alone, and else what they are.
+/// The answer to words with these matches: the code that prints the help where they ask for it, the
+/// code of the one option that they ask for alone, and else what they are.
 fn read_answer(
     alloc: Global,
     script: Script<'_>,
@@ -598,7 +611,8 @@ fn asks_help(rows: &[Row<'_>], matches: &Matches) -> bool
 
 /// Whether one of the rows is called `help`, and takes no argument.
 fn offers_help(rows: &[Row<'_>]) -> bool
-    ensures { result ≡ list_any (λ row. bytes_eq row.long.now (codes "help") && is_no row.kind) rows.now }
+    ensures { result ≡ list_any (λ row. bytes_eq row.long.now (codes "help") && is_no row.kind)
+        rows.now }
 {
     rows.iter()
         .any(|row| row.long == "help" && matches!(row.kind, HasArg::No))
@@ -631,7 +645,8 @@ fn is_alone(row: Row<'_>, matches: &Matches) -> bool
     stands_alone(row.mark) && is_given(matches, main_name(row))
 }
 
-/// The answer to words that ask for one option alone: its line, or variables where it alone is given.
+/// The answer to words that ask for one option alone: its line, or variables where it alone is
+/// given.
 fn alone_answer(alloc: Global, script: Script<'_>, row: Row<'_>) -> Result<Outcome, AllocError>
     ensures { IfOk result (λ outcome.
         AnswersAlone (script_of script.entry) (entry_of_row row.entry) (answer_of outcome)) }
@@ -647,7 +662,8 @@ fn alone_answer(alloc: Global, script: Script<'_>, row: Row<'_>) -> Result<Outco
 
 /// The code of the line of one option alone.
 fn alone_line(alloc: Global, row: Row<'_>) -> Result<String, AllocError>
-    ensures text { IfOk result (λ text. string_bytes text ≡ line_code (alone_line (entry_of_row row.entry))) }
+    ensures text { IfOk result (λ text. string_bytes text
+        ≡ line_code (alone_line (entry_of_row row.entry))) }
     ensures words { OnOk result (AreTexts (alone_line (entry_of_row row.entry))) }
 {
     let name = main_name(row);
@@ -668,8 +684,8 @@ fn help_code(alloc: Global, script: Script<'_>) -> Result<String, AllocError>
     Ok(text)
 }
 
-/// The answer to words with these matches, whose counts are checked: variables or the canonical line, or the first
-/// fault. Only where they break a count are they read once more for variables.
+/// The answer to words with these matches, whose counts are checked: variables or the canonical
+/// line, or the first fault. Only where they break a count are they read once more for variables.
 fn counted_answer(
     alloc: Global,
     script: Script<'_>,
@@ -740,7 +756,8 @@ fn variables_answer(
 ) -> Result<Outcome, AllocError>
     requires { (asked_of script.asked.now).variables ≡ Some prefix.now }
     ensures { IfOk result (λ outcome. TellsOptions (script_of script.entry) prefix.now
-        (given_from 0 (script_of script.entry).entries matches.now.groups) matches.now.free (answer_of outcome)) }
+        (given_from 0 (script_of script.entry).entries matches.now.groups) matches.now.free
+        (answer_of outcome)) }
 {
     let variables = script.variables(prefix);
     Ok(Outcome::done(variables_code(alloc, variables, script.rows, matches)?))

@@ -3,12 +3,15 @@
 
 use crate::host::*;
 
-use super::complete::{is_given, offers, read_words, stub};
+use super::complete::{is_given, offers, stub};
 use super::item::reason_of;
 use super::quote::{push_line, push_quoted};
 use super::row::{Mark, Row};
+use super::script::{Asked, Script};
 use super::table::{TableError, rows_of};
-use super::variables::{VariableError, Variables, main_name, variable_error, variables_code};
+use super::variables::{
+    VariableError, Variables, alone_code, main_name, variable_error, variables_code,
+};
 use super::words::texts_of;
 use crate::getopts::{Fail, HasArg, Matches, Occur, Options, ParsingStyle, names_resolve};
 use ::getopts::bytes::push_bytes;
@@ -48,27 +51,19 @@ struct Output {
     status: u8,
 }
 
-/// What the program's own words ask for.
-struct Asked {
-    brief: Option<String>,
-    stop: bool,
-    long_only: bool,
-    usage: bool,
-    complete: Option<String>,
-    complete_words: Option<String>,
-    variables: Option<String>,
-    arrays: bool,
-}
+impl Outcome {
+    /// Text for the script.
+    fn done(text: String) -> Outcome {
+        Outcome { text, status: DONE }
+    }
 
-/// A script: what is asked for it, its name, its table, and its options, as the rows of the table declare
-/// them.
-#[derive(Clone, Copy)]
-struct Script<'s> {
-    asked: &'s Asked,
-    name: &'s str,
-    table: &'s str,
-    rows: &'s [Row<'s>],
-    options: &'s Options,
+    /// A fault in how the script calls the program.
+    fn misused(text: String) -> Outcome {
+        Outcome {
+            text,
+            status: MISUSED,
+        }
+    }
 }
 
 /// Reads a script's words by a table of options, and writes what the script does with them.
@@ -140,10 +135,7 @@ fn answer_to(alloc: Global, words: &[&str]) -> Result<Outcome, AllocError> {
     let options = own_options(alloc)?;
     match options.parse_words(alloc, words) {
         Ok(own) => own_answer(alloc, &options, &own),
-        Err(fail) => Ok(Outcome {
-            text: fault_line(alloc, "getopts_shell", &fail)?,
-            status: MISUSED,
-        }),
+        Err(fail) => Ok(Outcome::misused(fault_line(alloc, "getopts_shell", &fail)?)),
     }
 }
 
@@ -198,19 +190,13 @@ fn fault_line(alloc: Global, name: &str, fail: &Fail) -> Result<String, AllocErr
     }
 }
 
-/// The answer to the program's own words, where they are accepted with these matches.
+/// The answer to the program's own words with these matches.
 fn own_answer(alloc: Global, options: &Options, own: &Matches) -> Result<Outcome, AllocError> {
     if own.opt_present("help") {
-        return Ok(Outcome {
-            text: options.usage(alloc, BRIEF)?,
-            status: DONE,
-        });
+        return Ok(Outcome::done(options.usage(alloc, BRIEF)?));
     }
     if own.opt_present("version") {
-        return Ok(Outcome {
-            text: String::copy_of(alloc, VERSION)?,
-            status: DONE,
-        });
+        return Ok(Outcome::done(String::copy_of(alloc, VERSION)?));
     }
     let asked = asked_by(alloc, own)?;
     let words = texts_of(alloc, &own.free)?;
@@ -231,14 +217,11 @@ fn asked_by(alloc: Global, own: &Matches) -> Result<Asked, AllocError> {
     })
 }
 
-/// The answer to the free words of the program's own.
+/// The answer to the free words of the program's own: a script's name, its table and its words.
 fn free_answer(alloc: Global, asked: &Asked, words: &[&str]) -> Result<Outcome, AllocError> {
     match words {
         [name, table, words @ ..] => table_answer(alloc, asked, name, table, words),
-        _ => Ok(Outcome {
-            text: String::copy_of(alloc, NEEDED)?,
-            status: MISUSED,
-        }),
+        _ => Ok(Outcome::misused(String::copy_of(alloc, NEEDED)?)),
     }
 }
 
@@ -251,17 +234,14 @@ fn table_answer(
     words: &[&str],
 ) -> Result<Outcome, AllocError> {
     match rows_of(alloc, table) {
-        Ok(rows) => completed_answer(alloc, asked, name, table, &rows, words),
-        Err(error) => Ok(Outcome {
-            text: table_refusal(alloc, error)?,
-            status: MISUSED,
-        }),
+        Ok(rows) => declared_answer(alloc, asked, name, table, &rows, words),
+        Err(error) => Ok(Outcome::misused(table_refusal(alloc, error)?)),
     }
 }
 
-/// The answer to a script's name, the options of its table and its words: the code that completes the words, where
-/// it is asked for, or the answer to the words.
-fn completed_answer(
+/// The answer where a table has these rows: the code that completes words, the fault of the variables, or the answer
+/// for the script.
+fn declared_answer(
     alloc: Global,
     asked: &Asked,
     name: &str,
@@ -269,10 +249,21 @@ fn completed_answer(
     rows: &[Row<'_>],
     words: &[&str],
 ) -> Result<Outcome, AllocError> {
-    match &asked.complete {
-        Some(shell) => completion_answer(alloc, asked, shell.as_str(), name, table),
-        None => declared_answer(alloc, asked, name, table, rows, words),
+    if let Some(shell) = &asked.complete {
+        return completion_answer(alloc, asked, shell.as_str(), name, table);
     }
+    if let Some(error) = asked_error(asked, table, rows) {
+        return Ok(Outcome::misused(variable_refusal(alloc, error)?));
+    }
+    let options = options_of(alloc, asked, rows, false)?;
+    let script = Script {
+        asked,
+        name,
+        table,
+        rows,
+        options: &options,
+    };
+    script_answer(alloc, script, words)
 }
 
 /// The line of the fault of a table.
@@ -286,24 +277,6 @@ fn table_refusal(alloc: Global, error: TableError<'_>) -> Result<String, AllocEr
             "getopts_shell: line {number} of the options: the name '{name}' stands there already\n"
         ),
         TableError::OutOfMemory => Err(AllocError),
-    }
-}
-
-/// The answer to a script's name, the options of its table and its words.
-fn declared_answer(
-    alloc: Global,
-    asked: &Asked,
-    name: &str,
-    table: &str,
-    rows: &[Row<'_>],
-    words: &[&str],
-) -> Result<Outcome, AllocError> {
-    match asked_error(asked, table, rows) {
-        Some(error) => Ok(Outcome {
-            text: variable_refusal(alloc, error)?,
-            status: MISUSED,
-        }),
-        None => rows_answer(alloc, asked, name, table, rows, words),
     }
 }
 
@@ -336,26 +309,6 @@ fn variable_refusal(alloc: Global, error: VariableError<'_>) -> Result<String, A
             "getopts_shell: line {number} of the options: '{name}' makes the variable of another option\n"
         ),
     }
-}
-
-/// The answer to words by the options of a table.
-fn rows_answer(
-    alloc: Global,
-    asked: &Asked,
-    name: &str,
-    table: &str,
-    rows: &[Row<'_>],
-    words: &[&str],
-) -> Result<Outcome, AllocError> {
-    let options = options_of(alloc, asked, rows, false)?;
-    let script = Script {
-        asked,
-        name,
-        table,
-        rows,
-        options: &options,
-    };
-    script_answer(alloc, script, words)
 }
 
 /// The options of a table, in the style and the mode that are asked for: as a help shows them, or as words are read.
@@ -405,10 +358,7 @@ fn shown_occurrence(mark: Mark, occurrence: Occur) -> Occur {
 /// The answer for a script and its words.
 fn script_answer(alloc: Global, script: Script<'_>, words: &[&str]) -> Result<Outcome, AllocError> {
     if script.asked.usage {
-        return Ok(Outcome {
-            text: help_of(alloc, script)?,
-            status: DONE,
-        });
+        return Ok(Outcome::done(help_of(alloc, script)?));
     }
     match &script.asked.complete_words {
         Some(shell) => offer_answer(alloc, shell.as_str(), script, words),
@@ -445,17 +395,15 @@ fn completion_answer(
     table: &str,
 ) -> Result<Outcome, AllocError> {
     match stub(alloc, shell, asked.stop, asked.long_only, name, table)? {
-        Some(text) => Ok(Outcome { text, status: DONE }),
+        Some(text) => Ok(Outcome::done(text)),
         None => no_completion(alloc, shell),
     }
 }
 
 /// What is said where there is no completion in a shell.
 fn no_completion(alloc: Global, shell: &str) -> Result<Outcome, AllocError> {
-    Ok(Outcome {
-        text: text!(in alloc; "getopts_shell: no completion for '{shell}'\n")?,
-        status: MISUSED,
-    })
+    let text = text!(in alloc; "getopts_shell: no completion for '{shell}'\n")?;
+    Ok(Outcome::misused(text))
 }
 
 /// Whether there is completion in a shell.
@@ -473,10 +421,7 @@ fn offer_answer(
     if !has_completion(shell) {
         return no_completion(alloc, shell);
     }
-    Ok(Outcome {
-        text: last_offers(alloc, script, words)?,
-        status: DONE,
-    })
+    Ok(Outcome::done(last_offers(alloc, script, words)?))
 }
 
 /// What may come at the last word.
@@ -494,10 +439,9 @@ fn last_offers(alloc: Global, script: Script<'_>, words: &[&str]) -> Result<Stri
 
 /// The answer to the words of a script. They are read once, whatever their counts.
 fn words_answer(alloc: Global, script: Script<'_>, words: &[&str]) -> Result<Outcome, AllocError> {
-    let found = read_words(alloc, script.options, words)?;
-    match found {
-        Some(matches) => read_answer(alloc, script, words, &matches),
-        None => counted_answer(alloc, script, words),
+    match script.options.parse_ignoring_counts(alloc, words) {
+        Ok(matches) => read_answer(alloc, script, words, &matches),
+        Err(fail) => refusal(alloc, script, &fail),
     }
 }
 
@@ -510,72 +454,17 @@ fn read_answer(
     matches: &Matches,
 ) -> Result<Outcome, AllocError> {
     if asks_help(script.rows, matches) {
-        return Ok(Outcome {
-            text: help_code(alloc, script)?,
-            status: DONE,
-        });
+        return Ok(Outcome::done(help_code(alloc, script)?));
     }
-    let alone = first_alone(script.rows, matches);
-    match alone {
+    match first_alone(script.rows, matches) {
         Some(row) => alone_answer(alloc, script, row),
-        None => kept_answer(alloc, script, words, matches),
+        None => counted_answer(alloc, script, words, matches),
     }
 }
 
 /// Whether matches ask for a help that one of the rows offers.
 fn asks_help(rows: &[Row<'_>], matches: &Matches) -> bool {
     offers_help(rows) && is_given(matches, "help")
-}
-
-/// The answer to words with these matches, whose counts are checked: the code that sets variables where they keep them,
-/// or what they are.
-fn kept_answer(
-    alloc: Global,
-    script: Script<'_>,
-    words: &[&str],
-    matches: &Matches,
-) -> Result<Outcome, AllocError> {
-    match &script.asked.variables {
-        Some(prefix) if keep_counts(script.rows, matches) => Ok(Outcome {
-            text: matched_code(alloc, script, prefix.as_str(), matches)?,
-            status: DONE,
-        }),
-        _ => counted_answer(alloc, script, words),
-    }
-}
-
-/// The code that sets variables to what matches hold.
-fn matched_code(
-    alloc: Global,
-    script: Script<'_>,
-    prefix: &str,
-    matches: &Matches,
-) -> Result<String, AllocError> {
-    let variables = Variables {
-        prefix,
-        arrays: script.asked.arrays,
-    };
-    variables_code(alloc, variables, script.rows, matches)
-}
-
-/// Whether matches keep the counts of these rows.
-fn keep_counts(rows: &[Row<'_>], matches: &Matches) -> bool {
-    for place in 0..rows.len() {
-        let row = rows[place];
-        if !keeps_count(row.occurrence, matches.occurrences_at(place).len()) {
-            return false;
-        }
-    }
-    true
-}
-
-/// Whether an option may come so many times.
-fn keeps_count(occurrence: Occur, count: usize) -> bool {
-    match occurrence {
-        Occur::Req => count == 1,
-        Occur::Optional => count <= 1,
-        Occur::Multi => true,
-    }
 }
 
 /// Whether one of the rows is called `help`, and takes no argument.
@@ -605,47 +494,28 @@ fn is_alone(row: Row<'_>, matches: &Matches) -> bool {
     stands_alone(row.mark) && is_given(matches, main_name(row))
 }
 
-/// The answer to words that ask for one option alone: its line, or the code that sets variables to what it gives.
+/// The answer to words that ask for one option alone: its line, or variables where it alone is given.
 fn alone_answer(alloc: Global, script: Script<'_>, row: Row<'_>) -> Result<Outcome, AllocError> {
     match &script.asked.variables {
-        Some(prefix) => alone_variables(alloc, script, prefix.as_str(), row),
-        None => alone_line(alloc, script, row),
+        Some(prefix) => {
+            let variables = script.variables(prefix.as_str());
+            Ok(Outcome::done(alone_code(
+                alloc,
+                variables,
+                script.rows,
+                row,
+            )?))
+        }
+        None => Ok(Outcome::done(alone_line(alloc, row)?)),
     }
 }
 
 /// The code of the line of one option alone.
-fn alone_line(alloc: Global, script: Script<'_>, row: Row<'_>) -> Result<Outcome, AllocError> {
-    let word = main_word(alloc, row)?;
+fn alone_line(alloc: Global, row: Row<'_>) -> Result<String, AllocError> {
+    let name = main_name(row);
+    let word = text!(in alloc; "--{name}")?;
     let stop = String::copy_of(alloc, "--")?;
-    Ok(Outcome {
-        text: line_code(alloc, &[word, stop])?,
-        status: DONE,
-    })
-}
-
-/// The code that sets variables to what the word of one option gives.
-fn alone_variables(
-    alloc: Global,
-    script: Script<'_>,
-    prefix: &str,
-    row: Row<'_>,
-) -> Result<Outcome, AllocError> {
-    let word = main_word(alloc, row)?;
-    let found = read_words(alloc, script.options, &[word.as_str()])?;
-    match found {
-        Some(matches) => Ok(Outcome {
-            text: matched_code(alloc, script, prefix, &matches)?,
-            status: DONE,
-        }),
-        None => unreachable!(),
-    }
-}
-
-/// The word of an option by its main name.
-fn main_word(alloc: Global, row: Row<'_>) -> Result<String, AllocError> {
-    let mut word = String::copy_of(alloc, "--")?;
-    word.try_push_str(main_name(row))?;
-    Ok(word)
+    line_code(alloc, &[word, stop])
 }
 
 /// The code that prints the help of a script, and ends it.
@@ -657,50 +527,79 @@ fn help_code(alloc: Global, script: Script<'_>) -> Result<String, AllocError> {
     Ok(text)
 }
 
-/// The answer to words whose counts are checked: variables or the canonical line, or the first fault.
+/// The answer to words with these matches, whose counts are checked: variables or the canonical line, or the first
+/// fault. Only where they break a count are they read once more for variables.
 fn counted_answer(
     alloc: Global,
     script: Script<'_>,
     words: &[&str],
+    matches: &Matches,
 ) -> Result<Outcome, AllocError> {
     match &script.asked.variables {
-        Some(prefix) => variables_answer(alloc, script, prefix.as_str(), words),
+        Some(prefix) if keep_counts(script.rows, matches) => {
+            variables_answer(alloc, script, prefix.as_str(), matches)
+        }
+        Some(prefix) => parsed_answer(alloc, script, prefix.as_str(), words),
         None => line_answer(alloc, script, words),
     }
 }
 
-/// The canonical line of words whose counts are checked, or the first fault.
-fn line_answer(alloc: Global, script: Script<'_>, words: &[&str]) -> Result<Outcome, AllocError> {
-    names_resolve(script.options);
-    match script.options.canonical_words(alloc, words) {
-        Ok(Some(line)) => Ok(Outcome {
-            text: line_code(alloc, &line)?,
-            status: DONE,
-        }),
-        Ok(None) => unreachable!(),
-        Err(fail) => Ok(Outcome {
-            text: refusal(alloc, script, &fail)?,
-            status: REFUSED,
-        }),
+/// Whether matches keep the counts of these rows.
+fn keep_counts(rows: &[Row<'_>], matches: &Matches) -> bool {
+    for place in 0..rows.len() {
+        let row = rows[place];
+        if !keeps_count(row.occurrence, matches.occurrences_at(place).len()) {
+            return false;
+        }
+    }
+    true
+}
+
+/// Whether an option may come so many times.
+fn keeps_count(occurrence: Occur, count: usize) -> bool {
+    match occurrence {
+        Occur::Req => count == 1,
+        Occur::Optional => count <= 1,
+        Occur::Multi => true,
     }
 }
 
-/// The code that sets variables by words whose counts are checked, or the first fault.
-fn variables_answer(
+/// The variables of words, or their first fault.
+fn parsed_answer(
     alloc: Global,
     script: Script<'_>,
     prefix: &str,
     words: &[&str],
 ) -> Result<Outcome, AllocError> {
     match script.options.parse_words(alloc, words) {
-        Ok(matches) => Ok(Outcome {
-            text: matched_code(alloc, script, prefix, &matches)?,
-            status: DONE,
-        }),
-        Err(fail) => Ok(Outcome {
-            text: refusal(alloc, script, &fail)?,
-            status: REFUSED,
-        }),
+        Ok(matches) => variables_answer(alloc, script, prefix, &matches),
+        Err(fail) => refusal(alloc, script, &fail),
+    }
+}
+
+/// The code that sets variables to what matches hold.
+fn variables_answer(
+    alloc: Global,
+    script: Script<'_>,
+    prefix: &str,
+    matches: &Matches,
+) -> Result<Outcome, AllocError> {
+    let variables = script.variables(prefix);
+    Ok(Outcome::done(variables_code(
+        alloc,
+        variables,
+        script.rows,
+        matches,
+    )?))
+}
+
+/// The canonical line of words, or their first fault.
+fn line_answer(alloc: Global, script: Script<'_>, words: &[&str]) -> Result<Outcome, AllocError> {
+    names_resolve(script.options);
+    match script.options.canonical_words(alloc, words) {
+        Ok(Some(line)) => Ok(Outcome::done(line_code(alloc, &line)?)),
+        Ok(None) => unreachable!(),
+        Err(fail) => refusal(alloc, script, &fail),
     }
 }
 
@@ -712,11 +611,14 @@ fn line_code(alloc: Global, line: &[String]) -> Result<String, AllocError> {
 }
 
 /// Why a script's words are refused, and the text that its help begins with.
-fn refusal(alloc: Global, script: Script<'_>, fail: &Fail) -> Result<String, AllocError> {
+fn refusal(alloc: Global, script: Script<'_>, fail: &Fail) -> Result<Outcome, AllocError> {
     let mut text = fault_line(alloc, script.name, fail)?;
     let shown = shown_options(alloc, script)?;
     let brief = brief_text(alloc, script, &shown)?;
     text.try_push_str(brief.as_str())?;
     text.try_push('\n')?;
-    Ok(text)
+    Ok(Outcome {
+        text,
+        status: REFUSED,
+    })
 }

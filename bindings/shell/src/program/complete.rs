@@ -3,36 +3,45 @@
 
 use crate::host::*;
 
+use super::item::is_long_name;
 use super::quote::{push_parting, push_replaced};
 use super::row::Row;
 use super::variables::main_name;
 use crate::getopts::{Fail, HasArg, Matches, Occur, Options};
 use crate::host::alloc::{AllocError, Global};
 
-/// What offers words in bash: it reads the words up to the cursor, asks the program, and shows the descriptions
-/// where several options fit.
-const BASH: &str = r#"_getopts_shell_offer() {
-    local line=${COMP_LINE:0:COMP_POINT} words=() at=-1 word rest
+/// What completes words in bash: it reads the words up to the cursor, asks the program, and shows the descriptions
+/// where several options fit. The tables of all scripts stand in one array.
+const BASH: &str = r#"declare -gA _getopts_shell_tables _getopts_shell_modes
+_getopts_shell_offer() {
+    local IFS=' ' name=${1##*/} line=${COMP_LINE:0:COMP_POINT} words=() at=-1 word rest
     for word in "${COMP_WORDS[@]:0:COMP_CWORD+1}"; do
         rest=${line#"${line%%[![:space:]]*}"}
         if [[ $at == -1 || $rest != "$line" ]]; then at=$((at + 1)); fi
         words[at]+=${rest:0:${#word}} line=${rest:${#word}}
     done
-    mapfile -t COMPREPLY < <("${@:2}" "${words[@]:1}" 2>/dev/null)
+    mapfile -t COMPREPLY < <(getopts_shell ${_getopts_shell_modes[$name]-} --complete-words bash "$name" \
+        "${_getopts_shell_tables[$name]-}" "${words[@]:1}" 2>/dev/null)
     if [[ ${COMPREPLY-} == [fv]* ]]; then COMPREPLY=(); compopt -o default; fi
-    line=${words[at]%"$1"}
+    line=${words[at]%"$2"}
     for at in "${!COMPREPLY[@]}"; do
         rest=${COMPREPLY[at]#*$'\t'} word=${COMPREPLY[at]%%$'\t'*}
         if [[ ${#COMPREPLY[@]} == 1 || $COMP_TYPE == 37 || $COMP_TYPE == 42 ]]; then rest=; fi
         COMPREPLY[at]=${word#"$line"}${rest:+  ($rest)}
     done
 }
+_getopts_shell_complete() {
+    local IFS=' ' name=${1##*/}
+    _getopts_shell_tables[$name]=$2 _getopts_shell_modes[$name]=${*:3}
+    complete -F _getopts_shell_offer -- "$1"
+}
 "#;
 
-/// What offers words in zsh.
+/// What completes words in zsh. Where a file in `$fpath` has it, it is first read at a word, which it completes too.
 const ZSH: &str = r#"_getopts_shell_offer() {
     local -a offers
-    offers=("${(@f)$("$@" "${(@Q)words[2,CURRENT-1]}" "$PREFIX" 2>/dev/null)}")
+    offers=("${(@f)$(getopts_shell "${(@)argv[3,-1]}" --complete-words zsh "$1" "$2" \
+        "${(@Q)words[2,CURRENT-1]}" "$PREFIX" 2>/dev/null)}")
     case $offers[1] in
     (files) _files ;;
     (value) compset -P 1 '*='; _files ;;
@@ -43,13 +52,17 @@ const ZSH: &str = r#"_getopts_shell_offer() {
         ;;
     esac
 }
+_getopts_shell_complete() {
+    compdef "_getopts_shell_offer ${(j: :)${(@q)@}}" "$1"
+    if (( $+CURRENT )); then _getopts_shell_offer "$@"; fi
+}
 "#;
 
-/// What offers words in fish.
+/// What completes words in fish.
 const FISH: &str = r#"function _getopts_shell_offer
     set -l before (commandline -opc); set -e before[1]
     set -l word (commandline -ct)
-    set -l offers (command $argv $before "$word" 2>/dev/null)
+    set -l offers (command getopts_shell $argv[3..-1] --complete-words fish $argv[1..2] $before "$word" 2>/dev/null)
     switch "$offers[1]"
         case files; __fish_complete_path "$word"
         case value
@@ -57,6 +70,9 @@ const FISH: &str = r#"function _getopts_shell_offer
             for path in (__fish_complete_path "$parts[2]"); printf '%s=%s\n' $parts[1] $path; end
         case '-*'; printf '%s\n' $offers
     end
+end
+function _getopts_shell_complete
+    complete -c $argv[1] -f -a "(_getopts_shell_offer "(string join ' ' -- (string escape -- $argv))")"
 end
 "#;
 
@@ -73,45 +89,6 @@ fn push_stub_quoted(text: &mut String, word: &str) -> Result<(), AllocError> {
     text.try_push('\'')
 }
 
-/// The mark of a name in names of functions.
-fn name_mark(alloc: Global, name: &str) -> Result<String, AllocError> {
-    let mut text = String::empty(alloc);
-    let bytes = name.as_bytes();
-    for byte in bytes {
-        let number = *byte;
-        add!(text, "_{number}")?;
-    }
-    Ok(text)
-}
-
-/// A word in quotes.
-fn stub_quoted(alloc: Global, word: &str) -> Result<String, AllocError> {
-    let mut text = String::empty(alloc);
-    push_stub_quoted(&mut text, word)?;
-    Ok(text)
-}
-
-/// The call that offers words for a script.
-fn offer_call(
-    alloc: Global,
-    shell: &str,
-    stop: bool,
-    long_only: bool,
-    name: &str,
-    table: &str,
-) -> Result<String, AllocError> {
-    let mut text = String::copy_of(alloc, "getopts_shell ")?;
-    text.try_push_str(if stop { "--stop " } else { "" })?;
-    text.try_push_str(if long_only { "--long-only " } else { "" })?;
-    text.try_push_str("--complete-words ")?;
-    text.try_push_str(shell)?;
-    text.try_push(' ')?;
-    push_stub_quoted(&mut text, name)?;
-    text.try_push(' ')?;
-    push_stub_quoted(&mut text, table)?;
-    Ok(text)
-}
-
 /// The code that completes the words of a script, if there is one for the shell.
 pub(crate) fn stub(
     alloc: Global,
@@ -121,50 +98,59 @@ pub(crate) fn stub(
     name: &str,
     table: &str,
 ) -> Result<Option<String>, AllocError> {
-    let mark = name_mark(alloc, name)?;
-    let call = offer_call(alloc, shell, stop, long_only, name, table)?;
-    let name = stub_quoted(alloc, name)?;
-    stub_of(alloc, shell, mark.as_str(), call.as_str(), name.as_str())
+    let Some(functions) = functions(shell) else {
+        return Ok(None);
+    };
+    let mut text = String::empty(alloc);
+    push_first_line(&mut text, shell, name)?;
+    text.try_push_str(functions)?;
+    text.try_push_str(stub_call(alloc, stop, long_only, name, table)?.as_str())?;
+    Ok(Some(text))
 }
 
-/// The code of a shell, if it is one of the three.
-fn stub_of(
-    alloc: Global,
-    shell: &str,
-    mark: &str,
-    call: &str,
-    name: &str,
-) -> Result<Option<String>, AllocError> {
-    if shell == "bash" {
-        Ok(Some(bash_stub(alloc, mark, call, name)?))
-    } else if shell == "zsh" {
-        Ok(Some(zsh_stub(alloc, mark, call, name)?))
-    } else if shell == "fish" {
-        Ok(Some(fish_stub(alloc, mark, call, name)?))
-    } else {
-        Ok(None)
+/// The functions for all scripts in a shell, if there is completion in it.
+fn functions(shell: &str) -> Option<&'static str> {
+    match shell {
+        "bash" => Some(BASH),
+        "zsh" => Some(ZSH),
+        "fish" => Some(FISH),
+        _ => None,
     }
 }
 
-/// The code for bash.
-fn bash_stub(alloc: Global, mark: &str, call: &str, name: &str) -> Result<String, AllocError> {
-    text!(in alloc;
-        "{BASH}_getopts_shell{mark}() {{ _getopts_shell_offer \"$2\" {call}; }}\ncomplete -F _getopts_shell{mark} -- {name}\n"
-    )
+/// Adds the line that names the script in zsh, where its name ends no line.
+fn push_first_line(text: &mut String, shell: &str, name: &str) -> Result<(), AllocError> {
+    if shell == "zsh" && is_long_name(name.as_bytes()) {
+        add_line!(text, "#compdef {name}")?;
+    }
+    Ok(())
 }
 
-/// The code for zsh.
-fn zsh_stub(alloc: Global, mark: &str, call: &str, name: &str) -> Result<String, AllocError> {
-    text!(in alloc;
-        "{ZSH}_getopts_shell{mark}() {{ _getopts_shell_offer {call}; }}\ncompdef _getopts_shell{mark} {name}\n"
-    )
+/// The line that completes the words of a script.
+fn stub_call(
+    alloc: Global,
+    stop: bool,
+    long_only: bool,
+    name: &str,
+    table: &str,
+) -> Result<String, AllocError> {
+    let mut text = String::copy_of(alloc, "_getopts_shell_complete ")?;
+    push_stub_quoted(&mut text, name)?;
+    text.try_push(' ')?;
+    push_stub_quoted(&mut text, table)?;
+    text.try_push_str(modes(stop, long_only))?;
+    text.try_push('\n')?;
+    Ok(text)
 }
 
-/// The code for fish.
-fn fish_stub(alloc: Global, mark: &str, call: &str, name: &str) -> Result<String, AllocError> {
-    text!(in alloc;
-        "{FISH}function _getopts_shell{mark}; _getopts_shell_offer {call}; end\ncomplete -c {name} -f -a '(_getopts_shell{mark})'\n"
-    )
+/// The program's own options for a style and a mode.
+fn modes(stop: bool, long_only: bool) -> &'static str {
+    match (stop, long_only) {
+        (false, false) => "",
+        (false, true) => " --long-only",
+        (true, false) => " --stop",
+        (true, true) => " --stop --long-only",
+    }
 }
 
 /// What is offered at a word of a script with these options, after the words before it: options, or files.
@@ -190,7 +176,7 @@ fn begins_with_dash(word: &str) -> bool {
     matches!(word.as_bytes(), [b'-', ..])
 }
 
-/// The matches of words after which an option may come, if one may.
+/// The matches of words after which an option may come, if one may: a `--` after them is a stop.
 fn goes_on(
     alloc: Global,
     options: &Options,
@@ -257,24 +243,11 @@ fn options_lines(
 ) -> Result<String, AllocError> {
     let mut text = String::empty(alloc);
     for row in rows {
-        push_row(&mut text, matches, long_only, word, row)?;
+        if may_come(matches, row) {
+            push_option(&mut text, long_only, word, row)?;
+        }
     }
     Ok(text)
-}
-
-/// Adds what is offered of an option, if it may come once more.
-fn push_row(
-    text: &mut String,
-    matches: &Matches,
-    long_only: bool,
-    word: &str,
-    row: &Row<'_>,
-) -> Result<(), AllocError> {
-    if may_come(matches, row) {
-        push_option(text, long_only, word, row)
-    } else {
-        Ok(())
-    }
 }
 
 /// Whether an option may come once more.

@@ -8,6 +8,7 @@ mod complete;
 mod item;
 mod quote;
 mod row;
+mod script;
 mod table;
 mod variables;
 mod words;

@@ -5,8 +5,8 @@ use crate::host::*;
 
 use crate::host::alloc::AllocError;
 
-/// A shell makes of words in quotes the same words; also where they are words of any bytes, read as texts and written
-/// as bytes. No other words are written alike. A law to cite, which does nothing.
+/// A shell makes of words in quotes the same words; also where they are words of any bytes, read as
+/// texts and written as bytes. No other words are written alike. A law to cite, which does nothing.
 pub fn words_come_back() {}
 
 /// Adds a text with another in the place of each such character of ASCII.

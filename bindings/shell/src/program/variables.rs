@@ -16,6 +16,17 @@ pub(crate) struct Variables<'p> {
     pub arrays: bool,
 }
 
+/// How an option came.
+#[derive(Clone, Copy)]
+enum Came<'m> {
+    /// As matches hold it.
+    Held(&'m Occurrences<'m>),
+    /// Once, without a value.
+    Once,
+    /// Not at all.
+    Never,
+}
+
 /// Why there are no variables.
 #[derive(Clone, Copy)]
 pub(crate) enum VariableError<'t> {
@@ -25,7 +36,8 @@ pub(crate) enum VariableError<'t> {
     NoPrefix(&'t str),
     /// The option in the line with this number makes no variable. Holds its main name.
     NoVariable(usize, &'t str),
-    /// The option in the line with this number makes the variable of one before it. Holds its main name.
+    /// The option in the line with this number makes the variable of one before it. Holds its main
+    /// name.
     VariableTwice(usize, &'t str),
 }
 
@@ -46,11 +58,35 @@ pub(crate) fn variables_code(
             &mut text,
             variables,
             *row,
-            &matches.occurrences_at(place),
+            Came::Held(&matches.occurrences_at(place)),
         )?;
     }
     push_line(&mut text, &matches.free)?;
     Ok(text)
+}
+
+/// The code that sets variables where nothing is given but this option, once and without a value.
+pub(crate) fn alone_code(
+    alloc: Global,
+    variables: Variables<'_>,
+    rows: &[Row<'_>],
+    alone: Row<'_>,
+) -> Result<String, AllocError> {
+    let mut text = String::empty(alloc);
+    for row in rows {
+        push_option(alloc, &mut text, variables, *row, came_alone(*row, alone))?;
+    }
+    push_line(&mut text, &[])?;
+    Ok(text)
+}
+
+/// How an option came where nothing is given but this one.
+fn came_alone(row: Row<'_>, alone: Row<'_>) -> Came<'static> {
+    if main_name(row) == main_name(alone) {
+        Came::Once
+    } else {
+        Came::Never
+    }
 }
 
 /// Adds the commands for an option: its variable is taken away, and then set if it has a value.
@@ -59,28 +95,16 @@ fn push_option(
     text: &mut String,
     variables: Variables<'_>,
     row: Row<'_>,
-    given: &Occurrences<'_>,
+    given: Came<'_>,
 ) -> Result<(), AllocError> {
     let name = main_name(row);
     text.try_push_str("\\unset -v ")?;
     push_variable(text, variables.prefix, name)?;
     text.try_push('\n')?;
-    push_setting(alloc, text, variables, row, given)
-}
-
-/// Adds the command that sets the variable of an option, if it has a value.
-fn push_setting(
-    alloc: Global,
-    text: &mut String,
-    variables: Variables<'_>,
-    row: Row<'_>,
-    given: &Occurrences<'_>,
-) -> Result<(), AllocError> {
-    let name = main_name(row);
     match (row.kind, row.mark, row.occurrence) {
-        (HasArg::No, _, _) => push_count(alloc, text, variables.prefix, name, given.len()),
+        (HasArg::No, _, _) => push_count(alloc, text, variables.prefix, name, count(given)),
         (_, Mark::Last, _) => push_last(text, variables.prefix, name, given),
-        (_, _, Occur::Multi) => push_values(alloc, text, variables, name, given),
+        (_, _, Occur::Multi) => push_all(alloc, text, variables, name, given),
         _ => push_last(text, variables.prefix, name, given),
     }
 }
@@ -106,14 +130,15 @@ fn push_count(
     push_value(text, prefix, name, count.as_str())
 }
 
-/// Adds the command that sets a variable to the value of an option's last occurrence, if it has one.
+/// Adds the command that sets a variable to the value of an option's last occurrence, if it has
+/// one.
 fn push_last(
     text: &mut String,
     prefix: &str,
     name: &str,
-    given: &Occurrences<'_>,
+    given: Came<'_>,
 ) -> Result<(), AllocError> {
-    let count = given.len();
+    let count = count(given);
     if count == 0 {
         return Ok(());
     }
@@ -128,53 +153,32 @@ fn push_value(text: &mut String, prefix: &str, name: &str, value: &str) -> Resul
     text.try_push('\n')
 }
 
-/// Adds the command that sets a variable to all values of an option, as an array or as words in quotes.
-fn push_values(
+/// Adds the command that sets a variable to all values of an option, as words in quotes or as an
+/// array. `${NAME+}` is no word: the Korn shell takes a first word such as `typeset` for a
+/// declaration, and `()` for no array.
+fn push_all(
     alloc: Global,
     text: &mut String,
     variables: Variables<'_>,
     name: &str,
-    given: &Occurrences<'_>,
-) -> Result<(), AllocError> {
-    if variables.arrays {
-        push_array(text, variables.prefix, name, given)
-    } else {
-        push_words(alloc, text, variables.prefix, name, given)
-    }
-}
-
-/// Adds the command that sets a variable to all values as words in quotes, which are quoted once more.
-fn push_words(
-    alloc: Global,
-    text: &mut String,
-    prefix: &str,
-    name: &str,
-    given: &Occurrences<'_>,
+    given: Came<'_>,
 ) -> Result<(), AllocError> {
     let mut words = String::empty(alloc);
     push_texts(&mut words, given)?;
-    push_value(text, prefix, name, words.as_str())
-}
-
-/// Adds the command that sets a variable to all values as an array. `${NAME+}` is no word: the Korn shell takes a first
-/// word such as `typeset` for a declaration, and `()` for no array.
-fn push_array(
-    text: &mut String,
-    prefix: &str,
-    name: &str,
-    given: &Occurrences<'_>,
-) -> Result<(), AllocError> {
-    push_variable(text, prefix, name)?;
+    if !variables.arrays {
+        return push_value(text, variables.prefix, name, words.as_str());
+    }
+    push_variable(text, variables.prefix, name)?;
     text.try_push_str("=(${")?;
-    push_variable(text, prefix, name)?;
+    push_variable(text, variables.prefix, name)?;
     text.try_push_str("+} ")?;
-    push_texts(text, given)?;
+    text.try_push_str(words.as_str())?;
     text.try_push_str(")\n")
 }
 
 /// Adds the values of occurrences as words in quotes, with the empty text for one that has none.
-fn push_texts(text: &mut String, given: &Occurrences<'_>) -> Result<(), AllocError> {
-    for nth in 0..given.len() {
+fn push_texts(text: &mut String, given: Came<'_>) -> Result<(), AllocError> {
+    for nth in 0..count(given) {
         push_word(text, nth > 0, text_at(given, nth))?;
     }
     Ok(())
@@ -186,11 +190,23 @@ fn push_word(text: &mut String, begun: bool, word: &str) -> Result<(), AllocErro
     push_quoted(text, word)
 }
 
+/// How many the occurrences are.
+fn count(given: Came<'_>) -> usize {
+    match given {
+        Came::Held(found) => found.len(),
+        Came::Once => 1,
+        Came::Never => 0,
+    }
+}
+
 /// The value of one of the occurrences, or the empty text where it has none.
-fn text_at<'m>(given: &Occurrences<'m>, nth: usize) -> &'m str {
-    match given.get(nth) {
-        Some((_, value)) => value.unwrap_or(""),
-        None => "",
+fn text_at<'m>(given: Came<'m>, nth: usize) -> &'m str {
+    match given {
+        Came::Held(found) => match found.get(nth) {
+            Some((_, Some(value))) => value,
+            _ => "",
+        },
+        _ => "",
     }
 }
 

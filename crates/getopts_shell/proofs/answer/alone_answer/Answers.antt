@@ -16,11 +16,13 @@ returns-in_ok-alone_code-in-Some c =
     let prefix = ap (option_map string_bytes) c.in-Some.is ∙ ap Some (sym c.as_str.ensures.value) in
     at_some _ _ c.as_str.result.now prefix (record {
       sets = alone_sets c.as_str.result.now asked.arrays entries entry
-          (asked_own asked script.table.now c.as_str.result.now (groups_of script.rows.now) prefix script.no_fault);
+          (asked_own asked script.table.now c.as_str.result.now (groups_of script.rows.now) prefix
+          script.no_fault);
       values = alone_holds_texts entries entry;
       free_values = tt;
       answer_is = c.done.ensures
-          ∙ ap done (rw (c.variables-variables.ensures.0, c.variables-variables.ensures.1) at c.in_ok-alone_code-in-Some.ensures);
+          ∙ ap done (rw (c.variables-variables.ensures.0, c.variables-variables.ensures.1)
+          at c.in_ok-alone_code-in-Some.ensures);
     })
 
 pub returns-in_ok-alone_line-in-None : goal.returns-in_ok-alone_line-in-None

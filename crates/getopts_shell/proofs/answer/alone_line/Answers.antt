@@ -11,16 +11,20 @@ use Rattle.getopts_shell.proofs.answer.alone_line.Goals as goal
 
 pub returns-clause-text : goal.returns-clause-text
 returns-clause-text c =
-    let word = c.in_ok-word.ensures.ok ∙ ap (λ (name : Text). 45 ∷ 45 ∷ name) c.main_name-name.ensures in
+    let word = c.in_ok-word.ensures.ok ∙ ap (λ (name : Text). 45 ∷ 45 ∷ name)
+    c.main_name-name.ensures in
     IfOk-weaker c.line_code.result _ _
-    (λ text is. is ∙ ap (λ (word : Text). line_code (word ∷ string_bytes c.in_ok-stop.stop ∷ [])) word
-    ∙ ap (λ (stop : Text). line_code ((45 ∷ 45 ∷ main_name (group_of_row c.args.row).signature.names) ∷ stop ∷ []))
+    (λ text is. is ∙ ap (λ (word : Text). line_code (word ∷ string_bytes c.in_ok-stop.stop ∷ []))
+    word
+    ∙ ap (λ (stop : Text). line_code ((45 ∷ 45 ∷ main_name
+    (group_of_row c.args.row).signature.names) ∷ stop ∷ []))
     c.in_ok-stop.ensures.ok)
     c.line_code.ensures
 
 pub returns-clause-words : goal.returns-clause-words
 returns-clause-words c =
-    let word = c.in_ok-word.ensures.ok ∙ ap (λ (name : Text). 45 ∷ 45 ∷ name) c.main_name-name.ensures in
+    let word = c.in_ok-word.ensures.ok ∙ ap (λ (name : Text). 45 ∷ 45 ∷ name)
+    c.main_name-name.ensures in
     let are : AreTexts (alone_line (entry_of_row c.args.row)) = (
       subst IsUtf8 word (IsUtf8-string_bytes c.in_ok-word.word),
       (subst IsUtf8 c.in_ok-stop.ensures.ok (IsUtf8-string_bytes c.in_ok-stop.stop), tt),

@@ -10,7 +10,8 @@ use Rattle.getopts_shell.proofs.answer.counted_answer.Goals as goal
 
 pub keep_counts-requires : goal.keep_counts-requires
 keep_counts-requires c =
-    held_signatures_are (read_options (script_of c.args.script)) (texts c.args.words.now) c.args.matches.now
+    held_signatures_are (read_options (script_of c.args.script)) (texts c.args.words.now)
+    c.args.matches.now
     c.requires
 
 pub returns-in-Some : goal.returns-in-Some
@@ -19,6 +20,7 @@ returns-in-Some c =
     (λ outcome is. at_some _ _ c.as_str.result.now
     (ap (option_map string_bytes) c.in-Some.is ∙ ap Some (sym c.as_str.ensures.value))
     (at_ok _ _ c.args.matches.now
-    (kept_result (read_options (script_of c.args.script)) (texts c.args.words.now) c.args.matches.now c.requires
+    (kept_result (read_options (script_of c.args.script)) (texts c.args.words.now)
+    c.args.matches.now c.requires
     (sym c.keep_counts.ensures ∙ c.if-keep_counts.true)) is))
     c.variables_answer.ensures

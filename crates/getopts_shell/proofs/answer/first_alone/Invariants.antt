@@ -7,4 +7,5 @@ use Rattle.getopts_shell.proofs.answer.first_alone.Given as goal
 -- what is found in all rows is found from this place on
 abbrev pub invariant-loop-at : goal.invariant-loop-at
 invariant-loop-at l =
-    find (is_alone l.matches) (entries_of l.rows) ≡ find (is_alone l.matches) (entries_of (drop l.at l.rows))
+    find (is_alone l.matches) (entries_of l.rows) ≡ find (is_alone l.matches)
+    (entries_of (drop l.at l.rows))

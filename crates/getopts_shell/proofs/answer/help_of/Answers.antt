@@ -11,7 +11,8 @@ use Rattle.getopts_shell.proofs.answer.help_of.Goals as goal
 pub returns : goal.returns
 returns c =
     subst (λ (shown : Declared). IfOk c.usage.result
-    (λ text. IsTheOnly (IsUsageText shown (brief_text (script_of c.args.script))) (string_bytes text)))
+    (λ text. IsTheOnly (IsUsageText shown (brief_text (script_of c.args.script)))
+    (string_bytes text)))
     c.in_ok-shown.ensures
     (subst (λ (brief : Text). IfOk c.usage.result
     (λ text. IsTheOnly (IsUsageText c.in_ok-shown.shown brief) (string_bytes text)))

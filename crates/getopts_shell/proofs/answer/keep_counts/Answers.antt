@@ -10,21 +10,27 @@ pub loop-place-preserved : goal.loop-place-preserved
 loop-place-preserved c =
     let row = c.index-rows-place.result in
     let groups = c.args.matches.now.groups in
-    let fits = sym (ap (λ (n : ℕ). fits_count row.occurrence n) (c.len.ensures ∙ ap length c.occurrences_at.ensures))
+    let fits = sym (ap (λ (n : ℕ). fits_count row.occurrence n) (c.len.ensures
+    ∙ ap length c.occurrences_at.ensures))
     ∙ sym c.keeps_count.ensures ∙ c.if-not-keeps_count.false in
     c.loop-place.invariant
-    ∙ counts_from groups c.args.rows.now c.loop-place.place row c.requires c.loop-place-test.true c.index-rows-place.is
-    ∙ ap (λ (b : Bool). b && is_none (first_count_fault (drop (c.loop-place.place + 1) groups))) fits
+    ∙ counts_from groups c.args.rows.now c.loop-place.place row c.requires c.loop-place-test.true
+    c.index-rows-place.is
+    ∙ ap (λ (b : Bool). b && is_none (first_count_fault (drop (c.loop-place.place + 1) groups)))
+    fits
 
 pub returns-then-not-keeps_count : goal.returns-then-not-keeps_count
 returns-then-not-keeps_count c =
     let row = c.index-rows-place.result in
     let groups = c.args.matches.now.groups in
-    let breaks = sym (ap (λ (n : ℕ). fits_count row.occurrence n) (c.len.ensures ∙ ap length c.occurrences_at.ensures))
+    let breaks = sym (ap (λ (n : ℕ). fits_count row.occurrence n) (c.len.ensures
+    ∙ ap length c.occurrences_at.ensures))
     ∙ sym c.keeps_count.ensures ∙ c.if-not-keeps_count.true in
     sym (c.loop-place.invariant
-    ∙ counts_from groups c.args.rows.now c.loop-place.place row c.requires c.loop-place-test.true c.index-rows-place.is
-    ∙ ap (λ (b : Bool). b && is_none (first_count_fault (drop (c.loop-place.place + 1) groups))) breaks)
+    ∙ counts_from groups c.args.rows.now c.loop-place.place row c.requires c.loop-place-test.true
+    c.index-rows-place.is
+    ∙ ap (λ (b : Bool). b && is_none (first_count_fault (drop (c.loop-place.place + 1) groups)))
+    breaks)
 
 pub returns : goal.returns
 returns c =

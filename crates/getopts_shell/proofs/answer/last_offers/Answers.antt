@@ -13,8 +13,10 @@ pub returns : goal.returns
 returns c =
     let words = texts c.args.words.now in
     subst (λ (options : Declared). IfOk c.offers-2.result (λ text. IsOffer options
-    (take (length words - 1) words) (last_word words) (string_bytes text))) c.args.script.options_are
+    (take (length words - 1) words) (last_word words) (string_bytes text)))
+    c.args.script.options_are
     (IfOk-weaker c.offers-2.result _ _
-    (λ text is. at_last c.args.script.options.now c.args.words.now _ _ _ (length c.args.words.now - 1)
+    (λ text is. at_last c.args.script.options.now c.args.words.now _ _ _ (length c.args.words.now -
+    1)
     (string_bytes text) (omega (arith, c.if-count-eq0.false)) refl refl refl is)
     c.offers-2.ensures)

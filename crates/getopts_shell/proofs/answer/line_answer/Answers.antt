@@ -21,7 +21,8 @@ pub returns-in_ok-line_code-in-Ok-Some : goal.returns-in_ok-line_code-in-Ok-Some
 returns-in_ok-line_code-in-Ok-Some c =
     let line = map string_bytes c.in-Ok-Some.line.items in
     let tells = tells_words c.args.script.options.now (texts c.args.words.now) line
-    (strings_are_texts c.in-Ok-Some.line.items) c.names_resolve.ensures.empty c.in-Ok-Some.ensures.laws
+    (strings_are_texts c.in-Ok-Some.line.items) c.names_resolve.ensures.empty
+    c.in-Ok-Some.ensures.laws
     (rw c.in-Ok-Some.field-0-is at c.in-Ok-Some.ensures.written) in
     at_ok _ _ (Some line)
     (rw (c.in-Ok-Some.field-0-is, c.args.script.options_are) at c.in-Ok-Some.ensures.result) (
@@ -33,5 +34,6 @@ returns-in_ok-line_code-in-Ok-Some c =
 pub returns-in-Err : goal.returns-in-Err
 returns-in-Err c =
     IfOk-weaker c.refusal.result _ _
-    (λ outcome is. at_err _ _ is.0 (rw (is.1, c.args.script.options_are) at c.in-Err.ensures.result) is.2)
+    (λ outcome is. at_err _ _ is.0 (rw (is.1, c.args.script.options_are) at c.in-Err.ensures.result)
+    is.2)
     c.refusal.ensures

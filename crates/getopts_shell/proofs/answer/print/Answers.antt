@@ -1,6 +1,8 @@
-use Rattle.std.proofs.Common.{◌≡◌, [], ◌++◌, take, drop, refl, sym, ap, subst, ◌∙◌, rules, append-nil, drop_of_length-le}
+use Rattle.std.proofs.Common.{◌≡◌, [], ◌++◌, take, drop, refl, sym, ap, subst, ◌∙◌, rules}
+use Rattle.std.proofs.Common.{append-nil, drop_of_length-le}
 use Rattle.std.specs.Io.KnownBytes.{Appends}
-use Rattle.getopts_shell.proofs.Fronts.{appends_none, appends_kept, appends_more, one_more_piece, cut_piece, on_ok}
+use Rattle.getopts_shell.proofs.Fronts.{appends_none, appends_kept, appends_more, one_more_piece}
+use Rattle.getopts_shell.proofs.Fronts.{cut_piece, on_ok}
 use Rattle.getopts_shell.proofs.answer.print.Goals as goal
 use Rattle.getopts_shell.proofs.answer.print.Goals.{in-Ok, in-Err+else-ne}
 
@@ -45,7 +47,12 @@ loop-preserved g c =
         cut_piece _ done rest w.in-Ok.count split,
         appends_more _ _ _ done (take w.in-Ok.count rest) appended w.in-Ok.ensures.bytes,
       )
-      | in-Err+else-ne w ↦ rw w.rest-is (done, split, appends_kept _ _ _ done appended w.in-Err.ensures.bytes)
+      | in-Err+else-ne w ↦ rw w.rest-is (
+        done,
+        split,
+        appends_kept _ _ _ done appended
+            w.in-Err.ensures.bytes,
+      )
     ]
 
 pub returns-clause-front : goal.returns-clause-front

@@ -9,7 +9,8 @@ pub returns-in-Ok : goal.returns-in-Ok
 returns-in-Ok c =
     IfOk-weaker c.declared_answer.result _ _
     (λ outcome is. declared (entries_of c.deref.result.now)
-    (subst (λ rows. DeclaresOptions c.args.table.now (entries_of rows)) (sym c.deref.ensures.value) c.in-Ok.ensures)
+    (subst (λ rows. DeclaresOptions c.args.table.now (entries_of rows)) (sym c.deref.ensures.value)
+    c.in-Ok.ensures)
     is)
     c.declared_answer.ensures
 

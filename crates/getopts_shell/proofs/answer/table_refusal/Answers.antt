@@ -11,7 +11,8 @@ returns-in-NoOption c =
     IfOk-weaker c.format.result _ _
     (λ text is.
     let line = λ (reason : Text). codes "getopts_shell: line " ++ (decimal c.in-NoOption.number
-    ++ (codes " of the options: " ++ (c.in-NoOption.item.now ++ (codes ": " ++ (reason ++ codes "\n"))))) in
+    ++ (codes " of the options: " ++ (c.in-NoOption.item.now
+    ++ (codes ": " ++ (reason ++ codes "\n"))))) in
     let text_is : string_bytes text ≡ line c.reason_of-reason.result.now = is in (
       no_option c.in-NoOption.number c.in-NoOption.item.now,
       ap fault_told c.in-NoOption.is,
@@ -22,5 +23,9 @@ returns-in-NoOption c =
 pub returns-in-NameTwice : goal.returns-in-NameTwice
 returns-in-NameTwice c =
     IfOk-weaker c.format-in-NameTwice.result _ _
-    (λ text is. (name_twice c.in-NameTwice.number c.in-NameTwice.name.now, ap fault_told c.in-NameTwice.is, is))
+    (λ text is. (
+      name_twice c.in-NameTwice.number c.in-NameTwice.name.now,
+      ap fault_told c.in-NameTwice.is,
+      is,
+    ))
     c.format-in-NameTwice.ensures.ok

@@ -14,5 +14,6 @@ returns c =
       values = c.in_ok-variables_code.ensures.values;
       free_values = c.in_ok-variables_code.ensures.free;
       answer_is = c.done.ensures
-          ∙ ap done (rw (c.variables-variables.ensures.0, c.variables-variables.ensures.1) at c.in_ok-variables_code.ensures.text);
+          ∙ ap done (rw (c.variables-variables.ensures.0, c.variables-variables.ensures.1)
+          at c.in_ok-variables_code.ensures.text);
     }
