@@ -130,13 +130,8 @@ value_gives : (name : Text) (arrays all : Bool) (kind : HasArg) (founds : List F
     (value_line name (held_value arrays kind all (map found_in_bytes founds)))
 value_gives name arrays all No founds named are =
     rw (length-map founds found_in_bytes) (one_gives name _ _ named (decimal_gives (length founds)))
-value_gives name arrays true Yes founds named are = argument_gives name arrays true founds named are
-value_gives name arrays false Yes founds named are =
-    argument_gives name arrays false founds named are
-value_gives name arrays true Maybe founds named are =
-    argument_gives name arrays true founds named are
-value_gives name arrays false Maybe founds named are =
-    argument_gives name arrays false founds named are
+value_gives name arrays all Yes founds named are = argument_gives name arrays all founds named are
+value_gives name arrays all Maybe founds named are = argument_gives name arrays all founds named are
 
 -- ---- the text
 
@@ -193,16 +188,16 @@ code_sets prefix arrays options free own = record {
 -- ---- one option alone
 
 -- what a variable holds where its option came once without a value, or not at all, is UTF-8
+argument_texts : (all given : Bool) → AreTextValues Yes all (cond given once [])
+argument_texts true true = ((ascii_gives [] refl).utf8, tt)
+argument_texts true false = tt
+argument_texts false true = (ascii_gives [] refl).utf8
+argument_texts false false = tt
+
 bare_texts : (kind : HasArg) (all given : Bool) → AreTextValues kind all (cond given once [])
 bare_texts No all given = tt
-bare_texts Yes true true = ((ascii_gives [] refl).utf8, tt)
-bare_texts Yes true false = tt
-bare_texts Yes false true = (ascii_gives [] refl).utf8
-bare_texts Yes false false = tt
-bare_texts Maybe true true = ((ascii_gives [] refl).utf8, tt)
-bare_texts Maybe true false = tt
-bare_texts Maybe false true = (ascii_gives [] refl).utf8
-bare_texts Maybe false false = tt
+bare_texts Yes all given = argument_texts all given
+bare_texts Maybe all given = argument_texts all given
 
 pub alone_holds_texts : (entries : List Entry) (alone : Entry)
     → HoldTexts (given_alone entries alone)

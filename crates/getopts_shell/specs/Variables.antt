@@ -60,9 +60,9 @@ pub data Assigns (name : Text) : Text → Value → Type 0 where
   array_words : (code : Text) (words : List Text) → shell_words code ≡ Some words
       → Assigns name (array_front name ++ (code ++ codes ")")) (many words)
 
--- What a shell that held `before` holds after a command, in which no quotes are open at the end.
--- Nothing is said of other commands, nor of `NAME=` where NAME is set: an array would keep its
--- other texts.
+-- What a shell that held `before` holds after a command. Its words are read to its end, so a line end
+-- in it stands in quotes, and none are open where it ends. Nothing is said of other commands, nor of
+-- `NAME=` where NAME is set: an array would keep its other texts.
 pub data RunsCommand (before : Shell) : Text → Shell → Type 0 where
   sets : (code : Text) (words : List Text) → shell_words code ≡ Some words
       → RunsCommand before (codes "\\set -- " ++ code) (record before { words = words })
@@ -72,8 +72,8 @@ pub data RunsCommand (before : Shell) : Text → Shell → Type 0 where
       → before.value name ≡ None → Assigns name code value
       → RunsCommand before (name ++ (codes "=" ++ code)) (with_variable before name (Some value))
 
--- what a shell holds before and after a text: commands with a line end after each, but perhaps the
--- last
+-- what a shell holds before and after a text of commands: a line end stands after each, but perhaps
+-- not after the last
 pub data RunsText : Shell → Text → Shell → Type 0 where
   no_command : (shell : Shell) → RunsText shell [] shell
   last_command : (before after : Shell) (command : Text) → RunsCommand before command after

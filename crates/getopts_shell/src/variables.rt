@@ -239,18 +239,10 @@ fn push_texts(text: &mut String, given: Came<'_>) -> Result<(), AllocError>
     ensures values { OnOk result (AreTexts (texts_found (founds_of given.entry))) }
 {
     for nth in 0..count(given) {
-        push_word(text, nth > 0, text_at(given, nth))?;
+        push_parting(text, nth > 0, " ")?;
+        push_quoted(text, text_at(given, nth))?;
     }
     Ok(())
-}
-
-/// Adds a word in quotes, after a space where another stands before it.
-fn push_word(text: &mut String, begun: bool, word: &str) -> Result<(), AllocError>
-    ensures { OnOk result (string_bytes text.new
-        ≡ string_bytes text.old ++ (parting begun (codes " ") ++ quoted word.now)) }
-{
-    push_parting(text, begun, " ")?;
-    push_quoted(text, word)
 }
 
 /// How many the occurrences are.
