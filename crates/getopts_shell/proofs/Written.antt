@@ -1,6 +1,6 @@
 -- What a shell makes of the bytes that are written.
 use Rattle.std.proofs.Common.{◌≡◌, ℕ, ◌%◌, ◌/◌, zero, suc, Bool, true, false, cond, eqb, List, []}
-use Rattle.std.proofs.Common.{◌∷◌, ◌++◌, Option, Some, None, refl, sym, ap, subst, ◌∙◌, length, map}
+use Rattle.std.proofs.Common.{◌∷◌, ◌++◌, Option, Some, None, refl, sym, ap, subst, length, map}
 use Rattle.std.proofs.Common.{string_bytes, arith}
 use Rattle.std.specs.Prelude.{MatchOption, codes, decimal, not, ⊤}
 use Rattle.std.specs.Char.{is_ascii, is_ascii_digit}
@@ -21,7 +21,6 @@ use Rattle.getopts.specs.declared.groups.HasArg.{HasArg}
 use Rattle.getopts.specs.declared.groups.HasArg.TheVariants.{Yes, No, Maybe}
 use Rattle.getopts_bytes.specs.Marks.{bytes_of}
 use Rattle.getopts_shell.specs.Program.{IsOneWord, read_groups}
-use Rattle.getopts_shell.specs.Quote.{words_after}
 use Rattle.getopts_shell.specs.Table.{Entry}
 use Rattle.getopts_shell.specs.Variables.{AreTextValues, CodeSetsVariables, found_in_bytes, Given}
 use Rattle.getopts_shell.specs.Variables.{given_alone, HaveOwnVariables, held_value, holds_all}
@@ -228,9 +227,8 @@ alone_sets prefix arrays entries alone own =
 -- a help is one word
 pub one_word : (text : Text) → IsUtf8 text → IsOneWord text
 one_word text utf8 = record {
-  shell = word_same None text refl;
-  bytes = ap (words_after None) (quoted_gives (text_gives text utf8)).bytes_are
-      ∙ word_same None (bytes_of text) refl;
+  shell = word_same text;
+  bytes = rw (quoted_gives (text_gives text utf8)).bytes_are (word_same (bytes_of text));
 }
 
 -- the texts of strings are texts

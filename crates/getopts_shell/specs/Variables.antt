@@ -15,7 +15,7 @@ use Rattle.getopts.specs.declared.groups.Occur.{Occur}
 use Rattle.getopts.specs.Wrap.{lines_of}
 use Rattle.getopts_bytes.specs.Marks.{bytes_of}
 use Rattle.getopts_shell.specs.Completion.{is_multi}
-use Rattle.getopts_shell.specs.Quote.{quoted, quoted_words, shell_words, words_after}
+use Rattle.getopts_shell.specs.Quote.{quoted, quoted_words, shell_words}
 use Rattle.getopts_shell.specs.Table.{Entry, is_passed, line_number}
 use Rattle.getopts_shell.specs.declared.row.Mark.{Mark}
 use Rattle.getopts_shell.specs.declared.row.Mark.TheVariants.{Last}
@@ -53,9 +53,10 @@ is_variable (byte ∷ more) = not (is_ascii_digit byte) && list_all is_variable_
 abbrev pub array_front : Text → Text
 array_front name = codes "(${" ++ (name ++ codes "+} ")
 
--- what `NAME=` and a code assign to an unset NAME: one word, or the words of an array
+-- What `NAME=` and a code assign to an unset NAME: the one word that a shell reads where the code
+-- stands behind `''`, or the words of an array.
 pub data Assigns (name : Text) : Text → Value → Type 0 where
-  one_word : (code word : Text) → words_after (Some []) code ≡ Some (word ∷ [])
+  one_word : (code word : Text) → shell_words (codes "''" ++ code) ≡ Some (word ∷ [])
       → Assigns name code (one word)
   array_words : (code : Text) (words : List Text) → shell_words code ≡ Some words
       → Assigns name (array_front name ++ (code ++ codes ")")) (many words)
