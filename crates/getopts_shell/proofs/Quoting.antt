@@ -2,11 +2,10 @@
 use Rattle.std.proofs.Common.{◌≡◌, ℕ, Bool, true, false, eqb, List, [], ◌∷◌, ◌++◌, Some, None, refl}
 use Rattle.std.proofs.Common.{sym, ap, subst, ◌∙◌, append_assoc, append-nil}
 use Rattle.std.specs.List.{flat_map, fold}
-use Rattle.std.specs.Prelude.{Option, unwrap_or}
 use Rattle.std.proofs.lemmas.Bool.{eqb-true}
 use Rattle.getopts.specs.Names.{Text}
 use Rattle.getopts_shell.specs.Quote.{outside, quoting, read_byte, words_read, shell_words}
-use Rattle.getopts_shell.specs.Quote.{quoted_byte, quoted, spaced, quoted_words, words_after}
+use Rattle.getopts_shell.specs.Quote.{quoted_byte, quoted, spaced, quoted_words}
 
 -- a byte of a word in quotes is read as that byte
 read_quoted_byte : (words : List Text) (word : Text) (byte : ℕ) (more : Text)
@@ -72,10 +71,6 @@ words_only words others alike =
     let same : Some words ≡ Some others =
     sym (words_same words) ∙ ap shell_words alike ∙ words_same others in cc
 
--- of one word in quotes a shell makes that word, also where a word has begun
-pub word_same : (begun : Option Text) (word : Text) → unwrap_or begun [] ≡ []
-    → words_after begun (quoted word) ≡ Some (word ∷ [])
-word_same None word none = ap words_read (read_quoted_bytes [] [] word (39 ∷ []))
-word_same (Some begun) word none =
-    subst (λ (begun : Text). words_after (Some begun) (quoted word) ≡ Some (word ∷ [])) (sym none)
-    (ap words_read (read_quoted_bytes [] [] word (39 ∷ [])))
+-- of one word in quotes a shell makes that word
+pub word_same : (word : Text) → shell_words (quoted word) ≡ Some (word ∷ [])
+word_same word = ap words_read (read_quoted_bytes [] [] word (39 ∷ []))

@@ -57,7 +57,7 @@ after_value_line shell after name None more is runs =
 after_value_line shell after name (Some (one text)) more is runs =
     line_then _ _ after (name ++ 61 ∷ quoted text) more _
     (assigns name (quoted text) (one text) is (unset_value shell name)
-    (one_word (quoted text) text (word_same (Some []) text refl))) runs (simp append_assoc refl)
+    (one_word (quoted text) text (word_same text))) runs (simp append_assoc refl)
 after_value_line shell after name (Some (many words)) more is runs =
     let code = array_front name ++ (quoted_words words ++ 41 ∷ []) in
     line_then _ _ after (name ++ 61 ∷ code) more _

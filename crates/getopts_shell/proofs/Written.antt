@@ -1,6 +1,6 @@
 -- What a shell makes of the bytes that are written.
 use Rattle.std.proofs.Common.{◌≡◌, ℕ, ◌%◌, ◌/◌, zero, suc, Bool, true, false, cond, eqb, List, []}
-use Rattle.std.proofs.Common.{◌∷◌, ◌++◌, Option, Some, None, refl, sym, ap, subst, ◌∙◌, length, map}
+use Rattle.std.proofs.Common.{◌∷◌, ◌++◌, Option, Some, None, refl, sym, ap, subst, length, map}
 use Rattle.std.proofs.Common.{string_bytes, arith}
 use Rattle.std.specs.Prelude.{MatchOption, codes, decimal, not, ⊤}
 use Rattle.std.specs.Char.{is_ascii, is_ascii_digit}
@@ -21,7 +21,6 @@ use Rattle.getopts.specs.declared.groups.HasArg.{HasArg}
 use Rattle.getopts.specs.declared.groups.HasArg.TheVariants.{Yes, No, Maybe}
 use Rattle.getopts_bytes.specs.Marks.{bytes_of}
 use Rattle.getopts_shell.specs.Program.{IsOneWord, read_groups}
-use Rattle.getopts_shell.specs.Quote.{words_after}
 use Rattle.getopts_shell.specs.Table.{Entry}
 use Rattle.getopts_shell.specs.Variables.{AreTextValues, CodeSetsVariables, found_in_bytes, Given}
 use Rattle.getopts_shell.specs.Variables.{given_alone, HaveOwnVariables, held_value, holds_all}
@@ -130,13 +129,8 @@ value_gives : (name : Text) (arrays all : Bool) (kind : HasArg) (founds : List F
     (value_line name (held_value arrays kind all (map found_in_bytes founds)))
 value_gives name arrays all No founds named are =
     rw (length-map founds found_in_bytes) (one_gives name _ _ named (decimal_gives (length founds)))
-value_gives name arrays true Yes founds named are = argument_gives name arrays true founds named are
-value_gives name arrays false Yes founds named are =
-    argument_gives name arrays false founds named are
-value_gives name arrays true Maybe founds named are =
-    argument_gives name arrays true founds named are
-value_gives name arrays false Maybe founds named are =
-    argument_gives name arrays false founds named are
+value_gives name arrays all Yes founds named are = argument_gives name arrays all founds named are
+value_gives name arrays all Maybe founds named are = argument_gives name arrays all founds named are
 
 -- ---- the text
 
@@ -193,16 +187,16 @@ code_sets prefix arrays options free own = record {
 -- ---- one option alone
 
 -- what a variable holds where its option came once without a value, or not at all, is UTF-8
+argument_texts : (all given : Bool) → AreTextValues Yes all (cond given once [])
+argument_texts true true = ((ascii_gives [] refl).utf8, tt)
+argument_texts true false = tt
+argument_texts false true = (ascii_gives [] refl).utf8
+argument_texts false false = tt
+
 bare_texts : (kind : HasArg) (all given : Bool) → AreTextValues kind all (cond given once [])
 bare_texts No all given = tt
-bare_texts Yes true true = ((ascii_gives [] refl).utf8, tt)
-bare_texts Yes true false = tt
-bare_texts Yes false true = (ascii_gives [] refl).utf8
-bare_texts Yes false false = tt
-bare_texts Maybe true true = ((ascii_gives [] refl).utf8, tt)
-bare_texts Maybe true false = tt
-bare_texts Maybe false true = (ascii_gives [] refl).utf8
-bare_texts Maybe false false = tt
+bare_texts Yes all given = argument_texts all given
+bare_texts Maybe all given = argument_texts all given
 
 pub alone_holds_texts : (entries : List Entry) (alone : Entry)
     → HoldTexts (given_alone entries alone)
@@ -233,9 +227,8 @@ alone_sets prefix arrays entries alone own =
 -- a help is one word
 pub one_word : (text : Text) → IsUtf8 text → IsOneWord text
 one_word text utf8 = record {
-  shell = word_same None text refl;
-  bytes = ap (words_after None) (quoted_gives (text_gives text utf8)).bytes_are
-      ∙ word_same None (bytes_of text) refl;
+  shell = word_same text;
+  bytes = rw (quoted_gives (text_gives text utf8)).bytes_are (word_same (bytes_of text));
 }
 
 -- the texts of strings are texts

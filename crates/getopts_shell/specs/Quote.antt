@@ -38,13 +38,9 @@ abbrev pub words_read : Progress → Option (List Text)
 words_read (outside words word) = Some (done words word)
 words_read progress = None
 
--- the words that a shell makes of a text, after this much of a word, where that is said
-abbrev pub words_after : Option Text → Text → Option (List Text)
-words_after word text = words_read (fold read_byte (outside [] word) text)
-
--- the words that a shell makes of a text
+-- the words that a shell makes of a text, where that is said
 abbrev pub shell_words : Text → Option (List Text)
-shell_words text = words_after None text
+shell_words text = words_read (fold read_byte (outside [] None) text)
 
 -- ---- words in quotes
 

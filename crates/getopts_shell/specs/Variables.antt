@@ -15,7 +15,7 @@ use Rattle.getopts.specs.declared.groups.Occur.{Occur}
 use Rattle.getopts.specs.Wrap.{lines_of}
 use Rattle.getopts_bytes.specs.Marks.{bytes_of}
 use Rattle.getopts_shell.specs.Completion.{is_multi}
-use Rattle.getopts_shell.specs.Quote.{quoted, quoted_words, shell_words, words_after}
+use Rattle.getopts_shell.specs.Quote.{quoted, quoted_words, shell_words}
 use Rattle.getopts_shell.specs.Table.{Entry, is_passed, line_number}
 use Rattle.getopts_shell.specs.declared.row.Mark.{Mark}
 use Rattle.getopts_shell.specs.declared.row.Mark.TheVariants.{Last}
@@ -53,16 +53,17 @@ is_variable (byte ∷ more) = not (is_ascii_digit byte) && list_all is_variable_
 abbrev pub array_front : Text → Text
 array_front name = codes "(${" ++ (name ++ codes "+} ")
 
--- what `NAME=` and a code assign to an unset NAME: one word, or the words of an array
+-- What `NAME=` and a code assign to an unset NAME: the one word that a shell reads where the code
+-- stands behind `''`, or the words of an array.
 pub data Assigns (name : Text) : Text → Value → Type 0 where
-  one_word : (code word : Text) → words_after (Some []) code ≡ Some (word ∷ [])
+  one_word : (code word : Text) → shell_words (codes "''" ++ code) ≡ Some (word ∷ [])
       → Assigns name code (one word)
   array_words : (code : Text) (words : List Text) → shell_words code ≡ Some words
       → Assigns name (array_front name ++ (code ++ codes ")")) (many words)
 
--- What a shell that held `before` holds after a command, in which no quotes are open at the end.
--- Nothing is said of other commands, nor of `NAME=` where NAME is set: an array would keep its
--- other texts.
+-- What a shell that held `before` holds after a command. Its words are read to its end, so a line end
+-- in it stands in quotes, and none are open where it ends. Nothing is said of other commands, nor of
+-- `NAME=` where NAME is set: an array would keep its other texts.
 pub data RunsCommand (before : Shell) : Text → Shell → Type 0 where
   sets : (code : Text) (words : List Text) → shell_words code ≡ Some words
       → RunsCommand before (codes "\\set -- " ++ code) (record before { words = words })
@@ -72,8 +73,8 @@ pub data RunsCommand (before : Shell) : Text → Shell → Type 0 where
       → before.value name ≡ None → Assigns name code value
       → RunsCommand before (name ++ (codes "=" ++ code)) (with_variable before name (Some value))
 
--- what a shell holds before and after a text: commands with a line end after each, but perhaps the
--- last
+-- what a shell holds before and after a text of commands: a line end stands after each, but perhaps
+-- not after the last
 pub data RunsText : Shell → Text → Shell → Type 0 where
   no_command : (shell : Shell) → RunsText shell [] shell
   last_command : (before after : Shell) (command : Text) → RunsCommand before command after

@@ -5,23 +5,22 @@ ghost use Rattle.std.specs.Prelude.{slice_get, decimal, slice_index, get_or, Non
 ghost use Rattle.std.specs.Prelude.{MatchOption, true, ⊤};
 ghost use Rattle.std.specs.Char.{is_ascii_digit};
 ghost use Rattle.std.specs.Option.{option_map, option_map_or};
-ghost use Rattle.std.specs.List.{flat_map, last_or, list_all, list_any};
+ghost use Rattle.std.specs.List.{last_or, list_all, list_any};
 ghost use Rattle.std.specs.String.{string_bytes};
 ghost use Rattle.std.specs.Str.{IsUtf8, bytes_eq};
-ghost use Rattle.getopts.specs.Names.{AreTexts, Text, main_name};
+ghost use Rattle.getopts.specs.Names.{AreTexts, main_name};
 ghost use Rattle.getopts.specs.Options.{names_of};
 ghost use Rattle.getopts.specs.Wrap.{lines_of, parting};
 ghost use Rattle.getopts_shell.specs.Held.{entries_of, entry_of_row, group_of_row, groups_of};
 ghost use Rattle.getopts_shell.specs.Held.{variable_fault_told};
-ghost use Rattle.getopts_shell.specs.Completion.{is_multi};
 ghost use Rattle.getopts_shell.specs.Quote.{quoted, quoted_words};
 ghost use Rattle.getopts_shell.specs.Variables.{AreTextValues, CodeSetsVariables, HoldTexts};
 ghost use Rattle.getopts_shell.specs.Variables.{all_values, found_alone, founds_of, given_alone};
-ghost use Rattle.getopts_shell.specs.Variables.{given_as, given_from, held_value, holds_all};
-ghost use Rattle.getopts_shell.specs.Variables.{is_prefix, is_variable, is_variable_byte};
-ghost use Rattle.getopts_shell.specs.Variables.{option_code, option_lines, prefix_fault};
-ghost use Rattle.getopts_shell.specs.Variables.{texts_found, value_line, variable, variable_byte};
-ghost use Rattle.getopts_shell.specs.Variables.{variable_of, variables_code, many, one};
+ghost use Rattle.getopts_shell.specs.Variables.{given_as, given_from, holds_all, is_prefix};
+ghost use Rattle.getopts_shell.specs.Variables.{is_variable, is_variable_byte, option_code};
+ghost use Rattle.getopts_shell.specs.Variables.{option_lines, prefix_fault, texts_found};
+ghost use Rattle.getopts_shell.specs.Variables.{value_line, variable, variable_byte};
+ghost use Rattle.getopts_shell.specs.Variables.{variables_code, many, one};
 
 use crate::quote::{push_line, push_parting, push_quoted, push_replaced};
 use crate::row::{Mark, Row};
@@ -240,18 +239,10 @@ fn push_texts(text: &mut String, given: Came<'_>) -> Result<(), AllocError>
     ensures values { OnOk result (AreTexts (texts_found (founds_of given.entry))) }
 {
     for nth in 0..count(given) {
-        push_word(text, nth > 0, text_at(given, nth))?;
+        push_parting(text, nth > 0, " ")?;
+        push_quoted(text, text_at(given, nth))?;
     }
     Ok(())
-}
-
-/// Adds a word in quotes, after a space where another stands before it.
-fn push_word(text: &mut String, begun: bool, word: &str) -> Result<(), AllocError>
-    ensures { OnOk result (string_bytes text.new
-        ≡ string_bytes text.old ++ (parting begun (codes " ") ++ quoted word.now)) }
-{
-    push_parting(text, begun, " ")?;
-    push_quoted(text, word)
 }
 
 /// How many the occurrences are.
