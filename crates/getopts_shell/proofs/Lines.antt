@@ -2,7 +2,7 @@
 use Rattle.std.proofs.Common.{◌≡◌, ℕ, ◌<◌, ◌+◌, Bool, true, false, List, [], ◌∷◌, ◌++◌, length, take, drop}
 use Rattle.std.proofs.Common.{get_or}
 use Rattle.std.proofs.Common.{map, refl, sym, ap, ◌∙◌, arith}
-use Rattle.std.specs.Prelude.{◌||◌, ◌==◌, Option, Some, None, slice_index, min, ◌-◌, ◌^◌}
+use Rattle.std.specs.Prelude.{◌||◌, ◌==◌, IfSome, Option, Some, None, slice_index, min, ◌-◌, ◌^◌}
 use Rattle.std.specs.List.{AllZip, filter_map, list_any}
 use Rattle.std.specs.Option.{option_to_list}
 use Rattle.std.proofs.Common.{append_assoc, append-nil, subst, length-append}
@@ -20,7 +20,7 @@ use Rattle.std.proofs.lemmas.Str.Ascii.{trim_ascii_is}
 use Rattle.getopts_shell.specs.Table.{after_blanks, trimmed, before_gap, from_gap}
 use Rattle.getopts_shell.specs.Table.{Entry, is_passed, IsItem, DeclaresEntry, Declares}
 use Rattle.getopts_shell.specs.declared.row.Mark.{Mark}
-use Rattle.getopts_shell.specs.Table.{HaveNewNames, DeclareOptions, TableFault}
+use Rattle.getopts_shell.specs.Table.{HaveNewNames, DeclareOptions, TableFault, name_again}
 use Rattle.getopts_shell.specs.Table.{IsLineFault, IsTableFault, no_option, none}
 
 -- a test of what is made of elements
@@ -75,15 +75,50 @@ zip_push R [] (b ∷ ys) x y each one = absurd each
 zip_push R (a ∷ xs) [] x y each one = absurd each
 zip_push R (a ∷ xs) (b ∷ ys) x y each one = (each.0, zip_push R xs ys x y each.1 one)
 
-new_names-append : (before entries more : List Entry) → HaveNewNames before entries
-    → HaveNewNames (before ++ entries) more → HaveNewNames before (entries ++ more)
-new_names-append before [] more new also =
-    subst (λ (b : List Entry). HaveNewNames b more) (append-nil before) also
-new_names-append before (entry ∷ entries) more new also = (
-  new.0,
-  new_names-append (before ++ entry ∷ []) entries more new.1
-      (subst (λ (b : List Entry). HaveNewNames b more) (sym (append_assoc before (entry ∷ []) entries)) also),
-)
+-- How two places of one list are to each other, by what stands before each.
+pub data Places {X : Type 0} (before others : List X) (x y : X) : Type 0 where
+  here : others ≡ before → y ≡ x → Places before others x y
+  later : (more : List X) → others ≡ before ++ x ∷ more → Places before others x y
+  earlier : (more : List X) → before ≡ others ++ y ∷ more → Places before others x y
+
+-- the same, where one element more stands before both
+one_further : {X : Type 0} (before others : List X) (x y first other : X) → other ≡ first
+    → Places before others x y → Places (first ∷ before) (other ∷ others) x y
+one_further before others x y first other same (here is also) = here (cc) also
+one_further before others x y first other same (later more is) = later more cc
+one_further before others x y first other same (earlier more is) = earlier more cc
+
+pub places : {X : Type 0} (before others after rest : List X) (x y : X)
+    → before ++ x ∷ after ≡ others ++ y ∷ rest → Places before others x y
+places [] [] after rest x y same = here refl cc
+places [] (other ∷ others) after rest x y same = later others cc
+places (first ∷ before) [] after rest x y same = earlier before cc
+places (first ∷ before) (other ∷ others) after rest x y same =
+    one_further before others x y first other (cc) (places before others after rest x y (cc))
+
+-- with one more entry, of which no name stands there
+new_names-push : (entries : List Entry) (entry : Entry) → HaveNewNames entries → name_again entries entry ≡ None
+    → HaveNewNames (entries ++ entry ∷ [])
+new_names-push entries entry new not_again before after other is =
+    by_place (places entries before [] after entry other is)
+  where
+    by_place : Places entries before entry other → name_again before other ≡ None
+    by_place (here before_is other_is) = rw (before_is, other_is) not_again
+    by_place (later more before_is) =
+        absurd (omega (
+          arith,
+          ap length is,
+          ap length before_is,
+          length-append entries (entry ∷ []),
+          length-append before (other ∷ after),
+          length-append entries (entry ∷ more),
+        ))
+    by_place (earlier more entries_are) = new before more other entries_are
+
+new_names-append : (entries : List Entry) (declared : Option Entry) → HaveNewNames entries
+    → IfSome declared (λ entry. name_again entries entry ≡ None) → HaveNewNames (entries ++ option_to_list declared)
+new_names-append entries None new not_again = subst HaveNewNames (sym (append-nil entries)) new
+new_names-append entries (Some entry) new not_again = new_names-push entries entry new not_again
 
 -- what the one option is that a line declares, if any
 kept : (declared : Option Entry) → filter_map (λ (d : Option Entry). d) (declared ∷ []) ≡ option_to_list declared
@@ -92,7 +127,8 @@ kept (Some entry) = refl
 
 -- one more line
 pub one_more_line : (lines : List Text) (line : Text) (entries : List Entry) (declared : Option Entry)
-    → DeclareOptions lines entries → Declares line declared → HaveNewNames entries (option_to_list declared)
+    → DeclareOptions lines entries → Declares line declared
+    → IfSome declared (λ entry. name_again entries entry ≡ None)
     → DeclareOptions (lines ++ line ∷ []) (entries ++ option_to_list declared)
 one_more_line lines line entries declared so_far is new = record {
   declared = (
@@ -102,7 +138,7 @@ one_more_line lines line entries declared so_far is new = record {
         ∙ ap (λ (gs : List Entry). filter_map (λ (d : Option Entry). d) so_far.declared.0 ++ gs) (sym (kept declared))
         ∙ sym (filter_map-append (λ (d : Option Entry). d) so_far.declared.0 (declared ∷ [])),
   );
-  once = new_names-append [] entries (option_to_list declared) so_far.once new;
+  once = new_names-append entries declared so_far.once new;
 }
 
 -- The lines so far, their number, and what they declare.
@@ -113,7 +149,7 @@ pub record LinesSoFar (lines : List Text) (number : ℕ) (entries : List Entry) 
 pub next_line : (lines : List Text) (line : Text) (number next : ℕ) (entries : List Entry) (more : List Entry)
     (declared : Option Entry) → LinesSoFar lines number entries → next ≡ min (number + 1) (2 ^ 64 - 1)
     → Declares line declared → more ≡ entries ++ option_to_list declared
-    → HaveNewNames entries (option_to_list declared)
+    → IfSome declared (λ entry. name_again entries entry ≡ None)
     → LinesSoFar (lines ++ line ∷ []) next more
 next_line lines line number next entries more declared so_far next_is is more_is new = record {
   number_is = omega (arith, so_far.number_is, length-append lines (line ∷ []));

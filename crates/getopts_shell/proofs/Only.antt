@@ -9,8 +9,9 @@ use Rattle.getopts.specs.Wrap.{lines_of}
 use Rattle.getopts_shell.specs.Table.{AreNames, Entry, IsItem, HasParts, IsArgument}
 use Rattle.getopts_shell.specs.declared.row.Mark.{Mark}
 use Rattle.getopts_shell.specs.Table.{Declares, DeclaresOptions}
-use Rattle.getopts_shell.specs.Table.{OneTableOneList, DeclareOptions, name_again, HaveNewNames, TableFault, name_twice}
+use Rattle.getopts_shell.specs.Table.{OneTableOneList, DeclareOptions, name_again, TableFault, name_twice}
 use Rattle.getopts_shell.specs.Table.{IsLineFault, none, twice, IsTableFault, line_number}
+use Rattle.getopts_shell.proofs.Lines.{Places, here, later, earlier, places}
 use Rattle.getopts_shell.proofs.Items.{one_bracketed, one_pair, one_names, one_argument}
 
 -- an item has one meaning
@@ -94,15 +95,6 @@ declares_at (first ∷ before) after line (declared ∷ front) (other ∷ each) 
     more (stands found back declares each_is) =
         let same = one_declared first declared other is.0 also.0 in stands found back declares cc
 
--- an entry among entries has no name of one before it
-pub new_at : (before entries : List Entry) (entry : Entry) (more : List Entry)
-    → HaveNewNames before (entries ++ entry ∷ more) → name_again (before ++ entries) entry ≡ None
-new_at before [] entry more new =
-    ap (λ (gs : List Entry). name_again gs entry) (append-nil before) ∙ new.0
-new_at before (first ∷ entries) entry more new =
-    ap (λ (gs : List Entry). name_again gs entry) (sym (append_assoc before (first ∷ []) entries))
-    ∙ new_at (before ++ first ∷ []) entries entry more new.1
-
 -- a line among lines that declare options has no fault
 no_fault_at : (before after : List Text) (line : Text) (number : ℕ) (entries all : List Entry) (fault : TableFault)
     → DeclareOptions before entries → DeclareOptions (before ++ line ∷ after) all
@@ -115,9 +107,8 @@ no_fault_at before after line number entries all fault so_far whole =
     none_again entry back each_is =
         let each = filter_map (λ (d : Option Entry). d) in
         ap (λ (gs : List Entry). name_again gs entry) so_far.declared.2
-        ∙ new_at [] (each so_far.declared.0) entry (each back) (subst (HaveNewNames [])
-        (whole.declared.2 ∙ ap each each_is
-        ∙ filter_map-append (λ (d : Option Entry). d) so_far.declared.0 (Some entry ∷ back)) whole.once)
+        ∙ whole.once (each so_far.declared.0) (each back) entry (whole.declared.2 ∙ ap each each_is
+        ∙ filter_map-append (λ (d : Option Entry). d) so_far.declared.0 (Some entry ∷ back))
 
     by_line : {fault : TableFault} → DeclaresAt line so_far.declared.0 whole.declared.0
         → ¬ (IsLineFault number entries line fault)
@@ -148,25 +139,6 @@ one_line_fault number entries line fault other (twice entry name of again) (twic
     let names : Some another ≡ Some name = sym again_also ∙ ap (name_again entries) entry_is ∙ again in
     let name_is : another ≡ name = cc in
     ap (name_twice number) name_is
-
--- how two places of lines are to each other
-data Places (before others : List Text) (line another : Text) : Type 0 where
-  here : others ≡ before → another ≡ line → Places before others line another
-  later : (more : List Text) → others ≡ before ++ line ∷ more → Places before others line another
-  earlier : (more : List Text) → before ≡ others ++ another ∷ more → Places before others line another
-
-places : (before others after rest : List Text) (line another : Text)
-    → before ++ line ∷ after ≡ others ++ another ∷ rest → Places before others line another
-places [] [] after rest line another same = here refl cc
-places [] (other ∷ others) after rest line another same = later others cc
-places (first ∷ before) [] after rest line another same = earlier before cc
-places (first ∷ before) (other ∷ others) after rest line another same =
-    more (places before others after rest line another cc)
-  where
-    more : Places before others line another → Places (first ∷ before) (other ∷ others) line another
-    more (here is also) = here (cc) also
-    more (later lines is) = later lines cc
-    more (earlier lines is) = earlier lines cc
 
 -- a table has one fault at most
 pub one_fault : (table : Text) (fault other : TableFault) → IsTableFault table fault → IsTableFault table other

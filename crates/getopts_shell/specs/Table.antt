@@ -208,16 +208,15 @@ name_again entries entry =
     if any_has_name entries entry.signature.names.short then Some entry.signature.names.short
     else (if any_has_name entries entry.signature.names.long then Some entry.signature.names.long else None)
 
--- no name stands twice: no entry has a name of one before it, where these stand before the first
-abbrev pub HaveNewNames : List Entry → List Entry → Type 0
-HaveNewNames before [] = ⊤
-HaveNewNames before (entry ∷ entries) =
-    (name_again before entry ≡ None) × HaveNewNames (before ++ entry ∷ []) entries
+-- no name stands twice: no entry has a name of one before it
+abbrev pub HaveNewNames : List Entry → Type 0
+HaveNewNames entries = (before after : List Entry) (entry : Entry) → entries ≡ before ++ entry ∷ after
+    → name_again before entry ≡ None
 
 -- Lines declare these options.
 pub record DeclareOptions (lines : List Text) (entries : List Entry) : Type 0 where
   pub declared : DeclareEntries lines entries
-  pub once : HaveNewNames [] entries
+  pub once : HaveNewNames entries
 
 -- the table declares these options
 abbrev pub DeclaresOptions : Text → List Entry → Type 0

@@ -32,9 +32,6 @@ returns-in-Ok-clause-declared c = (
       (c.trimmed-item.ensures ∙ ap trimmed c.cut_at_gap.ensures.before) c.cut_at_gap.ensures.after
       c.trimmed.ensures c.in-Some.ensures.description c.in-Some.ensures.option,
   ap entries_of c.in-Ok.ensures.items ∙ map-append entry_of_row c.args.rows.now.items (c.in-Some.row ∷ []),
-  (
-    ap (λ rows. name_again (entries_of rows) (entry_of_row c.in-Some.row)) (sym c.deref.ensures.value)
-        ∙ sym c.name_again.ensures ∙ ap option_copied c.in-None.is,
-    tt,
-  ),
+  ap (λ rows. name_again (entries_of rows) (entry_of_row c.in-Some.row)) (sym c.deref.ensures.value)
+      ∙ sym c.name_again.ensures ∙ ap option_copied c.in-None.is,
 )
