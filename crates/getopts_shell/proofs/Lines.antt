@@ -1,5 +1,6 @@
 -- Lines of a table.
-use Rattle.std.proofs.Common.{◌≡◌, ℕ, ◌<◌, ◌+◌, Bool, true, false, List, [], ◌∷◌, ◌++◌, length, take, drop}
+use Rattle.std.proofs.Common.{◌≡◌, ℕ, ◌<◌, ◌+◌, Bool, true, false, List, [], ◌∷◌, ◌++◌, length}
+use Rattle.std.proofs.Common.{take, drop}
 use Rattle.std.proofs.Common.{get_or}
 use Rattle.std.proofs.Common.{map, refl, sym, ap, ◌∙◌, arith}
 use Rattle.std.specs.Prelude.{◌||◌, ◌==◌, IfSome, Option, Some, None, slice_index, min, ◌-◌, ◌^◌}
@@ -39,8 +40,10 @@ trimmed_is text other is = trim_ascii_is text other (after_blanks text) refl is
 pub declares_entry : (line text item rest description : Text) (entry : Entry) → text ≡ trimmed line
     → (is_empty text || (slice_index text 0 == 35)) ≡ false
     → item ≡ trimmed (before_gap text) → rest ≡ from_gap text → description ≡ trimmed rest
-    → entry.description ≡ description → IsItem item entry.signature entry.hint entry.mark → DeclaresEntry line entry
-declares_entry line text item rest description entry text_is there item_is rest_is description_is is of_item =
+    → entry.description ≡ description → IsItem item entry.signature entry.hint entry.mark
+    → DeclaresEntry line entry
+declares_entry line text item rest description entry text_is there item_is rest_is description_is is
+    of_item =
     record {
       there = ap (λ (t : Text). is_empty t || (slice_index t 0 == 35)) (sym text_is) ∙ there;
       item = subst (λ (t : Text). IsItem t entry.signature entry.hint entry.mark)
@@ -64,7 +67,8 @@ faulty_line line text item number entries text_is there item_is none_of =
     declares_not : (declared : Option Entry) → ¬ (Declares line declared)
     declares_not None is = let both : true ≡ false = sym is ∙ passed_not in cc
     declares_not (Some entry) is = none_of entry.signature entry.hint entry.mark
-        (subst (λ (t : Text). IsItem t entry.signature entry.hint entry.mark) (sym (item_is ∙ ap (λ (t : Text). trimmed (before_gap t)) text_is)) is.item)
+        (subst (λ (t : Text). IsItem t entry.signature entry.hint entry.mark)
+        (sym (item_is ∙ ap (λ (t : Text). trimmed (before_gap t)) text_is)) is.item)
 
 -- ---- lines, one after the other
 
@@ -97,7 +101,8 @@ places (first ∷ before) (other ∷ others) after rest x y same =
     one_further before others x y first other (cc) (places before others after rest x y (cc))
 
 -- with one more entry, of which no name stands there
-new_names-push : (entries : List Entry) (entry : Entry) → HaveNewNames entries → name_again entries entry ≡ None
+new_names-push : (entries : List Entry) (entry : Entry) → HaveNewNames entries
+    → name_again entries entry ≡ None
     → HaveNewNames (entries ++ entry ∷ [])
 new_names-push entries entry new not_again before after other is =
     by_place (places entries before [] after entry other is)
@@ -116,17 +121,20 @@ new_names-push entries entry new not_again before after other is =
     by_place (earlier more entries_are) = new before more other entries_are
 
 new_names-append : (entries : List Entry) (declared : Option Entry) → HaveNewNames entries
-    → IfSome declared (λ entry. name_again entries entry ≡ None) → HaveNewNames (entries ++ option_to_list declared)
+    → IfSome declared (λ entry. name_again entries entry ≡ None)
+    → HaveNewNames (entries ++ option_to_list declared)
 new_names-append entries None new not_again = subst HaveNewNames (sym (append-nil entries)) new
 new_names-append entries (Some entry) new not_again = new_names-push entries entry new not_again
 
 -- what the one option is that a line declares, if any
-kept : (declared : Option Entry) → filter_map (λ (d : Option Entry). d) (declared ∷ []) ≡ option_to_list declared
+kept : (declared : Option Entry) → filter_map (λ (d : Option Entry). d) (declared ∷ [])
+    ≡ option_to_list declared
 kept None = refl
 kept (Some entry) = refl
 
 -- one more line
-pub one_more_line : (lines : List Text) (line : Text) (entries : List Entry) (declared : Option Entry)
+pub one_more_line : (lines : List Text) (line : Text) (entries : List Entry)
+    (declared : Option Entry)
     → DeclareOptions lines entries → Declares line declared
     → IfSome declared (λ entry. name_again entries entry ≡ None)
     → DeclareOptions (lines ++ line ∷ []) (entries ++ option_to_list declared)
@@ -135,7 +143,8 @@ one_more_line lines line entries declared so_far is new = record {
     so_far.declared.0 ++ declared ∷ [],
     zip_push Declares lines so_far.declared.0 line declared so_far.declared.1 is,
     ap (λ (gs : List Entry). gs ++ option_to_list declared) so_far.declared.2
-        ∙ ap (λ (gs : List Entry). filter_map (λ (d : Option Entry). d) so_far.declared.0 ++ gs) (sym (kept declared))
+        ∙ ap (λ (gs : List Entry). filter_map (λ (d : Option Entry). d) so_far.declared.0 ++ gs)
+        (sym (kept declared))
         ∙ sym (filter_map-append (λ (d : Option Entry). d) so_far.declared.0 (declared ∷ [])),
   );
   once = new_names-append entries declared so_far.once new;
@@ -146,8 +155,10 @@ pub record LinesSoFar (lines : List Text) (number : ℕ) (entries : List Entry) 
   pub number_is : number ≡ min (length lines) (2 ^ 64 - 1)
   pub declared : DeclareOptions lines entries
 
-pub next_line : (lines : List Text) (line : Text) (number next : ℕ) (entries : List Entry) (more : List Entry)
-    (declared : Option Entry) → LinesSoFar lines number entries → next ≡ min (number + 1) (2 ^ 64 - 1)
+pub next_line : (lines : List Text) (line : Text) (number next : ℕ) (entries : List Entry)
+    (more : List Entry)
+    (declared : Option Entry) → LinesSoFar lines number entries → next
+    ≡ min (number + 1) (2 ^ 64 - 1)
     → Declares line declared → more ≡ entries ++ option_to_list declared
     → IfSome declared (λ entry. name_again entries entry ≡ None)
     → LinesSoFar (lines ++ line ∷ []) next more
@@ -166,22 +177,26 @@ in_parts all n x below is =
     ∙ ap (λ (y : Text). y ∷ drop (n + 1) all) (sym is))
 
 -- the fault of a line is the table's
-pub table_fault : (table : Text) (lines : List Text) (line : Text) (number next : ℕ) (entries : List Entry)
-    (fault : TableFault) → lines ≡ take (length lines) (lines_of table) → length lines < length (lines_of table)
+pub table_fault : (table : Text) (lines : List Text) (line : Text) (number next : ℕ)
+    (entries : List Entry)
+    (fault : TableFault) → lines ≡ take (length lines) (lines_of table)
+    → length lines < length (lines_of table)
     → line ≡ get_or (lines_of table) (length lines) line
     → LinesSoFar lines number entries → next ≡ min (number + 1) (2 ^ 64 - 1)
     → IsLineFault next entries line fault → IsTableFault table fault
-table_fault table lines line number next entries fault so_far_are below line_is so_far next_is is = record {
-  before = lines;
-  line = line;
-  after = drop (length lines + 1) (lines_of table);
-  lines_are = in_parts (lines_of table) (length lines) line below line_is
-      ∙ ap (λ (t : List Text). t ++ line ∷ drop (length lines + 1) (lines_of table)) (sym so_far_are);
-  entries = entries;
-  declared = so_far.declared;
-  fault_at = subst (λ (n : ℕ). IsLineFault n entries line fault)
-      (next_is ∙ omega (arith, so_far.number_is)) is;
-}
+table_fault table lines line number next entries fault so_far_are below line_is so_far next_is is =
+    record {
+      before = lines;
+      line = line;
+      after = drop (length lines + 1) (lines_of table);
+      lines_are = in_parts (lines_of table) (length lines) line below line_is
+          ∙ ap (λ (t : List Text). t ++ line ∷ drop (length lines + 1) (lines_of table))
+          (sym so_far_are);
+      entries = entries;
+      declared = so_far.declared;
+      fault_at = subst (λ (n : ℕ). IsLineFault n entries line fault)
+          (next_is ∙ omega (arith, so_far.number_is)) is;
+    }
 
 -- what an error tells meets what is weaker
 pub tells_weaker : (error : TableError) (P Q : TableFault → Type 0) → TellsFault error P

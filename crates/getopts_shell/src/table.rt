@@ -7,7 +7,8 @@ ghost use Rattle.std.specs.Option.{option_copied, option_to_list};
 ghost use Rattle.std.specs.Str.{bytes_eq};
 ghost use Rattle.getopts.specs.Names.{Text, is_empty};
 ghost use Rattle.getopts_shell.specs.Held.{entry_of_row, entries_of, TellsFault};
-ghost use Rattle.getopts_shell.specs.Table.{trimmed, begins_gap, before_gap, from_gap, any_has_name, name_again};
+ghost use Rattle.getopts_shell.specs.Table.{trimmed, begins_gap, before_gap, from_gap};
+ghost use Rattle.getopts_shell.specs.Table.{any_has_name, name_again};
 ghost use Rattle.getopts_shell.specs.Table.{Entry, OneTableOneList, Declares, DeclaresOptions};
 ghost use Rattle.getopts_shell.specs.Table.{IsLineFault, IsTableFault};
 
@@ -105,7 +106,8 @@ fn any_has_name(rows: &[Row<'_>], name: &str) -> bool
 /// Whether one of the rows has this text as a name.
 fn any_is_called(rows: &[Row<'_>], text: &str) -> bool
     ensures { result
-        ≡ list_any (λ row. bytes_eq row.short.now text.now || bytes_eq row.long.now text.now) rows.now }
+        ≡ list_any (λ row. bytes_eq row.short.now text.now || bytes_eq row.long.now text.now)
+        rows.now }
 {
     rows.iter().any(|row| row.short == text || row.long == text)
 }
