@@ -41,6 +41,7 @@ no_bracket (byte ∷ rest) none = λ is. none rest (ap (λ (b : ℕ). b ∷ rest
 never : {X : Type 0} (x : X) → None ≡ Some x → ⊥
 never x is = cc
 
+-- what an end may mean
 abbrev meaning : Occur → Mark → Option (Occur × Mark)
 meaning occurrence mark = Some (occurrence, mark)
 
@@ -58,45 +59,11 @@ same_parts occurrence another mark behind is =
 closed : (end : Text) (occurrence : Occur) (mark : Mark) → end_means end ≡ Some (occurrence, mark)
     → AllByRecursion (λ (byte : ℕ). byte ≢ 93) end
 closed [] occurrence mark means = tt
-closed (a ∷ []) occurrence mark means = (
-  λ is. never (occurrence, mark) (sym (ap (λ (b : ℕ). end_means (b ∷ [])) is) ∙ means),
-  tt,
-)
-closed (a ∷ b ∷ more) occurrence mark means =
-    by_test (is_empty (a ∷ b ∷ more)) (is_empty-cons a (b ∷ more))
-    (bytes_eq (a ∷ b ∷ more) (33 ∷ [])) refl
-    (bytes_eq (a ∷ b ∷ more) (46 ∷ 46 ∷ [])) refl (bytes_eq (a ∷ b ∷ more) (46 ∷ 46 ∷ 46 ∷ [])) refl
-    (bytes_eq (a ∷ b ∷ more) (42 ∷ [])) refl means
-  where
-    holds_none : (end : Text) → bytes_eq (a ∷ b ∷ more) end ≡ true
-        → AllByRecursion (λ (byte : ℕ). byte ≢ 93) end
-        → AllByRecursion (λ (byte : ℕ). byte ≢ 93) (a ∷ b ∷ more)
-    holds_none end is none = subst (AllByRecursion (λ (byte : ℕ). byte ≢ 93))
-        (sym ((bytes_eq-Decides (a ∷ b ∷ more) end).0 is)) none
-
-    by_test : (nothing : Bool) → nothing ≡ false → (one : Bool) → bytes_eq (a ∷ b ∷ more) (33 ∷ [])
-        ≡ one
-        → (two : Bool) → bytes_eq (a ∷ b ∷ more) (46 ∷ 46 ∷ []) ≡ two
-        → (three : Bool) → bytes_eq (a ∷ b ∷ more) (46 ∷ 46 ∷ 46 ∷ []) ≡ three
-        → (star : Bool) → bytes_eq (a ∷ b ∷ more) (42 ∷ []) ≡ star
-        → cond nothing (meaning Optional Plain)
-        (cond one (meaning Optional Alone) (cond (two || three)
-        (meaning Multi Plain) (cond star (meaning Multi Last) None))) ≡ meaning occurrence mark
-        → AllByRecursion (λ (byte : ℕ). byte ≢ 93) (a ∷ b ∷ more)
-    by_test nothing filled true is two _ three _ star _ means =
-        holds_none (33 ∷ []) is (λ same. absurd (omega arith), tt)
-    by_test nothing filled false _ true is three _ star _ means =
-        holds_none (46 ∷ 46 ∷ []) is
-        (λ same. absurd (omega arith), (λ same. absurd (omega arith), tt))
-    by_test nothing filled false _ false _ true is star _ means =
-        holds_none (46 ∷ 46 ∷ 46 ∷ []) is (
-          λ same. absurd (omega arith),
-          (λ same. absurd (omega arith), (λ same. absurd (omega arith), tt)),
-        )
-    by_test nothing filled false _ false _ false _ true is means =
-        holds_none (42 ∷ []) is (λ same. absurd (omega arith), tt)
-    by_test nothing filled false _ false _ false _ false _ means = absurd (never (occurrence, mark)
-        (sym (ap (λ (b : Bool). cond b (meaning Optional Plain) None) filled) ∙ means))
+closed (a ∷ []) occurrence mark means = (grind (arith, nat_tests), tt)
+closed (a ∷ b ∷ []) occurrence mark means = (grind (arith, nat_tests), (grind (arith, nat_tests), tt))
+closed (a ∷ b ∷ c ∷ []) occurrence mark means =
+    (grind (arith, nat_tests), (grind (arith, nat_tests), (grind (arith, nat_tests), tt)))
+closed (a ∷ b ∷ c ∷ d ∷ more) occurrence mark means = absurd (grind (arith, nat_tests))
 
 -- where a text is cut at its last `]`
 pub last_close : (text : Text) (result : Option (Bor Text × Bor Text))
@@ -193,6 +160,7 @@ one_bracketed text inside other occurrence another mark behind (bracketed end _ 
 abbrev after_names : Option Text → Text
 after_names argument = option_map_or (λ (text : Text). 32 ∷ text) argument []
 
+-- a text is cut at its first space in one way
 cut_once : (names others : Text) (argument other : Option Text)
     → AllByRecursion (λ (byte : ℕ). byte ≢ 32) names
     → AllByRecursion (λ (byte : ℕ). byte ≢ 32) others
@@ -235,6 +203,7 @@ data Shape (short long text : Text) : Type 0 where
   both : (byte : ℕ) → byte ≢ 45 → short ≡ byte ∷ [] → 0 < length long
       → text ≡ 45 ∷ byte ∷ 124 ∷ 45 ∷ 45 ∷ long → Shape short long text
 
+-- names that may stand are written in one of these ways
 shape_of : (short long text : Text) → MayBeNames short long
     → text ≡ names_text (record { short = short; long = long }) → Shape short long text
 shape_of [] long text may is = long_one refl is
@@ -245,9 +214,11 @@ shape_of (byte ∷ []) (first ∷ long) text may is =
     (is_empty-cons first long))
 shape_of (byte ∷ other ∷ short) long text may is = absurd (omega (arith, may.lawful.short_fits))
 
+-- the same of the names of a text
 shape : (names : Names) (text : Text) → AreNames names text → Shape names.short names.long text
 shape names text are = shape_of names.short names.long text are.may_be are.written
 
+-- a text with two dashes has only a long name
 pub only_long : (text : Text) → get_or text 1 0 ≡ 45 → (names : Names) → AreNames names text
     → (names.short ≡ []) × (names.long ≡ drop 2 text)
 only_long text dash names are = by_shape (shape names text are)
@@ -259,6 +230,7 @@ only_long text dash names are = by_shape (shape names text are)
     by_shape (both byte plain one some is) =
         absurd (plain (sym (ap (λ (t : Text). get_or t 1 0) is) ∙ dash))
 
+-- one of two bytes has only a short name
 pub only_short : (text : Text) → get_or text 1 0 ≢ 45 → length text ≡ 2
     → (names : Names) → AreNames names text → (names.short ≡ drop 1 text) × (names.long ≡ [])
 only_short text no_dash two names are = by_shape (shape names text are)
@@ -268,6 +240,7 @@ only_short text no_dash two names are = by_shape (shape names text are)
     by_shape (short_one byte plain one none is) = (one ∙ sym (ap (λ (t : Text). drop 1 t) is), none)
     by_shape (both byte plain one some is) = absurd (omega (arith, ap length is))
 
+-- a longer one with one dash has both
 pub only_both : (text : Text) → get_or text 1 0 ≢ 45 → 2 < length text
     → (names : Names) → AreNames names text
     → (names.short ≡ take 1 (drop 1 text)) × (names.long ≡ drop 5 text)
@@ -287,6 +260,7 @@ pub record Between (text : Text) : Type 0 where
   pub first_dash : get_or text 3 0 ≡ 45
   pub second_dash : get_or text 4 0 ≡ 45
 
+-- what stands between the two names of a text that has both
 pub between_names : (text : Text) → get_or text 1 0 ≢ 45 → 2 < length text
     → (names : Names) → AreNames names text → Between text
 between_names text no_dash more names are = by_shape (shape names text are)
@@ -301,6 +275,7 @@ between_names text no_dash more names are = by_shape (shape names text are)
       second_dash = ap (λ (t : Text). get_or t 4 0) is;
     }
 
+-- and a text where that stands is written for what stands before and after it
 pub written_both : (text : Text) → get_or text 0 0 ≡ 45 → Between text
     → text ≡ names_text (record { short = take 1 (drop 1 text); long = drop 5 text })
 written_both [] dash is = absurd (omega (arith, is.long_enough))
@@ -401,18 +376,31 @@ one_argument Maybe Yes hint other (Some text) is also =
 
 -- ---- items
 
+-- the parts of an item, and its mark, are those that are found
+same_parts_found : (text inside names : Text) (occurrence : Occur) (mark : Mark)
+    (argument : Option Text) → IsBracketed text inside occurrence mark
+    → HasParts inside names argument
+    → (known : Signature) (hint : Text) (behind : Mark) (is : IsItem text known hint behind)
+    → (is.names ≡ names) × (is.argument ≡ argument) × (behind ≡ mark)
+same_parts_found text inside names occurrence mark argument brackets parts known hint behind is =
+    let same = one_bracketed text inside is.inside occurrence known.occurrence mark behind brackets
+    is.brackets in
+    let pair = one_pair inside names is.names argument is.argument parts
+    (subst (λ (t : Text). HasParts t is.names is.argument) same.0 is.parts) in
+    (pair.0, pair.1, same.2)
+
+-- without names there is no item
 pub no_names_none : (text inside names : Text) (occurrence : Occur) (mark : Mark)
     (argument : Option Text)
     → IsBracketed text inside occurrence mark → HasParts inside names argument
     → ((are : Names) → ¬ (AreNames are names))
     → (known : Signature) (hint : Text) (behind : Mark) → ¬ (IsItem text known hint behind)
 no_names_none text inside names occurrence mark argument brackets parts none known hint behind is =
-    let same = one_bracketed text inside is.inside occurrence known.occurrence mark behind brackets
-    is.brackets in
-    let pair = one_pair inside names is.names argument is.argument parts
-    (subst (λ (t : Text). HasParts t is.names is.argument) same.0 is.parts) in
-    none known.names (subst (AreNames known.names) pair.0 is.names_are)
+    let same = same_parts_found text inside names occurrence mark argument brackets parts known hint
+    behind is in
+    none known.names (subst (AreNames known.names) same.0 is.names_are)
 
+-- nor where what stands for its argument is none
 pub no_argument_none : (text inside names : Text) (occurrence : Occur) (mark : Mark)
     (argument : Option Text)
     → IsBracketed text inside occurrence mark → HasParts inside names argument
@@ -420,29 +408,22 @@ pub no_argument_none : (text inside names : Text) (occurrence : Occur) (mark : M
     → (known : Signature) (hint : Text) (behind : Mark) → ¬ (IsItem text known hint behind)
 no_argument_none text inside names occurrence mark argument brackets parts none known hint behind
     is =
-    let same = one_bracketed text inside is.inside occurrence known.occurrence mark behind brackets
-    is.brackets in
-    let pair = one_pair inside names is.names argument is.argument parts
-    (subst (λ (t : Text). HasParts t is.names is.argument) same.0 is.parts) in
-    none known.kind hint (subst (λ (a : Option Text). IsArgument known.kind hint a) pair.1
-    is.argument_is)
+    let same = same_parts_found text inside names occurrence mark argument brackets parts known hint
+    behind is in
+    none known.kind hint (subst (IsArgument known.kind hint) same.1 is.argument_is)
 
--- an argument that doesn't fit the mark
+-- nor where its argument doesn't fit the mark
 pub no_fit_none : (text inside names : Text) (occurrence : Occur) (mark : Mark)
     (argument : Option Text)
     (kind : HasArg) (its_hint : Text) → IsBracketed text inside occurrence mark
-    → HasParts inside names argument
-    → IsArgument kind its_hint argument → fits mark kind ≡ false
+    → HasParts inside names argument → IsArgument kind its_hint argument → fits mark kind ≡ false
     → (known : Signature) (hint : Text) (behind : Mark) → ¬ (IsItem text known hint behind)
 no_fit_none text inside names occurrence mark argument kind its_hint brackets parts argument_is
-    no_fit known hint
-    behind is =
-    let same = one_bracketed text inside is.inside occurrence known.occurrence mark behind brackets
-    is.brackets in
-    let pair = one_pair inside names is.names argument is.argument parts
-    (subst (λ (t : Text). HasParts t is.names is.argument) same.0 is.parts) in
+    no_fit known hint behind is =
+    let same = same_parts_found text inside names occurrence mark argument brackets parts known hint
+    behind is in
     let one = one_argument kind known.kind its_hint hint argument argument_is
-    (subst (λ (a : Option Text). IsArgument known.kind hint a) pair.1 is.argument_is) in
+    (subst (IsArgument known.kind hint) same.1 is.argument_is) in
     let both : false ≡ true = sym no_fit ∙ ap (λ (k : HasArg). fits mark k) (sym one.0)
     ∙ ap (λ (m : Mark). fits m known.kind) (sym same.2) ∙ is.fits_kind in
     cc
@@ -464,6 +445,7 @@ yes_hinted (Some found) text plain some =
     subst (λ (kind : HasArg). IsArgument kind found.1.now (Some text)) (sym some.1)
     (subst (λ (t : Text). is_hint t ≡ true) (sym some.2) some.0, sym some.2)
 
+-- the same of an argument in brackets
 pub maybe_hinted : (result : Option (HasArg × Bor Text)) (text inside : Text)
     → text ≡ 91 ∷ (inside ++ (93 ∷ []))
     → MatchOption result (is_hint inside ≡ false)
@@ -486,6 +468,7 @@ maybe_hinted (Some found) text inside opens some =
       opens ∙ ap (λ (t : Text). 91 ∷ (t ++ (93 ∷ []))) (sym some.2),
     )
 
+-- a text that begins with `[` and doesn't end in `]` is no argument
 pub no_hint : (text rest : Text) → text ≡ 91 ∷ rest → ((front : Text) → rest ≢ front ++ (93 ∷ []))
     → (kind : HasArg) (hint : Text) → ¬ (IsArgument kind hint (Some text))
 no_hint text rest opens none No hint is = is

@@ -72,6 +72,7 @@ faulty_line line text item number entries text_is there item_is none_of =
 
 -- ---- lines, one after the other
 
+-- one more pair
 zip_push : {A B : Type 0} (R : A → B → Type 0) (xs : List A) (ys : List B) (x : A) (y : B)
     → AllZip R xs ys → R x y → AllZip R (xs ++ x ∷ []) (ys ++ y ∷ [])
 zip_push R [] [] x y each one = (one, tt)
@@ -92,6 +93,7 @@ one_further before others x y first other same (here is also) = here (cc) also
 one_further before others x y first other same (later more is) = later more cc
 one_further before others x y first other same (earlier more is) = earlier more cc
 
+-- one of these is so of any two places
 pub places : {X : Type 0} (before others after rest : List X) (x y : X)
     → before ++ x ∷ after ≡ others ++ y ∷ rest → Places before others x y
 places [] [] after rest x y same = here refl cc
@@ -120,6 +122,7 @@ new_names-push entries entry new not_again before after other is =
         ))
     by_place (earlier more entries_are) = new before more other entries_are
 
+-- and with what one more line declares
 new_names-append : (entries : List Entry) (declared : Option Entry) → HaveNewNames entries
     → IfSome declared (λ entry. name_again entries entry ≡ None)
     → HaveNewNames (entries ++ option_to_list declared)
@@ -155,6 +158,7 @@ pub record LinesSoFar (lines : List Text) (number : ℕ) (entries : List Entry) 
   pub number_is : number ≡ min (length lines) (2 ^ 64 - 1)
   pub declared : DeclareOptions lines entries
 
+-- the lines so far, with one more
 pub next_line : (lines : List Text) (line : Text) (number next : ℕ) (entries : List Entry)
     (more : List Entry)
     (declared : Option Entry) → LinesSoFar lines number entries → next

@@ -56,6 +56,7 @@ one_declared line (Some entry) (Some other) is also =
     (also.description ∙ sym is.description)
     ∙ ap (make entry.signature entry.hint entry.description) same.2)
 
+-- lines declare one thing each
 one_each : (lines : List Text) (each others : List (Option Entry)) → AllZip Declares lines each
     → AllZip Declares lines others → others ≡ each
 one_each [] [] [] is also = refl
@@ -76,6 +77,7 @@ one_list lines entries others is also =
     (one_each lines is.declared.0 also.declared.0 is.declared.1 also.declared.1)
     ∙ sym is.declared.2
 
+-- and so does a table
 pub one_table : OneTableOneList
 one_table table = one_list (lines_of table)
 
@@ -86,6 +88,7 @@ data DeclaresAt (line : Text) (front each : List (Option Entry)) : Type 0 where
   stands : (declared : Option Entry) (back : List (Option Entry)) → Declares line declared
       → each ≡ front ++ declared ∷ back → DeclaresAt line front each
 
+-- a line declares something, where lines around it do
 declares_at : (before after : List Text) (line : Text) (front each : List (Option Entry))
     → AllZip Declares before front → AllZip Declares (before ++ line ∷ after) each
     → DeclaresAt line front each

@@ -5,7 +5,7 @@ use Rattle.std.specs.Prelude.{nat_lt}
 use Rattle.std.specs.List.{flat_map, onto_first, slice_split}
 use Rattle.std.proofs.lemmas.Bool.{eqb-true}
 use Rattle.std.proofs.lemmas.Bool.Decides.{nat_tests}
-use Rattle.std.proofs.lemmas.List.{length-append}
+use Rattle.std.proofs.lemmas.List.{length-append, map-id}
 use Rattle.std.proofs.lemmas.List.Splits.{length-slice_split}
 use Rattle.getopts.proofs.Wrapping.Texts.{joined-push}
 use Rattle.getopts.specs.Names.{Text}
@@ -20,6 +20,7 @@ module _ (one : ℕ) (other : Text) (write : Text → Text) (write_byte : ℕ �
     (more : (byte : ℕ) (part : Text) → eqb byte one ≡ false → write (byte ∷ part) ≡ write_byte byte
     ++ write part)
     (at : write_byte one ≡ other) where
+  -- a byte before the first part is written before all
   onto_part : (byte : ℕ) (parts : List Text) → 0 < length parts → eqb byte one ≡ false
       → joined other (map write (onto_first byte parts)) ≡ write_byte byte
       ++ joined other (map write parts)
@@ -30,6 +31,7 @@ module _ (one : ℕ) (other : Text) (write : Text → Text) (write_byte : ℕ �
       ∙ append_assoc (write_byte byte) (write part)
       (flat_map (λ (text : Text). other ++ text) (map write parts))
 
+  -- an empty part before all parts is the other text
   after_part : (parts : List Text) → 0 < length parts
       → joined other (map write ([] ∷ parts)) ≡ other ++ joined other (map write parts)
   after_part [] some = absurd (omega arith)
@@ -39,6 +41,7 @@ module _ (one : ℕ) (other : Text) (write : Text → Text) (write_byte : ℕ �
       ∙ append_assoc other (write part)
       (flat_map (λ (text : Text). other ++ text) (map write parts))
 
+  -- the parts, as they are written, are the word as it is written
   pub parts_written : (word : Text)
       → joined other (map write (slice_split (λ b. eqb b one) word)) ≡ flat_map write_byte word
   parts_written [] = ap (λ (text : Text). text ++ []) nothing
@@ -84,10 +87,6 @@ one_more separator texts begun more old text so_far = record {
       ∙ ap (λ (text : Text). old ++ text) (sym (joined-push separator texts more));
 }
 
-same_parts : (parts : List Text) → map (λ (part : Text). part) parts ≡ parts
-same_parts [] = refl
-same_parts (part ∷ parts) = ap (λ (parts : List Text). part ∷ parts) (same_parts parts)
-
 itself : (one : ℕ) → eqb one one ≡ true
 itself one = grind (arith, nat_tests)
 
@@ -99,7 +98,7 @@ pub all_replaced : (one : ℕ) (other word : Text) (parts : List Text) (begun : 
 all_replaced one other word parts begun old text so_far all =
     so_far.text_is
     ∙ ap (λ (text : Text). old ++ text)
-    (ap (joined other) (sym (same_parts parts))
+    (ap (joined other) (sym (map-id parts))
     ∙ ap (λ (parts : List Text). joined other (map (λ (part : Text). part) parts)) all
     ∙ parts_written one other (λ part. part) (replaced one other) refl
     (λ byte part apart. simp apart refl)

@@ -21,6 +21,7 @@ plain_byte byte is = grind (arith, nat_tests)
 plain_long_byte : (byte : ℕ) → is_long_byte byte ≡ true → eqb byte 61 ≡ false
 plain_long_byte byte is = grind (arith, nat_tests)
 
+-- nor one of a text of such bytes
 plain_bytes : (may_be : ℕ → Bool) → ((byte : ℕ) → may_be byte ≡ true → eqb byte 61 ≡ false)
     → (text : Text) → list_all may_be text ≡ true → holds_equals text ≡ false
 plain_bytes may_be each_plain [] is = refl
@@ -29,6 +30,7 @@ plain_bytes may_be each_plain (byte ∷ text) is =
     or_from (eqb byte 61) (holds_equals text) (each_plain byte each.0)
     (plain_bytes may_be each_plain text each.1)
 
+-- a main name that may stand in a table holds no `=`
 pub plain_main : (names : Names) → is_name names.short ≡ true → is_long_name names.long ≡ true
     → holds_equals (main_name names) ≡ false
 plain_main names short long = by_test (is_empty names.long)
@@ -46,6 +48,7 @@ pub record MayStand (entry : Entry) : Type 0 where
   pub named : MayBeNames entry.signature.names.short entry.signature.names.long
   pub fits_kind : fits entry.mark entry.signature.kind ≡ true
 
+-- each entry that lines declare may stand there
 stands_each : (lines : List Text) (each : List (Option Entry)) → AllZip Declares lines each
     → AllByRecursion MayStand (filter_map (λ (d : Option Entry). d) each)
 stands_each [] [] is = tt

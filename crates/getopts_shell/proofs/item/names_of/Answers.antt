@@ -4,13 +4,8 @@ use Rattle.getopts.specs.Names.{Text}
 use Rattle.getopts_shell.proofs.Items.{only_both, Between, between_names, written_both, by_names}
 use Rattle.getopts_shell.proofs.item.names_of.Goals as goal
 use Rattle.getopts_shell.proofs.item.names_of.Goals.{then-bytes-lt6-via-then-bytes-lt6}
-use Rattle.getopts_shell.proofs.item.names_of.Goals.{}
 use Rattle.getopts_shell.proofs.item.names_of.Goals.{then-bytes-lt6-via-else-bytes-lt6+then-bytes-ne124}
-use Rattle.getopts_shell.proofs.item.names_of.Goals.{}
-use Rattle.getopts_shell.proofs.item.names_of.Goals.{}
 use Rattle.getopts_shell.proofs.item.names_of.Goals.{then-bytes-lt6-via-else-bytes-lt6+else-bytes-ne124+then-bytes-ne45-2}
-use Rattle.getopts_shell.proofs.item.names_of.Goals.{}
-use Rattle.getopts_shell.proofs.item.names_of.Goals.{}
 use Rattle.getopts_shell.proofs.item.names_of.Goals.{then-bytes-lt6-via-else-bytes-lt6+else-bytes-ne124+else-bytes-ne45-2+then-bytes-ne45-3}
 
 pub range_from-requires : goal.range_from-requires
