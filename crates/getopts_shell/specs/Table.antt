@@ -1,9 +1,12 @@
 -- The table of options: what each line of it declares, and which options it declares.
-use Rattle.std.specs.Prelude.{◌≡◌, ◌≢◌, ◌==◌, ◌||◌, ◌&&◌, not, ℕ, ◌+◌, nat_lt, min, ◌-◌, ◌^◌, Bool, true, false}
-use Rattle.std.specs.Prelude.{List, [], ◌∷◌, ◌++◌, Option, Some, None, codes, if◌then◌else◌, slice_index, length}
+use Rattle.std.specs.Prelude.{◌≡◌, ◌≢◌, ◌==◌, ◌||◌, ◌&&◌, not, ℕ, ◌+◌, nat_lt, min, ◌-◌, ◌^◌, Bool}
+use Rattle.std.specs.Prelude.{true, false}
+use Rattle.std.specs.Prelude.{List, [], ◌∷◌, ◌++◌, Option, Some, None, codes, if◌then◌else◌}
+use Rattle.std.specs.Prelude.{slice_index, length}
 use Rattle.std.specs.Prelude.{⊤, drop, take, find}
 use Rattle.std.specs.Char.{is_ascii_alphanumeric, is_ascii_whitespace}
-use Rattle.std.specs.List.{AllByRecursion, AllZip, after_first, before_first, ends_with, filter_map, list_all, list_any}
+use Rattle.std.specs.List.{AllByRecursion, AllZip, after_first, before_first, ends_with, filter_map}
+use Rattle.std.specs.List.{list_all, list_any}
 use Rattle.std.specs.List.{prefix_len, starts_with, suffix_len}
 use Rattle.std.specs.Option.{option_map_or}
 use Rattle.std.specs.Str.{bytes_eq}
@@ -15,7 +18,8 @@ use Rattle.getopts.specs.declared.groups.HasArg.{HasArg}
 use Rattle.getopts.specs.declared.groups.HasArg.TheVariants.{Yes, No, Maybe}
 use Rattle.getopts.specs.declared.groups.Occur.{Occur}
 use Rattle.getopts.specs.declared.groups.Occur.TheVariants.{Req, Optional, Multi}
-use Rattle.getopts_shell.specs.declared.item.TheConstants.{APART, BRACKETS, BYTES, COLON, DASHES, EQUALS, GAP, LETTER}
+use Rattle.getopts_shell.specs.declared.item.TheConstants.{APART, BRACKETS, BYTES, COLON, DASHES}
+use Rattle.getopts_shell.specs.declared.item.TheConstants.{EQUALS, GAP, LETTER}
 use Rattle.getopts_shell.specs.declared.item.TheConstants.{LONG, MARK, OPEN, ORDER, SHORT, SPACE}
 use Rattle.getopts_shell.specs.declared.row.Mark.{Mark}
 use Rattle.getopts_shell.specs.declared.row.Mark.TheVariants.{Plain, Alone, Last}
@@ -24,8 +28,8 @@ use Rattle.getopts_shell.specs.declared.row.Mark.TheVariants.{Plain, Alone, Last
 
 -- a byte that a short name may be: a letter, a digit, or one of `?@#%+_^,./:`
 abbrev pub is_name_byte : ℕ → Bool
-is_name_byte byte = is_ascii_alphanumeric byte || byte == 63 || byte == 64 || byte == 35 || byte == 37
-    || byte == 43 || byte == 95 || byte == 94 || byte == 44 || byte == 46 || byte == 47 || byte == 58
+is_name_byte byte = is_ascii_alphanumeric byte || byte == 63 || byte == 64 || byte == 35
+    || byte == 37 || byte == 43 || byte == 95 || byte == 94 || byte == 44 || byte == 46 || byte == 47 || byte == 58
 
 -- whether a text may be a short name: it doesn't begin with `-`, and its bytes may stand there
 abbrev pub is_name : Text → Bool
@@ -33,10 +37,11 @@ is_name text = not (begins_with_dash text) && list_all is_name_byte text
 
 -- a byte that a long name may hold: a letter, a digit, `-`, `_`, `.`, `+`, `:`, or one from 128 on
 abbrev pub is_long_byte : ℕ → Bool
-is_long_byte byte = is_ascii_alphanumeric byte || byte == 45 || byte == 95 || byte == 46 || byte == 43
-    || byte == 58 || nat_lt 127 byte
+is_long_byte byte = is_ascii_alphanumeric byte || byte == 45 || byte == 95 || byte == 46
+    || byte == 43 || byte == 58 || nat_lt 127 byte
 
--- whether a text may be a long name: it doesn't begin with `-` nor end in `:`, and its bytes may stand there
+-- whether a text may be a long name: it doesn't begin with `-` nor end in `:`, and its bytes may
+-- stand there
 abbrev pub is_long_name : Text → Bool
 is_long_name text = not (begins_with_dash text)
     && (list_all is_long_byte text && not (ends_with ◌==◌ text (codes ":")))
@@ -47,7 +52,8 @@ is_hint_byte byte = not (byte == 32) && not (byte == 9) && not (byte == 91) && n
 
 -- whether a text may be a hint: it doesn't end in two dots, which come after brackets
 abbrev pub is_hint : Text → Bool
-is_hint text = not (is_empty text) && (list_all is_hint_byte text && not (ends_with ◌==◌ text (codes "..")))
+is_hint text = not (is_empty text)
+    && (list_all is_hint_byte text && not (ends_with ◌==◌ text (codes "..")))
 
 -- names as they are written: `-s`, `--long` or `-s|--long`
 abbrev pub names_text : Names → Text
@@ -72,7 +78,8 @@ pub record AreNames (names : Names) (text : Text) : Type 0 where
 abbrev pub IsArgument : HasArg → Text → Option Text → Type 0
 IsArgument No hint None = hint ≡ []
 IsArgument Yes hint (Some text) = (is_hint hint ≡ true) × (text ≡ hint)
-IsArgument Maybe hint (Some text) = (is_hint hint ≡ true) × (text ≡ codes "[" ++ (hint ++ codes "]"))
+IsArgument Maybe hint (Some text) = (is_hint hint ≡ true)
+    × (text ≡ codes "[" ++ (hint ++ codes "]"))
 IsArgument kind hint argument = ⊥
 
 -- names, which hold no space, and after one space the argument, if there is one
@@ -80,8 +87,8 @@ abbrev pub HasParts : Text → Text → Option Text → Type 0
 HasParts text names argument = AllByRecursion (λ byte. byte ≢ 32) names
     × (text ≡ names ++ option_map_or (λ argument. codes " " ++ argument) argument [])
 
--- what stands behind `]`: nothing, the option may come once; `!`, it stands alone; two or three dots, it may come any
--- number of times; `*`, it may so, and its last value counts
+-- what stands behind `]`: nothing, the option may come once; `!`, it stands alone; two or three
+-- dots, it may come any number of times; `*`, it may so, and its last value counts
 abbrev pub end_means : Text → Option (Occur × Mark)
 end_means end =
     if is_empty end then Some (Optional, Plain)
@@ -89,7 +96,8 @@ end_means end =
     else (if bytes_eq end (codes "..") || bytes_eq end (codes "...") then Some (Multi, Plain)
     else (if bytes_eq end (codes "*") then Some (Multi, Last) else None)))
 
--- A text with another inside, in no brackets where it is required, and else in `[` and `]`, and what follows these.
+-- A text with another inside, in no brackets where it is required, and else in `[` and `]`, and
+-- what follows these.
 pub data IsBracketed (text inside : Text) : Occur → Mark → Type 0 where
   bare : text ≡ inside → slice_index text 0 ≢ 91 → IsBracketed text inside Req Plain
   bracketed : (end : Text) (occurrence : Occur) (mark : Mark)
@@ -102,8 +110,8 @@ fits Alone Yes = false
 fits Alone Maybe = false
 fits mark kind = true
 
--- An item: names, and perhaps an argument, in the brackets of an occurrence. An option that stands alone takes no
--- argument.
+-- An item: names, and perhaps an argument, in the brackets of an occurrence. An option that stands
+-- alone takes no argument.
 pub record IsItem (text : Text) (known : Signature) (hint : Text) (mark : Mark) : Type 0 where
   pub inside : Text
   pub brackets : IsBracketed text inside known.occurrence mark
@@ -126,7 +134,8 @@ abbrev pub group_of_entry : Entry → Group
 group_of_entry entry =
     record { signature = entry.signature; hint = entry.hint; description = entry.description }
 
--- the group that a help shows: an option of which the last value counts is shown as one that may come once
+-- the group that a help shows: an option of which the last value counts is shown as one that may
+-- come once
 abbrev pub shown_occurrence : Mark → Occur → Occur
 shown_occurrence Last occurrence = Optional
 shown_occurrence mark occurrence = occurrence
@@ -199,25 +208,23 @@ DeclareEntries lines entries = (each : List (Option Entry)) × AllZip Declares l
 -- whether one of these entries has this name
 abbrev pub any_has_name : List Entry → Text → Bool
 any_has_name entries name = not (is_empty name)
-    && list_any (λ entry. bytes_eq entry.signature.names.short name || bytes_eq entry.signature.names.long name)
-    entries
+    && list_any (λ entry. bytes_eq entry.signature.names.short name
+    || bytes_eq entry.signature.names.long name) entries
 
 -- the first of an entry's names that one of these entries has already
 abbrev pub name_again : List Entry → Entry → Option Text
 name_again entries entry =
-    if any_has_name entries entry.signature.names.short then Some entry.signature.names.short
-    else (if any_has_name entries entry.signature.names.long then Some entry.signature.names.long else None)
+    find (any_has_name entries) (entry.signature.names.short ∷ entry.signature.names.long ∷ [])
 
--- no name stands twice: no entry has a name of one before it, where these stand before the first
-abbrev pub HaveNewNames : List Entry → List Entry → Type 0
-HaveNewNames before [] = ⊤
-HaveNewNames before (entry ∷ entries) =
-    (name_again before entry ≡ None) × HaveNewNames (before ++ entry ∷ []) entries
+-- no name stands twice: no entry has a name of one before it
+abbrev pub HaveNewNames : List Entry → Type 0
+HaveNewNames entries = (before after : List Entry) (entry : Entry)
+    → entries ≡ before ++ entry ∷ after → name_again before entry ≡ None
 
 -- Lines declare these options.
 pub record DeclareOptions (lines : List Text) (entries : List Entry) : Type 0 where
   pub declared : DeclareEntries lines entries
-  pub once : HaveNewNames [] entries
+  pub once : HaveNewNames entries
 
 -- the table declares these options
 abbrev pub DeclaresOptions : Text → List Entry → Type 0
@@ -255,7 +262,9 @@ dashed names =
 -- why a text may be no option: what each reason claims of it, and the reason
 abbrev pub reasons : Text → List (Bool × Text)
 reasons item =
-    let names = names_in item in let short = (dashed names).short in let long = (dashed names).long in
+    let names = names_in item in
+    let short = (dashed names).short in
+    let long = (dashed names).long in
     (holds 91 item && not (holds 93 item), OPEN.now)
     ∷ (slice_index (after 32 item) 0 == 45 || slice_index (after 32 item) 0 == 124, APART.now)
     ∷ (holds 32 (after 93 item), GAP.now)
@@ -276,7 +285,8 @@ reasons item =
 
 -- why a text is no option: the first reason whose claim is so, or else BRACKETS
 abbrev pub reason_of : Text → Text
-reason_of item = option_map_or (λ reason. reason.1) (find (λ reason. reason.0) (reasons item)) BRACKETS.now
+reason_of item = option_map_or (λ reason. reason.1) (find (λ reason. reason.0) (reasons item))
+    BRACKETS.now
 
 -- ---- faults
 
@@ -285,8 +295,8 @@ pub data TableFault : Type 0 where
   no_option : ℕ → Text → TableFault
   name_twice : ℕ → Text → TableFault
 
--- the fault of the line with this number, where the lines before it declare these entries: it declares
--- neither nothing nor an entry, or an entry with a name that stands there already
+-- the fault of the line with this number, where the lines before it declare these entries: it
+-- declares neither nothing nor an entry, or an entry with a name that stands there already
 pub data IsLineFault (number : ℕ) (entries : List Entry) (line : Text) : TableFault → Type 0 where
   none : ((declared : Option Entry) → ¬ (Declares line declared))
       → IsLineFault number entries line (no_option number (item_of line))

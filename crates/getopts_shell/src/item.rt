@@ -1,7 +1,8 @@
 //! Items of a table: the names, the argument and the occurrence of an option.
 
 ghost use Rattle.std.specs.Prelude.{◌≡◌, ◌≢◌, ◌==◌, ◌++◌, ◌∷◌, codes, drop, not, ◌&&◌, ◌||◌};
-ghost use Rattle.std.specs.Prelude.{◌≤◌, Bool, MatchOption, find, length, map, nat_lt, slice_index, true, false};
+ghost use Rattle.std.specs.Prelude.{◌≤◌, Bool, MatchOption, find, length, map, nat_lt, slice_index};
+ghost use Rattle.std.specs.Prelude.{true, false};
 ghost use Rattle.std.specs.List.{AllByRecursion, ends_with, list_all, position_or_len, starts_with};
 ghost use Rattle.std.specs.Option.{option_copied, option_map_or};
 ghost use Rattle.getopts.specs.Names.{Text, Names, is_empty};
@@ -12,7 +13,8 @@ ghost use Rattle.getopts.specs.declared.groups.Occur.{Occur as Occurrence};
 ghost use Rattle.getopts_shell.specs.Held.{entry_of_row};
 ghost use Rattle.getopts_shell.specs.Table.{is_name, is_name_byte, is_hint, is_hint_byte, AreNames};
 ghost use Rattle.getopts_shell.specs.Table.{is_long_name, is_long_byte, MayBeNames};
-ghost use Rattle.getopts_shell.specs.Table.{IsArgument, HasParts, IsBracketed, IsItem, end_means, fits};
+ghost use Rattle.getopts_shell.specs.Table.{IsArgument, HasParts, IsBracketed, IsItem, end_means};
+ghost use Rattle.getopts_shell.specs.Table.{fits};
 ghost use Rattle.getopts_shell.specs.Table.{after, before, dashed, holds, names_in, reason_of};
 ghost use Rattle.getopts_shell.specs.declared.row.Mark.{Mark as Behind};
 
@@ -24,7 +26,8 @@ pub(crate) fn row_of<'t>(item: &'t str, description: &'t str) -> Option<Row<'t>>
     ensures option { MatchOption result
         ((known : Signature) (hint : Text) (mark : Behind) → ¬ (IsItem item.now known hint mark))
         (λ row. IsItem item.now (entry_of_row row).signature row.hint.now row.mark) }
-    ensures description { MatchOption result (Unit {0}) (λ row. row.description.now ≡ description.now) }
+    ensures description { MatchOption result (Unit {0})
+        (λ row. row.description.now ≡ description.now) }
 {
     let (inside, occurrence, mark) = unbracketed(item)?;
     let (names, argument) = parts_of(inside);
@@ -71,7 +74,8 @@ fn unbracketed(text: &str) -> Option<(&str, Occur, Mark)>
 /// A text in two: what stands before its last `]`, and what stands after it.
 fn cut_at_bracket(text: &str) -> Option<(&str, &str)>
     ensures { MatchOption result (AllByRecursion (λ byte. byte ≢ 93) text.now) (λ parts.
-        (text.now ≡ parts.0.now ++ (93 ∷ parts.1.now)) × AllByRecursion (λ byte. byte ≢ 93) parts.1.now) }
+        (text.now ≡ parts.0.now ++ (93 ∷ parts.1.now))
+        × AllByRecursion (λ byte. byte ≢ 93) parts.1.now) }
 {
     text.rsplit_once(']')
 }
@@ -93,7 +97,8 @@ fn end_means(end: &str) -> Option<(Occur, Mark)>
     }
 }
 
-/// The parts of a text: what stands before its first space, and what stands after it, if it has one.
+/// The parts of a text: what stands before its first space, and what stands after it, if it has
+/// one.
 fn parts_of(text: &str) -> (&str, Option<&str>)
     ensures { HasParts text.now result.0.now (option_copied result.1) }
 {
@@ -103,8 +108,8 @@ fn parts_of(text: &str) -> (&str, Option<&str>)
     }
 }
 
-/// The short and the long name that a text is, written as `-s`, `--long` or `-s|--long`, if it is. Either
-/// may be empty.
+/// The short and the long name that a text is, written as `-s`, `--long` or `-s|--long`, if it is.
+/// Either may be empty.
 fn names_of(text: &str) -> Option<(&str, &str)>
     ensures { MatchOption result ((names : Names) → ¬ (AreNames names text.now))
         (λ found. AreNames (record { short = found.0.now; long = found.1.now }) text.now) }
@@ -128,7 +133,8 @@ fn names_of(text: &str) -> Option<(&str, &str)>
 /// These names, if they are lawful and may stand in a table.
 fn lawful_names<'t>(short: &'t str, long: &'t str) -> Option<(&'t str, &'t str)>
     ensures { MatchOption result (¬ (MayBeNames short.now long.now))
-        (λ found. MayBeNames short.now long.now × (found.0.now ≡ short.now) × (found.1.now ≡ long.now)) }
+        (λ found. MayBeNames short.now long.now × (found.0.now ≡ short.now)
+        × (found.1.now ≡ long.now)) }
 {
     if names_lawful(short, long) && is_name(short.as_bytes()) && is_long_name(long.as_bytes()) {
         Some((short, long))
@@ -297,7 +303,8 @@ pub(crate) fn reason_of(item: &str) -> &'static str
 /// The first reason whose claim is so, or else this one.
 fn first_so(reasons: &[(bool, &'static str)], other: &'static str) -> &'static str
     ensures { result.now ≡ option_map_or (λ (reason : Bool × Text). reason.1)
-        (find (λ (reason : Bool × Text). reason.0) (map (λ reason. (reason.0, reason.1.now)) reasons.now)) other.now }
+        (find (λ (reason : Bool × Text). reason.0)
+        (map (λ reason. (reason.0, reason.1.now)) reasons.now)) other.now }
 {
     for reason in reasons {
         if reason.0 {
