@@ -1,6 +1,6 @@
 -- Where an option may come: a `--` after the words is a stop.
-use Rattle.std.proofs.Common.{◌≡◌, ℕ, true, List, [], ◌∷◌, ◌++◌, length, take, refl, sym, ap, subst, ◌∙◌}
-use Rattle.std.proofs.Common.{◌-◌, ◌==◌, Bool, false, append_assoc, arith, length-append}
+use Rattle.std.proofs.Common.{◌≡◌, ◌==◌, ℕ, ◌-◌, Bool, true, false, List, [], ◌∷◌, ◌++◌, length}
+use Rattle.std.proofs.Common.{◌∙◌, ap, append_assoc, arith, length-append, refl, subst, sym, take}
 use Rattle.std.proofs.Math.Seq.{take-append_seam}
 use Rattle.std.proofs.lemmas.Bool.{eqb-true, false≢true}
 use Rattle.std.specs.Option.{option_map_or}
@@ -9,8 +9,9 @@ use Rattle.getopts.specs.Names.{Text}
 use Rattle.getopts.specs.Only.{IsTheOnly}
 use Rattle.getopts.specs.Options.{Declared, Grammar, grammar_of}
 use Rattle.getopts.specs.Parse.{HasReading, Reads}
-use Rattle.getopts.specs.Reading.{IsReading, IsLawfulTail, Item, Reading, Tail, line_end, stop, rest, stop_word}
-use Rattle.getopts.specs.Reading.{AreWellFollowed, EndsOrIsDashed, free_items, item_words, spelled_all, tail_frees, tail_words}
+use Rattle.getopts.specs.Reading.{AreWellFollowed, EndsOrIsDashed, IsLawfulTail, IsReading, Item}
+use Rattle.getopts.specs.Reading.{Reading, Tail, free_items, item_words, line_end, rest}
+use Rattle.getopts.specs.Reading.{spelled_all, stop, stop_word, tail_frees, tail_words}
 use Rattle.getopts_shell.specs.Completion.{MayGoOn}
 
 -- the words with a stop, and an empty word after it
@@ -40,10 +41,12 @@ ends_more [] ys front whole = whole
 ends_more (x ∷ xs) ys front whole = front
 
 -- items that are followed as they may be, are so with fewer words after them, and with a stop more
-followed_front : (items : List Item) (more : List Text) → AreWellFollowed items more → AreWellFollowed items []
+followed_front : (items : List Item) (more : List Text) → AreWellFollowed items more
+    → AreWellFollowed items []
 followed_front [] more followed = tt
 followed_front (item ∷ items) more followed = (
-  λ bare. ends_front (spelled_all items []) more (subst EndsOrIsDashed (spelled_then items [] more) (followed.0 bare)),
+  λ bare. ends_front (spelled_all items []) more
+      (subst EndsOrIsDashed (spelled_then items [] more) (followed.0 bare)),
   followed_front items more followed.1,
 )
 
@@ -56,7 +59,7 @@ followed_more (item ∷ items) words followed = (
   followed_more items words followed.1,
 )
 
--- a tail with a stop and an empty word more, which are free words where it has a stop already, or is a rest
+-- a tail with a stop and an empty word more: free words where it has a stop already, or is a rest
 abbrev stopped : Tail → Tail
 stopped line_end = stop ([] ∷ [])
 stopped (stop words) = stop (with_stop words)
@@ -67,7 +70,8 @@ stopped_words line_end = refl
 stopped_words (stop words) = refl
 stopped_words (rest words) = refl
 
-stopped_lawful : (grammar : Grammar) (tail : Tail) → IsLawfulTail grammar tail → IsLawfulTail grammar (stopped tail)
+stopped_lawful : (grammar : Grammar) (tail : Tail) → IsLawfulTail grammar tail
+    → IsLawfulTail grammar (stopped tail)
 stopped_lawful grammar line_end lawful = tt
 stopped_lawful grammar (stop words) lawful = tt
 stopped_lawful grammar (rest []) lawful = absurd lawful
@@ -79,7 +83,8 @@ stop_reads : (grammar : Grammar) (items : List Item) (tail : Tail) (words : List
     → IsReading grammar (record { items = items; tail = stopped tail }) (with_stop words)
 stop_reads grammar items tail words is = record {
   spells = ap (λ (more : List Text). spelled_all items more) (stopped_words tail)
-      ∙ spelled_then items (tail_words tail) (stop_word ∷ [] ∷ []) ∙ ap (λ (words : List Text). with_stop words) is.spells;
+      ∙ spelled_then items (tail_words tail) (stop_word ∷ [] ∷ [])
+      ∙ ap (λ (words : List Text). with_stop words) is.spells;
   items = is.items;
   tail = stopped_lawful grammar tail is.tail;
   followed = subst (λ (more : List Text). AreWellFollowed items more) (sym (stopped_words tail))
@@ -116,24 +121,30 @@ was_line_end (stop words) word same =
     absurd (omega (arith, ap length alike, length-append words (stop_word ∷ [] ∷ [])))
 was_line_end (rest words) word same = absurd cc
 
-same_reading : (reading other : Reading) → other.items ≡ reading.items → other.tail ≡ reading.tail → other ≡ reading
+-- readings of the same items and the same tail are one
+same_reading : (reading other : Reading) → other.items ≡ reading.items → other.tail ≡ reading.tail
+    → other ≡ reading
 same_reading reading other items tail =
-    ap (λ (i : List Item). record other { items = i }) items ∙ ap (λ (t : Tail). record reading { tail = t }) tail
+    ap (λ (i : List Item). record other { items = i }) items
+    ∙ ap (λ (t : Tail). record reading { tail = t }) tail
 
--- and that reading is the only one
+-- where the reading with the stop is the only one, so is that one
 front_only : (options : Declared) (before : List Text) (items : List Item) (word : Text)
-    → IsTheOnly (Reads options (with_stop before)) (record { items = items; tail = stop (word ∷ []) })
+    → IsTheOnly (Reads options (with_stop before))
+    (record { items = items; tail = stop (word ∷ []) })
     → IsTheOnly (Reads options before) (record { items = items; tail = line_end })
 front_only options before items word only other = (
   λ reads.
       let same = (only (record { items = other.items; tail = stopped other.tail })).0
       (stop_reads (grammar_of options) other.items other.tail before reads) in
-      same_reading (record { items = items; tail = line_end }) other (ap (λ (r : Reading). r.items) same)
+      same_reading (record { items = items; tail = line_end }) other
+      (ap (λ (r : Reading). r.items) same)
       (was_line_end other.tail word (ap (λ (r : Reading). r.tail) same)),
   λ same. subst (Reads options before) (sym same)
       (front_reads (grammar_of options) items before word ((only _).1 refl)),
 )
 
+-- where one word stands after the stop, the reading tells so by its tail
 by_tail : (options : Declared) (before : List Text) (items : List Item) (tail : Tail)
     → IsTheOnly (Reads options (with_stop before)) (record { items = items; tail = tail })
     → is_last_after_stop (matches_of options (record { items = items; tail = tail })) ≡ true
@@ -148,7 +159,11 @@ by_tail options before items (stop (word ∷ [])) only last = record {
   groups_are = refl;
 }
 by_tail options before items (stop (word ∷ other ∷ more)) only last =
-    absurd (omega (arith, eqb-true _ 1 last, length-append (free_items items) (word ∷ other ∷ more)))
+    absurd (omega (
+      arith,
+      eqb-true _ 1 last,
+      length-append (free_items items) (word ∷ other ∷ more),
+    ))
 
 -- an option may come where one word stands after the stop
 pub goes_on : (options : Declared) (before : List Text) (matches : Matched)
@@ -159,16 +174,21 @@ goes_on options before matches read last =
     (by_tail options before read.reading.items read.reading.tail read.only
     (subst (λ (m : Matched). is_last_after_stop m ≡ true) read.matches_are last))
 
--- where an option may come, the words with the stop have a reading, with the empty word after the stop
+-- where an option may come, the words with the stop have a reading, with the empty word after it
 pub may_stop : (options : Declared) (before : List Text) (groups : List MatchedGroup)
     → (may : MayGoOn options before groups)
     → Reads options (with_stop before) (record { items = may.reading.items; tail = stop ([] ∷ []) })
 may_stop options before groups may =
-    subst (λ (t : Tail). Reads options (with_stop before) (record { items = may.reading.items; tail = stopped t }))
-    may.ends (stop_reads (grammar_of options) may.reading.items may.reading.tail before ((may.only may.reading).1 refl))
+    subst
+    (λ (t : Tail). Reads options (with_stop before)
+    (record { items = may.reading.items; tail = stopped t }))
+    may.ends (stop_reads (grammar_of options) may.reading.items may.reading.tail before
+    ((may.only may.reading).1 refl))
 
-pub last_after_stop : (options : Declared) (before : List Text) (matches : Matched) (groups : List MatchedGroup)
-    → HasReading options (with_stop before) matches → MayGoOn options before groups
+-- and whatever reading they have, one word stands after the stop
+pub last_after_stop : (options : Declared) (before : List Text) (matches : Matched)
+    → (groups : List MatchedGroup) → HasReading options (with_stop before) matches
+    → MayGoOn options before groups
     → is_last_after_stop matches ≡ true
 last_after_stop options before matches groups read may =
     let same = (read.only _).0 (may_stop options before groups may) in
@@ -176,7 +196,8 @@ last_after_stop options before matches groups read may =
     (ap (matches_of options) same ∙ sym read.matches_are) (one_after may.reading.items)
   where
     one_after : (items : List Item)
-        → is_last_after_stop (matches_of options (record { items = items; tail = stop ([] ∷ []) })) ≡ true
+        → is_last_after_stop (matches_of options
+        (record { items = items; tail = stop ([] ∷ []) })) ≡ true
     one_after items =
         let one : length (free_items items ++ [] ∷ []) - length (free_items items) ≡ 1 =
         omega (arith, length-append (free_items items) ([] ∷ [])) in

@@ -1,6 +1,6 @@
 -- Completion: the code that a shell runs at a script's words, and what the program offers it there.
-use Rattle.std.specs.Prelude.{◌≡◌, ◌==◌, ◌&&◌, ◌||◌, not, ℕ, nat_eq, Bool, true, false, List, [], ◌++◌}
-use Rattle.std.specs.Prelude.{Option, Some, None, codes, if◌then◌else◌}
+use Rattle.std.specs.Prelude.{◌≡◌, ◌==◌, ◌&&◌, ◌||◌, not, ℕ, nat_eq, Bool, true, false}
+use Rattle.std.specs.Prelude.{List, [], ◌++◌, Option, Some, None, codes, if◌then◌else◌}
 use Rattle.std.specs.List.{filter, flat_map, starts_with}
 use Rattle.std.specs.Option.{option_map}
 use Rattle.std.specs.Str.{bytes_eq}
@@ -10,7 +10,7 @@ use Rattle.getopts.specs.Names.{Text, is_empty, main_name}
 use Rattle.getopts.specs.Only.{IsTheOnly}
 use Rattle.getopts.specs.Options.{Group, Declared}
 use Rattle.getopts.specs.Parse.{Reads}
-use Rattle.getopts.specs.Reading.{Reading, begins_with_dash, line_end}
+use Rattle.getopts.specs.Reading.{Reading, line_end}
 use Rattle.getopts.specs.declared.groups.HasArg.{HasArg}
 use Rattle.getopts.specs.declared.groups.HasArg.TheVariants.{No}
 use Rattle.getopts.specs.declared.groups.Occur.{Occur}
@@ -21,9 +21,10 @@ use Rattle.getopts_shell.specs.Table.{is_long_name}
 
 -- ---- which options may come
 
--- An option may come after these words: they have one reading, and it ends with the line, neither in a stop nor in a
--- rest. The groups are what it gives.
-pub record MayGoOn (options : Declared) (before : List Text) (groups : List MatchedGroup) : Type 0 where
+-- An option may come after these words: they have one reading, and it ends with the line, neither
+-- in a stop nor in a rest. The groups are what it gives.
+pub record MayGoOn (options : Declared) (before : List Text) (groups : List MatchedGroup)
+    : Type 0 where
   pub reading : Reading
   pub only : IsTheOnly (Reads options before) reading
   pub ends : reading.tail ≡ line_end
@@ -46,20 +47,23 @@ abbrev pub takes_argument : HasArg → Bool
 takes_argument No = false
 takes_argument kind = true
 
--- What is offered of a name after dashes, if there is such a name: the form and the description, where the form begins
--- with the word; or files for the value, where the word begins with the form and `=`, and may have a value so.
+-- What is offered of a name after dashes, if there is such a name: the form and the description,
+-- where the form begins with the word; or files for the value, where the word begins with the form
+-- and `=`, and may have a value so.
 abbrev pub name_line : Text → Bool → Text → Text → Text → Text
 name_line word valued dashes name description =
     if is_empty name then []
     else (if starts_with nat_eq (dashes ++ name) word
     then dashes ++ (name ++ (codes "\t" ++ (description ++ codes "\n")))
-    else (if valued && starts_with nat_eq word (dashes ++ (name ++ codes "=")) then codes "value\n" else []))
+    else (if valued && starts_with nat_eq word (dashes ++ (name ++ codes "="))
+    then codes "value\n" else []))
 
--- what is offered of an option: its long name after two dashes, in long-only mode also after one, and
--- its short name
+-- what is offered of an option: its long name after two dashes, in long-only mode also after one,
+-- and its short name
 abbrev pub option_lines : Bool → Text → Group → Text
 option_lines long_only word group =
-    name_line word (takes_argument group.signature.kind) (codes "--") group.signature.names.long group.description
+    name_line word (takes_argument group.signature.kind) (codes "--")
+    group.signature.names.long group.description
     ++ (name_line word (takes_argument group.signature.kind) (codes "-")
     (if long_only then group.signature.names.long else []) group.description
     ++ name_line word (long_only && takes_argument group.signature.kind) (codes "-")
@@ -70,18 +74,20 @@ abbrev pub options_lines : List MatchedGroup → Bool → Text → List Group �
 options_lines groups long_only word options =
     flat_map (option_lines long_only word) (filter (may_come groups) options)
 
--- What is offered at a word, after these words: options, where it begins with `-` and an option may
--- come; else files.
+-- What is offered at a word, after these words: options, where it begins with `-` and an option
+-- may come; else files.
 pub data IsOffer (options : Declared) (before : List Text) (word : Text) : Text → Type 0 where
-  offers_options : (groups : List MatchedGroup) → begins_with_dash word ≡ true → MayGoOn options before groups
+  offers_options : (groups : List MatchedGroup) → starts_with nat_eq word (codes "-") ≡ true
+      → MayGoOn options before groups
       → IsOffer options before word (options_lines groups options.long_only word options.groups)
-  offers_files : ((groups : List MatchedGroup) → begins_with_dash word ≡ true → ¬ (MayGoOn options before groups))
+  offers_files : ((groups : List MatchedGroup) → starts_with nat_eq word (codes "-") ≡ true
+      → ¬ (MayGoOn options before groups))
       → IsOffer options before word (codes "files\n")
 
 -- ---- the code for a shell
 
--- a byte in quotes, as each of the three shells reads it: a quote and a backslash stand outside quotes,
--- behind a backslash
+-- a byte in quotes, as each of the three shells reads it: a quote and a backslash stand outside
+-- quotes, behind a backslash
 abbrev pub stub_byte : ℕ → Text
 stub_byte byte = if byte == 92 then codes "'\\\\'" else quoted_byte byte
 
@@ -89,8 +95,8 @@ stub_byte byte = if byte == 92 then codes "'\\\\'" else quoted_byte byte
 abbrev pub stub_quoted : Text → Text
 stub_quoted word = codes "'" ++ (flat_map stub_byte word ++ codes "'")
 
--- In zsh the first line names the script, so that a file in `$fpath` completes its words. A name that couldn't be a long
--- one, so might end the line, has no such line.
+-- In zsh the first line names the script, so that a file in `$fpath` completes its words. A name
+-- that couldn't be a long one, so might end the line, has no such line.
 abbrev pub first_line : Text → Text → Text
 first_line shell name = if bytes_eq shell (codes "zsh") && is_long_name name
     then codes "#compdef " ++ (name ++ codes "\n") else []
@@ -112,8 +118,9 @@ abbrev pub stub_call : Bool → Bool → Text → Text → Text
 stub_call stop long_only name table = codes "_getopts_shell_complete " ++ (stub_quoted name
     ++ (codes " " ++ (stub_quoted table ++ (modes stop long_only ++ codes "\n"))))
 
--- the code that completes the words of a script with this name, style, mode and table, if there is one
--- for the shell
+-- the code that completes the words of a script with this name, style, mode and table, if there is
+-- one for the shell
 abbrev pub stub : Text → Bool → Bool → Text → Text → Option Text
-stub shell stop long_only name table = option_map
-    (λ text. first_line shell name ++ (text ++ stub_call stop long_only name table)) (functions shell)
+stub shell stop long_only name table =
+    option_map (λ text. first_line shell name ++ (text ++ stub_call stop long_only name table))
+    (functions shell)

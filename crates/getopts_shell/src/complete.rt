@@ -1,23 +1,20 @@
 //! What completes a script's words: the code for bash, zsh and fish, and what it is answered.
 
-ghost use Rattle.std.specs.Prelude.{◌≡◌, ◌++◌, ◌∷◌, [], Option, Some, IfOk, OnOk, MatchOption, codes, map};
-ghost use Rattle.std.specs.Prelude.{◌==◌, ◌-◌, List, false, if◌then◌else◌, length, nat_eq};
-ghost use Rattle.getopts.specs.Wrap.{parting};
-ghost use Rattle.getopts_shell.specs.Quote.{quoted};
-ghost use Rattle.std.specs.List.{flat_map, starts_with};
+ghost use Rattle.std.specs.Prelude.{◌≡◌, ◌==◌, ◌++◌, ◌-◌, ◌∷◌, [], List, Some, false, length};
+ghost use Rattle.std.specs.Prelude.{nat_eq, IfOk, MatchOption, OnOk};
+ghost use Rattle.std.specs.List.{starts_with};
 ghost use Rattle.std.specs.Option.{option_map, option_map_or};
 ghost use Rattle.std.specs.String.{string_bytes};
 ghost use Rattle.getopts.specs.Accessors.{is_present};
 ghost use Rattle.getopts.specs.Fail.{Fault, fault_of};
 ghost use Rattle.getopts.specs.Matches.{MatchedGroup};
-ghost use Rattle.getopts.specs.Names.{Names, Text, main_name, texts};
+ghost use Rattle.getopts.specs.Names.{texts};
 ghost use Rattle.getopts.specs.Parse.{HasReading};
-ghost use Rattle.getopts.specs.Reading.{begins_with_dash, stop_word};
-ghost use Rattle.getopts_shell.specs.Completion.{IsOffer, MayGoOn, first_line};
-ghost use Rattle.getopts_shell.specs.Completion.{is_multi, may_come, name_line};
-ghost use Rattle.getopts_shell.specs.Completion.{option_lines};
-ghost use Rattle.getopts_shell.specs.Completion.{functions, options_lines, stub, stub_call, stub_quoted};
-ghost use Rattle.getopts_shell.specs.Completion.{modes, takes_argument};
+ghost use Rattle.getopts.specs.Reading.{stop_word};
+ghost use Rattle.getopts_shell.specs.Completion.{IsOffer, MayGoOn, is_multi, may_come, name_line};
+ghost use Rattle.getopts_shell.specs.Completion.{option_lines, options_lines, takes_argument};
+ghost use Rattle.getopts_shell.specs.Completion.{first_line, functions, modes, stub, stub_call};
+ghost use Rattle.getopts_shell.specs.Completion.{stub_quoted};
 ghost use Rattle.getopts_shell.specs.Held.{HaveReading, group_of_row, groups_of};
 
 use crate::item::is_long_name;
@@ -27,8 +24,8 @@ use crate::variables::main_name;
 use getopts::{Fail, HasArg, Matches, Occur, Options};
 use std::alloc::{AllocError, Global};
 
-/// What completes words in bash: it reads the words up to the cursor, asks the program, and shows the descriptions
-/// where several options fit. The tables of all scripts stand in one array.
+/// What completes words in bash: it reads the words up to the cursor, asks the program, and shows
+/// the descriptions where several options fit. One array holds the tables of all scripts.
 const BASH: &str = r#"declare -gA _getopts_shell_tables _getopts_shell_modes
 _getopts_shell_offer() {
     local IFS=' ' name=${1##*/} line=${COMP_LINE:0:COMP_POINT} words=() at=-1 word rest
@@ -37,8 +34,8 @@ _getopts_shell_offer() {
         if [[ $at == -1 || $rest != "$line" ]]; then at=$((at + 1)); fi
         words[at]+=${rest:0:${#word}} line=${rest:${#word}}
     done
-    mapfile -t COMPREPLY < <(getopts_shell ${_getopts_shell_modes[$name]-} --complete-words bash "$name" \
-        "${_getopts_shell_tables[$name]-}" "${words[@]:1}" 2>/dev/null)
+    mapfile -t COMPREPLY < <(getopts_shell ${_getopts_shell_modes[$name]-} --complete-words bash \
+        "$name" "${_getopts_shell_tables[$name]-}" "${words[@]:1}" 2>/dev/null)
     if [[ ${COMPREPLY-} == [fv]* ]]; then COMPREPLY=(); compopt -o default; fi
     line=${words[at]%"$2"}
     for at in "${!COMPREPLY[@]}"; do
@@ -54,7 +51,8 @@ _getopts_shell_complete() {
 }
 "#;
 
-/// What completes words in zsh. Where a file in `$fpath` has it, it is first read at a word, which it completes too.
+/// What completes words in zsh. Code that is a file in `$fpath` is read at the first word that it
+/// completes.
 const ZSH: &str = r#"_getopts_shell_offer() {
     local -a offers
     offers=("${(@f)$(getopts_shell "${(@)argv[3,-1]}" --complete-words zsh "$1" "$2" \
@@ -79,7 +77,8 @@ _getopts_shell_complete() {
 const FISH: &str = r#"function _getopts_shell_offer
     set -l before (commandline -opc); set -e before[1]
     set -l word (commandline -ct)
-    set -l offers (command getopts_shell $argv[3..-1] --complete-words fish $argv[1..2] $before "$word" 2>/dev/null)
+    set -l call getopts_shell $argv[3..-1] --complete-words fish $argv[1..2]
+    set -l offers (command $call $before "$word" 2>/dev/null)
     switch "$offers[1]"
         case files; __fish_complete_path "$word"
         case value
@@ -89,12 +88,13 @@ const FISH: &str = r#"function _getopts_shell_offer
     end
 end
 function _getopts_shell_complete
-    complete -c $argv[1] -f -a "(_getopts_shell_offer "(string join ' ' -- (string escape -- $argv))")"
+    set -l call _getopts_shell_offer (string escape -- $argv)
+    complete -c $argv[1] -f -a "($call)"
 end
 "#;
 
-/// Adds a word in quotes, as each of the three shells reads it: a quote and a backslash stand outside quotes,
-/// behind a backslash.
+/// Adds a word in quotes, as each of the three shells reads it: a quote and a backslash stand
+/// outside quotes, behind a backslash.
 fn push_stub_quoted(text: &mut String, word: &str) -> Result<(), AllocError>
     ensures { OnOk result (string_bytes text.new ≡ string_bytes text.old ++ stub_quoted word.now) }
 {
@@ -161,7 +161,8 @@ fn stub_call(
     name: &str,
     table: &str,
 ) -> Result<String, AllocError>
-    ensures { IfOk result (λ text. string_bytes text ≡ stub_call stop long_only name.now table.now) }
+    ensures { IfOk result (λ text. string_bytes text
+        ≡ stub_call stop long_only name.now table.now) }
 {
     let mut text = String::from_str(alloc, "_getopts_shell_complete ")?;
     push_stub_quoted(&mut text, name)?;
@@ -184,7 +185,8 @@ fn modes(stop: bool, long_only: bool) -> &'static str
     }
 }
 
-/// What is offered at a word of a script with these options, after the words before it: options, or files.
+/// What is offered at a word of a script with these options, after the words before it: options, or
+/// files.
 pub(crate) fn offers(
     alloc: Global,
     options: &Options,
@@ -198,20 +200,13 @@ pub(crate) fn offers(
     ensures { IfOk result (λ text.
         IsOffer options.now (texts before.now) word.now (string_bytes text)) }
 {
-    if !begins_with_dash(word) {
+    if !begins_with(word, "-") {
         return String::from_str(alloc, "files\n");
     }
     match goes_on(alloc, options, before)? {
         Some(matches) => options_lines(alloc, &matches, long_only, word, rows),
         None => String::from_str(alloc, "files\n"),
     }
-}
-
-/// Whether a word begins with `-`.
-fn begins_with_dash(word: &str) -> bool
-    ensures { result ≡ begins_with_dash word.now }
-{
-    matches!(word.as_bytes(), [b'-', ..])
 }
 
 /// The matches of words after which an option may come, if one may: a `--` after them is a stop.
@@ -240,7 +235,8 @@ pub(crate) fn read_words(
     options: &Options,
     words: &[&str],
 ) -> Result<Option<Matches>, AllocError>
-    ensures { IfOk result (λ found. MatchOption found (¬ (HaveReading options.now (texts words.now)))
+    ensures { IfOk result (λ found. MatchOption found
+        (¬ (HaveReading options.now (texts words.now)))
         (HasReading options.now (texts words.now))) }
 {
     match options.parse_ignoring_counts(alloc, words) {
@@ -249,9 +245,11 @@ pub(crate) fn read_words(
     }
 }
 
-/// Words that have no reading have no matches. An error comes where the refusal tells that memory was refused.
+/// Words that have no reading have no matches. An error comes where the refusal tells that memory
+/// was refused.
 fn no_matches(fail: &Fail) -> Result<Option<Matches>, AllocError>
-    ensures { IfOk result (λ found. (found ≡ None) × (fault : Fault) × (fault_of fail.now ≡ Some fault)) }
+    ensures { IfOk result (λ found.
+        (found ≡ None) × (fault : Fault) × (fault_of fail.now ≡ Some fault)) }
 {
     match fail {
         Fail::OutOfMemory => Err(AllocError),

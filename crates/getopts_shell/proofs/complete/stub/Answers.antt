@@ -14,7 +14,8 @@ returns c =
     c.in_ok-push_first_line.ensures ∙ ap (λ (t : Text). t ++ first) c.new-text.ensures.bytes in
     let text : string_bytes c.push_str-2.new.self ≡ first ++ (own ++ call) =
     c.in_ok-push_str-2.ensures.bytes
-    ∙ ap (λ (t : Text). t ++ c.as_str.result.now) (c.in_ok-push_str.ensures.bytes ∙ ap (λ (t : Text). t ++ own) front)
+    ∙ ap (λ (t : Text). t ++ c.as_str.result.now)
+    (c.in_ok-push_str.ensures.bytes ∙ ap (λ (t : Text). t ++ own) front)
     ∙ ap (λ (t : Text). (first ++ own) ++ t) (c.as_str.ensures.value ∙ c.in_ok-stub_call.ensures)
     ∙ append_assoc first own call in
     let own_is : functions c.args.shell.now ≡ Some own =
