@@ -10,7 +10,6 @@ use Rattle.getopts.specs.Options.{Declared}
 use Rattle.getopts.specs.Parse.{HasReading}
 use Rattle.getopts.specs.declared.fail.Fail.{Fail}
 use Rattle.getopts.specs.declared.fail.Fail.TheVariants as fail
-use Rattle.getopts_shell.specs.Held.{HaveReading}
 
 -- an option that isn't defined isn't there
 pub undefined_absent : (groups : List MatchedGroup) (name : Text) → ¬ (IsDefined groups name)
@@ -28,12 +27,6 @@ pub one_reading : (options : Declared) (words : List Text) (matches others : Mat
 one_reading options words matches others is also =
     let same = (is.only also.reading).0 ((also.only also.reading).1 refl) in
     also.matches_are ∙ ap (matches_of options) same ∙ sym is.matches_are
-
--- words that have the matches of one reading have a reading
-pub has_reading : (options : Declared) (words : List Text) (matches : Matched) → HasReading options
-    words matches
-    → HaveReading options words
-has_reading options words matches read = (read.reading, (read.only read.reading).1 refl)
 
 -- what a refusal tells, unless it tells that memory was refused
 pub fault_told_of : (refusal : Fail) → ¬ (refusal ≡ fail.OutOfMemory)

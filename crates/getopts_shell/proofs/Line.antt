@@ -8,20 +8,11 @@ use Rattle.getopts.specs.CanonAnswers.{IsUnwritable, IsWritten, KeepsLineLaws}
 use Rattle.getopts.specs.Names.{AreTexts, Text, resolution, EmptyResolvesNot}
 use Rattle.getopts.specs.Options.{Declared, Group, names_of}
 use Rattle.getopts.specs.Reading.{Mention, holds_equals, stop_word}
-use Rattle.getopts_shell.specs.Held.{ArePlainlyNamed, group_of_row, groups_of}
+use Rattle.getopts_shell.specs.Held.{ArePlainlyNamed}
 use Rattle.getopts_shell.specs.Program.{TellsWords}
-use Rattle.getopts_shell.specs.declared.row.Row.{Row}
-use Rattle.getopts_shell.proofs.Plain.{plain_main}
 use Rattle.getopts_shell.proofs.Written.{sets_words}
 
--- no main name of a row holds `=`
-pub plain_rows : (rows : List Row) → ArePlainlyNamed (groups_of rows)
-plain_rows [] = tt
-plain_rows (row ∷ rows) = (
-  plain_main (group_of_row row).signature.names row.may_be.short_name row.may_be.long_name,
-  plain_rows rows,
-)
-
+-- no main name holds `=`
 plain_at : (groups : List Group) → ArePlainlyNamed groups → (place : ℕ)
     → holds_equals (main_at groups place) ≡ false
 plain_at [] plain zero = refl

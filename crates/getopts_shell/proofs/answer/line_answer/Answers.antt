@@ -6,7 +6,8 @@ use Rattle.getopts_shell.specs.Held.{ArePlainlyNamed}
 use Rattle.getopts_shell.specs.Program.{done}
 use Rattle.getopts_shell.specs.Variables.{line_code}
 use Rattle.getopts_shell.proofs.Chosen.{at_err, at_ok}
-use Rattle.getopts_shell.proofs.Line.{never_unwritable, plain_rows, tells_words}
+use Rattle.getopts_shell.proofs.Line.{never_unwritable, tells_words}
+use Rattle.getopts_shell.proofs.Plain.{plain_rows}
 use Rattle.getopts_shell.proofs.Written.{strings_are_texts}
 use Rattle.getopts_shell.proofs.answer.line_answer.Goals as goal
 
