@@ -68,17 +68,19 @@ impl Outcome {
 
 /// Reads a script's words by a table of options, and writes what the script does with them.
 ///
-/// The words are the program's own options, the script's name, its table and its words. The text is made
-/// whole, then written once and flushed: on `out` where the status is 0, and on `err` where it is 2 or 5.
+/// The words are the program's own options, the script's name, its table and its words. The text is
+/// made whole, then written once and flushed: on `out` where the status is 0, and on `err` where it
+/// is 2 or 5.
 ///
-/// - 0: code that sets the script's words to those of the canonical line, or, with `--variables`, that sets
-///   variables, or that prints the script's help; with `--usage` the help itself, with `--complete` the code
-///   that completes words in a shell, with `--complete-words` what may come at the last word, with `--help` the
-///   program's help
+/// - 0: code that sets the script's words to those of the canonical line, or, with `--variables`,
+///   that sets variables, or that prints the script's help; with `--usage` the help itself, with
+///   `--complete` the code that completes words in a shell, with `--complete-words` what may come at
+///   the last word, with `--help` the program's help
 /// - 2: why the script's words are refused, and its short usage
 /// - 3: out of memory, with nothing written
 /// - 4: a write or a flush failed, and what was written is a front of the text
-/// - 5: what is wrong with the call: its own words, an unknown shell, a missing table, or a line of it
+/// - 5: what is wrong with the call: its own words, an unknown shell, a missing table, or a line of
+///   it
 pub fn answer<W: Write, E: Write>(alloc: Global, words: &[&str], out: &mut W, err: &mut E) -> u8 {
     match output_to(alloc, words) {
         Ok(output) => match write_output(&output, out, err) {
@@ -89,8 +91,8 @@ pub fn answer<W: Write, E: Write>(alloc: Global, words: &[&str], out: &mut W, er
     }
 }
 
-/// Writes an output: on `out` where the status is 0, and else on `err`. Where that fails, what was written is a
-/// front of it.
+/// Writes an output: on `out` where the status is 0, and else on `err`. Where that fails, what was
+/// written is a front of it.
 fn write_output<W: Write, E: Write>(output: &Output, out: &mut W, err: &mut E) -> io::Result<()> {
     if output.status == DONE {
         print(out, &output.bytes)
@@ -239,8 +241,8 @@ fn table_answer(
     }
 }
 
-/// The answer where a table has these rows: the code that completes words, the fault of the variables, or the answer
-/// for the script.
+/// The answer where a table has these rows: the code that completes words, the fault of the
+/// variables, or the answer for the script.
 fn declared_answer(
     alloc: Global,
     asked: &Asked,
@@ -311,7 +313,8 @@ fn variable_refusal(alloc: Global, error: VariableError<'_>) -> Result<String, A
     }
 }
 
-/// The options of a table, in the style and the mode that are asked for: as a help shows them, or as words are read.
+/// The options of a table, in the style and the mode that are asked for: as a help shows them, or
+/// as words are read.
 fn options_of(
     alloc: Global,
     asked: &Asked,
@@ -445,8 +448,8 @@ fn words_answer(alloc: Global, script: Script<'_>, words: &[&str]) -> Result<Out
     }
 }
 
-/// The answer to words with these matches: the code that prints the help where they ask for it, the code of the one
-/// option that they ask for alone, and else what they are.
+/// The answer to words with these matches: the code that prints the help where they ask for it, the
+/// code of the one option that they ask for alone, and else what they are.
 fn read_answer(
     alloc: Global,
     script: Script<'_>,
@@ -494,7 +497,8 @@ fn is_alone(row: Row<'_>, matches: &Matches) -> bool {
     stands_alone(row.mark) && is_given(matches, main_name(row))
 }
 
-/// The answer to words that ask for one option alone: its line, or variables where it alone is given.
+/// The answer to words that ask for one option alone: its line, or variables where it alone is
+/// given.
 fn alone_answer(alloc: Global, script: Script<'_>, row: Row<'_>) -> Result<Outcome, AllocError> {
     match &script.asked.variables {
         Some(prefix) => {
@@ -527,8 +531,8 @@ fn help_code(alloc: Global, script: Script<'_>) -> Result<String, AllocError> {
     Ok(text)
 }
 
-/// The answer to words with these matches, whose counts are checked: variables or the canonical line, or the first
-/// fault. Only where they break a count are they read once more for variables.
+/// The answer to words with these matches, whose counts are checked: variables or the canonical
+/// line, or the first fault. Only where they break a count are they read once more for variables.
 fn counted_answer(
     alloc: Global,
     script: Script<'_>,

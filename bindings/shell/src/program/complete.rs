@@ -10,8 +10,8 @@ use super::variables::main_name;
 use crate::getopts::{Fail, HasArg, Matches, Occur, Options};
 use crate::host::alloc::{AllocError, Global};
 
-/// What completes words in bash: it reads the words up to the cursor, asks the program, and shows the descriptions
-/// where several options fit. The tables of all scripts stand in one array.
+/// What completes words in bash: it reads the words up to the cursor, asks the program, and shows
+/// the descriptions where several options fit. One array holds the tables of all scripts.
 const BASH: &str = r#"declare -gA _getopts_shell_tables _getopts_shell_modes
 _getopts_shell_offer() {
     local IFS=' ' name=${1##*/} line=${COMP_LINE:0:COMP_POINT} words=() at=-1 word rest
@@ -20,8 +20,8 @@ _getopts_shell_offer() {
         if [[ $at == -1 || $rest != "$line" ]]; then at=$((at + 1)); fi
         words[at]+=${rest:0:${#word}} line=${rest:${#word}}
     done
-    mapfile -t COMPREPLY < <(getopts_shell ${_getopts_shell_modes[$name]-} --complete-words bash "$name" \
-        "${_getopts_shell_tables[$name]-}" "${words[@]:1}" 2>/dev/null)
+    mapfile -t COMPREPLY < <(getopts_shell ${_getopts_shell_modes[$name]-} --complete-words bash \
+        "$name" "${_getopts_shell_tables[$name]-}" "${words[@]:1}" 2>/dev/null)
     if [[ ${COMPREPLY-} == [fv]* ]]; then COMPREPLY=(); compopt -o default; fi
     line=${words[at]%"$2"}
     for at in "${!COMPREPLY[@]}"; do
@@ -37,7 +37,8 @@ _getopts_shell_complete() {
 }
 "#;
 
-/// What completes words in zsh. Where a file in `$fpath` has it, it is first read at a word, which it completes too.
+/// What completes words in zsh. Code that is a file in `$fpath` is read at the first word that it
+/// completes.
 const ZSH: &str = r#"_getopts_shell_offer() {
     local -a offers
     offers=("${(@f)$(getopts_shell "${(@)argv[3,-1]}" --complete-words zsh "$1" "$2" \
@@ -62,7 +63,8 @@ _getopts_shell_complete() {
 const FISH: &str = r#"function _getopts_shell_offer
     set -l before (commandline -opc); set -e before[1]
     set -l word (commandline -ct)
-    set -l offers (command getopts_shell $argv[3..-1] --complete-words fish $argv[1..2] $before "$word" 2>/dev/null)
+    set -l call getopts_shell $argv[3..-1] --complete-words fish $argv[1..2]
+    set -l offers (command $call $before "$word" 2>/dev/null)
     switch "$offers[1]"
         case files; __fish_complete_path "$word"
         case value
@@ -72,12 +74,13 @@ const FISH: &str = r#"function _getopts_shell_offer
     end
 end
 function _getopts_shell_complete
-    complete -c $argv[1] -f -a "(_getopts_shell_offer "(string join ' ' -- (string escape -- $argv))")"
+    set -l call _getopts_shell_offer (string escape -- $argv)
+    complete -c $argv[1] -f -a "($call)"
 end
 "#;
 
-/// Adds a word in quotes, as each of the three shells reads it: a quote and a backslash stand outside quotes,
-/// behind a backslash.
+/// Adds a word in quotes, as each of the three shells reads it: a quote and a backslash stand
+/// outside quotes, behind a backslash.
 fn push_stub_quoted(text: &mut String, word: &str) -> Result<(), AllocError> {
     text.try_push('\'')?;
     let mut begun = false;
@@ -153,7 +156,8 @@ fn modes(stop: bool, long_only: bool) -> &'static str {
     }
 }
 
-/// What is offered at a word of a script with these options, after the words before it: options, or files.
+/// What is offered at a word of a script with these options, after the words before it: options, or
+/// files.
 pub(crate) fn offers(
     alloc: Global,
     options: &Options,
@@ -162,18 +166,13 @@ pub(crate) fn offers(
     before: &[&str],
     word: &str,
 ) -> Result<String, AllocError> {
-    if !begins_with_dash(word) {
+    if !begins_with(word, "-") {
         return String::copy_of(alloc, "files\n");
     }
     match goes_on(alloc, options, before)? {
         Some(matches) => options_lines(alloc, &matches, long_only, word, rows),
         None => String::copy_of(alloc, "files\n"),
     }
-}
-
-/// Whether a word begins with `-`.
-fn begins_with_dash(word: &str) -> bool {
-    matches!(word.as_bytes(), [b'-', ..])
 }
 
 /// The matches of words after which an option may come, if one may: a `--` after them is a stop.
@@ -208,7 +207,8 @@ pub(crate) fn read_words(
     }
 }
 
-/// Words that have no reading have no matches. An error comes where the refusal tells that memory was refused.
+/// Words that have no reading have no matches. An error comes where the refusal tells that memory
+/// was refused.
 fn no_matches(fail: &Fail) -> Result<Option<Matches>, AllocError> {
     match fail {
         Fail::OutOfMemory => Err(AllocError),

@@ -64,7 +64,8 @@ fn end_means(end: &str) -> Option<(Occur, Mark)> {
     }
 }
 
-/// The parts of a text: what stands before its first space, and what stands after it, if it has one.
+/// The parts of a text: what stands before its first space, and what stands after it, if it has
+/// one.
 fn parts_of(text: &str) -> (&str, Option<&str>) {
     match text.split_once(' ') {
         Some((names, argument)) => (names, Some(argument)),
@@ -72,8 +73,8 @@ fn parts_of(text: &str) -> (&str, Option<&str>) {
     }
 }
 
-/// The short and the long name that a text is, written as `-s`, `--long` or `-s|--long`, if it is. Either
-/// may be empty.
+/// The short and the long name that a text is, written as `-s`, `--long` or `-s|--long`, if it is.
+/// Either may be empty.
 fn names_of(text: &str) -> Option<(&str, &str)> {
     let bytes = text.as_bytes();
     if bytes.len() < 2 || bytes[0] != b'-' {

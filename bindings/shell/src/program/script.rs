@@ -19,8 +19,8 @@ pub(crate) struct Asked {
     pub arrays: bool,
 }
 
-/// A script: what is asked for it, its name, its table, and its options, as the rows of the table declare
-/// them.
+/// A script: what is asked for it, its name, its table, and its options, as the rows of the table
+/// declare them.
 #[derive(Clone, Copy)]
 pub(crate) struct Script<'s> {
     pub asked: &'s Asked,

@@ -179,15 +179,10 @@ fn push_all(
 /// Adds the values of occurrences as words in quotes, with the empty text for one that has none.
 fn push_texts(text: &mut String, given: Came<'_>) -> Result<(), AllocError> {
     for nth in 0..count(given) {
-        push_word(text, nth > 0, text_at(given, nth))?;
+        push_parting(text, nth > 0, " ")?;
+        push_quoted(text, text_at(given, nth))?;
     }
     Ok(())
-}
-
-/// Adds a word in quotes, after a space where another stands before it.
-fn push_word(text: &mut String, begun: bool, word: &str) -> Result<(), AllocError> {
-    push_parting(text, begun, " ")?;
-    push_quoted(text, word)
 }
 
 /// How many the occurrences are.
