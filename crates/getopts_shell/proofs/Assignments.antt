@@ -55,11 +55,13 @@ text_of [] nth = refl
 text_of (first ∷ founds) zero = refl
 text_of (first ∷ founds) (suc nth) = text_of founds nth
 
+-- occurrences have as many texts
 pub length_texts : (founds : List Found) → length (texts_found founds) ≡ length founds
 length_texts founds =
     length-map (each_value founds) (λ (value : Option Text). unwrap_or value [])
     ∙ length-map founds (λ (found : Found). found.value)
 
+-- one more word after a space
 spaced_last : (front : Text) (words : List Text) (word : Text)
     → front ++ flat_map spaced (words ++ word ∷ [])
     ≡ (front ++ flat_map spaced words) ++ (32 ∷ quoted word)
@@ -138,6 +140,7 @@ before_others : (passed : Bool) (number : ℕ) (numbers others : List ℕ)
 before_others true number numbers others = refl
 before_others false number numbers others = refl
 
+-- the lines of options in two pieces
 option_lines-append : (before : ℕ) (lines others : List Text)
     → option_lines before (lines ++ others)
     ≡ option_lines before lines ++ option_lines (before + length lines) others
@@ -146,11 +149,13 @@ option_lines-append before (line ∷ lines) others =
     let next : (before + 1) + length lines ≡ before + length (line ∷ lines) = omega arith in
     rw (option_lines-append (before + 1) lines others, next) (before_others (is_passed line) _ _ _)
 
+-- a list in three: what stands before one element, the element, and what follows
 in_parts : (all : List Text) (n : ℕ) (x : Text) → n < length all → x ≡ get_or all n x
     → all ≡ take n all ++ x ∷ drop (n + 1) all
 in_parts all n x below is =
     sym (take-append-drop n all) ∙ rw (at_drop_more (λ (t : List Text). t) all n x below, ← is) refl
 
+-- no line was passed yet
 pub none_passed : (place : ℕ) → LinesPassed [] 0 0 place
 none_passed place = record { number_is = refl; before_is = refl; below = omega arith }
 
@@ -239,6 +244,7 @@ variable_parts prefix name =
     by_first [] = refl
     by_first (byte ∷ text) = refl
 
+-- a text in front of both changes nothing
 same_front : (front name other : Text)
     → bytes_eq (front ++ name) (front ++ other) ≡ bytes_eq name other
 same_front [] name other = refl
@@ -288,6 +294,7 @@ no_fault false again one two rest is = absurd cc
 no_fault true true one two rest is = absurd cc
 no_fault true false one two rest is = (refl, refl, is)
 
+-- where no fault is found, the names make their own variables
 pub own_variables : (prefix : Text) (lines : List ℕ) (before names : List Names)
     → first_fault prefix lines before names ≡ None → HaveOwnVariables prefix before names
 own_variables prefix lines before [] is = tt

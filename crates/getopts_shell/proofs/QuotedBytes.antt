@@ -23,6 +23,7 @@ pub record Gives (text bytes : List ℕ) : Type 0 where
   pub utf8 : IsUtf8 text
   pub bytes_are : bytes_of text ≡ bytes
 
+-- texts one after the other have their bytes one after the other
 pub append_gives : {text more bytes others : List ℕ} → Gives text bytes → Gives more others
     → Gives (text ++ more) (bytes ++ others)
 append_gives {text} {more} {bytes} {others} is also = record {
@@ -32,6 +33,7 @@ append_gives {text} {more} {bytes} {others} is also = record {
       ∙ ap (λ (l : List ℕ). bytes ++ l) also.bytes_are;
 }
 
+-- a text whose bytes pass the test for ASCII is of ASCII
 are_ascii : (text : List ℕ) → list_all is_ascii text ≡ true → IsAscii text
 are_ascii [] are i = omega arith
 are_ascii (byte ∷ text) are zero =
@@ -51,6 +53,7 @@ ascii_gives text are =
           plain_bytes text (record { utf8 = utf8; unmarked = ascii_no_marks text ascii });
     }
 
+-- a character has the bytes that it is written by
 char_gives : (c : ℕ) → scalar c ≡ true → Gives (encode c) (written c)
 char_gives c is = record {
   utf8 = IsUtf8-encode c is;
@@ -62,6 +65,7 @@ char_gives c is = record {
 
 -- ---- bytes past ASCII stand in quotes as they are
 
+-- bytes past ASCII need no quoting
 past_stays : (bytes : List ℕ) → list_any is_ascii bytes ≡ false → flat_map quoted_byte bytes ≡ bytes
 past_stays [] past = refl
 past_stays (byte ∷ bytes) past =
@@ -70,6 +74,7 @@ past_stays (byte ∷ bytes) past =
     let other : eqb byte 39 ≡ false = grind (arith, nat_tests) in
     simp other (ap (λ (l : List ℕ). byte ∷ l) (past_stays bytes each.1))
 
+-- the bytes of a character past ASCII are past ASCII
 encode_past : (c : ℕ) → 128 ≤ c → list_any is_ascii (encode c) ≡ false
 unfolding encode
 encode_past c large = by (ltb c 128) (ltb c 2048) (ltb c 65536) refl refl refl
@@ -81,6 +86,7 @@ encode_past c large = by (ltb c 128) (ltb c 2048) (ltb c 65536) refl refl refl
     by false false true is also too = simp (is, also, too) (grind (arith, nat_tests))
     by false false false is also too = simp (is, also, too) (grind (arith, nat_tests))
 
+-- so are those that it is written by
 written_past : (c : ℕ) → 128 ≤ c → list_any is_ascii (written c) ≡ false
 written_past c large = by (is_mark c) refl
   where
@@ -119,6 +125,7 @@ quoted_char c is = by (is_ascii c) refl
           past_stays (written c) (written_past c past),
         ) (char_gives c is)
 
+-- characters in quotes
 quoted_chars : (cs : List ℕ) → scalars cs ≡ true
     → Gives (flat_map quoted_byte (encodes cs)) (flat_map quoted_byte (flat_map written cs))
 quoted_chars [] are = ascii_gives [] refl
@@ -130,6 +137,7 @@ quoted_chars (c ∷ cs) are =
     )
     (append_gives (quoted_char c each.0) (quoted_chars cs each.1))
 
+-- each text has its bytes
 pub text_gives : (text : Text) → IsUtf8 text → Gives text (bytes_of text)
 text_gives text utf8 = record { utf8 = utf8; bytes_are = refl }
 
@@ -141,6 +149,7 @@ quoted_gives {word} {bytes} is =
     rw (encodes-chars word is.utf8) at (quoted_chars (chars word) (scalars-chars word is.utf8)) in
     rw (← is.bytes_are) (append_gives quote (append_gives middle quote))
 
+-- words in quotes after a space each
 spaced_gives : (words : List Text) → AreTexts words
     → Gives (flat_map spaced words) (flat_map spaced (map bytes_of words))
 spaced_gives [] are = ascii_gives [] refl

@@ -32,6 +32,7 @@ line_then before next after command more text does runs is =
 
 -- ---- the commands for one option
 
+-- a variable that was taken away has no value
 unset_value : (shell : Shell) (name : Text) → (with_variable shell name None).value name ≡ None
 unset_value shell name = rw ((bytes_eq-Decides name name).1 refl) refl
 
@@ -64,6 +65,7 @@ after_value_line shell after name (Some (many words)) more is runs =
     (assigns name code (many words) is (unset_value shell name)
     (array_words (quoted_words words) words (words_same words))) runs (simp append_assoc refl)
 
+-- the commands for an option, and what follows
 after_option : (prefix : Text) (arrays : Bool) (shell after : Shell) (option : Given) (more : Text)
     → is_variable (variable_of prefix option.names) ≡ true
     → RunsText

@@ -34,6 +34,7 @@ use Rattle.getopts_shell.proofs.Shell.{code_runs, line_runs, once_more}
 
 -- ---- ASCII
 
+-- the bytes that the name of a variable may hold are ASCII
 variable_bytes_ascii : (name : Text) → list_all is_variable_byte name ≡ true
     → list_all is_ascii name ≡ true
 variable_bytes_ascii [] is = refl
@@ -52,6 +53,7 @@ variable_gives (byte ∷ name) is = ascii_gives (byte ∷ name) (variable_bytes_
 digit_small : (n : ℕ) → is_ascii (digit_glyph false (n % 10)) ≡ true
 digit_small n = grind (arith, nat_tests)
 
+-- the digits of a number are ASCII
 digits_ascii : (k n : ℕ) (onto : Text) → list_all is_ascii onto ≡ true
     → list_all is_ascii (digits_onto k 10 false n onto) ≡ true
 digits_ascii zero n onto are = are
@@ -69,6 +71,7 @@ decimal_gives n = ascii_gives (decimal n) (digits_ascii 64 n [] refl)
 
 -- ---- values
 
+-- the values in bytes are the bytes of the values
 texts_in_bytes : (founds : List Found)
     → texts_found (map found_in_bytes founds) ≡ map bytes_of (texts_found founds)
 texts_in_bytes [] = refl
@@ -81,6 +84,7 @@ texts_in_bytes (found ∷ founds) = by_value found.value (texts_in_bytes founds)
     by_value None others = rw ((ascii_gives [] refl).bytes_are, others) refl
     by_value (Some text) others = rw others refl
 
+-- so is the last of them
 last_in_bytes : (texts : List Text) (before : Option Text)
     → last_or (option_map bytes_of before) (map bytes_of texts)
     ≡ option_map bytes_of (last_or before texts)
@@ -94,6 +98,7 @@ one_gives name text bytes named is =
     append_gives named (append_gives (ascii_gives (codes "=") refl)
     (append_gives (quoted_gives is) (ascii_gives (codes "\n") refl)))
 
+-- and many
 many_give : (name : Text) (texts : List Text) → Gives name name → AreTexts texts
     → Gives (value_line name (Some (many texts)))
     (value_line name (Some (many (map bytes_of texts))))
@@ -122,6 +127,7 @@ argument_gives name arrays false founds named are =
     by_last None utf8 = ascii_gives [] refl
     by_last (Some text) utf8 = one_gives name text _ named (text_gives text utf8)
 
+-- the line of an option
 value_gives : (name : Text) (arrays all : Bool) (kind : HasArg) (founds : List Found)
     → Gives name name
     → AreTextValues kind all founds
@@ -134,12 +140,14 @@ value_gives name arrays all Maybe founds named are = argument_gives name arrays 
 
 -- ---- the text
 
+-- the command that sets the words
 line_code_gives : (words : List Text) → AreTexts words
     → Gives (line_code words) (line_code (map bytes_of words))
 line_code_gives words are =
     append_gives (ascii_gives (codes "\\set -- ") refl)
     (append_gives (words_give words are) (ascii_gives (codes "\n") refl))
 
+-- the commands for all options
 codes_give : (prefix : Text) (arrays : Bool) (before : List Names) (options : List Given)
     → HaveOwnVariables prefix before (map (λ (option : Given). option.names) options)
     → HoldTexts options
@@ -154,6 +162,7 @@ codes_give prefix arrays before (option ∷ options) own hold =
     (value_gives name arrays option.all option.kind option.found named hold.0))))
     (codes_give prefix arrays (before ++ option.names ∷ []) options own.2 hold.1)
 
+-- the names stay where values are taken in bytes
 names_kept : (options : List Given)
     → map (λ (option : Given). option.names) (map in_bytes options)
     ≡ map (λ (option : Given). option.names) options
@@ -198,6 +207,7 @@ bare_texts No all given = tt
 bare_texts Yes all given = argument_texts all given
 bare_texts Maybe all given = argument_texts all given
 
+-- what the variables hold where one option came alone is UTF-8
 pub alone_holds_texts : (entries : List Entry) (alone : Entry)
     → HoldTexts (given_alone entries alone)
 alone_holds_texts [] alone = tt

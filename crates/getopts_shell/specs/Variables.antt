@@ -61,9 +61,9 @@ pub data Assigns (name : Text) : Text → Value → Type 0 where
   array_words : (code : Text) (words : List Text) → shell_words code ≡ Some words
       → Assigns name (array_front name ++ (code ++ codes ")")) (many words)
 
--- What a shell that held `before` holds after a command. Its words are read to its end, so a line end
--- in it stands in quotes, and none are open where it ends. Nothing is said of other commands, nor of
--- `NAME=` where NAME is set: an array would keep its other texts.
+-- What a shell that held `before` holds after a command. Its words are read to its end, so a line
+-- end in it stands in quotes, and none are open where it ends. Nothing is said of other commands,
+-- nor of `NAME=` where NAME is set: an array would keep its other texts.
 pub data RunsCommand (before : Shell) : Text → Shell → Type 0 where
   sets : (code : Text) (words : List Text) → shell_words code ≡ Some words
       → RunsCommand before (codes "\\set -- " ++ code) (record before { words = words })

@@ -340,8 +340,7 @@ fn begins_variable(prefix: &str, name: &str) -> bool
         (slice_get (variable prefix.now name.now) 0) false }
 {
     match (prefix.as_bytes(), name.as_bytes()) {
-        ([first, ..], _) => !first.is_ascii_digit(),
-        ([], [first, ..]) => !first.is_ascii_digit(),
+        ([first, ..], _) | ([], [first, ..]) => !first.is_ascii_digit(),
         _ => false,
     }
 }
