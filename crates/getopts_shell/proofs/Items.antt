@@ -3,25 +3,21 @@ use Rattle.std.proofs.Common.{◌≡◌, ◌≢◌, ℕ, ◌<◌, Bool, true, fa
 use Rattle.std.proofs.Common.{Bor, MatchOption, cond, eqb, drop, take, Option, Some, None, refl}
 use Rattle.std.proofs.Common.{sym, ap, subst}
 use Rattle.std.proofs.Common.{◌∙◌, ◌+◌, ◌≤◌, arith, lit<, take-append-drop}
-use Rattle.std.specs.Prelude.{slice_index, ◌&&◌, ◌||◌, not}
+use Rattle.std.specs.Prelude.{slice_index, ◌&&◌, not}
 use Rattle.std.specs.List.{AllByRecursion, ends_with, list_all}
 use Rattle.std.specs.Option.{option_map_or, unwrap_or}
-use Rattle.std.specs.Str.{bytes_eq}
 use Rattle.std.proofs.lemmas.Bool.Decides.{nat_tests}
-use Rattle.std.proofs.lemmas.Slice.Eq.{bytes_eq-Decides}
 use Rattle.std.proofs.lemmas.List.{append_cancel_right}
 use Rattle.getopts.specs.Names.{Text, Names, is_empty}
 use Rattle.getopts.specs.Options.{Signature}
 use Rattle.getopts.specs.declared.groups.HasArg.{HasArg}
 use Rattle.getopts.specs.declared.groups.HasArg.TheVariants.{Yes, No, Maybe}
 use Rattle.getopts.specs.declared.groups.Occur.{Occur}
-use Rattle.getopts.specs.declared.groups.Occur.TheVariants.{Optional, Multi}
 use Rattle.getopts_shell.specs.Table.{is_name, is_hint, names_text, MayBeNames, AreNames}
 use Rattle.getopts_shell.specs.Table.{IsArgument}
 use Rattle.getopts_shell.specs.Table.{HasParts, IsBracketed, bare, bracketed, IsItem, end_means}
 use Rattle.getopts_shell.specs.Table.{fits, is_hint_byte}
 use Rattle.getopts_shell.specs.declared.row.Mark.{Mark}
-use Rattle.getopts_shell.specs.declared.row.Mark.TheVariants.{Plain, Alone, Last}
 use Rattle.std.specs.Str.Pattern.{RFindsChar}
 use Rattle.std.proofs.lemmas.List.Elements.{All-from_get_or, recursion_from_All}
 use Rattle.std.proofs.lemmas.Str.Pattern.{NoCharPasses-char, drop_at_char}
@@ -354,11 +350,9 @@ pub one_argument : (kind another : HasArg) (hint other : Text) (argument : Optio
     → IsArgument kind hint argument → IsArgument another other argument
     → (another ≡ kind) × (other ≡ hint)
 one_argument No No hint other None is also = (refl, also ∙ sym is)
-one_argument No No hint other (Some text) is also = absurd is
 one_argument No Yes hint other None is also = absurd also
-one_argument No Yes hint other (Some text) is also = absurd is
 one_argument No Maybe hint other None is also = absurd also
-one_argument No Maybe hint other (Some text) is also = absurd is
+one_argument No another hint other (Some text) is also = absurd is
 one_argument Yes another hint other None is also = absurd is
 one_argument Maybe another hint other None is also = absurd is
 one_argument Yes No hint other (Some text) is also = absurd also

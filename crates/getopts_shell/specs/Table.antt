@@ -3,7 +3,7 @@ use Rattle.std.specs.Prelude.{◌≡◌, ◌≢◌, ◌==◌, ◌||◌, ◌&&◌
 use Rattle.std.specs.Prelude.{true, false}
 use Rattle.std.specs.Prelude.{List, [], ◌∷◌, ◌++◌, Option, Some, None, codes, if◌then◌else◌}
 use Rattle.std.specs.Prelude.{slice_index, length}
-use Rattle.std.specs.Prelude.{⊤, drop, take, find}
+use Rattle.std.specs.Prelude.{drop, take, find}
 use Rattle.std.specs.Char.{is_ascii_alphanumeric, is_ascii_whitespace}
 use Rattle.std.specs.List.{AllByRecursion, AllZip, after_first, before_first, ends_with, filter_map}
 use Rattle.std.specs.List.{list_all, list_any}
