@@ -56,7 +56,8 @@ closed : (end : Text) (occurrence : Occur) (mark : Mark) → end_means end ≡ S
     → AllByRecursion (λ (byte : ℕ). byte ≢ 93) end
 closed [] occurrence mark means = tt
 closed (a ∷ []) occurrence mark means = (grind (arith, nat_tests), tt)
-closed (a ∷ b ∷ []) occurrence mark means = (grind (arith, nat_tests), (grind (arith, nat_tests), tt))
+closed (a ∷ b ∷ []) occurrence mark means =
+    (grind (arith, nat_tests), (grind (arith, nat_tests), tt))
 closed (a ∷ b ∷ c ∷ []) occurrence mark means =
     (grind (arith, nat_tests), (grind (arith, nat_tests), (grind (arith, nat_tests), tt)))
 closed (a ∷ b ∷ c ∷ d ∷ more) occurrence mark means = absurd (grind (arith, nat_tests))
