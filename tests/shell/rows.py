@@ -285,7 +285,9 @@ REFUSED = [
     ("[-v]**", 1, "[-v]**", BRACKETS), ("[-v]*..", 1, "[-v]*..", BRACKETS), ("-v*", 1, "-v*", SHORT),
     ("-v!", 1, "-v!", SHORT), ("--version!", 1, "--version!", BYTES), ("[-v!]", 1, "[-v!]", SHORT),
     ("[-vw]!", 1, "[-vw]!", SHORT), ("[v]!", 1, "[v]!", DASHES), ("]!", 1, "]!", DASHES), ("[]!", 1, "[]!", DASHES),
-    ("[-v]! say more!", 1, "[-v]! say more!", GAP), ("[-v!", 1, "[-v!", OPEN),
+    ("[-v]! say more!", 1, "[-v]! say more!", GAP), ("[-v!", 1, "[-v!", OPEN), ("-a|all", 1, "-a|all", DASHES),
+    ("[-v] say [this]", 1, "[-v] say [this]", GAP), ("-s FILE to [it]", 1, "-s FILE to [it]", SPACE),
+    ("-a[FILE]", 1, "-a[FILE]", BRACKETS), ("-a||--all", 1, "-a||--all", DASHES), ("--a|--b", 1, "--a|--b", ORDER),
 ]
 
 # Large tables and long lines, near the longest word that Linux hands on.

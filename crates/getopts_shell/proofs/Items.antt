@@ -56,7 +56,8 @@ closed : (end : Text) (occurrence : Occur) (mark : Mark) → end_means end ≡ S
     → AllByRecursion (λ (byte : ℕ). byte ≢ 93) end
 closed [] occurrence mark means = tt
 closed (a ∷ []) occurrence mark means = (grind (arith, nat_tests), tt)
-closed (a ∷ b ∷ []) occurrence mark means = (grind (arith, nat_tests), (grind (arith, nat_tests), tt))
+closed (a ∷ b ∷ []) occurrence mark means =
+    (grind (arith, nat_tests), (grind (arith, nat_tests), tt))
 closed (a ∷ b ∷ c ∷ []) occurrence mark means =
     (grind (arith, nat_tests), (grind (arith, nat_tests), (grind (arith, nat_tests), tt)))
 closed (a ∷ b ∷ c ∷ d ∷ more) occurrence mark means = absurd (grind (arith, nat_tests))
@@ -350,11 +351,9 @@ pub one_argument : (kind another : HasArg) (hint other : Text) (argument : Optio
     → IsArgument kind hint argument → IsArgument another other argument
     → (another ≡ kind) × (other ≡ hint)
 one_argument No No hint other None is also = (refl, also ∙ sym is)
-one_argument No No hint other (Some text) is also = absurd is
 one_argument No Yes hint other None is also = absurd also
-one_argument No Yes hint other (Some text) is also = absurd is
 one_argument No Maybe hint other None is also = absurd also
-one_argument No Maybe hint other (Some text) is also = absurd is
+one_argument No another hint other (Some text) is also = absurd is
 one_argument Yes another hint other None is also = absurd is
 one_argument Maybe another hint other None is also = absurd is
 one_argument Yes No hint other (Some text) is also = absurd also

@@ -29,7 +29,8 @@ use Rattle.getopts_shell.specs.declared.row.Mark.TheVariants.{Plain, Alone, Last
 -- a byte that a short name may be: a letter, a digit, or one of `?@#%+_^,./:`
 abbrev pub is_name_byte : ℕ → Bool
 is_name_byte byte = is_ascii_alphanumeric byte || byte == 63 || byte == 64 || byte == 35
-    || byte == 37 || byte == 43 || byte == 95 || byte == 94 || byte == 44 || byte == 46 || byte == 47 || byte == 58
+    || byte == 37 || byte == 43 || byte == 95 || byte == 94 || byte == 44 || byte == 46
+    || byte == 47 || byte == 58
 
 -- whether a text may be a short name: it doesn't begin with `-`, and its bytes may stand there
 abbrev pub is_name : Text → Bool
