@@ -134,6 +134,28 @@ def bench():
     return program("getopts_bench")
 
 
+def rows_in(file):
+    """The rows of a file: the fields of each, between tabs, and the text below it, each line after '> '. A row 'text' has a
+    text, or how often and what, that {NAME} stands for below."""
+    rows, texts = [], {}
+
+    def whole(text):
+        return re.sub(r"\{([A-Z]+)\}", lambda it: texts[it[1]], text)
+
+    def field(text):
+        return whole(re.sub(r"\\(.)", lambda it: {"t": "\t", "n": "\n", "r": "\r"}.get(it[1], it[1]), text))
+
+    for row in re.findall(r"^[^#>\n].*(?:\n>.*)*", (ROOT / file).read_text(encoding="utf-8"), re.M):
+        first, *below = row.split("\n")
+        fields = [field(one) for one in first.split("\t")]
+        text = "".join(f"{whole(line[2:])}\n" for line in below)
+        if fields[0] == "text":
+            texts[fields[1]] = fields[3] * int(fields[2]) if fields[2:] else text[:-1]
+        else:
+            rows.append((fields, text))
+    return rows
+
+
 @functools.cache
 def kit():
     """The folder of the toolchain."""
