@@ -114,24 +114,21 @@ def program(crate):
     return built
 
 
-@pytest.fixture(scope="session")
-def show():
-    return program("getopts_show")
+def built(name, crate):
+    return pytest.fixture(lambda: program(crate), scope="session", name=name)
+
+
+show, shell = built("show", "getopts_show"), built("shell", "getopts_shell")
+vectors, bench = built("vectors", "getopts_vectors"), built("bench", "getopts_bench")
 
 
 @pytest.fixture(scope="session")
-def shell():
-    return program("getopts_shell")
-
-
-@pytest.fixture(scope="session")
-def vectors():
-    return program("getopts_vectors")
-
-
-@pytest.fixture(scope="session")
-def bench():
-    return program("getopts_bench")
+def carried():
+    """The program for this machine that bindings/shell carries."""
+    there = ROOT / f"bindings/shell/{MACHINE}/getopts_shell"
+    if not there.exists():
+        pytest.skip(f"bindings/shell carries no program for {MACHINE}")
+    return there
 
 
 def rows_in(file):

@@ -41,13 +41,6 @@ def wrapped(path, text):
 
 
 @pytest.fixture(scope="session")
-def carried():
-    if not (SHELL / MACHINE / "getopts_shell").exists():
-        pytest.skip(f"bindings/shell carries no program for {MACHINE}")
-    return SHELL / MACHINE / "getopts_shell"
-
-
-@pytest.fixture(scope="session")
 def by_qemu(tmp_path_factory):
     if MACHINE == "aarch64":
         pytest.skip("this machine is one")

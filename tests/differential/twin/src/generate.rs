@@ -4,7 +4,8 @@ use crate::answer::Session;
 use crate::form::{Case, Line};
 use crate::options::{Declared, Group, CALLS};
 use crate::random::Random;
-use crate::{tables, texts};
+use crate::tables::{self, Table};
+use crate::texts;
 
 /// A case as it is made: what it has declared, and what the Rust crate answered to it so far.
 struct Making {
@@ -18,7 +19,7 @@ impl Making {
         let mut making = Making {
             lines: Vec::new(),
             declared: Declared::default(),
-            session: Session::new(),
+            session: Session::default(),
         };
         making.add(Line::new(&["case", &format!("{theme}-{number}")]));
         making
@@ -57,12 +58,10 @@ pub fn case(seed: u64, number: usize) -> Case {
         76..=85 => same(random, number),
         86..=91 => value(random, number),
         92..=93 => long_line(random, number),
-        94..=97 => table(random, "harness", number, &tables::harness()),
-        _ => table(random, "doctool", number, &tables::doctool()),
+        94..=97 => table(random, "harness", number, tables::HARNESS),
+        _ => table(random, "doctool", number, tables::DOCTOOL),
     };
-    Case {
-        lines: making.lines,
-    }
+    Case { lines: making.lines }
 }
 
 /// A random group, with no description.
@@ -73,11 +72,7 @@ fn group(random: &mut Random) -> Group {
         _ => (texts::short_name(random), texts::long_name(random)),
     };
     let (call, kind, occur) = if random.one_in(3) {
-        (
-            "opt",
-            random.of(&["yes", "no", "maybe"]),
-            random.of(&["req", "optional", "multi"]),
-        )
+        ("opt", random.of(&["yes", "no", "maybe"]), random.of(&["req", "optional", "multi"]))
     } else {
         random.of(&CALLS)
     };
@@ -86,11 +81,7 @@ fn group(random: &mut Random) -> Group {
         short,
         long,
         desc: String::new(),
-        hint: if has_hint && random.one_in(8) {
-            texts::hint(random)
-        } else {
-            String::new()
-        },
+        hint: if has_hint && random.one_in(8) { texts::hint(random) } else { String::new() },
         kind,
         occur,
         call,
@@ -99,11 +90,7 @@ fn group(random: &mut Random) -> Group {
 
 fn declared(random: &mut Random, most: usize) -> Declared {
     let groups = (0..random.below(most + 1)).map(|_| group(random)).collect();
-    Declared {
-        groups,
-        stop: random.one_in(4),
-        long_only: random.one_in(4),
-    }
+    Declared { groups, stop: random.one_in(4), long_only: random.one_in(4) }
 }
 
 /// A name of a group, or one that is made up.
@@ -152,11 +139,7 @@ fn item(random: &mut Random, declared: &Declared) -> Vec<String> {
 fn cluster(random: &mut Random, declared: &Declared) -> String {
     let mut word = "-".to_string();
     for _ in 0..1 + random.below(3) {
-        let shorts: Vec<&str> = declared
-            .groups
-            .iter()
-            .map(|group| group.short.as_str())
-            .collect();
+        let shorts: Vec<&str> = declared.groups.iter().map(|group| group.short.as_str()).collect();
         if shorts.is_empty() || random.one_in(14) {
             word.push_str(&texts::short_name(random));
         } else {
@@ -170,9 +153,7 @@ fn cluster(random: &mut Random, declared: &Declared) -> String {
 }
 
 fn words(random: &mut Random, declared: &Declared, most: usize) -> Vec<String> {
-    (0..random.below(most + 1))
-        .flat_map(|_| item(random, declared))
-        .collect()
+    (0..random.below(most + 1)).flat_map(|_| item(random, declared)).collect()
 }
 
 /// Adds what a line of accepted words is asked.
@@ -191,11 +172,8 @@ fn ask(random: &mut Random, making: &mut Making, words: &[String], most: usize) 
                 making.add(Line(line));
             }
             _ => {
-                let default = if random.one_in(3) {
-                    texts::value(random)
-                } else {
-                    "def".to_string()
-                };
+                let default =
+                    if random.one_in(3) { texts::value(random) } else { "def".to_string() };
                 making.add(Line::new(&["option", &name, &default]));
             }
         }
@@ -364,11 +342,7 @@ fn value(random: &mut Random, number: usize) -> Making {
     let kind = random.of(&["yes", "yes", "maybe", "no"]);
     let group = Group {
         short: "n".to_string(),
-        long: if random.one_in(2) {
-            "number".to_string()
-        } else {
-            String::new()
-        },
+        long: if random.one_in(2) { "number".to_string() } else { String::new() },
         desc: String::new(),
         hint: String::new(),
         kind,
@@ -398,29 +372,20 @@ fn value(random: &mut Random, number: usize) -> Making {
 }
 
 /// Lines of words by the options of a real program.
-fn table(random: &mut Random, theme: &str, number: usize, table: &tables::Table) -> Making {
+fn table(random: &mut Random, theme: &str, number: usize, rows: &str) -> Making {
+    let table = Table::of(rows);
     let mut making = Making::begin(theme, number);
-    let declared = Declared {
-        groups: table.groups.clone(),
-        stop: false,
-        long_only: random.one_in(8),
-    };
+    let declared = Declared { groups: table.groups, stop: false, long_only: random.one_in(8) };
     making.declare(&declared);
     if random.one_in(4) {
-        making.add(Line::new(&["usage", table.brief]));
-        making.add(Line::new(&["short", table.brief]));
+        making.add(Line::new(&["usage", &table.brief]));
+        making.add(Line::new(&["short", &table.brief]));
     }
     for _ in 0..2 + random.below(6) {
         let words: Vec<String> = if random.one_in(2) {
-            (0..random.below(5))
-                .flat_map(|_| real_item(random, &declared))
-                .collect()
+            (0..random.below(5)).flat_map(|_| real_item(random, &declared)).collect()
         } else {
-            random
-                .of(table.lines)
-                .split(' ')
-                .map(str::to_string)
-                .collect()
+            table.lines[random.below(table.lines.len())].clone()
         };
         if making.words(&words) {
             ask(random, &mut making, &words, 4);
@@ -435,23 +400,11 @@ fn real_item(random: &mut Random, declared: &Declared) -> Vec<String> {
         return item(random, declared);
     }
     if random.one_in(4) {
-        return vec![random
-            .of(&["src/lib.rs", "parser::reads", "--", "main.rs"])
-            .to_string()];
+        return vec![random.of(&["src/lib.rs", "parser::reads", "--", "main.rs"]).to_string()];
     }
     let group = &declared.groups[random.below(declared.groups.len())];
-    let value = random
-        .of(&[
-            "1",
-            "8",
-            "auto",
-            "json",
-            "target/doc",
-            "tests::",
-            "warnings",
-            "",
-        ])
-        .to_string();
+    let value =
+        random.of(&["1", "8", "auto", "json", "target/doc", "tests::", "warnings", ""]).to_string();
     match (group.kind, group.long.is_empty(), random.one_in(2)) {
         ("no", true, _) => vec![format!("-{}", group.short)],
         ("no", false, _) => vec![format!("--{}", group.long)],
