@@ -190,14 +190,18 @@ def manual(page):
     assert run("man", "--warnings", "-E", "UTF-8", "-l", page)[1] == ""
 
 
+def preloaded(source, room):
+    """A library to preload, built by the toolchain's compiler and linker."""
+    tools, flags = kit() / "toolchain/bin", "-O2 -Wall -Wextra -Werror -ffreestanding -nostdinc -fPIC -c".split()
+    run(tools / "clang", *flags, source, "-o", room / "it.o")
+    run(tools / "ld.lld", "-shared", "-o", room / "it.so", room / "it.o")
+    return room / "it.so"
+
+
 @pytest.fixture(scope="session")
 def refuse(tmp_path_factory):
-    """What refuses memory, as a library to preload, built by the toolchain's compiler or this machine's."""
-    tools, room = kit() / "toolchain/bin", tmp_path_factory.mktemp("refuse")
-    flags = "-O2 -Wall -Wextra -Werror -ffreestanding -nostdinc -fPIC -c".split()
-    run(tools / "clang", *flags, ROOT / "tests/memory/refuse.c", "-o", room / "refuse.o")
-    run(tools / "ld.lld", "-shared", "-o", room / "refuse.so", room / "refuse.o")
-    return room / "refuse.so"
+    """What refuses memory, as a library to preload."""
+    return preloaded(ROOT / "tests/memory/refuse.c", tmp_path_factory.mktemp("refuse"))
 
 
 def refused_in_turn(preload, words, refusal=(b"", 3), like=None, marks=False, by=()):
