@@ -102,15 +102,11 @@ FIGURES = [
      lambda: [share("small", "bindings/rust"), share("long", "bindings/rust")]),
     ("docs/DECISIONS.md", r"Up to (\d+) groups have no table",
      lambda: re.findall(r"const FEW: usize = (\d+)", read("crates/getopts/src/table.rt"))),
-    (CALLING, r"the library once, in ([^|]*?) of processor time, by the clock in ([^|]*?)\s+on four", lambda: minutes("rt lib")),
     ("tests/differential/README.md", r"first ([\d,]+) of seed 1",
      lambda: [f"{int(re.search(r'choose 1 (.*?) ', read('tests/differential/record.sh'))[1]):,}"]),
-    ("bindings/rust/README.md", r"Rust ([\d.]+) or later",
-     lambda: re.findall(r'rust-version = "(.*)"', read("bindings/rust/Cargo.toml"))),
-    ("bindings/c/README.md", r"Rust ([\d.]+) or later",
-     lambda: re.findall(r'rust-version = "(.*)"', read("bindings/c/Cargo.toml"))),
-    ("bindings/shell/README.md", r"Rust ([\d.]+) or later",
-     lambda: re.findall(r'rust-version = "(.*)"', read("bindings/shell/Cargo.toml"))),
+    *((f"bindings/{folder}/README.md", r"Rust ([\d.]+) or later",
+       lambda folder=folder: re.findall(r'rust-version = "(.*)"', read(f"bindings/{folder}/Cargo.toml")))
+      for folder in ("rust", "c", "shell")),
     ("bench/README.md", r"holds is ([\d.]+) MB here, ([\d.]+) MB in the Rust\s+crate and ([\d.]+) MB",
      lambda: [megabytes("this library"), megabytes("Rust crate"), megabytes("bindings/rust")]),
 ]
@@ -121,7 +117,7 @@ NO_FIGURES = re.compile(r"""
     | 1,000\ words | 100,000\ words | 20\ options | 10\ words
     | (32|64)\ bits | 54\ columns | 24\ (spaces|columns) | stop\ at\ 255 | 24\ bytes | C\+\+11 | Debian\ 12 | 80\ words | 200,000\ cases
     # experiments that were done once
-    | 2,500\ random\ lines | 393\ small\ changes | detected\ 375 | 585\ small\ changes | detected\ 492 | 54\ of\ the\ other\ 93 | 39\ are
+    | 393\ small\ changes | detected\ 375 | 585\ small\ changes | detected\ 492 | 54\ of\ the\ other\ 93 | 39\ are
 """, re.X)
 
 
