@@ -21,7 +21,7 @@ impl Making {
             declared: Declared::default(),
             session: Session::default(),
         };
-        making.add(Line::new(&["case", &format!("{theme}-{number}")]));
+        making.put(&["case", &format!("{theme}-{number}")]);
         making
     }
 
@@ -31,6 +31,10 @@ impl Making {
         let answer = self.session.answer(&line);
         self.lines.push(line);
         answer
+    }
+
+    fn put(&mut self, parts: &[&str]) {
+        self.add(Line::new(parts));
     }
 
     fn declare(&mut self, declared: &Declared) {
@@ -163,9 +167,7 @@ fn ask(random: &mut Random, making: &mut Making, words: &[String], most: usize) 
     for _ in 0..1 + random.below(most) {
         let name = name(random, &declared);
         match random.below(6) {
-            0 if counts_words => {
-                making.add(Line::new(&["positions", &name]));
-            }
+            0 if counts_words => making.put(&["positions", &name]),
             1 => {
                 let mut line = vec!["any".to_string()];
                 line.extend((0..random.below(4)).map(|_| self::name(random, &declared)));
@@ -174,7 +176,7 @@ fn ask(random: &mut Random, making: &mut Making, words: &[String], most: usize) 
             _ => {
                 let default =
                     if random.one_in(3) { texts::value(random) } else { "def".to_string() };
-                making.add(Line::new(&["option", &name, &default]));
+                making.put(&["option", &name, &default]);
             }
         }
     }
@@ -226,19 +228,13 @@ fn text(random: &mut Random, number: usize) -> Making {
     }
     making.declare(&declared);
     match random.below(4) {
-        0 => {
-            making.add(Line::new(&["rows"]));
-        }
-        1 => {
-            making.add(Line::new(&["short", &texts::value(random)]));
-        }
+        0 => making.put(&["rows"]),
+        1 => making.put(&["short", &texts::value(random)]),
         2 => {
-            making.add(Line::new(&["usage", "Usage: x"]));
-            making.add(Line::new(&["short", "x"]));
+            making.put(&["usage", "Usage: x"]);
+            making.put(&["short", "x"]);
         }
-        _ => {
-            making.add(Line::new(&["usage", &texts::value(random)]));
-        }
+        _ => making.put(&["usage", &texts::value(random)]),
     }
     making
 }
@@ -253,7 +249,7 @@ fn names(random: &mut Random, number: usize) -> Making {
             2 => texts::noise(random),
             _ => String::new(),
         });
-        making.add(Line::new(&["lawful", &pair[0], &pair[1]]));
+        making.put(&["lawful", &pair[0], &pair[1]]);
     }
     making
 }
@@ -265,14 +261,14 @@ fn same(random: &mut Random, number: usize) -> Making {
     making.declare(&first);
     let first_words = words(random, &first, 3);
     making.words(&first_words);
-    making.add(Line::new(&["keep"]));
+    making.put(&["keep"]);
     let mut second = first.clone();
     if random.one_in(2) {
         change(random, &mut second);
-        making.add(Line::new(&["anew"]));
+        making.put(&["anew"]);
         making.declare(&second);
     }
-    making.add(Line::new(&["same", "options"]));
+    making.put(&["same", "options"]);
     let second_words = if random.one_in(3) {
         first_words.clone()
     } else {
@@ -280,7 +276,7 @@ fn same(random: &mut Random, number: usize) -> Making {
     };
     if first.counts_words(&first_words) && second.counts_words(&second_words) {
         making.words(&second_words);
-        making.add(Line::new(&["same", "answers"]));
+        making.put(&["same", "answers"]);
     }
     making
 }
@@ -362,10 +358,10 @@ fn value(random: &mut Random, number: usize) -> Making {
     for _ in 0..1 + random.below(2) {
         if random.one_in(2) {
             let default = random.of(&["0", "7", "-12"]);
-            making.add(Line::new(&["number", "n", default]));
+            making.put(&["number", "n", default]);
         } else {
             let default = random.of(&["true", "false"]);
-            making.add(Line::new(&["truth", group.main(), default]));
+            making.put(&["truth", group.main(), default]);
         }
     }
     making
@@ -378,8 +374,8 @@ fn table(random: &mut Random, theme: &str, number: usize, rows: &str) -> Making 
     let declared = Declared { groups: table.groups, stop: false, long_only: random.one_in(8) };
     making.declare(&declared);
     if random.one_in(4) {
-        making.add(Line::new(&["usage", &table.brief]));
-        making.add(Line::new(&["short", &table.brief]));
+        making.put(&["usage", &table.brief]);
+        making.put(&["short", &table.brief]);
     }
     for _ in 0..2 + random.below(6) {
         let words: Vec<String> = if random.one_in(2) {

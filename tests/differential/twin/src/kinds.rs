@@ -37,23 +37,15 @@ fn item(declared: &Declared, words: &[String], kinds: &mut BTreeSet<String>) -> 
     let word = &words[0];
     let next = words.get(1);
     let in_long_form = word.starts_with("--") || declared.long_only;
-    let mut add = |text: String| {
-        kinds.insert(text);
-    };
+    let mut add = |text: String| _ = kinds.insert(text);
     if in_long_form {
         let dashes = if word.starts_with("--") { "long" } else { "long after one dash" };
         let tail = word.strip_prefix("--").unwrap_or(&word[1..]);
         let (name, argument) = match tail.split_once('=') {
-            Some((name, argument)) => (name, Some(argument)),
-            None => (tail, None),
+            Some((name, "")) => (name, "with an empty argument"),
+            Some((name, _)) => (name, "with an argument"),
+            None => (tail, "alone"),
         };
-        let argument = argument.map_or("alone", |text| {
-            if text.is_empty() {
-                "with an empty argument"
-            } else {
-                "with an argument"
-            }
-        });
         let (group, how) = match resolved(&declared.groups, name) {
             Some(found) => found,
             None => {
@@ -198,9 +190,7 @@ pub fn of_case(case: &Case, answers: &str) -> BTreeSet<String> {
                 }
             }
             ("case" | "style" | "mode", _) => {}
-            (word, _) => {
-                kinds.insert(format!("line {word}"));
-            }
+            (word, _) => _ = kinds.insert(format!("line {word}")),
         }
         if let Some(group) = Group::of_line(asked) {
             kinds.insert(format!("group {}, {}", group.kind, group.occur));
@@ -219,23 +209,19 @@ pub fn of_case(case: &Case, answers: &str) -> BTreeSet<String> {
                     kinds.insert(format!("accepted, trailing start {}", fields[1]));
                 }
             }
-            "refused" => {
-                kinds.insert(format!("refused, {}", fields[1]));
-            }
+            "refused" => _ = kinds.insert(format!("refused, {}", fields[1])),
             "option" if fields.len() > 5 => {
                 let given =
                     [&fields[4], &fields[5]].map(|field| field.chars().next().unwrap_or(' '));
                 let count = fields[3].parse::<usize>().unwrap_or(0).min(3);
                 kinds.insert(format!("option, {count} times, {given:?}"));
             }
-            "option" => {
-                kinds.insert(format!("option, {}", fields.last().unwrap()));
-            }
+            "option" => _ = kinds.insert(format!("option, {}", fields.last().unwrap())),
             "strs" | "pairs" => {
-                kinds.insert(format!("{}, {} of them", fields[0], (fields.len() - 1).min(4)));
+                _ = kinds.insert(format!("{}, {} of them", fields[0], (fields.len() - 1).min(4)))
             }
             "positions" => {
-                kinds.insert(format!("positions, {} of them", (fields.len() - 2).min(4)));
+                _ = kinds.insert(format!("positions, {} of them", (fields.len() - 2).min(4)))
             }
             "any" | "same" | "lawful" => {
                 let told: Vec<&str> = fields[1..].iter().map(|field| told(field)).collect();
@@ -246,7 +232,7 @@ pub fn of_case(case: &Case, answers: &str) -> BTreeSet<String> {
                 kinds.insert(format!("{}, {}", fields[0], told.join(", ")));
             }
             "usage" | "rows" | "short" => {
-                kinds.insert(format!("{} of {} bytes", fields[0], answer.len() / 100 * 100));
+                _ = kinds.insert(format!("{} of {} bytes", fields[0], answer.len() / 100 * 100))
             }
             _ => {}
         }
