@@ -34,13 +34,13 @@ TOOLS = {"instructions": ("--tool=callgrind --callgrind-out-file=/dev/null", r"C
 TURNS = {"long": (5, 15), "many": (5, 15), "many11": (5, 15), "equal": (0, 1), "4000": (0, 1)}
 
 
-def how(job):
+def turn_of(job):
     """What a turn of a job does, the line, and the two numbers of turns."""
     work, _, line = job.rpartition("-")
     return work or (job if job in ("equal", "usage") else "whole"), line, *TURNS.get(line, (100, 300))
 
 
-JOBS = {job: how(job) for job in """small read-small canonical-small copied-small typical read-typical long read-long
+JOBS = {job: turn_of(job) for job in """small read-small canonical-small copied-small typical read-typical long read-long
     canonical-long copied-long many read-many canonical-many copied-many many11 front read-front asked-front none equal usage
     defined-4000""".split()}
 # Of these the most bytes held at once are counted.
