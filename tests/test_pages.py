@@ -299,7 +299,7 @@ def test_edits_are_in_the_proofs():
 
 
 # Names of the toolchain, of Rust and of Debian's packages.
-OTHERS = """Lends LendsIfOk RestsIfErr Send Sync unicode-width x86-64-v2 POSIXLY_CORRECT optind IFS copied-
+OTHERS = """Send Sync unicode-width x86-64-v2 POSIXLY_CORRECT optind IFS copied-
     librust-clap-dev librust-lexopt-dev librust-pico-args-dev librust-unicode-width-dev"""
 
 
