@@ -11,36 +11,22 @@ SPECIAL = list("'\"\\$`!~=*?[]{}()<>|&;#%^ \t\n\r-") + ["''", "\\'", "$(", "\n\n
 
 
 def is_text(word):
-    try:
-        word.encode()
-    except UnicodeEncodeError:
-        return False
-    return True
+    return not any("\ud800" <= char < "\ue000" for char in word)
+
+
+# What a word may hold: how often in a hundred, and a random piece of it. Last come the marks of bytes,
+# and bytes as they are.
+PIECES = [(50, lambda rng: rng.choice(SPECIAL)), (20, lambda rng: chr(rng.randrange(1, 128))),
+          (20, lambda rng: rng.choice("abcxyz")), (2, lambda rng: chr(rng.randrange(0x80, 0xD800))),
+          (2, lambda rng: chr(rng.randrange(0xE000, 0x110000))), (2, lambda rng: chr(rng.randrange(0x80, 0xA0))),
+          (2, lambda rng: chr(rng.randrange(0x10FF80, 0x110000))),
+          (2, lambda rng: os.fsdecode(bytes([rng.randrange(0x80, 0x100)])))]
 
 
 def text_of(rng):
-    """A random word of up to ten characters or bytes, of every kind that a word may hold."""
-    chars = []
-    for _ in range(rng.choice([0, 1, 1, 2, 3, 5, 10])):
-        kind = rng.random()
-        if kind < 0.5:
-            chars.append(rng.choice(SPECIAL))
-        elif kind < 0.7:
-            chars.append(chr(rng.randrange(1, 128)))
-        elif kind < 0.9:
-            chars.append(rng.choice("abcxyz"))
-        elif kind < 0.94:
-            code = rng.randrange(0x80, 0x110000)
-            chars.append(chr(code if not 0xD800 <= code < 0xE000 else 0xE9))
-        elif kind < 0.96:
-            chars.append(chr(rng.randrange(0x80, 0xA0)))
-        elif kind < 0.98:
-            # the marks of bytes
-            chars.append(chr(rng.randrange(0x10FF80, 0x110000)))
-        else:
-            # a byte as it is
-            chars.append(os.fsdecode(bytes([rng.randrange(0x80, 0x100)])))
-    return "".join(chars)
+    """A random word of up to ten pieces, of every kind that a word may hold."""
+    often, pieces = zip(*PIECES)
+    return "".join(piece(rng) for piece in rng.choices(pieces, often, k=rng.choice([0, 1, 1, 2, 3, 5, 10])))
 
 
 def table_of(rng, alone):
