@@ -13,6 +13,8 @@ from pathlib import Path
 import pytest
 
 sys.dont_write_bytecode = True
+os.environ["LC_ALL"] = "C.UTF-8"
+os.environ.pop("POSIXLY_CORRECT", None)
 ROOT = Path(__file__).resolve().parents[1]
 MACHINE = platform.machine()
 VECTORS = ROOT / "crates/getopts_vectors"
@@ -36,12 +38,6 @@ def pytest_addoption(parser):
     parser.addoption("--getopts", help="a folder with the Rust crate getopts 0.2.24")
 
 
-def pytest_configure(config):
-    config.addinivalue_line("markers", "built: takes programs or libraries that the proofs leave")
-    os.environ["LC_ALL"] = "C.UTF-8"
-    os.environ.pop("POSIXLY_CORRECT", None)
-
-
 def pytest_collection_modifyitems(items):
     for item in items:
         if {"show", "shell", "vectors", "bench", "built"} & set(item.fixturenames):
@@ -49,13 +45,10 @@ def pytest_collection_modifyitems(items):
 
 
 @pytest.fixture(scope="session")
-def quick(request):
-    return request.config.getoption("--quick")
-
-
-@pytest.fixture(scope="session")
-def fix(request):
-    return request.config.getoption("--fix")
+def other_targets(request):
+    """Skips a test of another target in a quick run."""
+    if request.config.getoption("--quick"):
+        pytest.skip("--quick: no other targets")
 
 
 @pytest.fixture(scope="session")

@@ -50,11 +50,11 @@ def library(tmp_path_factory):
 
 
 @pytest.fixture(params=BUILDS)
-def build(request, tmp_path, quick, library):
+def build(request, tmp_path, library):
     """Builds a program of a source as one compiler does, and returns the words that run it."""
     compiler, target, by = BUILDS[request.param]
-    if quick and target:
-        pytest.skip("other targets: this is the quick test")
+    if target:
+        request.getfixturevalue("other_targets")
     need(compiler[0], *(by or [])[:1])
     by = runner(target, tmp_path) if by is None else by
     archive = library(target)

@@ -158,11 +158,11 @@ def put_in(page):
 
 
 @pytest.mark.parametrize("page", pages)
-def test_figures(page, fix):
+def test_figures(page, request):
     def place(at):
         return f"{page}:{pages[page].count(chr(10), 0, at) + 1}"
 
-    if fix:
+    if request.config.getoption("--fix"):
         put_in(page)
     none([f"{place(at)}: {is_now} has to be {wanted}" for at, is_now, wanted in figures_of(page) if is_now != wanted] +
          [f"{place(at)}: no check knows the figure {it}" for at, it in unknown_in(page)])
@@ -238,10 +238,10 @@ def contracts():
     return "\n\n".join(parts) + "\n"
 
 
-def test_contracts(fix):
+def test_contracts(request):
     """CONTRACTS.md has the contract of each public function, as the sources have it."""
     wanted = re.sub(r"^```\w+\n.*?^```", lambda _: f"```text\n{contracts()}```", pages[CONTRACTS], flags=re.M | re.S)
-    if fix and wanted != pages[CONTRACTS]:
+    if request.config.getoption("--fix") and wanted != pages[CONTRACTS]:
         (ROOT / CONTRACTS).write_text(wanted, encoding="utf-8")
         pages[CONTRACTS] = wanted
     assert pages[CONTRACTS] == wanted, "pytest tests/test_pages.py --fix writes it anew"

@@ -208,10 +208,8 @@ def test_a_difference_is_found(twin, crate):
 # ---- other targets
 
 @pytest.mark.parametrize("target", TARGETS)
-def test_target(target, tmp_path, quick, request, ours, example):
+def test_target(target, other_targets, tmp_path, request, ours, example):
     """By Debian's rustc 1.63: the crate's public tests, the rows, the example, words of any bytes, and `bare`."""
-    if quick:
-        pytest.skip("other targets: this is the quick test")
     twin = twin_over(tmp_path, RUST)
     for file, to in (("examples/show.rs", "src/bin"), ("tests/os.rs", "tests")):
         (twin / to).mkdir()

@@ -63,9 +63,7 @@ def by_cargo(tmp_path_factory):
 
 
 @pytest.fixture(scope="session")
-def by_wine(tmp_path_factory, quick):
-    if quick:
-        pytest.skip("--quick: no other targets")
+def by_wine(tmp_path_factory, other_targets):
     room, target = tmp_path_factory.mktemp("wine"), "x86_64-pc-windows-gnu"
     folder = copied(room, "bindings/rust", "bindings/shell") / "bindings/shell"
     # Cargo of that age reads no lock of today, and rustc asks for what the source has that is newer.
