@@ -44,10 +44,10 @@ JOBS = {job: turn_of(job) for job in """small read-small canonical-small copied-
     canonical-long copied-long many read-many canonical-many copied-many many11 front read-front asked-front none equal usage
     defined-4000""".split()}
 # Of these the most bytes held at once are counted.
-MEMORY = {"memory": ("The most bytes held at once for reading 100,000 words, above the words and the options",
-                     "read", "memory", 0, 1),
-          "held": ("Bytes that matches of 20 options hold, whose descriptions have 1,000 bytes each",
-                   "held", "held", 10, 110)}
+MEMORY = [("peak", "The most bytes held at once for reading 100,000 words, above the words and the options",
+           {"memory": ("read", "memory", 0, 1)}),
+          ("peak", "Bytes that matches of 20 options hold, whose descriptions have 1,000 bytes each",
+           {"held": ("held", "held", 10, 110)})]
 
 
 def stored(line):
@@ -155,19 +155,16 @@ def tables(out, getopts, asked):
     programs = built(out, getopts)
     lock = (out / "peers/Cargo.lock").read_text()
     versions = re.findall(r'^name = "(getopts|lexopt|pico-args|clap|unicode-width)"\nversion = "(.*)"', lock, re.M)
-    said = [subprocess.run([tool, "--version"], capture_output=True, text=True).stdout.strip()
-            for tool in ("valgrind", "rustc")]
+    said = [subprocess.check_output([tool, "--version"], text=True).strip() for tool in ("valgrind", "rustc")]
     print("# " + ", ".join([*(" ".join(it) for it in versions), *said]))
     head = f"{'job':<16} " + " ".join(f"{column:>14}" for column in programs)
-    for what, title in (("instructions", "Instructions of one turn"), ("requests", "Requests for memory of one turn")):
-        print(f"\n{title}\n{head}")
-        for job, how in JOBS.items():
-            if not asked or job in asked:
-                row(out, programs, what, job, *how)
-    for job, (title, *how) in MEMORY.items():
-        if not asked or job in asked:
+    for what, title, jobs in (("instructions", "Instructions of one turn", JOBS),
+                              ("requests", "Requests for memory of one turn", JOBS), *MEMORY):
+        chosen = [job for job in jobs if not asked or job in asked]
+        if chosen:
             print(f"\n{title}\n{head}")
-            row(out, programs, "peak", job, *how)
+        for job in chosen:
+            row(out, programs, what, job, *jobs[job])
     print("\n* its sum isn't this library's")
 
 
