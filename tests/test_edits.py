@@ -29,16 +29,19 @@ class Edit:
     def __init__(self, path, variant):
         self.path, self.variant, self.name = path, variant, path.stem + (":right" if variant == "right" else "")
         self.crate = path.relative_to(ROOT / "tests/must-fail").parts[0]
-        self.pairs, said = [], {}
-        for kind, line in re.findall(r"^(\w+): ?(.*)$", path.read_text(encoding="utf-8"), re.M):
-            if kind in ("fn", "file"):
-                said[kind] = line
-                continue
-            if kind == "old" and (not self.pairs or "new" in self.pairs[-1][1]):
-                self.pairs.append((said["file"], {}))
-            texts = self.pairs[-1][1]
-            texts[kind] = f"{texts[kind]}\n{line}" if kind in texts else line
-        self.function = said["fn"]
+        self.pairs, self.function, file, texts = [], "", "", {}
+        for line in [*path.read_text(encoding="utf-8").splitlines(), "end:"]:
+            kind, _, rest = line.partition(":")
+            rest = rest.removeprefix(" ")
+            if "new" in texts and kind not in ("new", "right"):
+                self.pairs.append((file, {kind: "\n".join(lines) for kind, lines in texts.items()}))
+                texts = {}
+            if kind == "fn":
+                self.function = rest
+            elif kind == "file":
+                file = rest
+            elif kind in ("old", "new", "right"):
+                texts.setdefault(kind, []).append(rest)
 
     def texts(self, kind):
         return "\n".join(texts.get(kind, "") for _, texts in self.pairs)
@@ -53,8 +56,8 @@ class Edit:
         return files
 
 
-ALL = [edit for path in EDITS for edit in (Edit(path, "new"), Edit(path, "right"))
-       if edit.variant == "new" or edit.texts("right").strip()]
+ALL = [Edit(path, variant) for path in EDITS
+       for variant in (("new", "right") if re.search("^right:", path.read_text(encoding="utf-8"), re.M) else ("new",))]
 
 
 def named(functions, text):
@@ -143,9 +146,11 @@ def verdict(said, function):
     own = next((line for line in lines if line.startswith(f"fn {function}: ")), "")
     if own.startswith(f"fn {function}: proved"):
         return "proved"
-    goals = any(proof in line and ": error: " in line and not NAMES.search(line) for line in lines)
-    if "no proof: " in own and "`search` did not prove" in own or own.startswith(f"fn {function}: not proved") and goals:
+    if "no proof: " in own and "`search` did not prove" in own:
         return "refused"
+    if own.startswith(f"fn {function}: not proved"):
+        if any(proof in line and ": error: " in line and not NAMES.search(line) for line in lines):
+            return "refused"
     return own or next((line for line in lines if ": error: " in line), said[-300:])
 
 
@@ -158,9 +163,10 @@ def verdicts(request, tmp_path_factory):
     def of(crate):
         if crate not in found:
             found[crate] = {}
-            asked = [item.callspec.params["edit"] for item in request.session.items if item.name.startswith("test_edit[")]
-            found[crate] = tried([edit for edit in asked if edit.crate == crate and not passed_over(edit, request.config)],
-                                 tmp_path_factory.mktemp(crate))
+            items = [item for item in request.session.items if item.name.startswith("test_edit[")]
+            asked = [edit for edit in (item.callspec.params["edit"] for item in items)
+                     if edit.crate == crate and not passed_over(edit, request.config)]
+            found[crate] = tried(asked, tmp_path_factory.mktemp(crate))
         return found[crate]
 
     return of
@@ -177,17 +183,16 @@ def tried(edits, room):
     alone = [edit for edit in edits if not functions[edit.name]]
     plain = {file: (folder / file).read_text(encoding="utf-8") for edit in alone for file, _ in edit.pairs}
     copies.write()
-
-    def put(files):
-        for file, text in files.items():
-            (folder / file).write_text(text, encoding="utf-8")
-
     checked = check(folder, [function for function in functions.values() if function])
     (room / "said").write_text(checked)
-    said.update({name: verdict(checked, function) for name, function in functions.items() if function})
+    for edit in edits:
+        if functions[edit.name]:
+            said[edit.name] = verdict(checked, functions[edit.name])
     for edit in alone:
-        put(plain)
-        put(edit.applied(folder))
+        for file, text in plain.items():
+            (folder / file).write_text(text, encoding="utf-8")
+        for file, text in edit.applied(folder).items():
+            (folder / file).write_text(text, encoding="utf-8")
         said[edit.name] = verdict(check(folder, [edit.function]), edit.function)
     return said
 
