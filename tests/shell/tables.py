@@ -18,7 +18,7 @@ ORDER = "the short name comes first, then one long one"
 COLON = "a long name doesn't end in ':'"
 EQUALS = "an argument comes after a space, as in '--long ARG'"
 APART = "names are written as -s|--long, without a blank or a comma"
-ONE = "an argument holds no space"
+SPACE = "an argument holds no space, and a tab or two spaces come before a description"
 LONG_NAME = re.compile(r"[A-Za-z0-9_.+:\x80-\U0010ffff-]*")
 
 
@@ -47,41 +47,29 @@ def names_of(inside):
 
 def reason_of(item):
     """What is wrong with an item that is none, by the first rule of the page that it breaks."""
-    right = MARK if item.endswith("!") else BRACKETS
-    if "[" in item and "]" not in item:
-        return OPEN
-    names, _, rest = re.match(r"(?s)([^ \]]*)([ \]]?)(.*)", item).groups()
-    if rest and rest[0] in "-|":
-        return APART
-    if " " in rest:
-        return ONE if item.endswith("]") else GAP
-    names = names.removeprefix("[")
-    if "=" in names:
-        return EQUALS
-    if "[" in names:
-        return right
-    if len(names) < 2 or names[0] != "-":
-        return DASHES
-    if names[1] == "-":
-        long = names[2:]
-    else:
-        short, more = names[1], names[2:]
-        if more and more[0] != "|":
-            return SHORT
-        if not is_short(short):
-            return LETTER
-        if not more:
-            return right
-        if not more.startswith("|--"):
-            return DASHES
-        long = more[3:]
-    if len(long.encode()) < 2:
-        return LONG
-    if "|" in long:
-        return ORDER
-    if not LONG_NAME.fullmatch(long):
-        return BYTES
-    return DASHES if long[0] == "-" else COLON if long.endswith(":") else right
+    argument, end = item.partition(" ")[2], item.partition("]")[2]
+    names = re.match(r"[^ \]]*", item.removeprefix("["))[0]
+    short, _, long = ("", "", names) if names.startswith("--") else names.partition("|")
+    for is_so, reason in [
+        ("[" in item and "]" not in item, OPEN),
+        (argument.startswith(("-", "|")), APART),
+        (" " in end, GAP),
+        (" " in argument, SPACE),
+        ("=" in names, EQUALS),
+        ("[" in names, BRACKETS),
+        (names[:1] != "-" or short == "-", DASHES),
+        ("|" in names and not long.startswith("--") or long.startswith("---"), DASHES),
+        ("|" in long, ORDER),
+        (len(short.encode()) > 2, SHORT),
+        (short and not is_short(short[1:]), LETTER),
+        (long and len(long.encode()) < 4, LONG),
+        (not LONG_NAME.fullmatch(long), BYTES),
+        (long.endswith(":"), COLON),
+        (item.endswith("!"), MARK),
+    ]:
+        if is_so:
+            return reason
+    return BRACKETS
 
 
 def table_fault(table):

@@ -22,14 +22,13 @@ use Rattle.getopts.proofs.Lists.{AllByRecursion-right}
 use Rattle.getopts.proofs.Lookup.Names.{resolution-main}
 use Rattle.getopts_shell.specs.Held.{HaveReading, entries_of, entry_of_row}
 use Rattle.getopts_shell.specs.Program.{AskAlone, AskHelp, is_alone, main_word, read_groups, stands_alone}
-use Rattle.getopts_shell.specs.Table.{DeclaresOptions, Entry, HaveNewNames, any_has_name, fits, group_of_entry}
+use Rattle.getopts_shell.specs.Table.{DeclaresOptions, Entry, any_has_name, fits, group_of_entry}
 use Rattle.getopts_shell.specs.Table.{name_again}
 use Rattle.getopts_shell.specs.declared.row.Mark.{Mark}
 use Rattle.getopts_shell.specs.declared.row.Mark.TheVariants.{Plain, Alone, Last}
 use Rattle.getopts_shell.specs.declared.row.Row.{Row}
 use Rattle.getopts_shell.proofs.Help.{one_reading}
 use Rattle.getopts_shell.proofs.Items.{is_empty-cons}
-use Rattle.getopts_shell.proofs.Only.{new_at}
 use Rattle.getopts_shell.proofs.Plain.{MayStand, entries_stand, plain_main}
 
 -- ---- the first row
@@ -214,8 +213,7 @@ alone_reads table options entries matches entry declares groups_are is =
     let name = main_name entry.signature.names in
     let found = found_between (is_alone matches) entries entry is in
     let stands = found_stands table entries matches entry declares is in
-    let new = new_at [] found.0 entry found.1
-    (subst (λ (entries : List Entry). HaveNewNames [] entries) found.2 declares.once) in
+    let new = declares.once found.0 found.1 entry found.2 in
     let alone = and_parts (stands_alone entry.mark) (is_present matches.groups name) found.3 in
     let kind = no_kind entry.mark entry.signature.kind alone.0 stands.fits_kind in (
       record { items = reading.long reading.two name reading.none ∷ []; tail = reading.line_end },

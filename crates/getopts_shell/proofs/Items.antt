@@ -1,24 +1,23 @@
 -- Items: what they are made of, in one way each.
 use Rattle.std.proofs.Common.{◌≡◌, ◌≢◌, ℕ, ◌<◌, Bool, true, false, [], ◌∷◌, ◌++◌, length, get_or}
-use Rattle.std.proofs.Common.{Bor, MatchOption, cond, eqb, drop, take, Option, Some, None, refl, sym, ap, subst}
+use Rattle.std.proofs.Common.{Bor, MatchOption, cond, eqb, drop, take, Option, Some, None, refl}
+use Rattle.std.proofs.Common.{sym, ap, subst}
 use Rattle.std.proofs.Common.{◌∙◌, ◌+◌, ◌≤◌, arith, lit<, take-append-drop}
-use Rattle.std.specs.Prelude.{slice_index, ◌&&◌, ◌||◌, not}
+use Rattle.std.specs.Prelude.{slice_index, ◌&&◌, not}
 use Rattle.std.specs.List.{AllByRecursion, ends_with, list_all}
 use Rattle.std.specs.Option.{option_map_or, unwrap_or}
-use Rattle.std.specs.Str.{bytes_eq}
 use Rattle.std.proofs.lemmas.Bool.Decides.{nat_tests}
-use Rattle.std.proofs.lemmas.Slice.Eq.{bytes_eq-Decides}
 use Rattle.std.proofs.lemmas.List.{append_cancel_right}
 use Rattle.getopts.specs.Names.{Text, Names, is_empty}
 use Rattle.getopts.specs.Options.{Signature}
 use Rattle.getopts.specs.declared.groups.HasArg.{HasArg}
 use Rattle.getopts.specs.declared.groups.HasArg.TheVariants.{Yes, No, Maybe}
 use Rattle.getopts.specs.declared.groups.Occur.{Occur}
-use Rattle.getopts.specs.declared.groups.Occur.TheVariants.{Optional, Multi}
-use Rattle.getopts_shell.specs.Table.{is_name, is_hint, names_text, MayBeNames, AreNames, IsArgument}
-use Rattle.getopts_shell.specs.Table.{HasParts, IsBracketed, bare, bracketed, IsItem, end_means, fits, is_hint_byte}
+use Rattle.getopts_shell.specs.Table.{is_name, is_hint, names_text, MayBeNames, AreNames}
+use Rattle.getopts_shell.specs.Table.{IsArgument}
+use Rattle.getopts_shell.specs.Table.{HasParts, IsBracketed, bare, bracketed, IsItem, end_means}
+use Rattle.getopts_shell.specs.Table.{fits, is_hint_byte}
 use Rattle.getopts_shell.specs.declared.row.Mark.{Mark}
-use Rattle.getopts_shell.specs.declared.row.Mark.TheVariants.{Plain, Alone, Last}
 use Rattle.std.specs.Str.Pattern.{RFindsChar}
 use Rattle.std.proofs.lemmas.List.Elements.{All-from_get_or, recursion_from_All}
 use Rattle.std.proofs.lemmas.Str.Pattern.{NoCharPasses-char, drop_at_char}
@@ -38,11 +37,13 @@ no_bracket (byte ∷ rest) none = λ is. none rest (ap (λ (b : ℕ). b ∷ rest
 never : {X : Type 0} (x : X) → None ≡ Some x → ⊥
 never x is = cc
 
+-- what an end may mean
 abbrev meaning : Occur → Mark → Option (Occur × Mark)
 meaning occurrence mark = Some (occurrence, mark)
 
 -- the parts of meanings that are the same
-same_parts : (occurrence another : Occur) (mark behind : Mark) → meaning another behind ≡ meaning occurrence mark
+same_parts : (occurrence another : Occur) (mark behind : Mark) → meaning another behind
+    ≡ meaning occurrence mark
     → (another ≡ occurrence) × (behind ≡ mark)
 same_parts occurrence another mark behind is =
     let pair : Occur × Mark = (occurrence, mark) in (
@@ -54,42 +55,16 @@ same_parts occurrence another mark behind is =
 closed : (end : Text) (occurrence : Occur) (mark : Mark) → end_means end ≡ Some (occurrence, mark)
     → AllByRecursion (λ (byte : ℕ). byte ≢ 93) end
 closed [] occurrence mark means = tt
-closed (a ∷ []) occurrence mark means = (
-  λ is. never (occurrence, mark) (sym (ap (λ (b : ℕ). end_means (b ∷ [])) is) ∙ means),
-  tt,
-)
-closed (a ∷ b ∷ more) occurrence mark means =
-    by_test (is_empty (a ∷ b ∷ more)) (is_empty-cons a (b ∷ more)) (bytes_eq (a ∷ b ∷ more) (33 ∷ [])) refl
-    (bytes_eq (a ∷ b ∷ more) (46 ∷ 46 ∷ [])) refl (bytes_eq (a ∷ b ∷ more) (46 ∷ 46 ∷ 46 ∷ [])) refl
-    (bytes_eq (a ∷ b ∷ more) (42 ∷ [])) refl means
-  where
-    holds_none : (end : Text) → bytes_eq (a ∷ b ∷ more) end ≡ true → AllByRecursion (λ (byte : ℕ). byte ≢ 93) end
-        → AllByRecursion (λ (byte : ℕ). byte ≢ 93) (a ∷ b ∷ more)
-    holds_none end is none = subst (AllByRecursion (λ (byte : ℕ). byte ≢ 93))
-        (sym ((bytes_eq-Decides (a ∷ b ∷ more) end).0 is)) none
-
-    by_test : (nothing : Bool) → nothing ≡ false → (one : Bool) → bytes_eq (a ∷ b ∷ more) (33 ∷ []) ≡ one
-        → (two : Bool) → bytes_eq (a ∷ b ∷ more) (46 ∷ 46 ∷ []) ≡ two
-        → (three : Bool) → bytes_eq (a ∷ b ∷ more) (46 ∷ 46 ∷ 46 ∷ []) ≡ three
-        → (star : Bool) → bytes_eq (a ∷ b ∷ more) (42 ∷ []) ≡ star
-        → cond nothing (meaning Optional Plain) (cond one (meaning Optional Alone) (cond (two || three)
-        (meaning Multi Plain) (cond star (meaning Multi Last) None))) ≡ meaning occurrence mark
-        → AllByRecursion (λ (byte : ℕ). byte ≢ 93) (a ∷ b ∷ more)
-    by_test nothing filled true is two _ three _ star _ means =
-        holds_none (33 ∷ []) is (λ same. absurd (omega arith), tt)
-    by_test nothing filled false _ true is three _ star _ means =
-        holds_none (46 ∷ 46 ∷ []) is (λ same. absurd (omega arith), (λ same. absurd (omega arith), tt))
-    by_test nothing filled false _ false _ true is star _ means =
-        holds_none (46 ∷ 46 ∷ 46 ∷ []) is
-        (λ same. absurd (omega arith), (λ same. absurd (omega arith), (λ same. absurd (omega arith), tt)))
-    by_test nothing filled false _ false _ false _ true is means =
-        holds_none (42 ∷ []) is (λ same. absurd (omega arith), tt)
-    by_test nothing filled false _ false _ false _ false _ means = absurd (never (occurrence, mark)
-        (sym (ap (λ (b : Bool). cond b (meaning Optional Plain) None) filled) ∙ means))
+closed (a ∷ []) occurrence mark means = (grind (arith, nat_tests), tt)
+closed (a ∷ b ∷ []) occurrence mark means = (grind (arith, nat_tests), (grind (arith, nat_tests), tt))
+closed (a ∷ b ∷ c ∷ []) occurrence mark means =
+    (grind (arith, nat_tests), (grind (arith, nat_tests), (grind (arith, nat_tests), tt)))
+closed (a ∷ b ∷ c ∷ d ∷ more) occurrence mark means = absurd (grind (arith, nat_tests))
 
 -- where a text is cut at its last `]`
 pub last_close : (text : Text) (result : Option (Bor Text × Bor Text))
-    → MatchOption result (RFindsChar 93 text None) (λ x. (i : ℕ) × (j : ℕ) × RFindsChar 93 text (Some (i, j))
+    → MatchOption result (RFindsChar 93 text None)
+    (λ x. (i : ℕ) × (j : ℕ) × RFindsChar 93 text (Some (i, j))
     × (x.0.now ≡ take i text) × (x.1.now ≡ drop j text) × (i ≤ j) × (length x.0.now ≡ i)
     × (length x.1.now + j ≡ length text))
     → MatchOption result (AllByRecursion (λ (byte : ℕ). byte ≢ 93) text)
@@ -109,7 +84,8 @@ last_close text (Some x) h = (
 )
 
 -- a text without `]` is none with one
-no_close : (text front back : Text) → AllByRecursion (λ (byte : ℕ). byte ≢ 93) text → text ≡ front ++ 93 ∷ back → ⊥
+no_close : (text front back : Text) → AllByRecursion (λ (byte : ℕ). byte ≢ 93) text → text ≡ front
+    ++ 93 ∷ back → ⊥
 no_close [] [] back none is = cc
 no_close [] (byte ∷ front) back none is = cc
 no_close (byte ∷ text) [] back none is = none.0 cc
@@ -129,19 +105,25 @@ one_cut (byte ∷ front) (first ∷ other) back after none also same =
     let rest = one_cut front other back after none also cc in (cc, rest.1)
 
 -- a text that begins with `[` and has no `]` after it has no brackets
-pub none_closed : (text opened : Text) → text ≡ 91 ∷ opened → AllByRecursion (λ (byte : ℕ). byte ≢ 93) opened
-    → (inside : Text) (occurrence : Occur) (mark : Mark) → ¬ (IsBracketed text inside occurrence mark)
-none_closed text opened opens none inside occurrence mark (bare is plain) = plain (ap (λ (t : Text). slice_index t 0) opens)
+pub none_closed : (text opened : Text) → text ≡ 91 ∷ opened
+    → AllByRecursion (λ (byte : ℕ). byte ≢ 93) opened
+    → (inside : Text) (occurrence : Occur) (mark : Mark)
+    → ¬ (IsBracketed text inside occurrence mark)
+none_closed text opened opens none inside occurrence mark (bare is plain) =
+    plain (ap (λ (t : Text). slice_index t 0) opens)
 none_closed text opened opens none inside occurrence mark (bracketed end _ _ is means) =
-    let same : 91 ∷ opened ≡ 91 ∷ (inside ++ 93 ∷ end) = sym opens ∙ is in no_close opened inside end none cc
+    let same : 91 ∷ opened ≡ 91 ∷ (inside ++ 93 ∷ end) = sym opens ∙ is in
+    no_close opened inside end none cc
 
 -- nor has one whose end means nothing
 pub none_meant : (text opened before end : Text) → text ≡ 91 ∷ opened → opened ≡ before ++ 93 ∷ end
     → AllByRecursion (λ (byte : ℕ). byte ≢ 93) end → end_means end ≡ None
-    → (inside : Text) (occurrence : Occur) (mark : Mark) → ¬ (IsBracketed text inside occurrence mark)
+    → (inside : Text) (occurrence : Occur) (mark : Mark)
+    → ¬ (IsBracketed text inside occurrence mark)
 none_meant text opened before end opens parts none means inside occurrence mark (bare is plain) =
     plain (ap (λ (t : Text). slice_index t 0) opens)
-none_meant text opened before end opens parts none means inside occurrence mark (bracketed other _ _ is also) =
+none_meant text opened before end opens parts none means inside occurrence mark
+    (bracketed other _ _ is also) =
     let whole : 91 ∷ (before ++ 93 ∷ end) ≡ 91 ∷ (inside ++ 93 ∷ other) =
     ap (λ (t : Text). 91 ∷ t) (sym parts) ∙ sym opens ∙ is in
     let same = one_cut before inside end other none (closed other occurrence mark also) cc in
@@ -153,16 +135,19 @@ pub one_bracketed : (text inside other : Text) (occurrence another : Occur) (mar
     → (other ≡ inside) × (another ≡ occurrence) × (behind ≡ mark)
 one_bracketed text inside other occurrence another mark behind (bare is plain) (bare also simple) =
     (sym also ∙ is, refl, refl)
-one_bracketed text inside other occurrence another mark behind (bare is plain) (bracketed end _ _ also means) =
+one_bracketed text inside other occurrence another mark behind (bare is plain)
+    (bracketed end _ _ also means) =
     absurd (plain (ap (λ (t : Text). slice_index t 0) also))
-one_bracketed text inside other occurrence another mark behind (bracketed end _ _ is means) (bare also plain) =
+one_bracketed text inside other occurrence another mark behind (bracketed end _ _ is means)
+    (bare also plain) =
     absurd (plain (ap (λ (t : Text). slice_index t 0) is))
 one_bracketed text inside other occurrence another mark behind (bracketed end _ _ is means)
     (bracketed after _ _ also other_means) =
     let whole : 91 ∷ (inside ++ 93 ∷ end) ≡ 91 ∷ (other ++ 93 ∷ after) = sym is ∙ also in
     let same = one_cut inside other end after (closed end occurrence mark means)
     (closed after another behind other_means) cc in
-    let parts = same_parts occurrence another mark behind (sym other_means ∙ ap end_means same.1 ∙ means) in
+    let parts = same_parts occurrence another mark behind
+    (sym other_means ∙ ap end_means same.1 ∙ means) in
     (same.0, parts.0, parts.1)
 
 -- ---- parts
@@ -171,8 +156,10 @@ one_bracketed text inside other occurrence another mark behind (bracketed end _ 
 abbrev after_names : Option Text → Text
 after_names argument = option_map_or (λ (text : Text). 32 ∷ text) argument []
 
+-- a text is cut at its first space in one way
 cut_once : (names others : Text) (argument other : Option Text)
-    → AllByRecursion (λ (byte : ℕ). byte ≢ 32) names → AllByRecursion (λ (byte : ℕ). byte ≢ 32) others
+    → AllByRecursion (λ (byte : ℕ). byte ≢ 32) names
+    → AllByRecursion (λ (byte : ℕ). byte ≢ 32) others
     → names ++ after_names argument ≡ others ++ after_names other
     → (others ≡ names) × (other ≡ argument)
 cut_once [] [] None None plain plains same = (refl, refl)
@@ -201,7 +188,8 @@ one_pair text names others argument other parts also =
 
 -- a name doesn't begin with a dash
 no_dash : (byte : ℕ) → is_name (byte ∷ []) ≡ true → byte ≢ 45
-no_dash byte is = λ same. let bad : false ≡ true = ap (λ (b : ℕ). is_name (b ∷ [])) (sym same) ∙ is in cc
+no_dash byte is = λ same. let bad : false ≡ true = ap (λ (b : ℕ). is_name (b ∷ [])) (sym same)
+    ∙ is in cc
 
 -- the three ways to write names
 data Shape (short long text : Text) : Type 0 where
@@ -211,18 +199,22 @@ data Shape (short long text : Text) : Type 0 where
   both : (byte : ℕ) → byte ≢ 45 → short ≡ byte ∷ [] → 0 < length long
       → text ≡ 45 ∷ byte ∷ 124 ∷ 45 ∷ 45 ∷ long → Shape short long text
 
+-- names that may stand are written in one of these ways
 shape_of : (short long text : Text) → MayBeNames short long
     → text ≡ names_text (record { short = short; long = long }) → Shape short long text
 shape_of [] long text may is = long_one refl is
 shape_of (byte ∷ []) [] text may is = short_one byte (no_dash byte may.short_name) refl refl is
 shape_of (byte ∷ []) (first ∷ long) text may is =
     both byte (no_dash byte may.short_name) refl (omega arith)
-    (is ∙ ap (λ (b : Bool). 45 ∷ byte ∷ cond b [] (124 ∷ 45 ∷ 45 ∷ first ∷ long)) (is_empty-cons first long))
+    (is ∙ ap (λ (b : Bool). 45 ∷ byte ∷ cond b [] (124 ∷ 45 ∷ 45 ∷ first ∷ long))
+    (is_empty-cons first long))
 shape_of (byte ∷ other ∷ short) long text may is = absurd (omega (arith, may.lawful.short_fits))
 
+-- the same of the names of a text
 shape : (names : Names) (text : Text) → AreNames names text → Shape names.short names.long text
 shape names text are = shape_of names.short names.long text are.may_be are.written
 
+-- a text with two dashes has only a long name
 pub only_long : (text : Text) → get_or text 1 0 ≡ 45 → (names : Names) → AreNames names text
     → (names.short ≡ []) × (names.long ≡ drop 2 text)
 only_long text dash names are = by_shape (shape names text are)
@@ -234,6 +226,7 @@ only_long text dash names are = by_shape (shape names text are)
     by_shape (both byte plain one some is) =
         absurd (plain (sym (ap (λ (t : Text). get_or t 1 0) is) ∙ dash))
 
+-- one of two bytes has only a short name
 pub only_short : (text : Text) → get_or text 1 0 ≢ 45 → length text ≡ 2
     → (names : Names) → AreNames names text → (names.short ≡ drop 1 text) × (names.long ≡ [])
 only_short text no_dash two names are = by_shape (shape names text are)
@@ -243,6 +236,7 @@ only_short text no_dash two names are = by_shape (shape names text are)
     by_shape (short_one byte plain one none is) = (one ∙ sym (ap (λ (t : Text). drop 1 t) is), none)
     by_shape (both byte plain one some is) = absurd (omega (arith, ap length is))
 
+-- a longer one with one dash has both
 pub only_both : (text : Text) → get_or text 1 0 ≢ 45 → 2 < length text
     → (names : Names) → AreNames names text
     → (names.short ≡ take 1 (drop 1 text)) × (names.long ≡ drop 5 text)
@@ -262,6 +256,7 @@ pub record Between (text : Text) : Type 0 where
   pub first_dash : get_or text 3 0 ≡ 45
   pub second_dash : get_or text 4 0 ≡ 45
 
+-- what stands between the two names of a text that has both
 pub between_names : (text : Text) → get_or text 1 0 ≢ 45 → 2 < length text
     → (names : Names) → AreNames names text → Between text
 between_names text no_dash more names are = by_shape (shape names text are)
@@ -276,6 +271,7 @@ between_names text no_dash more names are = by_shape (shape names text are)
       second_dash = ap (λ (t : Text). get_or t 4 0) is;
     }
 
+-- and a text where that stands is written for what stands before and after it
 pub written_both : (text : Text) → get_or text 0 0 ≡ 45 → Between text
     → text ≡ names_text (record { short = take 1 (drop 1 text); long = drop 5 text })
 written_both [] dash is = absurd (omega (arith, is.long_enough))
@@ -289,7 +285,8 @@ written_both (a ∷ b ∷ c ∷ d ∷ e ∷ f ∷ text) dash is =
     let first : d ≡ 45 = is.first_dash in
     let second : e ≡ 45 = is.second_dash in
     let same : a ∷ b ∷ c ∷ d ∷ e ∷ f ∷ text ≡ 45 ∷ b ∷ 124 ∷ 45 ∷ 45 ∷ f ∷ text = cc in
-    same ∙ ap (λ (t : Bool). 45 ∷ b ∷ cond t [] (124 ∷ 45 ∷ 45 ∷ f ∷ text)) (sym (is_empty-cons f text))
+    same ∙ ap (λ (t : Bool). 45 ∷ b ∷ cond t [] (124 ∷ 45 ∷ 45 ∷ f ∷ text))
+    (sym (is_empty-cons f text))
 
 -- names that are found are the text's
 pub by_names : (result : Option (Bor Text × Bor Text)) (short long text : Text)
@@ -324,13 +321,17 @@ one_names names others text are also = by_shape (shape names text are)
     by_shape : Shape names.short names.long text → others ≡ names
     by_shape (long_one none is) =
         let dash = ap (λ (t : Text). get_or t 1 0) is in
-        same_names [] (drop 2 text) (only_long text dash names are) (only_long text dash others also)
+        same_names [] (drop 2 text) (only_long text dash names are)
+        (only_long text dash others also)
     by_shape (short_one byte plain one none is) =
-        let no_dash : get_or text 1 0 ≢ 45 = λ dash. plain (sym (ap (λ (t : Text). get_or t 1 0) is) ∙ dash) in
+        let no_dash : get_or text 1 0 ≢ 45 = λ dash.
+        plain (sym (ap (λ (t : Text). get_or t 1 0) is) ∙ dash) in
         let two : length text ≡ 2 = omega (arith, ap length is) in
-        same_names (drop 1 text) [] (only_short text no_dash two names are) (only_short text no_dash two others also)
+        same_names (drop 1 text) [] (only_short text no_dash two names are)
+        (only_short text no_dash two others also)
     by_shape (both byte plain one some is) =
-        let no_dash : get_or text 1 0 ≢ 45 = λ dash. plain (sym (ap (λ (t : Text). get_or t 1 0) is) ∙ dash) in
+        let no_dash : get_or text 1 0 ≢ 45 = λ dash.
+        plain (sym (ap (λ (t : Text). get_or t 1 0) is) ∙ dash) in
         let more : 2 < length text = omega (arith, ap length is) in
         same_names (take 1 (drop 1 text)) (drop 5 text) (only_both text no_dash more names are)
         (only_both text no_dash more others also)
@@ -349,11 +350,9 @@ pub one_argument : (kind another : HasArg) (hint other : Text) (argument : Optio
     → IsArgument kind hint argument → IsArgument another other argument
     → (another ≡ kind) × (other ≡ hint)
 one_argument No No hint other None is also = (refl, also ∙ sym is)
-one_argument No No hint other (Some text) is also = absurd is
 one_argument No Yes hint other None is also = absurd also
-one_argument No Yes hint other (Some text) is also = absurd is
 one_argument No Maybe hint other None is also = absurd also
-one_argument No Maybe hint other (Some text) is also = absurd is
+one_argument No another hint other (Some text) is also = absurd is
 one_argument Yes another hint other None is also = absurd is
 one_argument Maybe another hint other None is also = absurd is
 one_argument Yes No hint other (Some text) is also = absurd also
@@ -363,44 +362,62 @@ one_argument Maybe Maybe hint other (Some text) is also =
     let same : 91 ∷ (other ++ (93 ∷ [])) ≡ 91 ∷ (hint ++ (93 ∷ [])) = sym also.1 ∙ is.1 in
     (refl, append_cancel_right other hint (93 ∷ []) cc)
 one_argument Yes Maybe hint other (Some text) is also =
-    absurd (hint_open (other ++ (93 ∷ [])) (subst (λ (t : Text). is_hint t ≡ true) (sym is.1 ∙ also.1) is.0))
+    absurd (hint_open (other ++ (93 ∷ []))
+    (subst (λ (t : Text). is_hint t ≡ true) (sym is.1 ∙ also.1) is.0))
 one_argument Maybe Yes hint other (Some text) is also =
-    absurd (hint_open (hint ++ (93 ∷ [])) (subst (λ (t : Text). is_hint t ≡ true) (sym also.1 ∙ is.1) also.0))
+    absurd (hint_open (hint ++ (93 ∷ []))
+    (subst (λ (t : Text). is_hint t ≡ true) (sym also.1 ∙ is.1) also.0))
 
 -- ---- items
 
-pub no_names_none : (text inside names : Text) (occurrence : Occur) (mark : Mark) (argument : Option Text)
+-- the parts of an item, and its mark, are those that are found
+same_parts_found : (text inside names : Text) (occurrence : Occur) (mark : Mark)
+    (argument : Option Text) → IsBracketed text inside occurrence mark
+    → HasParts inside names argument
+    → (known : Signature) (hint : Text) (behind : Mark) (is : IsItem text known hint behind)
+    → (is.names ≡ names) × (is.argument ≡ argument) × (behind ≡ mark)
+same_parts_found text inside names occurrence mark argument brackets parts known hint behind is =
+    let same = one_bracketed text inside is.inside occurrence known.occurrence mark behind brackets
+    is.brackets in
+    let pair = one_pair inside names is.names argument is.argument parts
+    (subst (λ (t : Text). HasParts t is.names is.argument) same.0 is.parts) in
+    (pair.0, pair.1, same.2)
+
+-- without names there is no item
+pub no_names_none : (text inside names : Text) (occurrence : Occur) (mark : Mark)
+    (argument : Option Text)
     → IsBracketed text inside occurrence mark → HasParts inside names argument
     → ((are : Names) → ¬ (AreNames are names))
     → (known : Signature) (hint : Text) (behind : Mark) → ¬ (IsItem text known hint behind)
 no_names_none text inside names occurrence mark argument brackets parts none known hint behind is =
-    let same = one_bracketed text inside is.inside occurrence known.occurrence mark behind brackets is.brackets in
-    let pair = one_pair inside names is.names argument is.argument parts
-    (subst (λ (t : Text). HasParts t is.names is.argument) same.0 is.parts) in
-    none known.names (subst (AreNames known.names) pair.0 is.names_are)
+    let same = same_parts_found text inside names occurrence mark argument brackets parts known hint
+    behind is in
+    none known.names (subst (AreNames known.names) same.0 is.names_are)
 
-pub no_argument_none : (text inside names : Text) (occurrence : Occur) (mark : Mark) (argument : Option Text)
+-- nor where what stands for its argument is none
+pub no_argument_none : (text inside names : Text) (occurrence : Occur) (mark : Mark)
+    (argument : Option Text)
     → IsBracketed text inside occurrence mark → HasParts inside names argument
     → ((kind : HasArg) (hint : Text) → ¬ (IsArgument kind hint argument))
     → (known : Signature) (hint : Text) (behind : Mark) → ¬ (IsItem text known hint behind)
-no_argument_none text inside names occurrence mark argument brackets parts none known hint behind is =
-    let same = one_bracketed text inside is.inside occurrence known.occurrence mark behind brackets is.brackets in
-    let pair = one_pair inside names is.names argument is.argument parts
-    (subst (λ (t : Text). HasParts t is.names is.argument) same.0 is.parts) in
-    none known.kind hint (subst (λ (a : Option Text). IsArgument known.kind hint a) pair.1 is.argument_is)
+no_argument_none text inside names occurrence mark argument brackets parts none known hint behind
+    is =
+    let same = same_parts_found text inside names occurrence mark argument brackets parts known hint
+    behind is in
+    none known.kind hint (subst (IsArgument known.kind hint) same.1 is.argument_is)
 
--- an argument that doesn't fit the mark
-pub no_fit_none : (text inside names : Text) (occurrence : Occur) (mark : Mark) (argument : Option Text)
-    (kind : HasArg) (its_hint : Text) → IsBracketed text inside occurrence mark → HasParts inside names argument
-    → IsArgument kind its_hint argument → fits mark kind ≡ false
+-- nor where its argument doesn't fit the mark
+pub no_fit_none : (text inside names : Text) (occurrence : Occur) (mark : Mark)
+    (argument : Option Text)
+    (kind : HasArg) (its_hint : Text) → IsBracketed text inside occurrence mark
+    → HasParts inside names argument → IsArgument kind its_hint argument → fits mark kind ≡ false
     → (known : Signature) (hint : Text) (behind : Mark) → ¬ (IsItem text known hint behind)
-no_fit_none text inside names occurrence mark argument kind its_hint brackets parts argument_is no_fit known hint
-    behind is =
-    let same = one_bracketed text inside is.inside occurrence known.occurrence mark behind brackets is.brackets in
-    let pair = one_pair inside names is.names argument is.argument parts
-    (subst (λ (t : Text). HasParts t is.names is.argument) same.0 is.parts) in
+no_fit_none text inside names occurrence mark argument kind its_hint brackets parts argument_is
+    no_fit known hint behind is =
+    let same = same_parts_found text inside names occurrence mark argument brackets parts known hint
+    behind is in
     let one = one_argument kind known.kind its_hint hint argument argument_is
-    (subst (λ (a : Option Text). IsArgument known.kind hint a) pair.1 is.argument_is) in
+    (subst (IsArgument known.kind hint) same.1 is.argument_is) in
     let both : false ≡ true = sym no_fit ∙ ap (λ (k : HasArg). fits mark k) (sym one.0)
     ∙ ap (λ (m : Mark). fits m known.kind) (sym same.2) ∙ is.fits_kind in
     cc
@@ -422,6 +439,7 @@ yes_hinted (Some found) text plain some =
     subst (λ (kind : HasArg). IsArgument kind found.1.now (Some text)) (sym some.1)
     (subst (λ (t : Text). is_hint t ≡ true) (sym some.2) some.0, sym some.2)
 
+-- the same of an argument in brackets
 pub maybe_hinted : (result : Option (HasArg × Bor Text)) (text inside : Text)
     → text ≡ 91 ∷ (inside ++ (93 ∷ []))
     → MatchOption result (is_hint inside ≡ false)
@@ -444,6 +462,7 @@ maybe_hinted (Some found) text inside opens some =
       opens ∙ ap (λ (t : Text). 91 ∷ (t ++ (93 ∷ []))) (sym some.2),
     )
 
+-- a text that begins with `[` and doesn't end in `]` is no argument
 pub no_hint : (text rest : Text) → text ≡ 91 ∷ rest → ((front : Text) → rest ≢ front ++ (93 ∷ []))
     → (kind : HasArg) (hint : Text) → ¬ (IsArgument kind hint (Some text))
 no_hint text rest opens none No hint is = is

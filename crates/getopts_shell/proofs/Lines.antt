@@ -1,11 +1,12 @@
 -- Lines of a table.
-use Rattle.std.proofs.Common.{◌≡◌, ℕ, ◌<◌, ◌+◌, Bool, true, false, List, [], ◌∷◌, ◌++◌, length, take, drop}
+use Rattle.std.proofs.Common.{◌≡◌, ℕ, ◌<◌, ◌+◌, Bool, true, false, List, [], ◌∷◌, ◌++◌, length}
+use Rattle.std.proofs.Common.{take, drop}
 use Rattle.std.proofs.Common.{get_or}
 use Rattle.std.proofs.Common.{map, refl, sym, ap, ◌∙◌, arith}
-use Rattle.std.specs.Prelude.{◌||◌, ◌==◌, Option, Some, None, slice_index, min, ◌-◌, ◌^◌}
+use Rattle.std.specs.Prelude.{◌||◌, ◌==◌, IfSome, Option, Some, None, slice_index, min, ◌-◌, ◌^◌}
 use Rattle.std.specs.List.{AllZip, filter_map, list_any}
 use Rattle.std.specs.Option.{option_to_list}
-use Rattle.std.proofs.Common.{append_assoc, append-nil, subst, length-append}
+use Rattle.std.proofs.Common.{append-nil, subst, length-append}
 use Rattle.std.proofs.lemmas.List.{take-append-drop}
 use Rattle.std.proofs.lemmas.List.Elements.{filter_map-append}
 use Rattle.std.proofs.lemmas.List.{at_drop_more}
@@ -20,7 +21,7 @@ use Rattle.std.proofs.lemmas.Str.Ascii.{trim_ascii_is}
 use Rattle.getopts_shell.specs.Table.{after_blanks, trimmed, before_gap, from_gap}
 use Rattle.getopts_shell.specs.Table.{Entry, is_passed, IsItem, DeclaresEntry, Declares}
 use Rattle.getopts_shell.specs.declared.row.Mark.{Mark}
-use Rattle.getopts_shell.specs.Table.{HaveNewNames, DeclareOptions, TableFault}
+use Rattle.getopts_shell.specs.Table.{HaveNewNames, DeclareOptions, TableFault, name_again}
 use Rattle.getopts_shell.specs.Table.{IsLineFault, IsTableFault, no_option, none}
 
 -- a test of what is made of elements
@@ -39,8 +40,10 @@ trimmed_is text other is = trim_ascii_is text other (after_blanks text) refl is
 pub declares_entry : (line text item rest description : Text) (entry : Entry) → text ≡ trimmed line
     → (is_empty text || (slice_index text 0 == 35)) ≡ false
     → item ≡ trimmed (before_gap text) → rest ≡ from_gap text → description ≡ trimmed rest
-    → entry.description ≡ description → IsItem item entry.signature entry.hint entry.mark → DeclaresEntry line entry
-declares_entry line text item rest description entry text_is there item_is rest_is description_is is of_item =
+    → entry.description ≡ description → IsItem item entry.signature entry.hint entry.mark
+    → DeclaresEntry line entry
+declares_entry line text item rest description entry text_is there item_is rest_is description_is is
+    of_item =
     record {
       there = ap (λ (t : Text). is_empty t || (slice_index t 0 == 35)) (sym text_is) ∙ there;
       item = subst (λ (t : Text). IsItem t entry.signature entry.hint entry.mark)
@@ -64,10 +67,12 @@ faulty_line line text item number entries text_is there item_is none_of =
     declares_not : (declared : Option Entry) → ¬ (Declares line declared)
     declares_not None is = let both : true ≡ false = sym is ∙ passed_not in cc
     declares_not (Some entry) is = none_of entry.signature entry.hint entry.mark
-        (subst (λ (t : Text). IsItem t entry.signature entry.hint entry.mark) (sym (item_is ∙ ap (λ (t : Text). trimmed (before_gap t)) text_is)) is.item)
+        (subst (λ (t : Text). IsItem t entry.signature entry.hint entry.mark)
+        (sym (item_is ∙ ap (λ (t : Text). trimmed (before_gap t)) text_is)) is.item)
 
 -- ---- lines, one after the other
 
+-- one more pair
 zip_push : {A B : Type 0} (R : A → B → Type 0) (xs : List A) (ys : List B) (x : A) (y : B)
     → AllZip R xs ys → R x y → AllZip R (xs ++ x ∷ []) (ys ++ y ∷ [])
 zip_push R [] [] x y each one = (one, tt)
@@ -75,34 +80,77 @@ zip_push R [] (b ∷ ys) x y each one = absurd each
 zip_push R (a ∷ xs) [] x y each one = absurd each
 zip_push R (a ∷ xs) (b ∷ ys) x y each one = (each.0, zip_push R xs ys x y each.1 one)
 
-new_names-append : (before entries more : List Entry) → HaveNewNames before entries
-    → HaveNewNames (before ++ entries) more → HaveNewNames before (entries ++ more)
-new_names-append before [] more new also =
-    subst (λ (b : List Entry). HaveNewNames b more) (append-nil before) also
-new_names-append before (entry ∷ entries) more new also = (
-  new.0,
-  new_names-append (before ++ entry ∷ []) entries more new.1
-      (subst (λ (b : List Entry). HaveNewNames b more) (sym (append_assoc before (entry ∷ []) entries)) also),
-)
+-- How two places of one list are to each other, by what stands before each.
+pub data Places {X : Type 0} (before others : List X) (x y : X) : Type 0 where
+  here : others ≡ before → y ≡ x → Places before others x y
+  later : (more : List X) → others ≡ before ++ x ∷ more → Places before others x y
+  earlier : (more : List X) → before ≡ others ++ y ∷ more → Places before others x y
+
+-- the same, where one element more stands before both
+one_further : {X : Type 0} (before others : List X) (x y first other : X) → other ≡ first
+    → Places before others x y → Places (first ∷ before) (other ∷ others) x y
+one_further before others x y first other same (here is also) = here (cc) also
+one_further before others x y first other same (later more is) = later more cc
+one_further before others x y first other same (earlier more is) = earlier more cc
+
+-- one of these is so of any two places
+pub places : {X : Type 0} (before others after rest : List X) (x y : X)
+    → before ++ x ∷ after ≡ others ++ y ∷ rest → Places before others x y
+places [] [] after rest x y same = here refl cc
+places [] (other ∷ others) after rest x y same = later others cc
+places (first ∷ before) [] after rest x y same = earlier before cc
+places (first ∷ before) (other ∷ others) after rest x y same =
+    one_further before others x y first other (cc) (places before others after rest x y (cc))
+
+-- with one more entry, of which no name stands there
+new_names-push : (entries : List Entry) (entry : Entry) → HaveNewNames entries
+    → name_again entries entry ≡ None
+    → HaveNewNames (entries ++ entry ∷ [])
+new_names-push entries entry new not_again before after other is =
+    by_place (places entries before [] after entry other is)
+  where
+    by_place : Places entries before entry other → name_again before other ≡ None
+    by_place (here before_is other_is) = rw (before_is, other_is) not_again
+    by_place (later more before_is) =
+        absurd (omega (
+          arith,
+          ap length is,
+          ap length before_is,
+          length-append entries (entry ∷ []),
+          length-append before (other ∷ after),
+          length-append entries (entry ∷ more),
+        ))
+    by_place (earlier more entries_are) = new before more other entries_are
+
+-- and with what one more line declares
+new_names-append : (entries : List Entry) (declared : Option Entry) → HaveNewNames entries
+    → IfSome declared (λ entry. name_again entries entry ≡ None)
+    → HaveNewNames (entries ++ option_to_list declared)
+new_names-append entries None new not_again = subst HaveNewNames (sym (append-nil entries)) new
+new_names-append entries (Some entry) new not_again = new_names-push entries entry new not_again
 
 -- what the one option is that a line declares, if any
-kept : (declared : Option Entry) → filter_map (λ (d : Option Entry). d) (declared ∷ []) ≡ option_to_list declared
+kept : (declared : Option Entry) → filter_map (λ (d : Option Entry). d) (declared ∷ [])
+    ≡ option_to_list declared
 kept None = refl
 kept (Some entry) = refl
 
 -- one more line
-pub one_more_line : (lines : List Text) (line : Text) (entries : List Entry) (declared : Option Entry)
-    → DeclareOptions lines entries → Declares line declared → HaveNewNames entries (option_to_list declared)
+pub one_more_line : (lines : List Text) (line : Text) (entries : List Entry)
+    (declared : Option Entry)
+    → DeclareOptions lines entries → Declares line declared
+    → IfSome declared (λ entry. name_again entries entry ≡ None)
     → DeclareOptions (lines ++ line ∷ []) (entries ++ option_to_list declared)
 one_more_line lines line entries declared so_far is new = record {
   declared = (
     so_far.declared.0 ++ declared ∷ [],
     zip_push Declares lines so_far.declared.0 line declared so_far.declared.1 is,
     ap (λ (gs : List Entry). gs ++ option_to_list declared) so_far.declared.2
-        ∙ ap (λ (gs : List Entry). filter_map (λ (d : Option Entry). d) so_far.declared.0 ++ gs) (sym (kept declared))
+        ∙ ap (λ (gs : List Entry). filter_map (λ (d : Option Entry). d) so_far.declared.0 ++ gs)
+        (sym (kept declared))
         ∙ sym (filter_map-append (λ (d : Option Entry). d) so_far.declared.0 (declared ∷ [])),
   );
-  once = new_names-append [] entries (option_to_list declared) so_far.once new;
+  once = new_names-append entries declared so_far.once new;
 }
 
 -- The lines so far, their number, and what they declare.
@@ -110,10 +158,13 @@ pub record LinesSoFar (lines : List Text) (number : ℕ) (entries : List Entry) 
   pub number_is : number ≡ min (length lines) (2 ^ 64 - 1)
   pub declared : DeclareOptions lines entries
 
-pub next_line : (lines : List Text) (line : Text) (number next : ℕ) (entries : List Entry) (more : List Entry)
-    (declared : Option Entry) → LinesSoFar lines number entries → next ≡ min (number + 1) (2 ^ 64 - 1)
+-- the lines so far, with one more
+pub next_line : (lines : List Text) (line : Text) (number next : ℕ) (entries : List Entry)
+    (more : List Entry)
+    (declared : Option Entry) → LinesSoFar lines number entries → next
+    ≡ min (number + 1) (2 ^ 64 - 1)
     → Declares line declared → more ≡ entries ++ option_to_list declared
-    → HaveNewNames entries (option_to_list declared)
+    → IfSome declared (λ entry. name_again entries entry ≡ None)
     → LinesSoFar (lines ++ line ∷ []) next more
 next_line lines line number next entries more declared so_far next_is is more_is new = record {
   number_is = omega (arith, so_far.number_is, length-append lines (line ∷ []));
@@ -130,22 +181,26 @@ in_parts all n x below is =
     ∙ ap (λ (y : Text). y ∷ drop (n + 1) all) (sym is))
 
 -- the fault of a line is the table's
-pub table_fault : (table : Text) (lines : List Text) (line : Text) (number next : ℕ) (entries : List Entry)
-    (fault : TableFault) → lines ≡ take (length lines) (lines_of table) → length lines < length (lines_of table)
+pub table_fault : (table : Text) (lines : List Text) (line : Text) (number next : ℕ)
+    (entries : List Entry)
+    (fault : TableFault) → lines ≡ take (length lines) (lines_of table)
+    → length lines < length (lines_of table)
     → line ≡ get_or (lines_of table) (length lines) line
     → LinesSoFar lines number entries → next ≡ min (number + 1) (2 ^ 64 - 1)
     → IsLineFault next entries line fault → IsTableFault table fault
-table_fault table lines line number next entries fault so_far_are below line_is so_far next_is is = record {
-  before = lines;
-  line = line;
-  after = drop (length lines + 1) (lines_of table);
-  lines_are = in_parts (lines_of table) (length lines) line below line_is
-      ∙ ap (λ (t : List Text). t ++ line ∷ drop (length lines + 1) (lines_of table)) (sym so_far_are);
-  entries = entries;
-  declared = so_far.declared;
-  fault_at = subst (λ (n : ℕ). IsLineFault n entries line fault)
-      (next_is ∙ omega (arith, so_far.number_is)) is;
-}
+table_fault table lines line number next entries fault so_far_are below line_is so_far next_is is =
+    record {
+      before = lines;
+      line = line;
+      after = drop (length lines + 1) (lines_of table);
+      lines_are = in_parts (lines_of table) (length lines) line below line_is
+          ∙ ap (λ (t : List Text). t ++ line ∷ drop (length lines + 1) (lines_of table))
+          (sym so_far_are);
+      entries = entries;
+      declared = so_far.declared;
+      fault_at = subst (λ (n : ℕ). IsLineFault n entries line fault)
+          (next_is ∙ omega (arith, so_far.number_is)) is;
+    }
 
 -- what an error tells meets what is weaker
 pub tells_weaker : (error : TableError) (P Q : TableFault → Type 0) → TellsFault error P

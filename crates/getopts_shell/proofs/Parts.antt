@@ -5,7 +5,7 @@ use Rattle.std.specs.Prelude.{nat_lt}
 use Rattle.std.specs.List.{flat_map, onto_first, slice_split}
 use Rattle.std.proofs.lemmas.Bool.{eqb-true}
 use Rattle.std.proofs.lemmas.Bool.Decides.{nat_tests}
-use Rattle.std.proofs.lemmas.List.{length-append}
+use Rattle.std.proofs.lemmas.List.{length-append, map-id}
 use Rattle.std.proofs.lemmas.List.Splits.{length-slice_split}
 use Rattle.getopts.proofs.Wrapping.Texts.{joined-push}
 use Rattle.getopts.specs.Names.{Text}
@@ -13,25 +13,35 @@ use Rattle.getopts.specs.Wrap.{joined, parting}
 use Rattle.getopts_shell.specs.Completion.{stub_byte, stub_quoted}
 use Rattle.getopts_shell.specs.Quote.{quoted_byte, replaced}
 
--- The parts of a word, each as it is written, with a text between each two, are the bytes of the word, each as it is
--- written.
-module _ (one : ℕ) (other : Text) (write : Text → Text) (write_byte : ℕ → Text) (nothing : write [] ≡ [])
-    (more : (byte : ℕ) (part : Text) → eqb byte one ≡ false → write (byte ∷ part) ≡ write_byte byte ++ write part)
+-- The parts of a word, each as it is written, with a text between each two, are the bytes of the
+-- word, each as it is written.
+module _ (one : ℕ) (other : Text) (write : Text → Text) (write_byte : ℕ → Text)
+    (nothing : write [] ≡ [])
+    (more : (byte : ℕ) (part : Text) → eqb byte one ≡ false → write (byte ∷ part) ≡ write_byte byte
+    ++ write part)
     (at : write_byte one ≡ other) where
+  -- a byte before the first part is written before all
   onto_part : (byte : ℕ) (parts : List Text) → 0 < length parts → eqb byte one ≡ false
-      → joined other (map write (onto_first byte parts)) ≡ write_byte byte ++ joined other (map write parts)
+      → joined other (map write (onto_first byte parts)) ≡ write_byte byte
+      ++ joined other (map write parts)
   onto_part byte [] some apart = absurd (omega arith)
   onto_part byte (part ∷ parts) some apart =
-      ap (λ (text : Text). text ++ flat_map (λ (text : Text). other ++ text) (map write parts)) (more byte part apart)
-      ∙ append_assoc (write_byte byte) (write part) (flat_map (λ (text : Text). other ++ text) (map write parts))
+      ap (λ (text : Text). text ++ flat_map (λ (text : Text). other ++ text) (map write parts))
+      (more byte part apart)
+      ∙ append_assoc (write_byte byte) (write part)
+      (flat_map (λ (text : Text). other ++ text) (map write parts))
 
+  -- an empty part before all parts is the other text
   after_part : (parts : List Text) → 0 < length parts
       → joined other (map write ([] ∷ parts)) ≡ other ++ joined other (map write parts)
   after_part [] some = absurd (omega arith)
   after_part (part ∷ parts) some =
-      ap (λ (text : Text). text ++ flat_map (λ (text : Text). other ++ text) (map write (part ∷ parts))) nothing
-      ∙ append_assoc other (write part) (flat_map (λ (text : Text). other ++ text) (map write parts))
+      ap (λ (text : Text). text
+      ++ flat_map (λ (text : Text). other ++ text) (map write (part ∷ parts))) nothing
+      ∙ append_assoc other (write part)
+      (flat_map (λ (text : Text). other ++ text) (map write parts))
 
+  -- the parts, as they are written, are the word as it is written
   pub parts_written : (word : Text)
       → joined other (map write (slice_split (λ b. eqb b one) word)) ≡ flat_map write_byte word
   parts_written [] = ap (λ (text : Text). text ++ []) nothing
@@ -40,9 +50,11 @@ module _ (one : ℕ) (other : Text) (write : Text → Text) (write_byte : ℕ �
       some : 0 < length (slice_split (λ b. eqb b one) word)
       some = omega (arith, length-slice_split (λ b. eqb b one) word)
 
-      by_test : joined other (map write (slice_split (λ b. eqb b one) word)) ≡ flat_map write_byte word
+      by_test : joined other (map write (slice_split (λ b. eqb b one) word))
+          ≡ flat_map write_byte word
           → (test : Bool) → eqb byte one ≡ test
-          → joined other (map write (slice_split (λ b. eqb b one) (byte ∷ word))) ≡ flat_map write_byte (byte ∷ word)
+          → joined other (map write (slice_split (λ b. eqb b one) (byte ∷ word)))
+          ≡ flat_map write_byte (byte ∷ word)
       by_test rest true is =
           simp is (after_part (slice_split (λ b. eqb b one) word) some
           ∙ ap (λ (text : Text). other ++ text) rest
@@ -52,52 +64,58 @@ module _ (one : ℕ) (other : Text) (write : Text → Text) (write_byte : ℕ �
           simp is (onto_part byte (slice_split (λ b. eqb b one) word) some is
           ∙ ap (λ (text : Text). write_byte byte ++ text) rest)
 
--- The text has grown by texts with a separator between each two, and the flag tells whether there is any.
-pub record JoinedSoFar (separator : Text) (texts : List Text) (begun : Bool) (old text : Text) : Type 0 where
+-- The text has grown by texts with a separator between each two, and the flag tells whether there
+-- is any.
+pub record JoinedSoFar (separator : Text) (texts : List Text) (begun : Bool)
+    (old text : Text) : Type 0 where
   pub begun_is : begun ≡ nat_lt 0 (length texts)
   pub text_is : text ≡ old ++ joined separator texts
 
 -- one more text
 pub one_more : (separator : Text) (texts : List Text) (begun : Bool) (more old text : Text)
     → JoinedSoFar separator texts begun old text
-    → JoinedSoFar separator (texts ++ more ∷ []) true old ((text ++ parting begun separator) ++ more)
+    → JoinedSoFar separator (texts ++ more ∷ []) true old
+    ((text ++ parting begun separator) ++ more)
 one_more separator texts begun more old text so_far = record {
   begun_is = grind (arith, nat_tests, length-append);
   text_is = append_assoc text (parting begun separator) more
       ∙ ap (λ (begun : Bool). text ++ (parting begun separator ++ more)) so_far.begun_is
-      ∙ ap (λ (text : Text). text ++ (parting (nat_lt 0 (length texts)) separator ++ more)) so_far.text_is
-      ∙ append_assoc old (joined separator texts) (parting (nat_lt 0 (length texts)) separator ++ more)
+      ∙ ap (λ (text : Text). text ++ (parting (nat_lt 0 (length texts)) separator ++ more))
+      so_far.text_is
+      ∙ append_assoc old (joined separator texts)
+      (parting (nat_lt 0 (length texts)) separator ++ more)
       ∙ ap (λ (text : Text). old ++ text) (sym (joined-push separator texts more));
 }
-
-same_parts : (parts : List Text) → map (λ (part : Text). part) parts ≡ parts
-same_parts [] = refl
-same_parts (part ∷ parts) = ap (λ (parts : List Text). part ∷ parts) (same_parts parts)
 
 itself : (one : ℕ) → eqb one one ≡ true
 itself one = grind (arith, nat_tests)
 
 -- with the last part done, the word stands there with the other text in each place
-pub all_replaced : (one : ℕ) (other word : Text) (parts : List Text) (begun : Bool) (old text : Text)
+pub all_replaced : (one : ℕ) (other word : Text) (parts : List Text) (begun : Bool)
+    (old text : Text)
     → JoinedSoFar other parts begun old text → parts ≡ slice_split (λ b. eqb b one) word
     → text ≡ old ++ flat_map (replaced one other) word
 all_replaced one other word parts begun old text so_far all =
     so_far.text_is
     ∙ ap (λ (text : Text). old ++ text)
-    (ap (joined other) (sym (same_parts parts))
+    (ap (joined other) (sym (map-id parts))
     ∙ ap (λ (parts : List Text). joined other (map (λ (part : Text). part) parts)) all
-    ∙ parts_written one other (λ part. part) (replaced one other) refl (λ byte part apart. simp apart refl)
+    ∙ parts_written one other (λ part. part) (replaced one other) refl
+    (λ byte part apart. simp apart refl)
     (simp (itself one) refl) word)
 
 -- and with both a quote and a backslash in their places, it stands in quotes
 pub all_stub_quoted : (word : Text) (parts : List Text) (begun : Bool) (old text : Text)
-    → JoinedSoFar (39 ∷ 92 ∷ 92 ∷ 39 ∷ []) (map (flat_map quoted_byte) parts) begun (old ++ 39 ∷ []) text
+    → JoinedSoFar (39 ∷ 92 ∷ 92 ∷ 39 ∷ []) (map (flat_map quoted_byte) parts) begun (old ++ 39 ∷ [])
+    text
     → parts ≡ slice_split (λ b. eqb b 92) word → text ++ 39 ∷ [] ≡ old ++ stub_quoted word
 all_stub_quoted word parts begun old text so_far all =
     ap (λ (text : Text). text ++ 39 ∷ []) (so_far.text_is
     ∙ ap (λ (text : Text). (old ++ 39 ∷ []) ++ text)
-    (ap (λ (parts : List Text). joined (39 ∷ 92 ∷ 92 ∷ 39 ∷ []) (map (flat_map quoted_byte) parts)) all
+    (ap (λ (parts : List Text). joined (39 ∷ 92 ∷ 92 ∷ 39 ∷ []) (map (flat_map quoted_byte) parts))
+    all
     ∙ parts_written 92 (39 ∷ 92 ∷ 92 ∷ 39 ∷ []) (flat_map quoted_byte) stub_byte refl
-    (λ byte part apart. ap (λ (text : Text). text ++ flat_map quoted_byte part) (simp apart refl)) refl word))
+    (λ byte part apart. ap (λ (text : Text). text ++ flat_map quoted_byte part) (simp apart refl))
+    refl word))
     ∙ ap (λ (text : Text). text ++ 39 ∷ []) (append_assoc old (39 ∷ []) (flat_map stub_byte word))
     ∙ append_assoc old (39 ∷ flat_map stub_byte word) (39 ∷ [])

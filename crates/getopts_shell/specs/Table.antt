@@ -1,9 +1,13 @@
 -- The table of options: what each line of it declares, and which options it declares.
-use Rattle.std.specs.Prelude.{◌≡◌, ◌≢◌, ◌==◌, ◌||◌, ◌&&◌, not, ℕ, ◌+◌, nat_lt, min, ◌-◌, ◌^◌, Bool, true, false}
-use Rattle.std.specs.Prelude.{List, [], ◌∷◌, ◌++◌, Option, Some, None, codes, if◌then◌else◌, slice_index, length}
-use Rattle.std.specs.Prelude.{⊤, drop, take}
+use Rattle.std.specs.Prelude.{◌≡◌, ◌≢◌, ◌==◌, ◌||◌, ◌&&◌, not, ℕ, ◌+◌, nat_lt, min, ◌-◌, ◌^◌, Bool}
+use Rattle.std.specs.Prelude.{true, false}
+use Rattle.std.specs.Prelude.{List, [], ◌∷◌, ◌++◌, Option, Some, None, codes, if◌then◌else◌}
+use Rattle.std.specs.Prelude.{slice_index, length}
+use Rattle.std.specs.Prelude.{drop, take, find}
 use Rattle.std.specs.Char.{is_ascii_alphanumeric, is_ascii_whitespace}
-use Rattle.std.specs.List.{AllByRecursion, AllZip, ends_with, filter_map, list_all, list_any, prefix_len, suffix_len}
+use Rattle.std.specs.List.{AllByRecursion, AllZip, after_first, before_first, ends_with, filter_map}
+use Rattle.std.specs.List.{list_all, list_any}
+use Rattle.std.specs.List.{prefix_len, starts_with, suffix_len}
 use Rattle.std.specs.Option.{option_map_or}
 use Rattle.std.specs.Str.{bytes_eq}
 use Rattle.getopts.specs.Names.{Text, Names, AreLawful, is_empty}
@@ -14,6 +18,9 @@ use Rattle.getopts.specs.declared.groups.HasArg.{HasArg}
 use Rattle.getopts.specs.declared.groups.HasArg.TheVariants.{Yes, No, Maybe}
 use Rattle.getopts.specs.declared.groups.Occur.{Occur}
 use Rattle.getopts.specs.declared.groups.Occur.TheVariants.{Req, Optional, Multi}
+use Rattle.getopts_shell.specs.declared.item.TheConstants.{APART, BRACKETS, BYTES, COLON, DASHES}
+use Rattle.getopts_shell.specs.declared.item.TheConstants.{EQUALS, GAP, LETTER}
+use Rattle.getopts_shell.specs.declared.item.TheConstants.{LONG, MARK, OPEN, ORDER, SHORT, SPACE}
 use Rattle.getopts_shell.specs.declared.row.Mark.{Mark}
 use Rattle.getopts_shell.specs.declared.row.Mark.TheVariants.{Plain, Alone, Last}
 
@@ -21,8 +28,8 @@ use Rattle.getopts_shell.specs.declared.row.Mark.TheVariants.{Plain, Alone, Last
 
 -- a byte that a short name may be: a letter, a digit, or one of `?@#%+_^,./:`
 abbrev pub is_name_byte : ℕ → Bool
-is_name_byte byte = is_ascii_alphanumeric byte || byte == 63 || byte == 64 || byte == 35 || byte == 37
-    || byte == 43 || byte == 95 || byte == 94 || byte == 44 || byte == 46 || byte == 47 || byte == 58
+is_name_byte byte = is_ascii_alphanumeric byte || byte == 63 || byte == 64 || byte == 35
+    || byte == 37 || byte == 43 || byte == 95 || byte == 94 || byte == 44 || byte == 46 || byte == 47 || byte == 58
 
 -- whether a text may be a short name: it doesn't begin with `-`, and its bytes may stand there
 abbrev pub is_name : Text → Bool
@@ -30,16 +37,14 @@ is_name text = not (begins_with_dash text) && list_all is_name_byte text
 
 -- a byte that a long name may hold: a letter, a digit, `-`, `_`, `.`, `+`, `:`, or one from 128 on
 abbrev pub is_long_byte : ℕ → Bool
-is_long_byte byte = is_ascii_alphanumeric byte || byte == 45 || byte == 95 || byte == 46 || byte == 43
-    || byte == 58 || nat_lt 127 byte
+is_long_byte byte = is_ascii_alphanumeric byte || byte == 45 || byte == 95 || byte == 46
+    || byte == 43 || byte == 58 || nat_lt 127 byte
 
--- whether a text ends in a byte
-abbrev pub ends_in : ℕ → Text → Bool
-ends_in byte text = not (is_empty text) && slice_index text (length text - 1) == byte
-
--- whether a text may be a long name: it doesn't begin with `-` nor end in `:`, and its bytes may stand there
+-- whether a text may be a long name: it doesn't begin with `-` nor end in `:`, and its bytes may
+-- stand there
 abbrev pub is_long_name : Text → Bool
-is_long_name text = not (begins_with_dash text) && (list_all is_long_byte text && not (ends_in 58 text))
+is_long_name text = not (begins_with_dash text)
+    && (list_all is_long_byte text && not (ends_with ◌==◌ text (codes ":")))
 
 -- a byte that a hint may hold: no space, no tab, no `[` and no `]`
 abbrev pub is_hint_byte : ℕ → Bool
@@ -47,7 +52,8 @@ is_hint_byte byte = not (byte == 32) && not (byte == 9) && not (byte == 91) && n
 
 -- whether a text may be a hint: it doesn't end in two dots, which come after brackets
 abbrev pub is_hint : Text → Bool
-is_hint text = not (is_empty text) && (list_all is_hint_byte text && not (ends_with ◌==◌ text (codes "..")))
+is_hint text = not (is_empty text)
+    && (list_all is_hint_byte text && not (ends_with ◌==◌ text (codes "..")))
 
 -- names as they are written: `-s`, `--long` or `-s|--long`
 abbrev pub names_text : Names → Text
@@ -72,7 +78,8 @@ pub record AreNames (names : Names) (text : Text) : Type 0 where
 abbrev pub IsArgument : HasArg → Text → Option Text → Type 0
 IsArgument No hint None = hint ≡ []
 IsArgument Yes hint (Some text) = (is_hint hint ≡ true) × (text ≡ hint)
-IsArgument Maybe hint (Some text) = (is_hint hint ≡ true) × (text ≡ codes "[" ++ (hint ++ codes "]"))
+IsArgument Maybe hint (Some text) = (is_hint hint ≡ true)
+    × (text ≡ codes "[" ++ (hint ++ codes "]"))
 IsArgument kind hint argument = ⊥
 
 -- names, which hold no space, and after one space the argument, if there is one
@@ -80,8 +87,8 @@ abbrev pub HasParts : Text → Text → Option Text → Type 0
 HasParts text names argument = AllByRecursion (λ byte. byte ≢ 32) names
     × (text ≡ names ++ option_map_or (λ argument. codes " " ++ argument) argument [])
 
--- what stands behind `]`: nothing, the option may come once; `!`, it stands alone; two or three dots, it may come any
--- number of times; `*`, it may so, and its last value counts
+-- what stands behind `]`: nothing, the option may come once; `!`, it stands alone; two or three
+-- dots, it may come any number of times; `*`, it may so, and its last value counts
 abbrev pub end_means : Text → Option (Occur × Mark)
 end_means end =
     if is_empty end then Some (Optional, Plain)
@@ -89,7 +96,8 @@ end_means end =
     else (if bytes_eq end (codes "..") || bytes_eq end (codes "...") then Some (Multi, Plain)
     else (if bytes_eq end (codes "*") then Some (Multi, Last) else None)))
 
--- A text with another inside, in no brackets where it is required, and else in `[` and `]`, and what follows these.
+-- A text with another inside, in no brackets where it is required, and else in `[` and `]`, and
+-- what follows these.
 pub data IsBracketed (text inside : Text) : Occur → Mark → Type 0 where
   bare : text ≡ inside → slice_index text 0 ≢ 91 → IsBracketed text inside Req Plain
   bracketed : (end : Text) (occurrence : Occur) (mark : Mark)
@@ -102,8 +110,8 @@ fits Alone Yes = false
 fits Alone Maybe = false
 fits mark kind = true
 
--- An item: names, and perhaps an argument, in the brackets of an occurrence. An option that stands alone takes no
--- argument.
+-- An item: names, and perhaps an argument, in the brackets of an occurrence. An option that stands
+-- alone takes no argument.
 pub record IsItem (text : Text) (known : Signature) (hint : Text) (mark : Mark) : Type 0 where
   pub inside : Text
   pub brackets : IsBracketed text inside known.occurrence mark
@@ -126,7 +134,8 @@ abbrev pub group_of_entry : Entry → Group
 group_of_entry entry =
     record { signature = entry.signature; hint = entry.hint; description = entry.description }
 
--- the group that a help shows: an option of which the last value counts is shown as one that may come once
+-- the group that a help shows: an option of which the last value counts is shown as one that may
+-- come once
 abbrev pub shown_occurrence : Mark → Occur → Occur
 shown_occurrence Last occurrence = Optional
 shown_occurrence mark occurrence = occurrence
@@ -199,25 +208,23 @@ DeclareEntries lines entries = (each : List (Option Entry)) × AllZip Declares l
 -- whether one of these entries has this name
 abbrev pub any_has_name : List Entry → Text → Bool
 any_has_name entries name = not (is_empty name)
-    && list_any (λ entry. bytes_eq entry.signature.names.short name || bytes_eq entry.signature.names.long name)
-    entries
+    && list_any (λ entry. bytes_eq entry.signature.names.short name
+    || bytes_eq entry.signature.names.long name) entries
 
 -- the first of an entry's names that one of these entries has already
 abbrev pub name_again : List Entry → Entry → Option Text
 name_again entries entry =
-    if any_has_name entries entry.signature.names.short then Some entry.signature.names.short
-    else (if any_has_name entries entry.signature.names.long then Some entry.signature.names.long else None)
+    find (any_has_name entries) (entry.signature.names.short ∷ entry.signature.names.long ∷ [])
 
--- no name stands twice: no entry has a name of one before it, where these stand before the first
-abbrev pub HaveNewNames : List Entry → List Entry → Type 0
-HaveNewNames before [] = ⊤
-HaveNewNames before (entry ∷ entries) =
-    (name_again before entry ≡ None) × HaveNewNames (before ++ entry ∷ []) entries
+-- no name stands twice: no entry has a name of one before it
+abbrev pub HaveNewNames : List Entry → Type 0
+HaveNewNames entries = (before after : List Entry) (entry : Entry)
+    → entries ≡ before ++ entry ∷ after → name_again before entry ≡ None
 
 -- Lines declare these options.
 pub record DeclareOptions (lines : List Text) (entries : List Entry) : Type 0 where
   pub declared : DeclareEntries lines entries
-  pub once : HaveNewNames [] entries
+  pub once : HaveNewNames entries
 
 -- the table declares these options
 abbrev pub DeclaresOptions : Text → List Entry → Type 0
@@ -228,98 +235,68 @@ abbrev pub OneTableOneList : Type 0
 OneTableOneList = (table : Text) (entries others : List Entry) → DeclaresOptions table entries
     → DeclaresOptions table others → others ≡ entries
 
--- ---- faults
-
--- Why a text is no option, in one of these texts. The first that fits counts: no bracket closes one that is
--- open; names stand apart; a space stands within an argument, or after it or the brackets; the names are wrong; or
--- else the brackets are, or the mark.
-
--- what stands before the first space or `]`, and after it
-abbrev pub before_end : Text → Text
-before_end [] = []
-before_end (byte ∷ more) = if byte == 32 || byte == 93 then [] else byte ∷ before_end more
-
-abbrev pub after_end : Text → Text
-after_end [] = []
-after_end (byte ∷ more) = if byte == 32 || byte == 93 then more else after_end more
+-- ---- why a text is no option
 
 -- whether a text holds a byte
 abbrev pub holds : ℕ → Text → Bool
 holds byte text = list_any (λ other. other == byte) text
 
--- where the names are right
-abbrev pub brackets_reason : Text → Text
-brackets_reason item =
-    if ends_with ◌==◌ item (codes "!") then codes "'!' comes only after ']' of an option without an argument"
-    else codes "brackets stand around the option or its argument, and dots only after ']'"
+-- what stands before the first such byte, or all
+abbrev pub before : ℕ → Text → Text
+before byte text = before_first (λ other. other == byte) text
 
-abbrev pub bytes_reason : Text
-bytes_reason = codes "a long name may hold letters, digits, '-', '_', '.', '+', ':' and bytes from 128 on"
+-- what stands after it, or nothing
+abbrev pub after : ℕ → Text → Text
+after byte text = after_first (λ other. other == byte) text
 
-abbrev pub dashes_reason : Text
-dashes_reason = codes "a short name comes after '-', a long one after '--'"
+-- what stands for the names of an item: all before the first space or `]`, without a `[` in front
+abbrev pub names_in : Text → Text
+names_in item = before 32 (before 93 (if slice_index item 0 == 91 then drop 1 item else item))
 
--- of a long name, where this is the reason if it is right
-abbrev pub long_reason : Text → Text → Text
-long_reason right long =
-    if nat_lt (length long) 2 then codes "a long name has at least two bytes"
-    else (if holds 124 long then codes "the short name comes first, then one long one"
-    else (if not (list_all is_long_byte long) then bytes_reason
-    else (if slice_index long 0 == 45 then dashes_reason
-    else (if ends_in 58 long then codes "a long name doesn't end in ':'" else right))))
+-- the two names that names are, right or wrong, each with its dashes
+abbrev pub dashed : Text → Names
+dashed names =
+    if starts_with ◌==◌ names (codes "--") then record { short = []; long = names }
+    else record { short = before 124 names; long = after 124 names }
 
--- of what follows a short name, where it is `|` or nothing
-abbrev pub after_short : Text → Text → Text
-after_short right more =
-    if is_empty more then right
-    else (if slice_index more 1 == 45 && slice_index more 2 == 45 then long_reason right (drop 3 more)
-    else dashes_reason)
+-- why a text may be no option: what each reason claims of it, and the reason
+abbrev pub reasons : Text → List (Bool × Text)
+reasons item =
+    let names = names_in item in
+    let short = (dashed names).short in
+    let long = (dashed names).long in
+    (holds 91 item && not (holds 93 item), OPEN.now)
+    ∷ (slice_index (after 32 item) 0 == 45 || slice_index (after 32 item) 0 == 124, APART.now)
+    ∷ (holds 32 (after 93 item), GAP.now)
+    ∷ (holds 32 (after 32 item), SPACE.now)
+    ∷ (holds 61 names, EQUALS.now)
+    ∷ (holds 91 names, BRACKETS.now)
+    ∷ (not (begins_with_dash names) || length short == 1, DASHES.now)
+    ∷ (holds 124 names && not (starts_with ◌==◌ long (codes "--")), DASHES.now)
+    ∷ (starts_with ◌==◌ long (codes "---"), DASHES.now)
+    ∷ (holds 124 long, ORDER.now)
+    ∷ (nat_lt 2 (length short), SHORT.now)
+    ∷ (not (is_name (drop 1 short)), LETTER.now)
+    ∷ (not (is_empty long) && nat_lt (length long) 4, LONG.now)
+    ∷ (not (list_all is_long_byte long), BYTES.now)
+    ∷ (ends_with ◌==◌ long (codes ":"), COLON.now)
+    ∷ (ends_with ◌==◌ item (codes "!"), MARK.now)
+    ∷ []
 
--- of a short name, and what follows it
-abbrev pub short_reason : Text → ℕ → Text → Text
-short_reason right short more =
-    if not (is_empty more) && not (slice_index more 0 == 124) then codes "a short name has one byte"
-    else (if not (is_name_byte short) then codes "a short name is a letter, a digit or one of ?@#%+_^,./:"
-    else after_short right more)
-
--- of names
-abbrev pub names_reason : Text → Text → Text
-names_reason right names =
-    if nat_lt (length names) 2 || not (slice_index names 0 == 45) then dashes_reason
-    else (if slice_index names 1 == 45 then long_reason right (drop 2 names)
-    else short_reason right (slice_index names 1) (drop 2 names))
-
--- a text without a `[` that it begins with
-abbrev pub after_bracket : Text → Text
-after_bracket text = if slice_index text 0 == 91 then drop 1 text else text
-
--- where no name holds `=` or `[`
-abbrev pub plain_reason : Text → Text → Text
-plain_reason right names =
-    if holds 61 names then codes "an argument comes after a space, as in '--long ARG'"
-    else (if holds 91 names then right else names_reason right names)
-
--- of what stands after the first space or `]`, where this is the reason if it holds no space
-abbrev pub rest_reason : Text → Text → Text → Text
-rest_reason right item rest =
-    if slice_index rest 0 == 45 || slice_index rest 0 == 124 then
-    codes "names are written as -s|--long, without a blank or a comma"
-    else (if not (holds 32 rest) then right
-    else (if ends_in 93 item then codes "an argument holds no space"
-    else codes "a tab or two spaces have to come before the description"))
-
+-- why a text is no option: the first reason whose claim is so, or else BRACKETS
 abbrev pub reason_of : Text → Text
-reason_of item =
-    if holds 91 item && not (holds 93 item) then codes "no ']'"
-    else rest_reason (plain_reason (brackets_reason item) (after_bracket (before_end item))) item (after_end item)
+reason_of item = option_map_or (λ reason. reason.1) (find (λ reason. reason.0) (reasons item))
+    BRACKETS.now
+
+-- ---- faults
 
 -- a fault of a table: the number of a line, and its item or a name
 pub data TableFault : Type 0 where
   no_option : ℕ → Text → TableFault
   name_twice : ℕ → Text → TableFault
 
--- the fault of the line with this number, where the lines before it declare these entries: it declares
--- neither nothing nor an entry, or an entry with a name that stands there already
+-- the fault of the line with this number, where the lines before it declare these entries: it
+-- declares neither nothing nor an entry, or an entry with a name that stands there already
 pub data IsLineFault (number : ℕ) (entries : List Entry) (line : Text) : TableFault → Type 0 where
   none : ((declared : Option Entry) → ¬ (Declares line declared))
       → IsLineFault number entries line (no_option number (item_of line))

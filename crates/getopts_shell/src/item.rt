@@ -1,18 +1,21 @@
 //! Items of a table: the names, the argument and the occurrence of an option.
 
-ghost use Rattle.std.specs.Prelude.{◌≡◌, ◌≢◌, ◌==◌, ◌++◌, ◌∷◌, codes, MatchOption, true, false};
-ghost use Rattle.std.specs.List.{AllByRecursion, ends_with, list_all};
-ghost use Rattle.std.specs.Option.{option_copied};
-ghost use Rattle.getopts.specs.Names.{Text, Names};
+ghost use Rattle.std.specs.Prelude.{◌≡◌, ◌≢◌, ◌==◌, ◌++◌, ◌∷◌, codes, drop, not, ◌&&◌, ◌||◌};
+ghost use Rattle.std.specs.Prelude.{◌≤◌, Bool, MatchOption, find, length, map, nat_lt, slice_index};
+ghost use Rattle.std.specs.Prelude.{true, false};
+ghost use Rattle.std.specs.List.{AllByRecursion, ends_with, list_all, position_or_len, starts_with};
+ghost use Rattle.std.specs.Option.{option_copied, option_map_or};
+ghost use Rattle.getopts.specs.Names.{Text, Names, is_empty};
 ghost use Rattle.getopts.specs.Options.{Signature};
+ghost use Rattle.getopts.specs.Reading.{begins_with_dash};
 ghost use Rattle.getopts.specs.declared.groups.HasArg.{HasArg as Kind};
 ghost use Rattle.getopts.specs.declared.groups.Occur.{Occur as Occurrence};
 ghost use Rattle.getopts_shell.specs.Held.{entry_of_row};
 ghost use Rattle.getopts_shell.specs.Table.{is_name, is_name_byte, is_hint, is_hint_byte, AreNames};
-ghost use Rattle.getopts_shell.specs.Table.{is_long_name, is_long_byte, holds, before_end, after_end, after_bracket};
-ghost use Rattle.getopts_shell.specs.Table.{reason_of, brackets_reason, names_reason, short_reason, long_reason};
-ghost use Rattle.getopts_shell.specs.Table.{after_short, ends_in, plain_reason, rest_reason};
-ghost use Rattle.getopts_shell.specs.Table.{MayBeNames, IsArgument, HasParts, IsBracketed, IsItem, end_means, fits};
+ghost use Rattle.getopts_shell.specs.Table.{is_long_name, is_long_byte, MayBeNames};
+ghost use Rattle.getopts_shell.specs.Table.{IsArgument, HasParts, IsBracketed, IsItem, end_means};
+ghost use Rattle.getopts_shell.specs.Table.{fits};
+ghost use Rattle.getopts_shell.specs.Table.{after, before, dashed, holds, names_in, reason_of};
 ghost use Rattle.getopts_shell.specs.declared.row.Mark.{Mark as Behind};
 
 use crate::row::{Mark, Row};
@@ -23,7 +26,8 @@ pub(crate) fn row_of<'t>(item: &'t str, description: &'t str) -> Option<Row<'t>>
     ensures option { MatchOption result
         ((known : Signature) (hint : Text) (mark : Behind) → ¬ (IsItem item.now known hint mark))
         (λ row. IsItem item.now (entry_of_row row).signature row.hint.now row.mark) }
-    ensures description { MatchOption result (Unit {0}) (λ row. row.description.now ≡ description.now) }
+    ensures description { MatchOption result (Unit {0})
+        (λ row. row.description.now ≡ description.now) }
 {
     let (inside, occurrence, mark) = unbracketed(item)?;
     let (names, argument) = parts_of(inside);
@@ -70,7 +74,8 @@ fn unbracketed(text: &str) -> Option<(&str, Occur, Mark)>
 /// A text in two: what stands before its last `]`, and what stands after it.
 fn cut_at_bracket(text: &str) -> Option<(&str, &str)>
     ensures { MatchOption result (AllByRecursion (λ byte. byte ≢ 93) text.now) (λ parts.
-        (text.now ≡ parts.0.now ++ (93 ∷ parts.1.now)) × AllByRecursion (λ byte. byte ≢ 93) parts.1.now) }
+        (text.now ≡ parts.0.now ++ (93 ∷ parts.1.now))
+        × AllByRecursion (λ byte. byte ≢ 93) parts.1.now) }
 {
     text.rsplit_once(']')
 }
@@ -92,7 +97,8 @@ fn end_means(end: &str) -> Option<(Occur, Mark)>
     }
 }
 
-/// The parts of a text: what stands before its first space, and what stands after it, if it has one.
+/// The parts of a text: what stands before its first space, and what stands after it, if it has
+/// one.
 fn parts_of(text: &str) -> (&str, Option<&str>)
     ensures { HasParts text.now result.0.now (option_copied result.1) }
 {
@@ -102,8 +108,8 @@ fn parts_of(text: &str) -> (&str, Option<&str>)
     }
 }
 
-/// The short and the long name that a text is, written as `-s`, `--long` or `-s|--long`, if it is. Either
-/// may be empty.
+/// The short and the long name that a text is, written as `-s`, `--long` or `-s|--long`, if it is.
+/// Either may be empty.
 fn names_of(text: &str) -> Option<(&str, &str)>
     ensures { MatchOption result ((names : Names) → ¬ (AreNames names text.now))
         (λ found. AreNames (record { short = found.0.now; long = found.1.now }) text.now) }
@@ -127,23 +133,21 @@ fn names_of(text: &str) -> Option<(&str, &str)>
 /// These names, if they are lawful and may stand in a table.
 fn lawful_names<'t>(short: &'t str, long: &'t str) -> Option<(&'t str, &'t str)>
     ensures { MatchOption result (¬ (MayBeNames short.now long.now))
-        (λ found. MayBeNames short.now long.now × (found.0.now ≡ short.now) × (found.1.now ≡ long.now)) }
+        (λ found. MayBeNames short.now long.now × (found.0.now ≡ short.now)
+        × (found.1.now ≡ long.now)) }
 {
-    if names_lawful(short, long) && is_name(short) && is_long_name(long.as_bytes()) {
+    if names_lawful(short, long) && is_name(short.as_bytes()) && is_long_name(long.as_bytes()) {
         Some((short, long))
     } else {
         None
     }
 }
 
-/// Whether a text may be a short name.
-fn is_name(text: &str) -> bool
-    ensures { result ≡ is_name text.now }
+/// Whether bytes may be a short name.
+fn is_name(bytes: &[u8]) -> bool
+    ensures { result ≡ is_name bytes.now }
 {
-    match text.as_bytes() {
-        [b'-', ..] => false,
-        bytes => are_name_bytes(bytes),
-    }
+    !bytes.starts_with(b"-") && are_name_bytes(bytes)
 }
 
 /// Whether bytes may stand in a short name.
@@ -168,10 +172,7 @@ fn is_name_byte(byte: u8) -> bool
 fn is_long_name(bytes: &[u8]) -> bool
     ensures { result ≡ is_long_name bytes.now }
 {
-    match bytes {
-        [b'-', ..] => false,
-        _ => are_long_bytes(bytes) && !ends_in(bytes, b':'),
-    }
+    !bytes.starts_with(b"-") && are_long_bytes(bytes) && !bytes.ends_with(b":")
 }
 
 /// Whether bytes may stand in a long name.
@@ -179,13 +180,6 @@ fn are_long_bytes(bytes: &[u8]) -> bool
     ensures { result ≡ list_all is_long_byte bytes.now }
 {
     bytes.iter().all(|byte| is_long_byte(*byte))
-}
-
-/// Whether bytes end in a byte.
-fn ends_in(bytes: &[u8], byte: u8) -> bool
-    ensures { result ≡ ends_in byte bytes.now }
-{
-    !bytes.is_empty() && bytes[bytes.len() - 1] == byte
 }
 
 /// Whether a byte may stand in a long name.
@@ -218,25 +212,18 @@ fn hinted(kind: HasArg, hint: &str) -> Option<(HasArg, &str)>
     ensures { MatchOption result (is_hint hint.now ≡ false)
         (λ found. (is_hint hint.now ≡ true) × (found.0 ≡ kind) × (found.1.now ≡ hint.now)) }
 {
-    if is_hint(hint) {
+    if is_hint(hint.as_bytes()) {
         Some((kind, hint))
     } else {
         None
     }
 }
 
-/// Whether a text may be a hint.
-fn is_hint(text: &str) -> bool
-    ensures { result ≡ is_hint text.now }
+/// Whether bytes may be a hint.
+fn is_hint(bytes: &[u8]) -> bool
+    ensures { result ≡ is_hint bytes.now }
 {
-    !text.is_empty() && are_hint_bytes(text.as_bytes()) && !ends_in_dots(text)
-}
-
-/// Whether a text ends in two dots.
-fn ends_in_dots(text: &str) -> bool
-    ensures { result ≡ ends_with ◌==◌ text.now (codes "..") }
-{
-    text.ends_with("..")
+    !bytes.is_empty() && are_hint_bytes(bytes) && !bytes.ends_with(b"..")
 }
 
 /// Whether bytes may stand in a hint.
@@ -253,155 +240,165 @@ fn is_hint_byte(byte: u8) -> bool
     !matches!(byte, b' ' | b'\t' | b'[' | b']')
 }
 
-/// Why names that are right stand in no item with a mark.
-const MARK: &str = "'!' comes only after ']' of an option without an argument";
-/// Why names that are right stand in no item.
+/// Why a text is no option that holds `[` and no `]`.
+const OPEN: &str = "no ']'";
+/// Where a dash or `|` stands after the first space.
+const APART: &str = "names are written as -s|--long, without a blank or a comma";
+/// Where a space stands after the first `]`.
+const GAP: &str = "a tab or two spaces have to come before the description";
+/// Where it has two spaces else.
+const SPACE: &str = "an argument holds no space, and a tab or two spaces come before a description";
+/// Where its names hold `=`.
+const EQUALS: &str = "an argument comes after a space, as in '--long ARG'";
+/// Where its names hold `[`, or no other reason is so.
 const BRACKETS: &str = "brackets stand around the option or its argument, and dots only after ']'";
-/// Why a long name is wrong that has a wrong byte.
+/// Where a name has the wrong dashes.
+const DASHES: &str = "a short name comes after '-', a long one after '--'";
+/// Where another name stands after the long one.
+const ORDER: &str = "the short name comes first, then one long one";
+/// Where its short name has more.
+const SHORT: &str = "a short name has one byte";
+/// Where its short name is another byte.
+const LETTER: &str = "a short name is a letter, a digit or one of ?@#%+_^,./:";
+/// Where its long name is shorter.
+const LONG: &str = "a long name has at least two bytes";
+/// Where its long name holds another byte.
 const BYTES: &str =
     "a long name may hold letters, digits, '-', '_', '.', '+', ':' and bytes from 128 on";
-/// Why names are wrong that have wrong dashes.
-const DASHES: &str = "a short name comes after '-', a long one after '--'";
+/// Where its long name does.
+const COLON: &str = "a long name doesn't end in ':'";
+/// Where it ends in `!`.
+const MARK: &str = "'!' comes only after ']' of an option without an argument";
 
 /// Why a text is no option.
 pub(crate) fn reason_of(item: &str) -> &'static str
     ensures { result.now ≡ reason_of item.now }
 {
-    let bytes = item.as_bytes();
-    if holds(bytes, b'[') && !holds(bytes, b']') {
-        return "no ']'";
-    }
-    let (names, rest) = cut_at_end(bytes);
-    let right = plain_reason(brackets_reason(item), after_bracket(names));
-    rest_reason(right, bytes, rest)
+    let item = item.as_bytes();
+    let (_, argument) = cut_at(item, b' ');
+    let (_, end) = cut_at(item, b']');
+    let names = names_in(item);
+    let (short, long) = dashed(names);
+    let reasons = [
+        (is_open(item), OPEN),
+        (begins_name(argument), APART),
+        (end.contains(&b' '), GAP),
+        (argument.contains(&b' '), SPACE),
+        (names.contains(&b'='), EQUALS),
+        (names.contains(&b'['), BRACKETS),
+        (lack_dash(names, short), DASHES),
+        (lack_two_dashes(names, long), DASHES),
+        (long.starts_with(b"---"), DASHES),
+        (long.contains(&b'|'), ORDER),
+        (short.len() > 2, SHORT),
+        (!is_name(without_first(short)), LETTER),
+        (is_too_short(long), LONG),
+        (!are_long_bytes(long), BYTES),
+        (long.ends_with(b":"), COLON),
+        (item.ends_with(b"!"), MARK),
+    ];
+    first_so(&reasons, BRACKETS)
 }
 
-/// Why what stands after the first space or `]` is wrong, or what is wrong where it is right.
-fn rest_reason(right: &'static str, item: &[u8], rest: &[u8]) -> &'static str
-    ensures { result.now ≡ rest_reason right.now item.now rest.now }
+/// The first reason whose claim is so, or else this one.
+fn first_so(reasons: &[(bool, &'static str)], other: &'static str) -> &'static str
+    ensures { result.now ≡ option_map_or (λ (reason : Bool × Text). reason.1)
+        (find (λ (reason : Bool × Text). reason.0)
+        (map (λ reason. (reason.0, reason.1.now)) reasons.now)) other.now }
 {
-    if !rest.is_empty() && (rest[0] == b'-' || rest[0] == b'|') {
-        "names are written as -s|--long, without a blank or a comma"
-    } else if !holds(rest, b' ') {
-        right
-    } else if ends_in(item, b']') {
-        "an argument holds no space"
-    } else {
-        "a tab or two spaces have to come before the description"
-    }
-}
-
-/// Why a text is no option, where its names are right.
-fn brackets_reason(item: &str) -> &'static str
-    ensures { result.now ≡ brackets_reason item.now }
-{
-    if ends_in_mark(item) { MARK } else { BRACKETS }
-}
-
-/// Whether a text ends in `!`.
-fn ends_in_mark(text: &str) -> bool
-    ensures { result ≡ ends_with ◌==◌ text.now (codes "!") }
-{
-    text.ends_with("!")
-}
-
-/// Whether bytes hold a byte.
-fn holds(bytes: &[u8], byte: u8) -> bool
-    ensures { result ≡ holds byte bytes.now }
-{
-    bytes.iter().any(|other| *other == byte)
-}
-
-/// What stands before the first space or `]`, and after it.
-fn cut_at_end(bytes: &[u8]) -> (&[u8], &[u8])
-    ensures before { result.0.now ≡ before_end bytes.now }
-    ensures after { result.1.now ≡ after_end bytes.now }
-{
-    for at in 0..bytes.len() {
-        if bytes[at] == b' ' || bytes[at] == b']' {
-            return (&bytes[..at], &bytes[at + 1..]);
+    for reason in reasons {
+        if reason.0 {
+            return reason.1;
         }
     }
-    (bytes, &bytes[bytes.len()..])
+    other
 }
 
-/// Bytes without a `[` that they begin with.
-fn after_bracket(bytes: &[u8]) -> &[u8]
-    ensures { result.now ≡ after_bracket bytes.now }
+/// Whether bytes hold `[` and no `]`.
+fn is_open(bytes: &[u8]) -> bool
+    ensures { result ≡ (holds 91 bytes.now && not (holds 93 bytes.now)) }
+{
+    bytes.contains(&b'[') && !bytes.contains(&b']')
+}
+
+/// Whether bytes begin with a dash or `|`.
+fn begins_name(bytes: &[u8]) -> bool
+    ensures { result ≡ (slice_index bytes.now 0 == 45 || slice_index bytes.now 0 == 124) }
+{
+    matches!(bytes, [b'-' | b'|', ..])
+}
+
+/// Whether names begin with no dash, or the short one of them is nothing else.
+fn lack_dash(names: &[u8], short: &[u8]) -> bool
+    ensures { result ≡ (not (begins_with_dash names.now) || length short.now == 1) }
+{
+    !names.starts_with(b"-") || short.len() == 1
+}
+
+/// Whether a name comes after `|`, and the long one of the names doesn't begin with two dashes.
+fn lack_two_dashes(names: &[u8], long: &[u8]) -> bool
+    ensures { result ≡ (holds 124 names.now && not (starts_with ◌==◌ long.now (codes "--"))) }
+{
+    names.contains(&b'|') && !long.starts_with(b"--")
+}
+
+/// Whether a long name with its dashes, if there is one, has fewer than two bytes.
+fn is_too_short(long: &[u8]) -> bool
+    ensures { result ≡ (not (is_empty long.now) && nat_lt (length long.now) 4) }
+{
+    !long.is_empty() && long.len() < 4
+}
+
+/// What stands for the names of an item: all before the first space or `]`, without a `[` in front.
+fn names_in(item: &[u8]) -> &[u8]
+    ensures { result.now ≡ names_in item.now }
+{
+    let opened = if item.starts_with(b"[") {
+        &item[1..]
+    } else {
+        item
+    };
+    cut_at(cut_at(opened, b']').0, b' ').0
+}
+
+/// The two names that names are, right or wrong, each with its dashes.
+fn dashed(names: &[u8]) -> (&[u8], &[u8])
+    ensures short { result.0.now ≡ (dashed names.now).short }
+    ensures long { result.1.now ≡ (dashed names.now).long }
+{
+    if names.starts_with(b"--") {
+        (&[], names)
+    } else {
+        cut_at(names, b'|')
+    }
+}
+
+/// What stands before the first such byte, or all, and what stands after it, or nothing.
+fn cut_at(bytes: &[u8], byte: u8) -> (&[u8], &[u8])
+    ensures before { result.0.now ≡ before byte bytes.now }
+    ensures after { result.1.now ≡ after byte bytes.now }
+{
+    let place = place_of(bytes, byte);
+    (&bytes[..place], without_first(&bytes[place..]))
+}
+
+/// The place of the first such byte, or the end.
+fn place_of(bytes: &[u8], byte: u8) -> usize
+    ensures within { result ≤ length bytes.now }
+    ensures place { result ≡ position_or_len (λ other. other == byte) bytes.now }
+{
+    bytes
+        .iter()
+        .position(|other| *other == byte)
+        .unwrap_or(bytes.len())
+}
+
+/// Bytes without the first one, if there is one.
+fn without_first(bytes: &[u8]) -> &[u8]
+    ensures { result.now ≡ drop 1 bytes.now }
 {
     match bytes {
-        [b'[', rest @ ..] => rest,
+        [_, rest @ ..] => rest,
         _ => bytes,
-    }
-}
-
-/// Why names that hold `=` or `[` are wrong, or what is wrong else.
-fn plain_reason(right: &'static str, names: &[u8]) -> &'static str
-    ensures { result.now ≡ plain_reason right.now names.now }
-{
-    if holds(names, b'=') {
-        "an argument comes after a space, as in '--long ARG'"
-    } else if holds(names, b'[') {
-        right
-    } else {
-        names_reason(right, names)
-    }
-}
-
-/// Why names are wrong, or what is wrong where they are right.
-fn names_reason(right: &'static str, names: &[u8]) -> &'static str
-    ensures { result.now ≡ names_reason right.now names.now }
-{
-    if names.len() < 2 || names[0] != b'-' {
-        DASHES
-    } else if names[1] == b'-' {
-        long_reason(right, &names[2..])
-    } else {
-        short_reason(right, names[1], &names[2..])
-    }
-}
-
-/// The same of a short name, and what follows it.
-fn short_reason(right: &'static str, short: u8, more: &[u8]) -> &'static str
-    ensures { result.now ≡ short_reason right.now short more.now }
-{
-    if !more.is_empty() && more[0] != b'|' {
-        "a short name has one byte"
-    } else if !is_name_byte(short) {
-        "a short name is a letter, a digit or one of ?@#%+_^,./:"
-    } else {
-        after_short(right, more)
-    }
-}
-
-/// The same of what follows a short name, where it is `|` or nothing.
-fn after_short(right: &'static str, more: &[u8]) -> &'static str
-    ensures { result.now ≡ after_short right.now more.now }
-{
-    if more.is_empty() {
-        right
-    } else if more.len() > 2 && more[1] == b'-' && more[2] == b'-' {
-        long_reason(right, &more[3..])
-    } else {
-        DASHES
-    }
-}
-
-/// The same of a long name.
-fn long_reason(right: &'static str, long: &[u8]) -> &'static str
-    ensures { result.now ≡ long_reason right.now long.now }
-{
-    if long.len() < 2 {
-        "a long name has at least two bytes"
-    } else if holds(long, b'|') {
-        "the short name comes first, then one long one"
-    } else if !are_long_bytes(long) {
-        BYTES
-    } else if long[0] == b'-' {
-        DASHES
-    } else if ends_in(long, b':') {
-        "a long name doesn't end in ':'"
-    } else {
-        right
     }
 }

@@ -1,15 +1,16 @@
 //! Tables of options: their lines, and the options that these declare.
 
-ghost use Rattle.std.specs.Prelude.{◌≡◌, ◌++◌, ◌∷◌, [], List, Option, ◌||◌, ◌==◌, slice_index, MatchResult, IfErr};
-ghost use Rattle.std.specs.Prelude.{OnOk, Some, None, map};
+ghost use Rattle.std.specs.Prelude.{◌≡◌, ◌++◌, ◌∷◌, [], List, Option, ◌||◌, ◌==◌, slice_index, map};
+ghost use Rattle.std.specs.Prelude.{MatchResult, IfErr, IfSome, OnOk, Some, None};
 ghost use Rattle.std.specs.List.{list_any};
 ghost use Rattle.std.specs.Option.{option_copied, option_to_list};
 ghost use Rattle.std.specs.Str.{bytes_eq};
 ghost use Rattle.getopts.specs.Names.{Text, is_empty};
 ghost use Rattle.getopts_shell.specs.Held.{entry_of_row, entries_of, TellsFault};
-ghost use Rattle.getopts_shell.specs.Table.{trimmed, begins_gap};
-ghost use Rattle.getopts_shell.specs.Table.{before_gap, from_gap, any_has_name, name_again, HaveNewNames};
-ghost use Rattle.getopts_shell.specs.Table.{Entry, OneTableOneList, Declares, DeclaresOptions, IsLineFault, IsTableFault};
+ghost use Rattle.getopts_shell.specs.Table.{trimmed, begins_gap, before_gap, from_gap};
+ghost use Rattle.getopts_shell.specs.Table.{any_has_name, name_again};
+ghost use Rattle.getopts_shell.specs.Table.{Entry, OneTableOneList, Declares, DeclaresOptions};
+ghost use Rattle.getopts_shell.specs.Table.{IsLineFault, IsTableFault};
 
 use crate::item::row_of;
 use crate::row::Row;
@@ -53,7 +54,7 @@ fn push_line<'t>(
 ) -> Result<(), TableError<'t>>
     ensures declared { OnOk result ((declared : Option Entry) × Declares line.now declared
         × (entries_of rows.new.items ≡ entries_of rows.old.items ++ option_to_list declared)
-        × HaveNewNames (entries_of rows.old.items) (option_to_list declared)) }
+        × IfSome declared (λ entry. name_again (entries_of rows.old.items) entry ≡ None)) }
     ensures fault { IfErr result (λ error.
         TellsFault error (IsLineFault number (entries_of rows.old.items) line.now)) }
 {
@@ -104,7 +105,9 @@ fn any_has_name(rows: &[Row<'_>], name: &str) -> bool
 
 /// Whether one of the rows has this text as a name.
 fn any_is_called(rows: &[Row<'_>], text: &str) -> bool
-    ensures { result ≡ list_any (λ row. bytes_eq row.short.now text.now || bytes_eq row.long.now text.now) rows.now }
+    ensures { result
+        ≡ list_any (λ row. bytes_eq row.short.now text.now || bytes_eq row.long.now text.now)
+        rows.now }
 {
     rows.iter().any(|row| row.short == text || row.long == text)
 }

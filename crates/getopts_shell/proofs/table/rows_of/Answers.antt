@@ -13,7 +13,8 @@ pub loop-line-preserved : goal.loop-line-preserved
 loop-line-preserved c =
     let lines = map (λ line. line.now) c.loop-line.yielded in
     let pushed = c.in_ok-push_line.ensures.declared in
-    subst (λ lines. LinesSoFar lines c.saturating_add-number.result (entries_of c.push_line.new.rows.items))
+    subst (λ lines. LinesSoFar lines c.saturating_add-number.result
+    (entries_of c.push_line.new.rows.items))
     (sym (map-append (λ line. line.now) c.loop-line.yielded (c.in-Some.line ∷ [])))
     (next_line lines c.in-Some.line.now c.loop-line.number _ _ _ pushed.0 c.loop-line.invariant
     c.saturating_add-number.ensures pushed.1 pushed.2 pushed.3)
@@ -22,23 +23,31 @@ pub returns-in_err-push_line : goal.returns-in_err-push_line
 returns-in_err-push_line c =
     let start = c.into_iter-line-iterator.ensures.into_iter_gives in
     let split = c.split-line-items.ensures in
-    let all = YieldsList-from_str_split 10 c.args.table.now (lit< tt) (ap split_text start ∙ split.text)
+    let all = YieldsList-from_str_split 10 c.args.table.now (lit< tt)
+    (ap split_text start ∙ split.text)
     (ap split_has_more start ∙ split.has_more) (ap split_pattern start ∙ split.pattern) in
     let so_far = YieldsList-so_far all c.loop-line.yielded _ c.loop-line.yielded_by in
-    let turn = YieldsList-turn all c.loop-line.yielded _ c.loop-line.yielded_by _ _ c.in-Some.line c.in-Some.is
+    let turn = YieldsList-turn all c.loop-line.yielded _ c.loop-line.yielded_by _ _ c.in-Some.line
+    c.in-Some.is
     c.next.ensures.steps in
     let count = length-map c.loop-line.yielded (λ line. line.now) in
     let error = err_from_is_err_and c.from_residual.result c.from_residual.ensures.1 in
-    rw (error.1, error.2) (tells_weaker c.in_err-push_line.field-0.0 _ _ c.in_err-push_line.ensures.fault
-    (λ fault is. table_fault c.args.table.now (map (λ line. line.now) c.loop-line.yielded) c.in-Some.line.now
-    c.loop-line.number _ _ fault (rw count so_far) (rw count turn.0) (rw count turn.1) c.loop-line.invariant
+    rw (error.1, error.2) (tells_weaker c.in_err-push_line.field-0.0 _ _
+    c.in_err-push_line.ensures.fault
+    (λ fault is. table_fault c.args.table.now (map (λ line. line.now) c.loop-line.yielded)
+    c.in-Some.line.now
+    c.loop-line.number _ _ fault (rw count so_far) (rw count turn.0) (rw count turn.1)
+    c.loop-line.invariant
     c.saturating_add-number.ensures is))
 
 pub returns : goal.returns
 returns c =
     let start = c.into_iter-line-iterator.ensures.into_iter_gives in
     let split = c.split-line-items.ensures in
-    let all = YieldsList-from_str_split 10 c.args.table.now (lit< tt) (ap split_text start ∙ split.text)
+    let all = YieldsList-from_str_split 10 c.args.table.now (lit< tt)
+    (ap split_text start ∙ split.text)
     (ap split_has_more start ∙ split.has_more) (ap split_pattern start ∙ split.pattern) in
-    let each = YieldsList-end all c.loop-line.yielded _ c.loop-line.yielded_by _ _ c.in-None.is c.next.ensures.steps in
-    subst (λ lines. DeclareOptions lines (entries_of c.loop-line.rows.items)) each.0 c.loop-line.invariant.declared
+    let each = YieldsList-end all c.loop-line.yielded _ c.loop-line.yielded_by _ _ c.in-None.is
+    c.next.ensures.steps in
+    subst (λ lines. DeclareOptions lines (entries_of c.loop-line.rows.items)) each.0
+    c.loop-line.invariant.declared

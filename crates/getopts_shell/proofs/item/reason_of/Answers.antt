@@ -1,0 +1,42 @@
+use Rattle.std.proofs.Common.{◌≡◌, Bool, List, [], ◌∷◌, length, refl, ap, ◌∙◌}
+use Rattle.std.specs.Prelude.{find, nat_lt, not}
+use Rattle.std.specs.Option.{option_map_or}
+use Rattle.getopts.specs.Names.{Text}
+use Rattle.getopts_shell.specs.declared.item.TheConstants.{BRACKETS}
+use Rattle.getopts_shell.proofs.item.reason_of.Goals as goal
+
+abbrev Reasons : Type 0
+Reasons = List (Bool × Text)
+
+-- the same claim, before the same reasons
+same : (claim other : Bool) (reason : Text) (reasons others : Reasons) → claim ≡ other → reasons
+    ≡ others
+    → (claim, reason) ∷ reasons ≡ (other, reason) ∷ others
+same claim other reason reasons others is rest = cc
+
+pub returns : goal.returns
+returns c =
+    let value = c.as_bytes-item.ensures.value in
+    let argument = rw value at c.cut_at.ensures.after in
+    let names = rw value at c.names_in-names.ensures in
+    let short = rw names at c.dashed.ensures.short in
+    let long = rw names at c.dashed.ensures.long in
+    c.first_so.ensures
+    ∙ ap (λ (reasons : Reasons). option_map_or (λ (reason : Bool × Text). reason.1)
+    (find (λ (reason : Bool × Text). reason.0) reasons) BRACKETS.now)
+    (same _ _ _ _ _ (rw value at c.is_open.ensures)
+    (same _ _ _ _ _ (rw argument at c.begins_name.ensures)
+    (same _ _ _ _ _ (rw (c.cut_at-2.ensures.after, value) at c.contains.ensures.value)
+    (same _ _ _ _ _ (rw argument at c.contains-2.ensures.value)
+    (same _ _ _ _ _ (rw names at c.contains-3.ensures.value)
+    (same _ _ _ _ _ (rw names at c.contains-4.ensures.value)
+    (same _ _ _ _ _ (rw (names, short) at c.lack_dash.ensures)
+    (same _ _ _ _ _ (rw (names, long) at c.lack_two_dashes.ensures)
+    (same _ _ _ _ _ (rw long at c.starts_with.ensures.value)
+    (same _ _ _ _ _ (rw long at c.contains-5.ensures.value)
+    (same _ _ _ _ _ (ap (λ (text : Text). nat_lt 2 (length text)) short)
+    (same _ _ _ _ _ (ap not (rw (c.without_first.ensures, short) at c.is_name.ensures))
+    (same _ _ _ _ _ (rw long at c.is_too_short.ensures)
+    (same _ _ _ _ _ (ap not (rw long at c.are_long_bytes.ensures))
+    (same _ _ _ _ _ (rw long at c.ends_with.ensures.value)
+    (same _ _ _ [] [] (rw value at c.ends_with-2.ensures.value) refl))))))))))))))))
