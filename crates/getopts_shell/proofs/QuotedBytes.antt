@@ -1,13 +1,15 @@
 -- A shell makes the words of the quoted words' bytes.
-use Rattle.std.proofs.Common.{◌≡◌, ℕ, zero, suc, ◌-◌, ◌<◌, ◌≤◌, Bool, true, false, eqb, ltb, List, [], ◌∷◌, ◌++◌, Some}
-use Rattle.std.proofs.Common.{length, map, refl, sym, ap, subst, ◌∙◌, append-nil, arith}
+use Rattle.std.proofs.Common.{◌≡◌, ℕ, zero, suc, ◌<◌, ◌≤◌, Bool, true, false, eqb, ltb, List, []}
+use Rattle.std.proofs.Common.{◌∷◌, ◌++◌, Some, length, map, refl, sym, ap, ◌∙◌, append-nil, arith}
 use Rattle.std.proofs.Math.Utf8.{encode, encodes, scalar, scalars}
-use Rattle.std.proofs.lemmas.Bool.{false≢true}
+use Rattle.std.proofs.lemmas.Bool.{and_parts, or_parts}
 use Rattle.std.proofs.lemmas.Bool.Decides.{nat_tests}
 use Rattle.std.proofs.lemmas.Grind.{flat_map-append}
-use Rattle.std.proofs.lemmas.Str.{IsUtf8-append, IsUtf8-encode, IsUtf8-from_ascii, chars-encodes, encodes-chars}
-use Rattle.std.proofs.lemmas.Str.{encode_ascii, scalars-chars}
-use Rattle.std.specs.List.{AllByRecursion, flat_map}
+use Rattle.std.proofs.lemmas.Str.{IsUtf8-append, IsUtf8-encode, IsUtf8-from_ascii, chars-encodes}
+use Rattle.std.proofs.lemmas.Str.{encodes-chars, encode_ascii, scalars-chars}
+use Rattle.std.specs.Prelude.{codes}
+use Rattle.std.specs.Char.{is_ascii}
+use Rattle.std.specs.List.{AllByRecursion, flat_map, list_all, list_any}
 use Rattle.std.specs.Str.{IsAscii, IsUtf8, chars}
 use Rattle.getopts.specs.Names.{AreTexts, Text}
 use Rattle.getopts_bytes.specs.Marks.{AreBytes, bytes_of, is_mark, text_of, written}
@@ -21,121 +23,152 @@ pub record Gives (text bytes : List ℕ) : Type 0 where
   pub utf8 : IsUtf8 text
   pub bytes_are : bytes_of text ≡ bytes
 
+-- texts one after the other have their bytes one after the other
 pub append_gives : {text more bytes others : List ℕ} → Gives text bytes → Gives more others
     → Gives (text ++ more) (bytes ++ others)
 append_gives {text} {more} {bytes} {others} is also = record {
   utf8 = IsUtf8-append text more is.utf8 also.utf8;
   bytes_are = bytes_append text more is.utf8
-      ∙ ap (λ (l : List ℕ). l ++ bytes_of more) is.bytes_are ∙ ap (λ (l : List ℕ). bytes ++ l) also.bytes_are;
+      ∙ ap (λ (l : List ℕ). l ++ bytes_of more) is.bytes_are
+      ∙ ap (λ (l : List ℕ). bytes ++ l) also.bytes_are;
 }
 
-are_ascii : (text : List ℕ) → AllByRecursion (λ byte. byte < 128) text → IsAscii text
+-- a text whose bytes pass the test for ASCII is of ASCII
+are_ascii : (text : List ℕ) → list_all is_ascii text ≡ true → IsAscii text
 are_ascii [] are i = omega arith
-are_ascii (byte ∷ text) are zero = are.0
-are_ascii (byte ∷ text) are (suc i) = are_ascii text are.1 i
+are_ascii (byte ∷ text) are zero =
+    let first : is_ascii byte ≡ true = (and_parts (is_ascii byte) (list_all is_ascii text) are).0 in
+    grind (arith, nat_tests)
+are_ascii (byte ∷ text) are (suc i) =
+    are_ascii text (and_parts (is_ascii byte) (list_all is_ascii text) are).1 i
 
-pub ascii_gives : (text : List ℕ) → AllByRecursion (λ byte. byte < 128) text → Gives text text
+-- a text of ASCII has itself for its bytes
+pub ascii_gives : (text : List ℕ) → list_all is_ascii text ≡ true → Gives text text
 ascii_gives text are =
     let ascii = are_ascii text are in
     let utf8 = IsUtf8-from_ascii text ascii in
-    record { utf8 = utf8; bytes_are = plain_bytes text (record { utf8 = utf8; unmarked = ascii_no_marks text ascii }) }
+    record {
+      utf8 = utf8;
+      bytes_are =
+          plain_bytes text (record { utf8 = utf8; unmarked = ascii_no_marks text ascii });
+    }
 
+-- a character has the bytes that it is written by
 char_gives : (c : ℕ) → scalar c ≡ true → Gives (encode c) (written c)
 char_gives c is = record {
   utf8 = IsUtf8-encode c is;
-  bytes_are = ap (flat_map written) (ap chars (sym (append-nil (encode c))) ∙ chars-encodes (c ∷ []) (simp is refl))
+  bytes_are =
+      ap (flat_map written)
+      (ap chars (sym (append-nil (encode c))) ∙ chars-encodes (c ∷ []) (simp is refl))
       ∙ append-nil (written c);
 }
 
 -- ---- bytes past ASCII stand in quotes as they are
 
-abbrev ArePastAscii : List ℕ → Type 0
-ArePastAscii bytes = AllByRecursion (λ byte. 128 ≤ byte) bytes
-
-past_stays : (bytes : List ℕ) → ArePastAscii bytes → flat_map quoted_byte bytes ≡ bytes
+-- bytes past ASCII need no quoting
+past_stays : (bytes : List ℕ) → list_any is_ascii bytes ≡ false → flat_map quoted_byte bytes ≡ bytes
 past_stays [] past = refl
 past_stays (byte ∷ bytes) past =
-    let large : 128 ≤ byte = past.0 in
+    let each = or_parts (is_ascii byte) (list_any is_ascii bytes) past in
+    let first : is_ascii byte ≡ false = each.0 in
     let other : eqb byte 39 ≡ false = grind (arith, nat_tests) in
-    simp other (ap (λ (l : List ℕ). byte ∷ l) (past_stays bytes past.1))
+    simp other (ap (λ (l : List ℕ). byte ∷ l) (past_stays bytes each.1))
 
-encode_past : (c : ℕ) → 128 ≤ c → ArePastAscii (encode c)
+-- the bytes of a character past ASCII are past ASCII
+encode_past : (c : ℕ) → 128 ≤ c → list_any is_ascii (encode c) ≡ false
 unfolding encode
 encode_past c large = by (ltb c 128) (ltb c 2048) (ltb c 65536) refl refl refl
   where
-    by : (one two three : Bool) → ltb c 128 ≡ one → ltb c 2048 ≡ two → ltb c 65536 ≡ three → ArePastAscii (encode c)
+    by : (one two three : Bool) → ltb c 128 ≡ one → ltb c 2048 ≡ two → ltb c 65536 ≡ three
+        → list_any is_ascii (encode c) ≡ false
     by true two three is _ _ = absurd (grind (arith, nat_tests))
-    by false true three is also _ = simp (is, also) (omega arith, (omega arith, tt))
-    by false false true is also too = simp (is, also, too) (omega arith, (omega arith, (omega arith, tt)))
-    by false false false is also too =
-        simp (is, also, too) (omega arith, (omega arith, (omega arith, (omega arith, tt))))
+    by false true three is also _ = simp (is, also) (grind (arith, nat_tests))
+    by false false true is also too = simp (is, also, too) (grind (arith, nat_tests))
+    by false false false is also too = simp (is, also, too) (grind (arith, nat_tests))
 
-written_past : (c : ℕ) → 128 ≤ c → ArePastAscii (written c)
+-- so are those that it is written by
+written_past : (c : ℕ) → 128 ≤ c → list_any is_ascii (written c) ≡ false
 written_past c large = by (is_mark c) refl
   where
-    by : (mark : Bool) → is_mark c ≡ mark → ArePastAscii (written c)
-    by true is =
-        let past : 128 ≤ c - 0x10_FF00 = grind (arith, nat_tests) in
-        simp is (past, tt)
+    by : (mark : Bool) → is_mark c ≡ mark → list_any is_ascii (written c) ≡ false
+    by true is = simp is (grind (arith, nat_tests))
     by false is = simp is (encode_past c large)
 
 -- ---- words in quotes
 
 -- an ASCII byte in quotes
-quoted_ascii : (c : ℕ) → c < 128 → (quote : Bool) → eqb c 39 ≡ quote
-    → Gives (flat_map quoted_byte (c ∷ [])) (flat_map quoted_byte (c ∷ []))
-quoted_ascii c ascii true is =
-    simp is (ascii_gives (39 ∷ 92 ∷ 39 ∷ 39 ∷ []) (omega arith, (omega arith, (omega arith, (omega arith, tt)))))
-quoted_ascii c ascii false is = simp is (ascii_gives (c ∷ []) (ascii, tt))
+quoted_ascii : (c : ℕ) → is_ascii c ≡ true
+    → list_all is_ascii (flat_map quoted_byte (c ∷ [])) ≡ true
+quoted_ascii c ascii = by (eqb c 39) refl
+  where
+    by : (quote : Bool) → eqb c 39 ≡ quote
+        → list_all is_ascii (flat_map quoted_byte (c ∷ [])) ≡ true
+    by true is = simp is refl
+    by false is = simp (is, ascii) refl
 
 -- a character in quotes
-quoted_char : (c : ℕ) → scalar c ≡ true → Gives (flat_map quoted_byte (encode c)) (flat_map quoted_byte (written c))
-quoted_char c is = by (ltb c 128) refl
+quoted_char : (c : ℕ) → scalar c ≡ true
+    → Gives (flat_map quoted_byte (encode c)) (flat_map quoted_byte (written c))
+quoted_char c is = by (is_ascii c) refl
   where
-    by : (small : Bool) → ltb c 128 ≡ small
+    by : (small : Bool) → is_ascii c ≡ small
         → Gives (flat_map quoted_byte (encode c)) (flat_map quoted_byte (written c))
     by true small =
         let ascii : c < 128 = grind (arith, nat_tests) in
         let unmarked : is_mark c ≡ false = grind (arith, nat_tests) in
-        simp (unmarked, encode_ascii c ascii) (quoted_ascii c ascii (eqb c 39) refl)
+        simp (unmarked, encode_ascii c ascii)
+        (ascii_gives (flat_map quoted_byte (c ∷ [])) (quoted_ascii c small))
     by false large =
         let past : 128 ≤ c = grind (arith, nat_tests) in
-        simp (past_stays (encode c) (encode_past c past), past_stays (written c) (written_past c past)) (char_gives c is)
+        simp (
+          past_stays (encode c) (encode_past c past),
+          past_stays (written c) (written_past c past),
+        ) (char_gives c is)
 
+-- characters in quotes
 quoted_chars : (cs : List ℕ) → scalars cs ≡ true
     → Gives (flat_map quoted_byte (encodes cs)) (flat_map quoted_byte (flat_map written cs))
-quoted_chars [] are = ascii_gives [] tt
-quoted_chars (c ∷ cs) are = by (quoted_chars cs) (scalar c) refl
-  where
-    by : (scalars cs ≡ true → Gives (flat_map quoted_byte (encodes cs)) (flat_map quoted_byte (flat_map written cs)))
-        → (is : Bool) → scalar c ≡ is
-        → Gives (flat_map quoted_byte (encodes (c ∷ cs))) (flat_map quoted_byte (flat_map written (c ∷ cs)))
-    by rest false is = absurd (false≢true (sym (simp is refl) ∙ are))
-    by rest true is =
-        simp (flat_map-append quoted_byte (encode c) (encodes cs), flat_map-append quoted_byte (written c) (flat_map written cs))
-        (append_gives (quoted_char c is) (rest (sym (simp is refl) ∙ are)))
+quoted_chars [] are = ascii_gives [] refl
+quoted_chars (c ∷ cs) are =
+    let each = and_parts (scalar c) (scalars cs) are in
+    simp (
+      flat_map-append quoted_byte (encode c) (encodes cs),
+      flat_map-append quoted_byte (written c) (flat_map written cs),
+    )
+    (append_gives (quoted_char c each.0) (quoted_chars cs each.1))
+
+-- each text has its bytes
+pub text_gives : (text : Text) → IsUtf8 text → Gives text (bytes_of text)
+text_gives text utf8 = record { utf8 = utf8; bytes_are = refl }
 
 -- a word in quotes has its bytes in quotes
-pub quoted_gives : (word : Text) → IsUtf8 word → Gives (quoted word) (quoted (bytes_of word))
-quoted_gives word utf8 =
-    let quote : Gives (39 ∷ []) (39 ∷ []) = ascii_gives (39 ∷ []) (omega arith, tt) in
-    let middle = subst (λ (w : Text). Gives (flat_map quoted_byte w) (flat_map quoted_byte (bytes_of word)))
-    (encodes-chars word utf8) (quoted_chars (chars word) (scalars-chars word utf8)) in
-    append_gives quote (append_gives middle quote)
+pub quoted_gives : {word bytes : Text} → Gives word bytes → Gives (quoted word) (quoted bytes)
+quoted_gives {word} {bytes} is =
+    let quote = ascii_gives (codes "'") refl in
+    let middle : Gives (flat_map quoted_byte word) (flat_map quoted_byte (bytes_of word)) =
+    rw (encodes-chars word is.utf8) at (quoted_chars (chars word) (scalars-chars word is.utf8)) in
+    rw (← is.bytes_are) (append_gives quote (append_gives middle quote))
 
+-- words in quotes after a space each
 spaced_gives : (words : List Text) → AreTexts words
     → Gives (flat_map spaced words) (flat_map spaced (map bytes_of words))
-spaced_gives [] are = ascii_gives [] tt
-spaced_gives (word ∷ words) are = append_gives (append_gives (ascii_gives (32 ∷ []) (omega arith, tt)) (quoted_gives word are.0)) (spaced_gives words are.1)
+spaced_gives [] are = ascii_gives [] refl
+spaced_gives (word ∷ words) are =
+    append_gives
+    (append_gives (ascii_gives (codes " ") refl) (quoted_gives (text_gives word are.0)))
+    (spaced_gives words are.1)
 
-pub words_give : (words : List Text) → AreTexts words → Gives (quoted_words words) (quoted_words (map bytes_of words))
-words_give [] are = ascii_gives [] tt
-words_give (word ∷ words) are = append_gives (quoted_gives word are.0) (spaced_gives words are.1)
+pub words_give : (words : List Text) → AreTexts words
+    → Gives (quoted_words words) (quoted_words (map bytes_of words))
+words_give [] are = ascii_gives [] refl
+words_give (word ∷ words) are =
+    append_gives (quoted_gives (text_gives word are.0)) (spaced_gives words are.1)
 
 -- a shell makes of the bytes of quoted words the bytes of the words
 pub bytes_same : (words : List Text) → AreTexts words
     → shell_words (bytes_of (quoted_words words)) ≡ Some (map bytes_of words)
-bytes_same words are = ap shell_words (words_give words are).bytes_are ∙ words_same (map bytes_of words)
+bytes_same words are =
+    ap shell_words (words_give words are).bytes_are ∙ words_same (map bytes_of words)
 
 -- the texts of words have the words as their bytes
 texts_back : (words : List (List ℕ)) → AllByRecursion AreBytes words

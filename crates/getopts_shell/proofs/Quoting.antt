@@ -1,13 +1,11 @@
 -- A shell makes of words in quotes the same words.
-use Rattle.std.proofs.Common.{◌≡◌, ℕ, Bool, true, false, eqb, List, [], ◌∷◌, ◌++◌, Some, None}
-use Rattle.std.proofs.Common.{refl, sym, ap, subst, ◌∙◌, append_assoc, append-nil}
+use Rattle.std.proofs.Common.{◌≡◌, ℕ, Bool, true, false, eqb, List, [], ◌∷◌, ◌++◌, Some, None, refl}
+use Rattle.std.proofs.Common.{sym, ap, subst, ◌∙◌, append_assoc, append-nil}
 use Rattle.std.specs.List.{flat_map, fold}
-use Rattle.std.specs.Prelude.{Option, unwrap_or}
 use Rattle.std.proofs.lemmas.Bool.{eqb-true}
 use Rattle.getopts.specs.Names.{Text}
-use Rattle.getopts_shell.specs.Quote.{outside, quoting, read_byte, words_read}
-use Rattle.getopts_shell.specs.Quote.{shell_words, quoted_byte, quoted, spaced, quoted_words}
-use Rattle.getopts_shell.specs.Quote.{words_after}
+use Rattle.getopts_shell.specs.Quote.{outside, quoting, read_byte, words_read, shell_words}
+use Rattle.getopts_shell.specs.Quote.{quoted_byte, quoted, spaced, quoted_words}
 
 -- a byte of a word in quotes is read as that byte
 read_quoted_byte : (words : List Text) (word : Text) (byte : ℕ) (more : Text)
@@ -31,43 +29,48 @@ read_quoted_bytes : (words : List Text) (word bytes more : Text)
 read_quoted_bytes words word [] more =
     ap (λ (w : Text). fold read_byte (quoting words w) more) (sym (append-nil word))
 read_quoted_bytes words word (byte ∷ bytes) more =
-    ap (fold read_byte (quoting words word)) (append_assoc (quoted_byte byte) (flat_map quoted_byte bytes) more)
-    ∙ read_quoted_byte words word byte (flat_map quoted_byte bytes ++ more)
-    ∙ read_quoted_bytes words (word ++ byte ∷ []) bytes more
-    ∙ ap (λ (w : Text). fold read_byte (quoting words w) more) (append_assoc word (byte ∷ []) bytes)
+    rw (
+      append_assoc (quoted_byte byte) (flat_map quoted_byte bytes) more,
+      read_quoted_byte words word byte,
+    )
+    (rw (
+      read_quoted_bytes words (word ++ byte ∷ []) bytes more,
+      append_assoc word (byte ∷ []) bytes,
+    ) refl)
 
 -- a word in quotes is read as that word
 read_quoted : (words : List Text) (word more : Text)
     → fold read_byte (outside words None) (quoted word ++ more)
     ≡ fold read_byte (outside words (Some word)) more
 read_quoted words word more =
-    ap (fold read_byte (quoting words [])) (append_assoc (flat_map quoted_byte word) (39 ∷ []) more)
-    ∙ read_quoted_bytes words [] word (39 ∷ more)
+    rw (append_assoc (flat_map quoted_byte word) (39 ∷ []) more)
+    (read_quoted_bytes words [] word (39 ∷ more))
 
 -- words in quotes, after a space each, are read as these words
 read_spaced : (words : List Text) (word : Text) (others : List Text)
-    → words_read (fold read_byte (outside words (Some word)) (flat_map spaced others)) ≡ Some (words ++ word ∷ others)
+    → words_read (fold read_byte (outside words (Some word)) (flat_map spaced others))
+    ≡ Some (words ++ word ∷ others)
 read_spaced words word [] = refl
 read_spaced words word (other ∷ others) =
-    ap words_read (read_quoted (words ++ word ∷ []) other (flat_map spaced others))
-    ∙ read_spaced (words ++ word ∷ []) other others
-    ∙ ap Some (append_assoc words (word ∷ []) (other ∷ others))
+    rw (
+      read_quoted (words ++ word ∷ []) other (flat_map spaced others),
+      read_spaced (words ++ word ∷ []) other others,
+    )
+    (ap Some (append_assoc words (word ∷ []) (other ∷ others)))
 
 -- a shell makes of words in quotes the same words
 pub words_same : (words : List Text) → shell_words (quoted_words words) ≡ Some words
 words_same [] = refl
 words_same (word ∷ words) =
-    ap words_read (read_quoted [] word (flat_map spaced words)) ∙ read_spaced [] word words
+    rw (read_quoted [] word (flat_map spaced words)) (read_spaced [] word words)
 
 -- words that are written alike are the same
-pub words_only : (words others : List Text) → quoted_words words ≡ quoted_words others → words ≡ others
+pub words_only : (words others : List Text) → quoted_words words ≡ quoted_words others
+    → words ≡ others
 words_only words others alike =
-    let same : Some words ≡ Some others = sym (words_same words) ∙ ap shell_words alike ∙ words_same others in cc
+    let same : Some words ≡ Some others =
+    sym (words_same words) ∙ ap shell_words alike ∙ words_same others in cc
 
--- of one word in quotes a shell makes that word, also where a word has begun
-pub word_same : (begun : Option Text) (word : Text) → unwrap_or begun [] ≡ []
-    → words_after begun (quoted word) ≡ Some (word ∷ [])
-word_same begun word none =
-    ap (λ (start : Text). words_read (fold read_byte (quoting [] start)
-    (flat_map quoted_byte word ++ 39 ∷ []))) none
-    ∙ ap words_read (read_quoted_bytes [] [] word (39 ∷ []))
+-- of one word in quotes a shell makes that word
+pub word_same : (word : Text) → shell_words (quoted word) ≡ Some (word ∷ [])
+word_same word = ap words_read (read_quoted_bytes [] [] word (39 ∷ []))

@@ -1,6 +1,6 @@
 -- Words in quotes, and what a shell makes of a text of words.
-use Rattle.std.specs.Prelude.{◌==◌, ◌||◌, ℕ, List, [], ◌∷◌, ◌++◌, Option, Some, None}
-use Rattle.std.specs.Prelude.{codes, if◌then◌else◌, fold}
+use Rattle.std.specs.Prelude.{◌==◌, ◌||◌, ℕ, List, [], ◌∷◌, ◌++◌, Option, Some, None, codes}
+use Rattle.std.specs.Prelude.{if◌then◌else◌, fold}
 use Rattle.std.specs.List.{flat_map}
 use Rattle.std.specs.Option.{option_to_list, unwrap_or}
 use Rattle.getopts.specs.Names.{Text}
@@ -8,8 +8,8 @@ use Rattle.getopts.specs.Names.{Text}
 -- ---- what a shell makes of a text
 
 -- What a shell has read of a text: the words that are done, and where it stands. Outside quotes it
--- is in a word that isn't done, or between words; in quotes, and after a backslash, it is in a word.
--- Of what a shell makes of other texts nothing is said.
+-- is in a word that isn't done, or between words; in quotes, and after a backslash, it is in a
+-- word. Of what a shell makes of other texts nothing is said.
 pub data Progress : Type 0 where
   outside : List Text → Option Text → Progress
   quoting : List Text → Text → Progress
@@ -20,8 +20,8 @@ pub data Progress : Type 0 where
 abbrev pub done : List Text → Option Text → List Text
 done words word = words ++ option_to_list word
 
--- One byte more of one command. A space or a tab parts words, `'..'` is literal, and `\` takes the next byte
--- literally, but for a line end. Of other bytes outside quotes nothing is said.
+-- One byte more of one command. A space or a tab parts words, `'..'` is literal, and `\` takes the
+-- next byte literally, but for a line end. Of other bytes outside quotes nothing is said.
 abbrev pub read_byte : Progress → ℕ → Progress
 read_byte (outside words word) byte =
     if byte == 39 then quoting words (unwrap_or word [])
@@ -38,13 +38,9 @@ abbrev pub words_read : Progress → Option (List Text)
 words_read (outside words word) = Some (done words word)
 words_read progress = None
 
--- the words that a shell makes of a text, after this much of a word, where that is said
-abbrev pub words_after : Option Text → Text → Option (List Text)
-words_after word text = words_read (fold read_byte (outside [] word) text)
-
--- the words that a shell makes of a text
+-- the words that a shell makes of a text, where that is said
 abbrev pub shell_words : Text → Option (List Text)
-shell_words text = words_after None text
+shell_words text = words_read (fold read_byte (outside [] None) text)
 
 -- ---- words in quotes
 
@@ -52,8 +48,8 @@ shell_words text = words_after None text
 abbrev pub replaced : ℕ → Text → ℕ → Text
 replaced one other byte = if byte == one then other else byte ∷ []
 
--- a byte of a word in quotes: for `'` those quotes end, it stands behind a backslash, and new quotes
--- begin
+-- a byte of a word in quotes: for `'` those quotes end, it stands behind a backslash, and new
+-- quotes begin
 abbrev pub quoted_byte : ℕ → Text
 quoted_byte = replaced 39 (codes "'\\''")
 

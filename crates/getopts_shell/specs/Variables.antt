@@ -1,55 +1,28 @@
 -- Options as variables: what a shell does with a text of commands, and the text that is written.
-use Rattle.std.specs.Prelude.{◌≡◌, ◌≢◌, ◌==◌, ◌||◌, ◌&&◌, not, ⊤, ℕ, ◌+◌, ◌-◌, Bool, true, false, List, [], ◌∷◌}
-use Rattle.std.specs.Prelude.{◌++◌, Option, Some, None, codes, decimal, drop, if◌then◌else◌, is_some, length, map}
-use Rattle.std.specs.Prelude.{MatchOption, slice_index, take}
+use Rattle.std.specs.Prelude.{◌≡◌, ◌==◌, ◌||◌, ◌&&◌, not, ⊤, ℕ, ◌+◌, Bool, true, false, List, []}
+use Rattle.std.specs.Prelude.{◌∷◌, ◌++◌, Option, Some, None, codes, decimal, fold, if◌then◌else◌}
+use Rattle.std.specs.Prelude.{length, map, MatchOption, slice_index}
 use Rattle.std.specs.Char.{is_ascii_alphanumeric, is_ascii_digit}
-use Rattle.std.specs.List.{AllByRecursion, flat_map, last_or, list_all, list_any, starts_with}
-use Rattle.std.specs.Option.{option_and_then, option_map, option_or, unwrap_or}
+use Rattle.std.specs.List.{AllByRecursion, flat_map, last_or, list_all, list_any}
+use Rattle.std.specs.Option.{option_map, option_or, unwrap_or}
 use Rattle.std.specs.Str.{IsUtf8, bytes_eq}
 use Rattle.getopts.specs.Accessors.{each_value, found_in}
 use Rattle.getopts.specs.Matches.{Found, MatchedGroup}
 use Rattle.getopts.specs.Names.{AreTexts, Text, Names, is_empty, main_name}
-use Rattle.getopts.specs.Turn.{cut_at_equals}
 use Rattle.getopts.specs.declared.groups.HasArg.{HasArg}
 use Rattle.getopts.specs.declared.groups.HasArg.TheVariants.{No}
+use Rattle.getopts.specs.declared.groups.Occur.{Occur}
 use Rattle.getopts.specs.Wrap.{lines_of}
 use Rattle.getopts_bytes.specs.Marks.{bytes_of}
 use Rattle.getopts_shell.specs.Completion.{is_multi}
-use Rattle.getopts_shell.specs.Quote.{quoted, quoted_words, shell_words, words_after}
-use Rattle.getopts.specs.declared.groups.Occur.{Occur}
+use Rattle.getopts_shell.specs.Quote.{quoted, quoted_words, shell_words}
+use Rattle.getopts_shell.specs.Table.{Entry, is_passed, line_number}
 use Rattle.getopts_shell.specs.declared.row.Mark.{Mark}
 use Rattle.getopts_shell.specs.declared.row.Mark.TheVariants.{Last}
-use Rattle.getopts_shell.specs.Table.{Entry, is_passed, line_number}
+use Rattle.getopts_shell.specs.declared.variables.Came.{Came}
+use Rattle.getopts_shell.specs.declared.variables.Came.TheVariants as came
 
--- ---- the commands of a text
-
--- where a shell stands in a text: outside quotes, in them, or behind a backslash
-pub data Place : Type 0 where
-  plain : Place
-  in_quotes : Place
-  escaped : Place
-
--- where it stands one byte later
-abbrev pub place_after : Place → ℕ → Place
-place_after plain byte = if byte == 39 then in_quotes else (if byte == 92 then escaped else plain)
-place_after in_quotes byte = if byte == 39 then plain else in_quotes
-place_after escaped byte = plain
-
--- whether a byte ends a command there: a line end outside quotes
-abbrev pub ends_command : Place → ℕ → Bool
-ends_command plain byte = byte == 10
-ends_command place byte = false
-
--- the commands of a text, where this much of the first has been read: each ends in a line end, and the last also
--- where the text does
-abbrev pub commands : Place → Text → Text → Option (List Text)
-commands plain command [] = Some (if is_empty command then [] else command ∷ [])
-commands place command [] = None
-commands place command (byte ∷ more) =
-    if ends_command place byte then option_map (λ others. command ∷ others) (commands plain [] more)
-    else commands (place_after place byte) (command ++ byte ∷ []) more
-
--- ---- what a shell does with commands
+-- ---- what a shell does
 
 -- what a variable holds: a text, or the texts of an array
 pub data Value : Type 0 where
@@ -70,72 +43,52 @@ with_variable shell name value =
 abbrev pub is_variable_byte : ℕ → Bool
 is_variable_byte byte = is_ascii_alphanumeric byte || byte == 95
 
--- whether a text begins with no digit, and isn't empty
-abbrev pub begins_variable : Text → Bool
-begins_variable [] = false
-begins_variable (byte ∷ more) = not (is_ascii_digit byte)
-
--- whether a text is the name of a variable: such bytes, of which the first is no digit
+-- whether a text is the name of a variable: such bytes, one or more, of which the first is no digit
 abbrev pub is_variable : Text → Bool
-is_variable text = begins_variable text && list_all is_variable_byte text
+is_variable [] = false
+is_variable (byte ∷ more) = not (is_ascii_digit byte) && list_all is_variable_byte (byte ∷ more)
 
--- the word of a list of one
-abbrev pub only_word : Option (List Text) → Option Text
-only_word (Some (word ∷ [])) = Some word
-only_word words = None
-
--- What stands before the words of an array that is assigned to NAME. `${NAME+}` is no word, but keeps the first of
--- them from being the name of a command, as `(typeset)` is.
+-- What stands before the words of an array that is assigned to NAME. `${NAME+}` is no word, but
+-- keeps the first of them from being the name of a command, as `(typeset)` is.
 abbrev pub array_front : Text → Text
 array_front name = codes "(${" ++ (name ++ codes "+} ")
 
--- what stands between that and `)`, where a text is that
-abbrev pub array_code : Text → Text → Text
-array_code name code =
-    take (length code - (length (array_front name) + 1)) (drop (length (array_front name)) code)
+-- What `NAME=` and a code assign to an unset NAME: the one word that a shell reads where the code
+-- stands behind `''`, or the words of an array.
+pub data Assigns (name : Text) : Text → Value → Type 0 where
+  one_word : (code word : Text) → shell_words (codes "''" ++ code) ≡ Some (word ∷ [])
+      → Assigns name code (one word)
+  array_words : (code : Text) (words : List Text) → shell_words code ≡ Some words
+      → Assigns name (array_front name ++ (code ++ codes ")")) (many words)
 
--- what is assigned to an unset NAME by `NAME=` and this: an array of words, or one word
-abbrev pub value_of_code : Text → Text → Option Value
-value_of_code name code =
-    if bytes_eq code (array_front name ++ (array_code name code ++ codes ")")) then
-    option_map many (shell_words (array_code name code))
-    else option_map one (only_word (words_after (Some []) code))
+-- What a shell that held `before` holds after a command. Its words are read to its end, so a line
+-- end in it stands in quotes, and none are open where it ends. Nothing is said of other commands,
+-- nor of `NAME=` where NAME is set: an array would keep its other texts.
+pub data RunsCommand (before : Shell) : Text → Shell → Type 0 where
+  sets : (code : Text) (words : List Text) → shell_words code ≡ Some words
+      → RunsCommand before (codes "\\set -- " ++ code) (record before { words = words })
+  unsets : (name : Text) → is_variable name ≡ true
+      → RunsCommand before (codes "\\unset -v " ++ name) (with_variable before name None)
+  assigns : (name code : Text) (value : Value) → is_variable name ≡ true
+      → before.value name ≡ None → Assigns name code value
+      → RunsCommand before (name ++ (codes "=" ++ code)) (with_variable before name (Some value))
 
--- What a shell holds after `NAME=CODE`. It is said only where NAME is unset: an array would keep its other texts.
-abbrev pub after_assignment : Shell → Text × Option Text → Option Shell
-after_assignment shell (name, Some code) = if is_some (shell.value name) then None
-    else option_map (λ value. with_variable shell name (Some value)) (value_of_code name code)
-after_assignment shell (name, None) = None
+-- what a shell holds before and after a text of commands: a line end stands after each, but perhaps
+-- not after the last
+pub data RunsText : Shell → Text → Shell → Type 0 where
+  no_command : (shell : Shell) → RunsText shell [] shell
+  last_command : (before after : Shell) (command : Text) → RunsCommand before command after
+      → RunsText before command after
+  command_line : (before next after : Shell) (command more : Text) → RunsCommand before command next
+      → RunsText next more after → RunsText before (command ++ (codes "\n" ++ more)) after
 
--- what a shell holds after `\set -- WORDS` or `\unset -v NAME`
-abbrev pub after_builtin : Shell → Text → Option Shell
-after_builtin shell command =
-    if starts_with ◌==◌ command (codes "\\set -- ") then
-    option_map (λ words. record shell { words = words }) (shell_words (drop 8 command))
-    else (if starts_with ◌==◌ command (codes "\\unset -v ") && is_variable (drop 10 command) then
-    Some (with_variable shell (drop 10 command) None) else None)
-
--- what a shell holds after a command; of other commands nothing is said
-abbrev pub after_command : Shell → Text → Option Shell
-after_command shell command =
-    if is_variable (cut_at_equals command).0 then after_assignment shell (cut_at_equals command)
-    else after_builtin shell command
-
--- what a shell holds after commands
-abbrev pub after_commands : Shell → List Text → Option Shell
-after_commands shell [] = Some shell
-after_commands shell (command ∷ others) =
-    option_and_then (λ next. after_commands next others) (after_command shell command)
-
--- what a shell holds after a text, where that is said
-abbrev pub shell_after : Shell → Text → Option Shell
-shell_after shell text = option_and_then (after_commands shell) (commands plain [] text)
-
--- A shell that held `before` and runs a text holds `after`; also where the text has lost its last line end, as
--- `$(..)` takes it away.
+-- A shell that held `before` and runs a text holds `after`; also where the text has lost its last
+-- line end, as `$(..)` takes it away.
 pub record Runs (before : Shell) (text : Text) (after : Shell) : Type 0 where
-  pub whole : shell_after before text ≡ Some after
-  pub cut : shell_after before (take (length text - 1) text) ≡ Some after
+  pub whole : RunsText before text after
+  pub cut : Text
+  pub cut_is : text ≡ cut ++ codes "\n"
+  pub runs_cut : RunsText before cut after
 
 -- ---- the variables of options
 
@@ -163,28 +116,54 @@ HaveOwnVariables prefix before (names ∷ more) = (is_variable (variable_of pref
     × (any_has_variable prefix before names ≡ false)
     × HaveOwnVariables prefix (before ++ names ∷ []) more
 
--- An option as words give it: its names, its kind, whether its variable holds all values, and its occurrences.
+-- An option as words give it: its names, its kind, whether its variable holds all values, and its
+-- occurrences.
 pub record Given : Type 0 where
   pub names : Names
   pub kind : HasArg
   pub all : Bool
   pub found : List Found
 
--- whether the variable of an entry's option holds all values: it may come any number of times, and not only its last
--- value counts
+-- whether the variable of an entry's option holds all values: it may come any number of times, and
+-- not only its last value counts
 abbrev pub holds_all : Mark → Occur → Bool
 holds_all Last occurrence = false
 holds_all mark occurrence = is_multi occurrence
 
--- the options of a table as matches give them, where the first has this place
-abbrev pub given_from : ℕ → List Entry → List MatchedGroup → List Given
-given_from place [] held = []
-given_from place (entry ∷ entries) held = record {
+-- the option of an entry, with these occurrences
+abbrev pub given_as : Entry → List Found → Given
+given_as entry found = record {
   names = entry.signature.names;
   kind = entry.signature.kind;
   all = holds_all entry.mark entry.signature.occurrence;
-  found = found_in held place;
-} ∷ given_from (place + 1) entries held
+  found = found;
+}
+
+-- the options of a table as matches give them, where the first has this place
+abbrev pub given_from : ℕ → List Entry → List MatchedGroup → List Given
+given_from place [] held = []
+given_from place (entry ∷ entries) held =
+    given_as entry (found_in held place) ∷ given_from (place + 1) entries held
+
+-- one occurrence without a value
+abbrev pub once : List Found
+once = record { position = 0; value = None } ∷ []
+
+-- what is found of an option where nothing is given but this one, once and without a value
+abbrev pub found_alone : Entry → Entry → List Found
+found_alone entry alone =
+    if bytes_eq (main_name entry.signature.names)
+    (main_name alone.signature.names) then once else []
+
+-- the options of a table where nothing else is given
+abbrev pub given_alone : List Entry → Entry → List Given
+given_alone entries alone = map (λ entry. given_as entry (found_alone entry alone)) entries
+
+-- the occurrences of an option, as the code holds them
+abbrev pub founds_of : Came → List Found
+founds_of (came.Held held) = held.now
+founds_of came.Once = once
+founds_of came.Never = []
 
 -- the values of occurrences, with the empty text for one that has none
 abbrev pub texts_found : List Found → List Text
@@ -192,47 +171,40 @@ texts_found founds = map (λ value. unwrap_or value []) (each_value founds)
 
 -- all values, as an array or as words to read once more
 abbrev pub all_values : Bool → List Found → Value
-all_values arrays founds = if arrays then many (texts_found founds) else one (quoted_words (texts_found founds))
+all_values arrays founds =
+    if arrays then many (texts_found founds) else one (quoted_words (texts_found founds))
 
--- what a variable holds: how often the option came where it takes no argument, all values, or the last value, if
--- there is one
+-- what a variable holds: how often the option came where it takes no argument, all values, or the
+-- last value, if there is one
 abbrev pub held_value : Bool → HasArg → Bool → List Found → Option Value
 held_value arrays No all founds = Some (one (decimal (length founds)))
 held_value arrays kind true founds = Some (all_values arrays founds)
 held_value arrays kind false founds = option_map one (last_or None (texts_found founds))
 
--- the variable of an option, and what it holds
-abbrev pub own_variable : Text → Given → Text
-own_variable prefix option = variable_of prefix option.names
-
+-- what the variable of an option holds
 abbrev pub own_value : Bool → Given → Option Value
 own_value arrays option = held_value arrays option.kind option.all option.found
 
--- What a shell holds that held `before`: each option's variable its value, all other variables what
--- they held, and the words are the free words.
-pub record HoldsOptions (prefix : Text) (arrays : Bool) (options : List Given) (free : List Text)
-    (before after : Shell) : Type 0 where
-  pub own : AllByRecursion (λ option. after.value (own_variable prefix option) ≡ own_value arrays option) options
-  pub others : (name : Text) → AllByRecursion (λ option. own_variable prefix option ≢ name) options
-      → after.value name ≡ before.value name
-  pub words : after.words ≡ free
+-- a shell where each option's variable has its value, or none, all other variables are as they
+-- were, and the words are the free words
+abbrev pub with_options : Text → Bool → List Given → List Text → Shell → Shell
+with_options prefix arrays options free shell = record (fold
+    (λ held option. with_variable held (variable_of prefix option.names) (own_value arrays option))
+    shell options) { words = free }
 
 -- ---- the text
 
--- the command that takes a variable away, with its attributes, and that which gives it a value, if it has one
-abbrev pub unset_line : Text → Text
-unset_line name = codes "\\unset -v " ++ (name ++ codes "\n")
-
+-- the command that gives a variable its value, if it has one
 abbrev pub value_line : Text → Option Value → Text
 value_line name None = []
 value_line name (Some (one text)) = name ++ (codes "=" ++ (quoted text ++ codes "\n"))
 value_line name (Some (many words)) =
     name ++ (codes "=" ++ (array_front name ++ (quoted_words words ++ codes ")\n")))
 
--- the commands for an option
+-- the commands for an option: its variable is taken away, with its attributes, and given its value
 abbrev pub option_code : Text → Bool → Given → Text
-option_code prefix arrays option =
-    unset_line (own_variable prefix option) ++ value_line (own_variable prefix option) (own_value arrays option)
+option_code prefix arrays option = codes "\\unset -v " ++ (variable_of prefix option.names
+    ++ (codes "\n" ++ value_line (variable_of prefix option.names) (own_value arrays option)))
 
 -- the command that sets the words `$@`
 abbrev pub line_code : List Text → Text
@@ -240,7 +212,8 @@ line_code words = codes "\\set -- " ++ (quoted_words words ++ codes "\n")
 
 -- the text for options and free words
 abbrev pub variables_code : Text → Bool → List Given → List Text → Text
-variables_code prefix arrays options free = flat_map (option_code prefix arrays) options ++ line_code free
+variables_code prefix arrays options free =
+    flat_map (option_code prefix arrays) options ++ line_code free
 
 -- ---- what a shell makes of the text, and of its bytes
 
@@ -258,27 +231,27 @@ AreTextValues kind true founds = AreTexts (texts_found founds)
 AreTextValues kind false founds = MatchOption (last_or None (texts_found founds)) ⊤ IsUtf8
 
 abbrev pub HoldTexts : List Given → Type 0
-HoldTexts options = AllByRecursion (λ option. AreTextValues option.kind option.all option.found) options
+HoldTexts options =
+    AllByRecursion (λ option. AreTextValues option.kind option.all option.found) options
 
--- A shell that runs the command holds these words; and one that runs its bytes holds the bytes of the words.
+-- A shell that runs the command holds these words; and one that runs its bytes holds the bytes of
+-- the words.
 pub record SetsWords (words : List Text) : Type 0 where
   pub shell : (before : Shell) → Runs before (line_code words) (record before { words = words })
-  pub bytes : (before : Shell) → Runs before (bytes_of (line_code words)) (record before { words = map bytes_of words })
+  pub bytes : (before : Shell)
+      → Runs before (bytes_of (line_code words)) (record before { words = map bytes_of words })
 
--- what a shell holds that ran this text: options and free words
-abbrev pub RunsTo : Text → Bool → Text → List Given → List Text → Type 0
-RunsTo prefix arrays text options free = (before : Shell) → (after : Shell) × Runs before text after
-    × HoldsOptions prefix arrays options free before after
-
--- A shell that runs the text for options and free words holds these, each option in a variable of its own, and the
--- words of a text of values are these values. Where the values are UTF-8, a shell that runs the bytes of the text holds
--- the bytes of all.
-pub record SetsVariables (prefix : Text) (arrays : Bool) (options : List Given) (free : List Text) : Type 0 where
+-- A shell that runs the text for options and free words holds these, each option in a variable of
+-- its own, and the words of a text of values are these values. Where the values are UTF-8, a shell
+-- that runs the bytes of the text holds the bytes of all.
+pub record SetsVariables (prefix : Text) (arrays : Bool) (options : List Given) (free : List Text)
+    : Type 0 where
   pub own : HaveOwnVariables prefix [] (map (λ option. option.names) options)
-  pub shell : RunsTo prefix arrays (variables_code prefix arrays options free) options free
-  pub bytes : HoldTexts options → AreTexts free
-      → RunsTo prefix arrays (bytes_of (variables_code prefix arrays options free)) (map in_bytes options)
-      (map bytes_of free)
+  pub shell : (before : Shell) → Runs before (variables_code prefix arrays options free)
+      (with_options prefix arrays options free before)
+  pub bytes : HoldTexts options → AreTexts free → (before : Shell)
+      → Runs before (bytes_of (variables_code prefix arrays options free))
+      (with_options prefix arrays (map in_bytes options) (map bytes_of free) before)
   pub once_more : AllByRecursion (λ option. shell_words (quoted_words (texts_found option.found))
       ≡ Some (texts_found option.found)) options
 
@@ -290,8 +263,8 @@ CodeSetsVariables = (prefix : Text) (arrays : Bool) (options : List Given) (free
 
 -- ---- faults
 
--- a fault of variables: arrays are asked for without them, or that of the prefix, or of a name in the line with this
--- number
+-- a fault of variables: arrays are asked for without them, or that of the prefix, or of a name in
+-- the line with this number
 pub data VariableFault : Type 0 where
   arrays_only : VariableFault
   no_prefix : Text → VariableFault
@@ -306,7 +279,8 @@ is_prefix prefix = is_empty prefix || is_variable prefix
 abbrev pub name_fault : Text → List Names → Names → ℕ → Option VariableFault
 name_fault prefix before names number =
     if is_variable (variable_of prefix names) then
-    (if any_has_variable prefix before names then Some (variable_twice number (main_name names)) else None)
+    (if any_has_variable prefix before names then Some
+    (variable_twice number (main_name names)) else None)
     else Some (no_variable number (main_name names))
 
 -- the first fault of names after others, where the lines of all are these

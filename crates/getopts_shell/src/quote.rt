@@ -1,6 +1,6 @@
 //! Words in quotes, as a shell reads them back.
 
-ghost use Rattle.std.specs.Prelude.{◌≡◌, ◌<◌, ◌++◌, map, ℕ, List, Option, Some, OnOk};
+ghost use Rattle.std.specs.Prelude.{◌≡◌, ◌<◌, ◌++◌, map, ℕ, List, Some, OnOk};
 ghost use Rattle.std.specs.List.{AllByRecursion, flat_map};
 ghost use Rattle.std.specs.String.{string_bytes};
 ghost use Rattle.getopts.specs.Names.{Text};
@@ -11,8 +11,8 @@ ghost use Rattle.getopts_shell.specs.Variables.{line_code};
 
 use std::alloc::AllocError;
 
-/// A shell makes of words in quotes the same words; also where they are words of any bytes, read as texts and written
-/// as bytes. No other words are written alike. A law to cite, which does nothing.
+/// A shell makes of words in quotes the same words; also where they are words of any bytes, read as
+/// texts and written as bytes. No other words are written alike. A law to cite, which does nothing.
 pub fn words_come_back()
     ensures same { (words : List Text) → shell_words (quoted_words words) ≡ Some words }
     ensures bytes { (words : List (List ℕ)) → AllByRecursion AreBytes words

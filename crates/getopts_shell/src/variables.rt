@@ -1,24 +1,26 @@
 //! Options as variables of a script: the code that sets them, and why a table has none.
 
-ghost use Rattle.std.specs.Prelude.{◌≡◌, ◌++◌, [], codes, map, IfOk, OnOk};
-ghost use Rattle.std.specs.Prelude.{decimal, slice_index, get_or, None, Some, MatchOption, true, false, ⊤};
-ghost use Rattle.std.specs.Option.{option_map};
-ghost use Rattle.std.specs.List.{flat_map, last_or, list_all, list_any};
+ghost use Rattle.std.specs.Prelude.{◌≡◌, ◌++◌, [], codes, length, map, IfOk, OnOk, false, not};
+ghost use Rattle.std.specs.Prelude.{slice_get, decimal, slice_index, get_or, None, Some};
+ghost use Rattle.std.specs.Prelude.{MatchOption, true, ⊤};
+ghost use Rattle.std.specs.Char.{is_ascii_digit};
+ghost use Rattle.std.specs.Option.{option_map, option_map_or};
+ghost use Rattle.std.specs.List.{last_or, list_all, list_any};
 ghost use Rattle.std.specs.String.{string_bytes};
 ghost use Rattle.std.specs.Str.{IsUtf8, bytes_eq};
-ghost use Rattle.getopts.specs.Names.{AreTexts, Text, main_name};
+ghost use Rattle.getopts.specs.Names.{AreTexts, main_name};
 ghost use Rattle.getopts.specs.Options.{names_of};
 ghost use Rattle.getopts.specs.Wrap.{lines_of, parting};
-ghost use Rattle.getopts_shell.specs.Held.{entries_of, group_of_row, groups_of, variable_fault_told};
-ghost use Rattle.getopts_shell.specs.Completion.{is_multi};
+ghost use Rattle.getopts_shell.specs.Held.{entries_of, entry_of_row, group_of_row, groups_of};
+ghost use Rattle.getopts_shell.specs.Held.{variable_fault_told};
 ghost use Rattle.getopts_shell.specs.Quote.{quoted, quoted_words};
 ghost use Rattle.getopts_shell.specs.Variables.{AreTextValues, CodeSetsVariables, HoldTexts};
-ghost use Rattle.getopts_shell.specs.Variables.{all_values, begins_variable, given_from};
-ghost use Rattle.getopts_shell.specs.Variables.{held_value, holds_all, is_prefix, is_variable};
-ghost use Rattle.getopts_shell.specs.Variables.{is_variable_byte, option_code, option_lines};
-ghost use Rattle.getopts_shell.specs.Variables.{prefix_fault, texts_found, value_line, variable};
-ghost use Rattle.getopts_shell.specs.Variables.{variable_byte, variable_of, variables_code};
-ghost use Rattle.getopts_shell.specs.Variables.{many, one};
+ghost use Rattle.getopts_shell.specs.Variables.{all_values, found_alone, founds_of, given_alone};
+ghost use Rattle.getopts_shell.specs.Variables.{given_as, given_from, holds_all, is_prefix};
+ghost use Rattle.getopts_shell.specs.Variables.{is_variable, is_variable_byte, option_code};
+ghost use Rattle.getopts_shell.specs.Variables.{option_lines, prefix_fault, texts_found};
+ghost use Rattle.getopts_shell.specs.Variables.{value_line, variable, variable_byte};
+ghost use Rattle.getopts_shell.specs.Variables.{variables_code, many, one};
 
 use crate::quote::{push_line, push_parting, push_quoted, push_replaced};
 use crate::row::{Mark, Row};
@@ -33,6 +35,17 @@ pub(crate) struct Variables<'p> {
     pub arrays: bool,
 }
 
+/// How an option came.
+#[derive(Clone, Copy)]
+enum Came<'m> {
+    /// As matches hold it.
+    Held(&'m Occurrences<'m>),
+    /// Once, without a value.
+    Once,
+    /// Not at all.
+    Never,
+}
+
 /// Why there are no variables.
 #[derive(Clone, Copy)]
 pub(crate) enum VariableError<'t> {
@@ -42,7 +55,8 @@ pub(crate) enum VariableError<'t> {
     NoPrefix(&'t str),
     /// The option in the line with this number makes no variable. Holds its main name.
     NoVariable(usize, &'t str),
-    /// The option in the line with this number makes the variable of one before it. Holds its main name.
+    /// The option in the line with this number makes the variable of one before it. Holds its main
+    /// name.
     VariableTwice(usize, &'t str),
 }
 
@@ -61,7 +75,8 @@ pub(crate) fn variables_code(
     ensures text { IfOk result (λ text. string_bytes text
         ≡ variables_code variables.entry.prefix.now variables.entry.arrays
         (given_from 0 (entries_of rows.now) matches.now.groups) matches.now.free) }
-    ensures values { OnOk result (HoldTexts (given_from 0 (entries_of rows.now) matches.now.groups)) }
+    ensures values { OnOk result (HoldTexts
+        (given_from 0 (entries_of rows.now) matches.now.groups)) }
     ensures free { OnOk result (AreTexts matches.now.free) }
 {
     let mut text = String::new(alloc);
@@ -71,11 +86,42 @@ pub(crate) fn variables_code(
             &mut text,
             variables,
             *row,
-            &matches.occurrences_at(place),
+            Came::Held(&matches.occurrences_at(place)),
         )?;
     }
     push_line(&mut text, &matches.free)?;
     Ok(text)
+}
+
+/// The code that sets variables where nothing is given but this option, once and without a value.
+pub(crate) fn alone_code(
+    alloc: Global,
+    variables: Variables<'_>,
+    rows: &[Row<'_>],
+    alone: Row<'_>,
+) -> Result<String, AllocError>
+    ensures { IfOk result (λ text. string_bytes text
+        ≡ variables_code variables.entry.prefix.now variables.entry.arrays
+        (given_alone (entries_of rows.now) (entry_of_row alone.entry)) []) }
+{
+    let mut text = String::new(alloc);
+    for row in rows {
+        push_option(alloc, &mut text, variables, *row, came_alone(*row, alone))?;
+    }
+    push_line(&mut text, &[])?;
+    Ok(text)
+}
+
+/// How an option came where nothing is given but this one.
+fn came_alone(row: Row<'_>, alone: Row<'_>) -> Came<'static>
+    ensures { founds_of result
+        ≡ found_alone (entry_of_row row.entry) (entry_of_row alone.entry) }
+{
+    if main_name(row) == main_name(alone) {
+        Came::Once
+    } else {
+        Came::Never
+    }
 }
 
 /// Adds the commands for an option: its variable is taken away, and then set if it has a value.
@@ -84,46 +130,22 @@ fn push_option(
     text: &mut String,
     variables: Variables<'_>,
     row: Row<'_>,
-    given: &Occurrences<'_>,
+    given: Came<'_>,
 ) -> Result<(), AllocError>
     ensures text { OnOk result (string_bytes text.new ≡ string_bytes text.old
-        ++ option_code variables.entry.prefix.now variables.entry.arrays record {
-          names = (group_of_row row.entry).signature.names;
-          kind = row.entry.kind;
-          all = holds_all row.entry.mark row.entry.occurrence;
-          found = given.now;
-        }) }
+        ++ option_code variables.entry.prefix.now variables.entry.arrays
+        (given_as (entry_of_row row.entry) (founds_of given.entry))) }
     ensures values { OnOk result (AreTextValues row.entry.kind
-        (holds_all row.entry.mark row.entry.occurrence) given.now) }
+        (holds_all row.entry.mark row.entry.occurrence) (founds_of given.entry)) }
 {
     let name = main_name(row);
     text.push_str("\\unset -v ")?;
     push_variable(text, variables.prefix, name)?;
     text.push('\n')?;
-    push_setting(alloc, text, variables, row, given)
-}
-
-/// Adds the command that sets the variable of an option, if it has a value.
-fn push_setting(
-    alloc: Global,
-    text: &mut String,
-    variables: Variables<'_>,
-    row: Row<'_>,
-    given: &Occurrences<'_>,
-) -> Result<(), AllocError>
-    ensures text { OnOk result (string_bytes text.new ≡ string_bytes text.old
-        ++ value_line
-        (variable_of variables.entry.prefix.now (group_of_row row.entry).signature.names)
-        (held_value variables.entry.arrays row.entry.kind
-        (holds_all row.entry.mark row.entry.occurrence) given.now)) }
-    ensures values { OnOk result (AreTextValues row.entry.kind
-        (holds_all row.entry.mark row.entry.occurrence) given.now) }
-{
-    let name = main_name(row);
     match (row.kind, row.mark, row.occurrence) {
-        (HasArg::No, _, _) => push_count(alloc, text, variables.prefix, name, given.len()),
+        (HasArg::No, _, _) => push_count(alloc, text, variables.prefix, name, count(given)),
         (_, Mark::Last, _) => push_last(text, variables.prefix, name, given),
-        (_, _, Occur::Multi) => push_values(alloc, text, variables, name, given),
+        (_, _, Occur::Multi) => push_all(alloc, text, variables, name, given),
         _ => push_last(text, variables.prefix, name, given),
     }
 }
@@ -154,19 +176,17 @@ fn push_count(
     push_value(text, prefix, name, count.as_str())
 }
 
-/// Adds the command that sets a variable to the value of an option's last occurrence, if it has one.
-fn push_last(
-    text: &mut String,
-    prefix: &str,
-    name: &str,
-    given: &Occurrences<'_>,
-) -> Result<(), AllocError>
+/// Adds the command that sets a variable to the value of an option's last occurrence, if it has
+/// one.
+#[tactic(auto, using(crate::proofs::Assignments::last_found))]
+fn push_last(text: &mut String, prefix: &str, name: &str, given: Came<'_>) -> Result<(), AllocError>
     ensures text { OnOk result (string_bytes text.new ≡ string_bytes text.old
         ++ value_line (variable prefix.now name.now)
-        (option_map one (last_or None (texts_found given.now)))) }
-    ensures values { OnOk result (MatchOption (last_or None (texts_found given.now)) ⊤ IsUtf8) }
+        (option_map one (last_or None (texts_found (founds_of given.entry))))) }
+    ensures values { OnOk result (MatchOption
+        (last_or None (texts_found (founds_of given.entry))) ⊤ IsUtf8) }
 {
-    let count = given.len();
+    let count = count(given);
     if count == 0 {
         return Ok(());
     }
@@ -184,93 +204,69 @@ fn push_value(text: &mut String, prefix: &str, name: &str, value: &str) -> Resul
     text.push('\n')
 }
 
-/// Adds the command that sets a variable to all values of an option, as an array or as words in quotes.
-fn push_values(
+/// Adds the command that sets a variable to all values of an option, as words in quotes or as an
+/// array. `${NAME+}` is no word: the Korn shell takes a first word such as `typeset` for a
+/// declaration, and `()` for no array.
+fn push_all(
     alloc: Global,
     text: &mut String,
     variables: Variables<'_>,
     name: &str,
-    given: &Occurrences<'_>,
+    given: Came<'_>,
 ) -> Result<(), AllocError>
     ensures text { OnOk result (string_bytes text.new ≡ string_bytes text.old
         ++ value_line (variable variables.entry.prefix.now name.now)
-        (Some (all_values variables.entry.arrays given.now))) }
-    ensures values { OnOk result (AreTexts (texts_found given.now)) }
-{
-    if variables.arrays {
-        push_array(text, variables.prefix, name, given)
-    } else {
-        push_words(alloc, text, variables.prefix, name, given)
-    }
-}
-
-/// Adds the command that sets a variable to all values as words in quotes, which are quoted once more.
-fn push_words(
-    alloc: Global,
-    text: &mut String,
-    prefix: &str,
-    name: &str,
-    given: &Occurrences<'_>,
-) -> Result<(), AllocError>
-    ensures text { OnOk result (string_bytes text.new ≡ string_bytes text.old
-        ++ value_line (variable prefix.now name.now)
-        (Some (one (quoted_words (texts_found given.now))))) }
-    ensures values { OnOk result (AreTexts (texts_found given.now)) }
+        (Some (all_values variables.entry.arrays (founds_of given.entry)))) }
+    ensures values { OnOk result (AreTexts (texts_found (founds_of given.entry))) }
 {
     let mut words = String::new(alloc);
     push_texts(&mut words, given)?;
-    push_value(text, prefix, name, words.as_str())
-}
-
-/// Adds the command that sets a variable to all values as an array. `${NAME+}` is no word: the Korn shell takes a first
-/// word such as `typeset` for a declaration, and `()` for no array.
-fn push_array(
-    text: &mut String,
-    prefix: &str,
-    name: &str,
-    given: &Occurrences<'_>,
-) -> Result<(), AllocError>
-    ensures text { OnOk result (string_bytes text.new ≡ string_bytes text.old
-        ++ value_line (variable prefix.now name.now)
-        (Some (many (texts_found given.now)))) }
-    ensures values { OnOk result (AreTexts (texts_found given.now)) }
-{
-    push_variable(text, prefix, name)?;
+    if !variables.arrays {
+        return push_value(text, variables.prefix, name, words.as_str());
+    }
+    push_variable(text, variables.prefix, name)?;
     text.push_str("=(${")?;
-    push_variable(text, prefix, name)?;
+    push_variable(text, variables.prefix, name)?;
     text.push_str("+} ")?;
-    push_texts(text, given)?;
+    text.push_str(words.as_str())?;
     text.push_str(")\n")
 }
 
 /// Adds the values of occurrences as words in quotes, with the empty text for one that has none.
-fn push_texts(text: &mut String, given: &Occurrences<'_>) -> Result<(), AllocError>
+fn push_texts(text: &mut String, given: Came<'_>) -> Result<(), AllocError>
     ensures text { OnOk result (string_bytes text.new ≡ string_bytes text.old
-        ++ quoted_words (texts_found given.now)) }
-    ensures values { OnOk result (AreTexts (texts_found given.now)) }
+        ++ quoted_words (texts_found (founds_of given.entry))) }
+    ensures values { OnOk result (AreTexts (texts_found (founds_of given.entry))) }
 {
-    for nth in 0..given.len() {
-        push_word(text, nth > 0, text_at(given, nth))?;
+    for nth in 0..count(given) {
+        push_parting(text, nth > 0, " ")?;
+        push_quoted(text, text_at(given, nth))?;
     }
     Ok(())
 }
 
-/// Adds a word in quotes, after a space where another stands before it.
-fn push_word(text: &mut String, begun: bool, word: &str) -> Result<(), AllocError>
-    ensures { OnOk result (string_bytes text.new
-        ≡ string_bytes text.old ++ (parting begun (codes " ") ++ quoted word.now)) }
+/// How many the occurrences are.
+fn count(given: Came<'_>) -> usize
+    ensures { result ≡ length (founds_of given.entry) }
 {
-    push_parting(text, begun, " ")?;
-    push_quoted(text, word)
+    match given {
+        Came::Held(found) => found.len(),
+        Came::Once => 1,
+        Came::Never => 0,
+    }
 }
 
 /// The value of one of the occurrences, or the empty text where it has none.
-fn text_at<'m>(given: &Occurrences<'m>, nth: usize) -> &'m str
-    ensures { result.now ≡ get_or (texts_found given.now) nth [] }
+#[tactic(auto, using(crate::proofs::Assignments::text_of))]
+fn text_at<'m>(given: Came<'m>, nth: usize) -> &'m str
+    ensures { result.now ≡ get_or (texts_found (founds_of given.entry)) nth [] }
 {
-    match given.get(nth) {
-        Some((_, value)) => value.unwrap_or(""),
-        None => "",
+    match given {
+        Came::Held(found) => match found.get(nth) {
+            Some((_, Some(value))) => value,
+            _ => "",
+        },
+        _ => "",
     }
 }
 
@@ -316,7 +312,7 @@ fn is_prefix(prefix: &str) -> bool
 }
 
 /// Whether a prefix and a main name make a variable.
-#[tactic(auto, using(crate::proofs::Assignments::variable_bytes))]
+#[tactic(auto, using(crate::proofs::Assignments::variable_parts))]
 fn makes_variable(prefix: &str, name: &str) -> bool
     ensures { result ≡ is_variable (variable prefix.now name.now) }
 {
@@ -340,11 +336,11 @@ fn make_variable_bytes(name: &str) -> bool
 
 /// Whether a prefix and a main name begin with no digit, and not both are empty.
 fn begins_variable(prefix: &str, name: &str) -> bool
-    ensures { result ≡ begins_variable (variable prefix.now name.now) }
+    ensures { result ≡ option_map_or (λ byte. not (is_ascii_digit byte))
+        (slice_get (variable prefix.now name.now) 0) false }
 {
     match (prefix.as_bytes(), name.as_bytes()) {
-        ([first, ..], _) => !first.is_ascii_digit(),
-        ([], [first, ..]) => !first.is_ascii_digit(),
+        ([first, ..], _) | ([], [first, ..]) => !first.is_ascii_digit(),
         _ => false,
     }
 }

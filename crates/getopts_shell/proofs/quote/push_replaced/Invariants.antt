@@ -5,4 +5,5 @@ use Rattle.getopts_shell.proofs.quote.push_replaced.Given as goal
 -- the parts of the word so far stand in the text
 abbrev pub invariant-loop-part : goal.invariant-loop-part
 invariant-loop-part l =
-    JoinedSoFar l.other (map (λ part. part.now) l.yielded) l.begun (string_bytes l.initial.text) (string_bytes l.text)
+    JoinedSoFar l.other (map (λ part. part.now) l.yielded) l.begun (string_bytes l.initial.text)
+    (string_bytes l.text)

@@ -10,4 +10,5 @@ abbrev pub invariant-loop-place : goal.invariant-loop-place
 invariant-loop-place l =
     let lines = option_lines 0 (lines_of l.table) in
     first_fault l.prefix lines [] (names_of (groups_of l.rows))
-    ≡ first_fault l.prefix lines (names_of (groups_of (take l.place l.rows))) (names_of (groups_of (drop l.place l.rows)))
+    ≡ first_fault l.prefix lines (names_of (groups_of (take l.place l.rows)))
+    (names_of (groups_of (drop l.place l.rows)))

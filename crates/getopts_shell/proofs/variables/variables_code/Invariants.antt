@@ -8,4 +8,5 @@ use Rattle.getopts_shell.proofs.variables.variables_code.Given as goal
 abbrev pub invariant-loop-place : goal.invariant-loop-place
 invariant-loop-place l =
     let options = given_from 0 (entries_of (take l.place l.rows)) l.matches.groups in
-    (string_bytes l.text ≡ flat_map (option_code l.variables.prefix.now l.variables.arrays) options) × HoldTexts options
+    (string_bytes l.text ≡ flat_map (option_code l.variables.prefix.now l.variables.arrays) options)
+    × HoldTexts options
