@@ -19,10 +19,10 @@ def room(shell, tmp_path):
     return tmp_path
 
 
-@pytest.mark.parametrize("name", ["bash", "zsh", "fish"])
-def test_completion_in_a_terminal(room, name):
+@pytest.mark.parametrize("name, files", [("bash", False), ("zsh", False), ("zsh", True), ("fish", False)])
+def test_completion_in_a_terminal(room, name, files):
     need(name)
-    complete.in_terminal(name, f"{room}/bin/getopts_shell", room)
+    complete.in_terminal(name, f"{room}/bin/getopts_shell", room, files)
 
 
 def test_names_and_tables_of_any_bytes(room):

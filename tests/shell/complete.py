@@ -112,20 +112,23 @@ def quoted(program, room):
     (room / "said/getopts_shell").write_text('#!/bin/sh\nprintf "%s\\n" "$@" >"$ROOM/words"\n')
     (room / "said/getopts_shell").chmod(0o755)
     env = {**os.environ, "PATH": f"{room}/said:{os.environ['PATH']}", "ROOM": str(room), "HOME": str(room)}
-    mark = "".join(f"_{byte}" for byte in name.encode())
-    for shell, ask in (("bash", f"COMP_LINE='x ' COMP_POINT=2 COMP_WORDS=(x '') COMP_CWORD=1 COMP_TYPE=9; _getopts_shell{mark}"),
-                       ("zsh", f"CURRENT=2 words=(x '') PREFIX=; compdef() {{ :; }}; _getopts_shell{mark}"),
-                       ("fish", f"function commandline; echo x; end; _getopts_shell{mark}")):
+    for shell, before, ask in (
+            ("bash", "", f"COMP_LINE='x ' COMP_POINT=2 COMP_WORDS=(x '') COMP_CWORD=1 COMP_TYPE=9; _getopts_shell_offer {shlex.quote(name)}"),
+            ("zsh", "compdef() { call=$1; }\n", "CURRENT=2 words=(x '') PREFIX=; eval $call"),
+            ("fish", "function complete; set -g call $argv[-1]; end\n", "function commandline; echo x; end; eval echo $call")):
         if not shutil.which(shell):
             continue
         code = run([program, "--complete", shell, name, table]).stdout.decode()
-        before = "compdef() { :; }\n" if shell == "zsh" else ""
         done = run([shell, "-c", before + code + ask], env=env, cwd=room)
         said = (room / "words").read_text() if (room / "words").exists() else None
         wanted = f"--complete-words\n{shell}\n{name}\n{table}\n"
         if said is None or not said.startswith(wanted) or (room / "ran").exists():
             fail(f"{shell}: a name and a table of any bytes: {said!r}, and not {wanted!r}; {done}")
         (room / "words").unlink(missing_ok=True)
+    for name, named in (("backup", True), ("back-up_2.sh", True), ("a\n: ran", False), ("a b", False), ("-k", False)):
+        said = run([program, "--complete", "zsh", name, table]).stdout.decode()
+        if said.startswith(f"#compdef {name}\n") != named or said.startswith("#") != named:
+            fail(f"the first line for {name!r}: {said[:40]!r}")
 
 
 class Terminal:
@@ -193,13 +196,15 @@ def words_after(shell, typed, modes):
     return before + [forms[0] if len(forms) == 1 else os.path.commonprefix(forms) if forms else word]
 
 
-def start(shell, program, room):
-    """A terminal with the shell, once it has read the code of its stubs."""
+def start(shell, program, room, files):
+    """A terminal with the shell, once it has read the code for each script, or finds it as files in zsh's `$fpath`."""
     code = ""
+    (room / "site").mkdir(exist_ok=True)
     for name, flags in (("backup", []), ("stops", ["--stop"]), ("longs", ["--long-only"])):
         said = run([program] + flags + ["--complete", shell, name, table_of(OPTIONS)])
         if said.returncode != 0 or said.stderr:
             fail(f"the stub for {shell}: {said}")
+        (room / "site" / f"_{name}").write_bytes(said.stdout)
         code += said.stdout.decode()
     env = {"PATH": f"{room}/bin:{os.environ['PATH']}", "HOME": str(room), "XDG_CONFIG_HOME": str(room / "config"),
            "XDG_DATA_HOME": str(room / "data"), "TERM": "vt100" if shell != "fish" else "xterm", "LC_ALL": "C.UTF-8",
@@ -209,15 +214,17 @@ def start(shell, program, room):
                                      "bind 'set page-completions off'\nbind 'set enable-bracketed-paste off'\n" + code)
         return Terminal(["bash", "--noprofile", "--rcfile", str(room / "bashrc"), "-i"], room, env)
     if shell == "zsh":
-        (room / ".zshrc").write_text(f"PS1='> '\nautoload -Uz compinit\ncompinit -u -d {room}/dump\n" + code)
+        (room / "code").write_text(code)
+        use = f"fpath=({room}/site $fpath)\n", 'eval "$(<$HOME/code)"\n'
+        (room / ".zshrc").write_text(f"PS1='> '\n{use[0] * files}autoload -Uz compinit\ncompinit -u -d {room}/dump\n{use[1] * (not files)}")
         return Terminal(["zsh", "-i"], room, {**env, "ZDOTDIR": str(room)})
     (room / "config/fish").mkdir(parents=True)
     (room / "config/fish/config.fish").write_text("set -g fish_greeting\nset -g fish_autosuggestion_enabled 0\n" + code)
     return Terminal(["fish", "-i"], room, env)
 
 
-def in_terminal(shell, program, room):
-    terminal = start(shell, program, room)
+def in_terminal(shell, program, room, files=False):
+    terminal = start(shell, program, room, files)
     modes = {"backup": {}, "stops": {"stop": True}, "longs": {"long_only": True}}
     terminal.type("backup ready\r")
     for name, lines in LINES.items():
@@ -228,6 +235,9 @@ def in_terminal(shell, program, room):
                 fail(f"{shell}: {name} {typed}: {got}, and not {wanted}: {shown!r}")
             if "command not found" in shown or "unbound" in shown or "getopts_shell" in shown:
                 fail(f"{shell}: {name} {typed}: {shown!r}")
+    got, shown = terminal.type(f"{room}/bin/backup --inp\t\r")
+    if got != ["--input"]:
+        fail(f"{shell}: a script by its path: {got}: {shown!r}")
     listed(shell, terminal)
     terminal.close()
 

@@ -1,23 +1,27 @@
 -- What is written of bytes is a front of them.
-use Rattle.std.proofs.Common.{◌≡◌, ◌≢◌, ℕ, ◌-◌, zero, suc, length, arith, inl, inr, List, [], ◌++◌, Option, Some, None, Result, Ok, Err, take, drop, refl, sym, ap}
-use Rattle.std.proofs.Common.{◌∙◌, append_assoc, append-nil}
+use Rattle.std.proofs.Common.{◌≡◌, ◌≢◌, ℕ, ◌-◌, zero, suc, List, [], ◌++◌, length, take, drop}
+use Rattle.std.proofs.Common.{Option, Some, None, Result, Ok, Err, inl, inr, ◌∙◌, ap, append-nil}
+use Rattle.std.proofs.Common.{append_assoc, arith, refl, sym}
 use Rattle.std.specs.Prelude.{OnOk, ◌⊎◌}
 use Rattle.std.specs.Io.KnownBytes.{Appends, Keeps}
 use Rattle.std.proofs.lemmas.List.{take-append-drop, take_rest}
 use Rattle.getopts.specs.Names.{Text}
 use Rattle.getopts_shell.specs.Program.{AppendsFront, IsOutput, ShowsFront}
 
+-- nothing is appended where nothing changes
 pub appends_none : (old : Option (List ℕ)) → Appends old old []
 appends_none None = tt
 appends_none (Some bytes) = sym (append-nil bytes)
 
-pub appends_kept : (old new again : Option (List ℕ)) (bytes : List ℕ) → Appends old new bytes → Keeps new again
-    → Appends old again bytes
+-- what was appended stays where a writer keeps what it holds
+pub appends_kept : (old new again : Option (List ℕ)) (bytes : List ℕ) → Appends old new bytes
+    → Keeps new again → Appends old again bytes
 appends_kept None new again bytes is kept = tt
 appends_kept (Some held) None again bytes is kept = absurd is
 appends_kept (Some held) (Some now) None bytes is kept = absurd kept
 appends_kept (Some held) (Some now) (Some then) bytes is kept = kept ∙ is
 
+-- bytes and then more are appended as one
 pub appends_more : (old new again : Option (List ℕ)) (bytes more : List ℕ) → Appends old new bytes
     → Appends new again more → Appends old again (bytes ++ more)
 appends_more None new again bytes more is also = tt
@@ -33,20 +37,25 @@ one_more_piece all done rest count is =
     is ∙ ap (λ (l : List ℕ). done ++ l) (sym (take-append-drop count rest))
     ∙ sym (append_assoc done (take count rest) (drop count rest))
 
+-- the same, where a slice cuts the rest
 pub cut_piece : (all done rest : List ℕ) (count : ℕ) → all ≡ done ++ rest
     → all ≡ (done ++ take count rest) ++ take (length rest - count) (drop count rest)
 cut_piece all done rest count is = one_more_piece all done rest count is
     ∙ ap (λ (l : List ℕ). (done ++ take count rest) ++ l) (sym (take_rest rest count))
 
 -- a front on one of two writers, by the status
-pub shows_front : (out out_now err err_now : Option (List ℕ)) (words : List Text) (bytes : List ℕ) (status : ℕ)
-    → IsOutput words bytes status → (status ≡ 0 → AppendsFront out out_now bytes)
+pub shows_front : (out out_now err err_now : Option (List ℕ)) (words : List Text)
+    → (bytes : List ℕ) (status : ℕ) → IsOutput words bytes status
+    → (status ≡ 0 → AppendsFront out out_now bytes)
     → (status ≢ 0 → AppendsFront err err_now bytes)
     → ShowsFront out out_now words (λ s. s ≡ 0) ⊎ ShowsFront err err_now words (λ s. s ≢ 0)
-shows_front out out_now err err_now words bytes zero is on_out on_err = inl (bytes, zero, refl, is, on_out refl)
+shows_front out out_now err err_now words bytes zero is on_out on_err =
+    inl (bytes, zero, refl, is, on_out refl)
 shows_front out out_now err err_now words bytes (suc n) is on_out on_err =
-    let other : suc n ≢ 0 = λ same. absurd (omega arith) in inr (bytes, suc n, other, is, on_err other)
+    let other : suc n ≢ 0 = λ same. absurd (omega arith) in
+    inr (bytes, suc n, other, is, on_err other)
 
+-- a fact holds of whatever result
 pub on_ok : {X E : Type 0} (result : Result X E) (Fact : Type 0) → Fact → OnOk result Fact
 on_ok (Ok value) Fact fact = fact
 on_ok (Err error) Fact fact = tt

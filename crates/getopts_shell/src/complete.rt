@@ -1,56 +1,62 @@
 //! What completes a script's words: the code for bash, zsh and fish, and what it is answered.
 
-ghost use Rattle.std.specs.Prelude.{◌≡◌, ◌++◌, ◌∷◌, [], Option, Some, IfOk, OnOk, MatchOption, codes, map};
-ghost use Rattle.std.specs.Prelude.{if◌then◌else◌, nat_eq};
-ghost use Rattle.getopts.specs.Wrap.{parting};
-ghost use Rattle.getopts_shell.specs.Quote.{quoted};
-ghost use Rattle.std.specs.List.{flat_map, starts_with};
-ghost use Rattle.std.specs.Option.{option_map};
+ghost use Rattle.std.specs.Prelude.{◌≡◌, ◌==◌, ◌++◌, ◌-◌, ◌∷◌, [], List, Some, false, length};
+ghost use Rattle.std.specs.Prelude.{nat_eq, IfOk, MatchOption, OnOk};
+ghost use Rattle.std.specs.List.{starts_with};
+ghost use Rattle.std.specs.Option.{option_map, option_map_or};
 ghost use Rattle.std.specs.String.{string_bytes};
 ghost use Rattle.getopts.specs.Accessors.{is_present};
 ghost use Rattle.getopts.specs.Fail.{Fault, fault_of};
-ghost use Rattle.getopts.specs.Matches.{Matched};
-ghost use Rattle.getopts.specs.Names.{Names, Text, main_name, texts};
+ghost use Rattle.getopts.specs.Matches.{MatchedGroup};
+ghost use Rattle.getopts.specs.Names.{texts};
 ghost use Rattle.getopts.specs.Parse.{HasReading};
-ghost use Rattle.getopts.specs.Reading.{begins_with_dash, stop_word};
-ghost use Rattle.getopts_shell.specs.Completion.{IsOffer, MayGoOn, bash_stub, fish_stub};
-ghost use Rattle.getopts_shell.specs.Completion.{is_last_after_stop, is_multi};
-ghost use Rattle.getopts_shell.specs.Completion.{lines_if_it_may_come, may_come, name_line};
-ghost use Rattle.getopts_shell.specs.Completion.{name_mark, offer_call, option_lines};
-ghost use Rattle.getopts_shell.specs.Completion.{options_lines, stub, stub_of, stub_quoted};
-ghost use Rattle.getopts_shell.specs.Completion.{takes_argument, zsh_stub};
+ghost use Rattle.getopts.specs.Reading.{stop_word};
+ghost use Rattle.getopts_shell.specs.Completion.{IsOffer, MayGoOn, is_multi, may_come, name_line};
+ghost use Rattle.getopts_shell.specs.Completion.{option_lines, options_lines, takes_argument};
+ghost use Rattle.getopts_shell.specs.Completion.{first_line, functions, modes, stub, stub_call};
+ghost use Rattle.getopts_shell.specs.Completion.{stub_quoted};
 ghost use Rattle.getopts_shell.specs.Held.{HaveReading, group_of_row, groups_of};
 
+use crate::item::is_long_name;
 use crate::quote::{push_parting, push_replaced};
 use crate::row::Row;
 use crate::variables::main_name;
 use getopts::{Fail, HasArg, Matches, Occur, Options};
 use std::alloc::{AllocError, Global};
 
-/// What offers words in bash: it reads the words up to the cursor, asks the program, and shows the descriptions
-/// where several options fit.
-const BASH: &str = r#"_getopts_shell_offer() {
-    local line=${COMP_LINE:0:COMP_POINT} words=() at=-1 word rest
+/// What completes words in bash: it reads the words up to the cursor, asks the program, and shows
+/// the descriptions where several options fit. One array holds the tables of all scripts.
+const BASH: &str = r#"declare -gA _getopts_shell_tables _getopts_shell_modes
+_getopts_shell_offer() {
+    local IFS=' ' name=${1##*/} line=${COMP_LINE:0:COMP_POINT} words=() at=-1 word rest
     for word in "${COMP_WORDS[@]:0:COMP_CWORD+1}"; do
         rest=${line#"${line%%[![:space:]]*}"}
         if [[ $at == -1 || $rest != "$line" ]]; then at=$((at + 1)); fi
         words[at]+=${rest:0:${#word}} line=${rest:${#word}}
     done
-    mapfile -t COMPREPLY < <("${@:2}" "${words[@]:1}" 2>/dev/null)
+    mapfile -t COMPREPLY < <(getopts_shell ${_getopts_shell_modes[$name]-} --complete-words bash \
+        "$name" "${_getopts_shell_tables[$name]-}" "${words[@]:1}" 2>/dev/null)
     if [[ ${COMPREPLY-} == [fv]* ]]; then COMPREPLY=(); compopt -o default; fi
-    line=${words[at]%"$1"}
+    line=${words[at]%"$2"}
     for at in "${!COMPREPLY[@]}"; do
         rest=${COMPREPLY[at]#*$'\t'} word=${COMPREPLY[at]%%$'\t'*}
         if [[ ${#COMPREPLY[@]} == 1 || $COMP_TYPE == 37 || $COMP_TYPE == 42 ]]; then rest=; fi
         COMPREPLY[at]=${word#"$line"}${rest:+  ($rest)}
     done
 }
+_getopts_shell_complete() {
+    local IFS=' ' name=${1##*/}
+    _getopts_shell_tables[$name]=$2 _getopts_shell_modes[$name]=${*:3}
+    complete -F _getopts_shell_offer -- "$1"
+}
 "#;
 
-/// What offers words in zsh.
+/// What completes words in zsh. Code that is a file in `$fpath` is read at the first word that it
+/// completes.
 const ZSH: &str = r#"_getopts_shell_offer() {
     local -a offers
-    offers=("${(@f)$("$@" "${(@Q)words[2,CURRENT-1]}" "$PREFIX" 2>/dev/null)}")
+    offers=("${(@f)$(getopts_shell "${(@)argv[3,-1]}" --complete-words zsh "$1" "$2" \
+        "${(@Q)words[2,CURRENT-1]}" "$PREFIX" 2>/dev/null)}")
     case $offers[1] in
     (files) _files ;;
     (value) compset -P 1 '*='; _files ;;
@@ -61,13 +67,18 @@ const ZSH: &str = r#"_getopts_shell_offer() {
         ;;
     esac
 }
+_getopts_shell_complete() {
+    compdef "_getopts_shell_offer ${(j: :)${(@q)@}}" "$1"
+    if (( $+CURRENT )); then _getopts_shell_offer "$@"; fi
+}
 "#;
 
-/// What offers words in fish.
+/// What completes words in fish.
 const FISH: &str = r#"function _getopts_shell_offer
     set -l before (commandline -opc); set -e before[1]
     set -l word (commandline -ct)
-    set -l offers (command $argv $before "$word" 2>/dev/null)
+    set -l call getopts_shell $argv[3..-1] --complete-words fish $argv[1..2]
+    set -l offers (command $call $before "$word" 2>/dev/null)
     switch "$offers[1]"
         case files; __fish_complete_path "$word"
         case value
@@ -76,10 +87,14 @@ const FISH: &str = r#"function _getopts_shell_offer
         case '-*'; printf '%s\n' $offers
     end
 end
+function _getopts_shell_complete
+    set -l call _getopts_shell_offer (string escape -- $argv)
+    complete -c $argv[1] -f -a "($call)"
+end
 "#;
 
-/// Adds a word in quotes, as each of the three shells reads it: a quote and a backslash stand outside quotes,
-/// behind a backslash.
+/// Adds a word in quotes, as each of the three shells reads it: a quote and a backslash stand
+/// outside quotes, behind a backslash.
 fn push_stub_quoted(text: &mut String, word: &str) -> Result<(), AllocError>
     ensures { OnOk result (string_bytes text.new ≡ string_bytes text.old ++ stub_quoted word.now) }
 {
@@ -91,52 +106,6 @@ fn push_stub_quoted(text: &mut String, word: &str) -> Result<(), AllocError>
         begun = true;
     }
     text.push('\'')
-}
-
-/// The mark of a name in names of functions.
-fn name_mark(alloc: Global, name: &str) -> Result<String, AllocError>
-    ensures { IfOk result (λ text. string_bytes text ≡ name_mark name.now) }
-{
-    let mut text = String::new(alloc);
-    let bytes = name.as_bytes();
-    for byte in bytes {
-        let number = *byte;
-        write!(text, "_{number}")?;
-    }
-    Ok(text)
-}
-
-/// A word in quotes.
-fn stub_quoted(alloc: Global, word: &str) -> Result<String, AllocError>
-    ensures { IfOk result (λ text. string_bytes text ≡ stub_quoted word.now) }
-{
-    let mut text = String::new(alloc);
-    push_stub_quoted(&mut text, word)?;
-    Ok(text)
-}
-
-/// The call that offers words for a script.
-fn offer_call(
-    alloc: Global,
-    shell: &str,
-    stop: bool,
-    long_only: bool,
-    name: &str,
-    table: &str,
-) -> Result<String, AllocError>
-    ensures { IfOk result (λ text. string_bytes text
-        ≡ offer_call shell.now stop long_only name.now table.now) }
-{
-    let mut text = String::from_str(alloc, "getopts_shell ")?;
-    text.push_str(if stop { "--stop " } else { "" })?;
-    text.push_str(if long_only { "--long-only " } else { "" })?;
-    text.push_str("--complete-words ")?;
-    text.push_str(shell)?;
-    text.push(' ')?;
-    push_stub_quoted(&mut text, name)?;
-    text.push(' ')?;
-    push_stub_quoted(&mut text, table)?;
-    Ok(text)
 }
 
 /// The code that completes the words of a script, if there is one for the shell.
@@ -151,62 +120,73 @@ pub(crate) fn stub(
     ensures { IfOk result (λ text. option_map string_bytes text
         ≡ stub shell.now stop long_only name.now table.now) }
 {
-    let mark = name_mark(alloc, name)?;
-    let call = offer_call(alloc, shell, stop, long_only, name, table)?;
-    let name = stub_quoted(alloc, name)?;
-    stub_of(alloc, shell, mark.as_str(), call.as_str(), name.as_str())
+    let Some(functions) = functions(shell) else {
+        return Ok(None);
+    };
+    let mut text = String::new(alloc);
+    push_first_line(&mut text, shell, name)?;
+    text.push_str(functions)?;
+    text.push_str(stub_call(alloc, stop, long_only, name, table)?.as_str())?;
+    Ok(Some(text))
 }
 
-/// The code of a shell, if it is one of the three.
-fn stub_of(
-    alloc: Global,
-    shell: &str,
-    mark: &str,
-    call: &str,
-    name: &str,
-) -> Result<Option<String>, AllocError>
-    ensures { IfOk result (λ text. option_map string_bytes text
-        ≡ stub_of shell.now mark.now call.now name.now) }
+/// The functions for all scripts in a shell, if there is completion in it.
+fn functions(shell: &str) -> Option<&'static str>
+    ensures { option_map (λ text. text.now) result ≡ functions shell.now }
 {
-    if shell == "bash" {
-        Ok(Some(bash_stub(alloc, mark, call, name)?))
-    } else if shell == "zsh" {
-        Ok(Some(zsh_stub(alloc, mark, call, name)?))
-    } else if shell == "fish" {
-        Ok(Some(fish_stub(alloc, mark, call, name)?))
-    } else {
-        Ok(None)
+    match shell {
+        "bash" => Some(BASH),
+        "zsh" => Some(ZSH),
+        "fish" => Some(FISH),
+        _ => None,
     }
 }
 
-/// The code for bash.
-fn bash_stub(alloc: Global, mark: &str, call: &str, name: &str) -> Result<String, AllocError>
-    ensures { IfOk result (λ text. string_bytes text ≡ bash_stub mark.now call.now name.now) }
+/// Adds the line that names the script in zsh, where its name ends no line.
+fn push_first_line(text: &mut String, shell: &str, name: &str) -> Result<(), AllocError>
+    ensures { OnOk result (string_bytes text.new
+        ≡ string_bytes text.old ++ first_line shell.now name.now) }
 {
-    format!(in alloc;
-        "{BASH}_getopts_shell{mark}() {{ _getopts_shell_offer \"$2\" {call}; }}\ncomplete -F _getopts_shell{mark} -- {name}\n"
-    )
+    if shell == "zsh" && is_long_name(name.as_bytes()) {
+        writeln!(text, "#compdef {name}")?;
+    }
+    Ok(())
 }
 
-/// The code for zsh.
-fn zsh_stub(alloc: Global, mark: &str, call: &str, name: &str) -> Result<String, AllocError>
-    ensures { IfOk result (λ text. string_bytes text ≡ zsh_stub mark.now call.now name.now) }
+/// The line that completes the words of a script.
+fn stub_call(
+    alloc: Global,
+    stop: bool,
+    long_only: bool,
+    name: &str,
+    table: &str,
+) -> Result<String, AllocError>
+    ensures { IfOk result (λ text. string_bytes text
+        ≡ stub_call stop long_only name.now table.now) }
 {
-    format!(in alloc;
-        "{ZSH}_getopts_shell{mark}() {{ _getopts_shell_offer {call}; }}\ncompdef _getopts_shell{mark} {name}\n"
-    )
+    let mut text = String::from_str(alloc, "_getopts_shell_complete ")?;
+    push_stub_quoted(&mut text, name)?;
+    text.push(' ')?;
+    push_stub_quoted(&mut text, table)?;
+    text.push_str(modes(stop, long_only))?;
+    text.push('\n')?;
+    Ok(text)
 }
 
-/// The code for fish.
-fn fish_stub(alloc: Global, mark: &str, call: &str, name: &str) -> Result<String, AllocError>
-    ensures { IfOk result (λ text. string_bytes text ≡ fish_stub mark.now call.now name.now) }
+/// The program's own options for a style and a mode.
+fn modes(stop: bool, long_only: bool) -> &'static str
+    ensures { result.now ≡ modes stop long_only }
 {
-    format!(in alloc;
-        "{FISH}function _getopts_shell{mark}; _getopts_shell_offer {call}; end\ncomplete -c {name} -f -a '(_getopts_shell{mark})'\n"
-    )
+    match (stop, long_only) {
+        (false, false) => "",
+        (false, true) => " --long-only",
+        (true, false) => " --stop",
+        (true, true) => " --stop --long-only",
+    }
 }
 
-/// What is offered at a word of a script with these options, after the words before it: options, or files.
+/// What is offered at a word of a script with these options, after the words before it: options, or
+/// files.
 pub(crate) fn offers(
     alloc: Global,
     options: &Options,
@@ -220,7 +200,7 @@ pub(crate) fn offers(
     ensures { IfOk result (λ text.
         IsOffer options.now (texts before.now) word.now (string_bytes text)) }
 {
-    if !begins_with_dash(word) {
+    if !begins_with(word, "-") {
         return String::from_str(alloc, "files\n");
     }
     match goes_on(alloc, options, before)? {
@@ -229,18 +209,11 @@ pub(crate) fn offers(
     }
 }
 
-/// Whether a word begins with `-`.
-fn begins_with_dash(word: &str) -> bool
-    ensures { result ≡ begins_with_dash word.now }
-{
-    matches!(word.as_bytes(), [b'-', ..])
-}
-
-/// The matches of words after which an option may come, if one may.
+/// The matches of words after which an option may come, if one may: a `--` after them is a stop.
 fn goes_on(alloc: Global, options: &Options, before: &[&str]) -> Result<Option<Matches>, AllocError>
     ensures { IfOk result (λ found. MatchOption found
-        ((matches : Matched) → ¬ (MayGoOn options.now (texts before.now) matches))
-        (MayGoOn options.now (texts before.now))) }
+        ((groups : List MatchedGroup) → ¬ (MayGoOn options.now (texts before.now) groups))
+        (λ matches. MayGoOn options.now (texts before.now) matches.groups)) }
 {
     let words = with_stop(alloc, before)?;
     let found = read_words(alloc, options, &words)?;
@@ -262,7 +235,8 @@ pub(crate) fn read_words(
     options: &Options,
     words: &[&str],
 ) -> Result<Option<Matches>, AllocError>
-    ensures { IfOk result (λ found. MatchOption found (¬ (HaveReading options.now (texts words.now)))
+    ensures { IfOk result (λ found. MatchOption found
+        (¬ (HaveReading options.now (texts words.now)))
         (HasReading options.now (texts words.now))) }
 {
     match options.parse_ignoring_counts(alloc, words) {
@@ -271,9 +245,11 @@ pub(crate) fn read_words(
     }
 }
 
-/// Words that have no reading have no matches. An error comes where the refusal tells that memory was refused.
+/// Words that have no reading have no matches. An error comes where the refusal tells that memory
+/// was refused.
 fn no_matches(fail: &Fail) -> Result<Option<Matches>, AllocError>
-    ensures { IfOk result (λ found. (found ≡ None) × (fault : Fault) × (fault_of fail.now ≡ Some fault)) }
+    ensures { IfOk result (λ found.
+        (found ≡ None) × (fault : Fault) × (fault_of fail.now ≡ Some fault)) }
 {
     match fail {
         Fail::OutOfMemory => Err(AllocError),
@@ -294,7 +270,8 @@ fn with_stop<'w>(alloc: Global, before: &[&'w str]) -> Result<Vec<&'w str>, Allo
 
 /// Whether one free word, the last, stands after a stop.
 fn is_last_after_stop(matches: &Matches) -> bool
-    ensures { result ≡ is_last_after_stop matches.now }
+    ensures { result ≡ option_map_or (λ start. length matches.now.free - start == 1)
+        matches.now.trailing_start false }
 {
     match matches.free_trailing_start() {
         Some(start) => matches.free.len().saturating_sub(start) == 1,
@@ -311,36 +288,20 @@ fn options_lines(
     rows: &[Row<'_>],
 ) -> Result<String, AllocError>
     ensures { IfOk result (λ text. string_bytes text
-        ≡ options_lines matches.now long_only word.now (groups_of rows.now)) }
+        ≡ options_lines matches.now.groups long_only word.now (groups_of rows.now)) }
 {
     let mut text = String::new(alloc);
     for row in rows {
-        push_row(&mut text, matches, long_only, word, row)?;
+        if may_come(matches, row) {
+            push_option(&mut text, long_only, word, row)?;
+        }
     }
     Ok(text)
 }
 
-/// Adds what is offered of an option, if it may come once more.
-fn push_row(
-    text: &mut String,
-    matches: &Matches,
-    long_only: bool,
-    word: &str,
-    row: &Row<'_>,
-) -> Result<(), AllocError>
-    ensures { OnOk result (string_bytes text.new ≡ string_bytes text.old
-        ++ lines_if_it_may_come matches.now long_only word.now (group_of_row row.now)) }
-{
-    if may_come(matches, row) {
-        push_option(text, long_only, word, row)
-    } else {
-        Ok(())
-    }
-}
-
 /// Whether an option may come once more.
 fn may_come(matches: &Matches, row: &Row<'_>) -> bool
-    ensures { result ≡ may_come matches.now (group_of_row row.now) }
+    ensures { result ≡ may_come matches.now.groups (group_of_row row.now) }
 {
     is_multi(row.occurrence) || !is_given(matches, main_name(*row))
 }

@@ -169,7 +169,7 @@ fn is_name_byte(byte: u8) -> bool
 }
 
 /// Whether bytes may be a long name.
-fn is_long_name(bytes: &[u8]) -> bool
+pub(crate) fn is_long_name(bytes: &[u8]) -> bool
     ensures { result ≡ is_long_name bytes.now }
 {
     !bytes.starts_with(b"-") && are_long_bytes(bytes) && !bytes.ends_with(b":")

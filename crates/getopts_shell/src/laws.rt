@@ -1,6 +1,5 @@
 //! Laws of answers to cite. They do nothing.
 
-ghost use Rattle.getopts_shell.specs.Completion.{OptionsComeAtTheLineEnd};
 ghost use Rattle.getopts_shell.specs.Program.{OneAnswer};
 
 use getopts::equal_input_equal_answers;
@@ -11,9 +10,3 @@ pub fn words_have_one_answer()
 {
     equal_input_equal_answers();
 }
-
-/// An option may come only after words that have a reading that ends with the line, and what was given is what it
-/// gives: a law to cite, which does nothing.
-pub fn options_come_at_the_line_end()
-    ensures { OptionsComeAtTheLineEnd }
-{}

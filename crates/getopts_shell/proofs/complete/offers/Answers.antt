@@ -7,28 +7,34 @@ use Rattle.getopts_shell.specs.Completion.{IsOffer, offers_options, offers_files
 use Rattle.getopts_shell.specs.Held.{groups_of}
 use Rattle.getopts_shell.proofs.complete.offers.Goals as goal
 
-pub returns-then-not-begins_with_dash : goal.returns-then-not-begins_with_dash
-returns-then-not-begins_with_dash c =
+pub returns-then-not-begins_with : goal.returns-then-not-begins_with
+returns-then-not-begins_with c =
     IfOk-weaker c.from_str.result _ _
-    (λ text is. subst (λ (t : Text). IsOffer c.args.options.now (texts c.args.before.now) c.args.word.now t) (sym is)
-    (offers_files (λ matches begins.
-    absurd (false≢true (sym c.if-not-begins_with_dash.true ∙ c.begins_with_dash.ensures ∙ begins)))))
+    (λ text is. subst
+    (λ (t : Text). IsOffer c.args.options.now (texts c.args.before.now) c.args.word.now t)
+    (sym is) (offers_files (λ groups begins.
+    absurd (false≢true (sym c.if-not-begins_with.true ∙ c.begins_with.ensures ∙ begins)))))
     c.from_str.ensures.ok
 
 pub returns-in-Some : goal.returns-in-Some
 returns-in-Some c =
+    let groups = c.in-Some.matches.groups in
+    let mode = ap (λ (m : Bool). options_lines groups m c.args.word.now (groups_of c.args.rows.now))
+    (sym c.requires.mode) in
+    let rows = ap
+    (λ (g : List Group). options_lines groups c.args.options.now.long_only c.args.word.now g)
+    (sym c.requires.rows) in
     IfOk-weaker c.options_lines.result _ _
-    (λ text is. subst (λ (t : Text). IsOffer c.args.options.now (texts c.args.before.now) c.args.word.now t)
-    (sym (is ∙ ap (λ (mode : Bool). options_lines c.in-Some.matches mode c.args.word.now (groups_of c.args.rows.now)) (sym c.requires.mode)
-    ∙ ap (λ (groups : List Group). options_lines c.in-Some.matches c.args.options.now.long_only c.args.word.now groups)
-    (sym c.requires.rows)))
-    (offers_options c.in-Some.matches (sym c.begins_with_dash.ensures ∙ c.if-not-begins_with_dash.false)
-    (rw c.in-Some.is at c.in_ok-matches.ensures)))
-    c.options_lines.ensures
+    (λ text is. subst
+    (λ (t : Text). IsOffer c.args.options.now (texts c.args.before.now) c.args.word.now t)
+    (sym (is ∙ mode ∙ rows))
+    (offers_options groups (sym c.begins_with.ensures ∙ c.if-not-begins_with.false)
+    (rw c.in-Some.is at c.in_ok-matches.ensures))) c.options_lines.ensures
 
 pub returns-in-None : goal.returns-in-None
 returns-in-None c =
     IfOk-weaker c.from_str-in-None.result _ _
-    (λ text is. subst (λ (t : Text). IsOffer c.args.options.now (texts c.args.before.now) c.args.word.now t) (sym is)
-    (offers_files (λ matches begins. (rw c.in-None.is at c.in_ok-matches.ensures) matches)))
+    (λ text is. subst
+    (λ (t : Text). IsOffer c.args.options.now (texts c.args.before.now) c.args.word.now t)
+    (sym is) (offers_files (λ groups begins. (rw c.in-None.is at c.in_ok-matches.ensures) groups)))
     c.from_str-in-None.ensures.ok

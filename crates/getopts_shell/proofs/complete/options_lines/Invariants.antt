@@ -7,4 +7,5 @@ use Rattle.getopts_shell.proofs.complete.options_lines.Given as goal
 -- the text is what is offered of the rows so far
 abbrev pub invariant-loop-row : goal.invariant-loop-row
 invariant-loop-row l =
-    string_bytes l.text ≡ options_lines l.matches l.long_only l.word (groups_of (take l.row-index l.rows))
+    string_bytes l.text
+    ≡ options_lines l.matches.groups l.long_only l.word (groups_of (take l.row-index l.rows))

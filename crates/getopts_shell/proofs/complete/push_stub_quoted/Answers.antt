@@ -1,5 +1,5 @@
-use Rattle.std.proofs.Common.{true, [], ◌∷◌, ◌++◌, map, string_bytes, lit<, ap, append-nil, ◌∙◌, subst}
-use Rattle.std.proofs.Common.{◌≡◌, List, sym, refl, arith, rules}
+use Rattle.std.proofs.Common.{◌≡◌, true, List, [], ◌∷◌, ◌++◌, map, string_bytes}
+use Rattle.std.proofs.Common.{◌∙◌, ap, append-nil, arith, lit<, refl, rules, subst, sym}
 use Rattle.std.proofs.lemmas.Grind.{common_steps}
 use Rattle.std.specs.List.{flat_map}
 use Rattle.std.specs.Str.Iter.{split_text, split_has_more, split_pattern}
@@ -14,35 +14,42 @@ use Rattle.getopts_shell.proofs.complete.push_stub_quoted.Goals as goal
 
 pub loop-part-init : goal.loop-part-init
 loop-part-init c =
-    let first : string_bytes c.push.new.self ≡ string_bytes c.args.text.now ++ 39 ∷ [] = search rules in
-    record { begun_is = refl; text_is = first ∙ sym (append-nil (string_bytes c.args.text.now ++ 39 ∷ [])) }
+    let old = string_bytes c.args.text.now in
+    let first : string_bytes c.push.new.self ≡ old ++ 39 ∷ [] = search rules in
+    record { begun_is = refl; text_is = first ∙ sym (append-nil (old ++ 39 ∷ [])) }
 
 -- one more part
 pub loop-part-preserved : goal.loop-part-preserved
 loop-part-preserved c =
-    let parts = map (λ part. part.now) c.loop-part.yielded in
-    let more = one_more (39 ∷ 92 ∷ 92 ∷ 39 ∷ []) (map (flat_map quoted_byte) parts) c.loop-part.begun
-    (flat_map quoted_byte c.in-Some.part.now) _ _ c.loop-part.invariant in
+    let begin : Text = string_bytes c.args.text.now ++ 39 ∷ [] in
+    let before = map (λ part. part.now) c.loop-part.yielded in
+    let parts : List Text = map (flat_map quoted_byte) before in
+    let part : Text = flat_map quoted_byte c.in-Some.part.now in
+    let more = one_more (39 ∷ 92 ∷ 92 ∷ 39 ∷ []) parts c.loop-part.begun part _ _
+    c.loop-part.invariant in
     subst
-    (λ (texts : List Text). JoinedSoFar (39 ∷ 92 ∷ 92 ∷ 39 ∷ []) texts true (string_bytes c.args.text.now ++ 39 ∷ [])
+    (λ (texts : List Text). JoinedSoFar (39 ∷ 92 ∷ 92 ∷ 39 ∷ []) texts true begin
     (string_bytes c.push_replaced.new.text))
-    (sym (ap (map (flat_map quoted_byte)) (map-append (λ part. part.now) c.loop-part.yielded (c.in-Some.part ∷ []))
-    ∙ map-append (flat_map quoted_byte) parts (c.in-Some.part.now ∷ [])))
+    (sym (ap (map (flat_map quoted_byte))
+    (map-append (λ part. part.now) c.loop-part.yielded (c.in-Some.part ∷ []))
+    ∙ map-append (flat_map quoted_byte) before (c.in-Some.part.now ∷ [])))
     (subst
-    (λ (text : Text). JoinedSoFar (39 ∷ 92 ∷ 92 ∷ 39 ∷ [])
-    (map (flat_map quoted_byte) parts ++ flat_map quoted_byte c.in-Some.part.now ∷ []) true
-    (string_bytes c.args.text.now ++ 39 ∷ []) text)
+    (λ (text : Text). JoinedSoFar (39 ∷ 92 ∷ 92 ∷ 39 ∷ []) (parts ++ part ∷ []) true begin text)
     (sym (c.in_ok-push_replaced.ensures
-    ∙ ap (λ (text : Text). text ++ flat_map quoted_byte c.in-Some.part.now) c.in_ok-push_parting.ensures)) more)
+    ∙ ap (λ (text : Text). text ++ part) c.in_ok-push_parting.ensures)) more)
 
 -- the parts that `split` gave are all the parts
 pub returns : goal.returns
 returns c =
     let start = c.into_iter-part-iterator.ensures.into_iter_gives in
     let split = c.split-part-items.ensures in
-    let all = YieldsList-from_str_split 92 c.args.word.now (lit< tt) (ap split_text start ∙ split.text)
-    (ap split_has_more start ∙ split.has_more) (ap split_pattern start ∙ split.pattern) in
-    let each = YieldsList-end all c.loop-part.yielded _ c.loop-part.yielded_by _ _ c.in-None.is c.next.ensures.steps in
-    let whole : string_bytes c.loop-part.text ++ 39 ∷ [] ≡ string_bytes c.args.text.now ++ stub_quoted c.args.word.now =
-    all_stub_quoted c.args.word.now (map (λ part. part.now) c.loop-part.yielded) _ _ _ c.loop-part.invariant each.0 in
+    let all = YieldsList-from_str_split 92 c.args.word.now (lit< tt)
+    (ap split_text start ∙ split.text) (ap split_has_more start ∙ split.has_more)
+    (ap split_pattern start ∙ split.pattern) in
+    let each = YieldsList-end all c.loop-part.yielded _ c.loop-part.yielded_by _ _ c.in-None.is
+    c.next.ensures.steps in
+    let whole : string_bytes c.loop-part.text ++ 39 ∷ []
+    ≡ string_bytes c.args.text.now ++ stub_quoted c.args.word.now =
+    all_stub_quoted c.args.word.now (map (λ part. part.now) c.loop-part.yielded) _ _ _
+    c.loop-part.invariant each.0 in
     grind (arith, common_steps)

@@ -10,7 +10,9 @@ use Rattle.getopts_shell.proofs.complete.read_words.Goals as goal
 pub returns-in-Err : goal.returns-in-Err
 returns-in-Err c =
     IfOk-weaker c.no_matches.result _ _
-    (λ found is. subst (λ (o : Option Matched). MatchOption o (¬ (HaveReading c.args.options.now (texts c.args.words.now)))
+    (λ found is. subst
+    (λ (o : Option Matched). MatchOption o
+    (¬ (HaveReading c.args.options.now (texts c.args.words.now)))
     (HasReading c.args.options.now (texts c.args.words.now))) (sym is.0)
     (λ reads. (rw is.2 at c.in-Err.ensures.refused).no_reading reads.0 reads.1))
     c.no_matches.ensures

@@ -1,18 +1,23 @@
-use Rattle.std.proofs.Common.{ap, ◌∙◌}
-use Rattle.std.proofs.lemmas.Result.{IfOk-weaker}
+use Rattle.std.proofs.Common.{◌≡◌, ◌++◌, Some, ap, append_assoc, string_bytes, sym, ◌∙◌}
+use Rattle.std.specs.Option.{option_map}
 use Rattle.getopts.specs.Names.{Text}
-use Rattle.getopts_shell.specs.Completion.{name_mark, offer_call, stub_of}
+use Rattle.getopts_shell.specs.Completion.{first_line, functions, stub_call}
 use Rattle.getopts_shell.proofs.complete.stub.Goals as goal
 
+-- the text is the first line, the functions and the call
 pub returns : goal.returns
 returns c =
-    let mark = name_mark c.args.name.now in
-    let call = offer_call c.args.shell.now c.args.stop c.args.long_only c.args.name.now c.args.table.now in
-    IfOk-weaker c.stub_of.result _ _
-    (λ text is. is
-    ∙ ap (λ (t : Text). stub_of c.args.shell.now t c.as_str-2.result.now c.as_str-3.result.now)
-    (c.as_str.ensures.value ∙ c.in_ok-mark.ensures)
-    ∙ ap (λ (t : Text). stub_of c.args.shell.now mark t c.as_str-3.result.now)
-    (c.as_str-2.ensures.value ∙ c.in_ok-call.ensures)
-    ∙ ap (λ (t : Text). stub_of c.args.shell.now mark call t) (c.as_str-3.ensures.value ∙ c.in_ok-name.ensures))
-    c.stub_of.ensures
+    let first = first_line c.args.shell.now c.args.name.now in
+    let own = c.in-Some.functions.now in
+    let call = stub_call c.args.stop c.args.long_only c.args.name.now c.args.table.now in
+    let front : string_bytes c.push_first_line.new.text ≡ first =
+    c.in_ok-push_first_line.ensures ∙ ap (λ (t : Text). t ++ first) c.new-text.ensures.bytes in
+    let text : string_bytes c.push_str-2.new.self ≡ first ++ (own ++ call) =
+    c.in_ok-push_str-2.ensures.bytes
+    ∙ ap (λ (t : Text). t ++ c.as_str.result.now)
+    (c.in_ok-push_str.ensures.bytes ∙ ap (λ (t : Text). t ++ own) front)
+    ∙ ap (λ (t : Text). (first ++ own) ++ t) (c.as_str.ensures.value ∙ c.in_ok-stub_call.ensures)
+    ∙ append_assoc first own call in
+    let own_is : functions c.args.shell.now ≡ Some own =
+    sym c.functions.ensures ∙ ap (option_map (λ text. text.now)) c.in-Some.is in
+    ap Some text ∙ sym (ap (option_map (λ (text : Text). first ++ (text ++ call))) own_is)

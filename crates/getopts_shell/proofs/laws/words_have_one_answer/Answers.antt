@@ -2,4 +2,5 @@ use Rattle.getopts_shell.proofs.OneAnswer.{one_answer}
 use Rattle.getopts_shell.proofs.laws.words_have_one_answer.Goals as goal
 
 pub returns : goal.returns
-returns c = one_answer c.equal_input_equal_answers.ensures.parse c.equal_input_equal_answers.ensures.canonical
+returns c = one_answer c.equal_input_equal_answers.ensures.parse
+    c.equal_input_equal_answers.ensures.canonical
