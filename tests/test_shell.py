@@ -228,7 +228,7 @@ def test_scripts_of_the_page(program, one_shell, tmp_path, monkeypatch):
             text = wrote
         common.expect(words, done, int(status), *((text, "") if status == "0" else ("", text)))
     code = common.run([*one_shell, "backup", "--completion", "fish"], cwd=tmp_path)
-    assert code.returncode == 0 and b"\ncomplete -c 'backup' -f -a " in code.stdout
+    assert code.returncode == 0 and b"\n_getopts_shell_complete 'backup' '\n-i|--input FILE " in code.stdout
 
 
 @HERE
