@@ -24,47 +24,44 @@ import sys
 from pathlib import Path
 
 HERE = Path(__file__).resolve().parent
+CRATE = HERE.parent / "crates/getopts_bench"
 TOOLS = {"instructions": ("--tool=callgrind --callgrind-out-file=/dev/null", r"Collected : ([\d,]+)"),
          "requests": ("--leak-check=no", r"total heap usage: ([\d,]+)"),
          "peak": ("--tool=dhat --dhat-out-file=/dev/null", r"At t-gmax: *([\d,]+)")}
 
-# The jobs: what a turn does, the line, and the two numbers of turns. Where a turn takes no memory, it is as long from the
-# first on.
-JOBS = {"small": ("whole", "small", 100, 300), "read-small": ("read", "small", 100, 300),
-        "canonical-small": ("canonical", "small", 100, 300), "copied-small": ("copied", "small", 100, 300),
-        "typical": ("whole", "typical", 100, 300), "read-typical": ("read", "typical", 100, 300),
-        "long": ("whole", "long", 5, 15), "read-long": ("read", "long", 5, 15),
-        "canonical-long": ("canonical", "long", 5, 15), "copied-long": ("copied", "long", 5, 15),
-        "many": ("whole", "many", 5, 15), "read-many": ("read", "many", 5, 15),
-        "canonical-many": ("canonical", "many", 5, 15), "copied-many": ("copied", "many", 5, 15),
-        "many11": ("whole", "many11", 5, 15), "front": ("whole", "front", 100, 300),
-        "read-front": ("read", "front", 100, 300), "asked-front": ("asked", "front", 100, 300),
-        "none": ("whole", "none", 100, 300), "equal": ("equal", "equal", 0, 1), "usage": ("usage", "usage", 100, 300),
-        "defined-4000": ("defined", "defined", 0, 1)}
+# How many turns of a line are taken from how many, where these are no 100 and 300. Where a turn takes no memory, it is as
+# long from the first on.
+TURNS = {"long": (5, 15), "many": (5, 15), "many11": (5, 15), "equal": (0, 1), "4000": (0, 1)}
+
+
+def turn_of(job):
+    """What a turn of a job does, the line, and the two numbers of turns."""
+    work, _, line = job.rpartition("-")
+    return work or (job if job in ("equal", "usage") else "whole"), line, *TURNS.get(line, (100, 300))
+
+
+JOBS = {job: turn_of(job) for job in """small read-small canonical-small copied-small typical read-typical long read-long
+    canonical-long copied-long many read-many canonical-many copied-many many11 front read-front asked-front none equal usage
+    defined-4000""".split()}
 # Of these the most bytes held at once are counted.
-MEMORY = {"memory": ("The most bytes held at once for reading 100,000 words, above the words and the options",
-                     "read", "memory", 0, 1),
-          "held": ("Bytes that matches of 20 options hold, whose descriptions have 1,000 bytes each",
-                   "held", "held", 10, 110)}
-
-FIVE = [("optmulti", "o", "output", "d", "H"), ("optflagmulti", "h", "help", "d"), ("optflagmulti", "v", "verbose", "d"),
-        ("optmulti", "L", "", "d", "H"), ("optmulti", "c", "color", "d", "H")]
-FLAGS = "a/all b/brief c/count h/help i/ignore-case l/files-with-matches n/line-number q/quiet r/recursive v/verbose /version"
-ARGUMENTS = "d/directory e/regexp f/file m/max-count o/output x/exclude C/ /include /color"
-TYPICAL = "-r -i --color=auto -e pattern --exclude=target -C3 --output out.txt src".split()
+MEMORY = [("peak", "The most bytes held at once for reading 100,000 words, above the words and the options",
+           {"memory": ("read", "memory", 0, 1)}),
+          ("peak", "Bytes that matches of 20 options hold, whose descriptions have 1,000 bytes each",
+           {"held": ("held", "held", 10, 110)})]
 
 
-def flags(names, desc="d"):
-    return [("optflagmulti", *name, desc) for name in names]
+def stored(line):
+    """The options of a line that getopts_bench has, each with the call that declares it, and the words."""
+    rows = [row.split("\t") for row in (CRATE / f"data/{line}.rows").read_text(encoding="utf-8").splitlines()]
+    return [row for row in rows if row[0].startswith("opt")], [row[1] for row in rows if row[0] == "word"]
 
 
-def typical(desc):
-    return flags((it.split("/") for it in FLAGS.split()), desc) + [
-        ("optmulti", *it.split("/"), desc, "H") for it in ARGUMENTS.split()]
+def flags(names):
+    return [("optflagmulti", *name, "d") for name in names]
 
 
 def long(rounds):
-    return FIVE, [word for at in range(rounds) for word in ("-v", f"-Ldir{at}", "--verbose", f"file{at}")]
+    return stored("small")[0], [word for at in range(rounds) for word in ("-v", f"-Ldir{at}", "--verbose", f"file{at}")]
 
 
 def many(front):
@@ -76,29 +73,24 @@ def many(front):
     return options, words
 
 
-# The lines: their options, each with the call that declares it, and their words.
+def held():
+    options, words = stored("typical")
+    return [[*option[:3], "d" * 1000, *option[4:]] for option in options], words
+
+
+# The lines that are made: their options and their words.
 LINES = {
-    "small": lambda: (FIVE, ["--output=x.txt", "--verbose", "in.txt"]),
-    "typical": lambda: (typical("d"), TYPICAL),
     "long": lambda: long(250), "memory": lambda: long(25_000),
-    "many": lambda: many("name"), "many11": lambda: many("the-name"),
-    "front": lambda: (flags(("", f"option-name-{at}") for at in range(20)),
-                      [f"--option-name-{at}" for at in (3, 17, 0, 3)] + ["file"]),
-    "none": lambda: ([], ["file"]),
+    "many": lambda: many("name"), "many11": lambda: many("the-name"), "held": held,
     "equal": lambda: (flags([*(("", f"n{at:04}") for at in range(998)), ("a", ""), ("b", "")]),
                       ["-ab"] * 1000 + ["-ba"] * 1000),
-    "usage": lambda: ([("optmulti", "o", "output", "set output file name", "NAME"),
-                       ("optflagmulti", "h", "help", "print this help menu"),
-                       ("optflagmulti", "v", "verbose", "say more"), ("optmulti", "L", "", "add a folder", "DIR"),
-                       ("optflagopt", "c", "color", "colour the output", "WHEN")], []),
-    "defined": lambda: (flags(("", f"n{at:04}") for at in range(4000)), []),
-    "held": lambda: (typical("d" * 1000), TYPICAL),
+    "4000": lambda: (flags(("", f"n{at:04}") for at in range(4000)), []),
 }
 
 
 def rows(line):
     """The rows of a line, as getopts_bench and the peers read them."""
-    options, words = LINES[line]()
+    options, words = LINES.get(line, lambda: stored(line))()
     said = [*options, ("words", str(len(words))), *(("word", word) for word in words)]
     return "".join("\t".join(row) + "\n" for row in said)
 
@@ -134,13 +126,12 @@ def built(out, getopts):
     build = HERE.parent / "tests/differential/build.sh"
     subprocess.run(["bash", build, HERE / "peers", out / "peers", *([getopts] if getopts else [])], check=True)
     subprocess.run(["bash", build, HERE / "peers", out / "over_ours", HERE.parent / "bindings/rust"], check=True)
-    crate = HERE.parent / "crates/getopts_bench"
     if "OURS" not in os.environ:
         print("bench.py: proves and builds getopts_bench, some minutes where nothing is kept ..", file=sys.stderr)
-        subprocess.run(["rt", "run", "--", "whole", crate / "data/small.rows", "1"], cwd=crate, check=True,
+        subprocess.run(["rt", "run", "--", "whole", CRATE / "data/small.rows", "1"], cwd=CRATE, check=True,
                        stdout=subprocess.DEVNULL)
     peers, ours = (out / f"{name}/target/release/peers" for name in ("peers", "over_ours"))
-    return {"this library": [os.environ.get("OURS", crate / "out/getopts_bench")], "Rust crate": [peers, "getopts"],
+    return {"this library": [os.environ.get("OURS", CRATE / "out/getopts_bench")], "Rust crate": [peers, "getopts"],
             "bindings/rust": [ours, "getopts"], "lexopt": [peers, "lexopt"], "pico-args": [peers, "pico-args"],
             "clap": [peers, "clap"]}
 
@@ -164,19 +155,16 @@ def tables(out, getopts, asked):
     programs = built(out, getopts)
     lock = (out / "peers/Cargo.lock").read_text()
     versions = re.findall(r'^name = "(getopts|lexopt|pico-args|clap|unicode-width)"\nversion = "(.*)"', lock, re.M)
-    said = [subprocess.run([tool, "--version"], capture_output=True, text=True).stdout.strip()
-            for tool in ("valgrind", "rustc")]
+    said = [subprocess.check_output([tool, "--version"], text=True).strip() for tool in ("valgrind", "rustc")]
     print("# " + ", ".join([*(" ".join(it) for it in versions), *said]))
     head = f"{'job':<16} " + " ".join(f"{column:>14}" for column in programs)
-    for what, title in (("instructions", "Instructions of one turn"), ("requests", "Requests for memory of one turn")):
-        print(f"\n{title}\n{head}")
-        for job, how in JOBS.items():
-            if not asked or job in asked:
-                row(out, programs, what, job, *how)
-    for job, (title, *how) in MEMORY.items():
-        if not asked or job in asked:
+    for what, title, jobs in (("instructions", "Instructions of one turn", JOBS),
+                              ("requests", "Requests for memory of one turn", JOBS), *MEMORY):
+        chosen = [job for job in jobs if not asked or job in asked]
+        if chosen:
             print(f"\n{title}\n{head}")
-            row(out, programs, "peak", job, *how)
+        for job in chosen:
+            row(out, programs, what, job, *jobs[job])
     print("\n* its sum isn't this library's")
 
 

@@ -13,6 +13,8 @@ from pathlib import Path
 import pytest
 
 sys.dont_write_bytecode = True
+os.environ["LC_ALL"] = "C.UTF-8"
+os.environ.pop("POSIXLY_CORRECT", None)
 ROOT = Path(__file__).resolve().parents[1]
 MACHINE = platform.machine()
 VECTORS = ROOT / "crates/getopts_vectors"
@@ -36,12 +38,6 @@ def pytest_addoption(parser):
     parser.addoption("--getopts", help="a folder with the Rust crate getopts 0.2.24")
 
 
-def pytest_configure(config):
-    config.addinivalue_line("markers", "built: takes programs or libraries that the proofs leave")
-    os.environ["LC_ALL"] = "C.UTF-8"
-    os.environ.pop("POSIXLY_CORRECT", None)
-
-
 def pytest_collection_modifyitems(items):
     for item in items:
         if {"show", "shell", "vectors", "bench", "built"} & set(item.fixturenames):
@@ -49,13 +45,10 @@ def pytest_collection_modifyitems(items):
 
 
 @pytest.fixture(scope="session")
-def quick(request):
-    return request.config.getoption("--quick")
-
-
-@pytest.fixture(scope="session")
-def fix(request):
-    return request.config.getoption("--fix")
+def other_targets(request):
+    """Skips a test of another target in a quick run."""
+    if request.config.getoption("--quick"):
+        pytest.skip("--quick: no other targets")
 
 
 @pytest.fixture(scope="session")
@@ -114,24 +107,43 @@ def program(crate):
     return built
 
 
-@pytest.fixture(scope="session")
-def show():
-    return program("getopts_show")
+def built(name, crate):
+    return pytest.fixture(lambda: program(crate), scope="session", name=name)
+
+
+show, shell = built("show", "getopts_show"), built("shell", "getopts_shell")
+vectors, bench = built("vectors", "getopts_vectors"), built("bench", "getopts_bench")
 
 
 @pytest.fixture(scope="session")
-def shell():
-    return program("getopts_shell")
+def carried():
+    """The program for this machine that bindings/shell carries."""
+    there = ROOT / f"bindings/shell/{MACHINE}/getopts_shell"
+    if not there.exists():
+        pytest.skip(f"bindings/shell carries no program for {MACHINE}")
+    return there
 
 
-@pytest.fixture(scope="session")
-def vectors():
-    return program("getopts_vectors")
+def rows_in(file):
+    """The rows of a file: the fields of each, between tabs, and the text below it, each line after '> '. A row 'text' has a
+    text, or how often and what, that {NAME} stands for below."""
+    rows, texts = [], {}
 
+    def whole(text):
+        return re.sub(r"\{([A-Z]+)\}", lambda it: texts[it[1]], text)
 
-@pytest.fixture(scope="session")
-def bench():
-    return program("getopts_bench")
+    def field(text):
+        return whole(re.sub(r"\\(.)", lambda it: {"t": "\t", "n": "\n", "r": "\r"}.get(it[1], it[1]), text))
+
+    for row in re.findall(r"^[^#>\n].*(?:\n>.*)*", (ROOT / file).read_text(encoding="utf-8"), re.M):
+        first, *below = row.split("\n")
+        fields = [field(one) for one in first.split("\t")]
+        text = "".join(f"{whole(line[2:])}\n" for line in below)
+        if fields[0] == "text":
+            texts[fields[1]] = fields[3] * int(fields[2]) if fields[2:] else text[:-1]
+        else:
+            rows.append((fields, text))
+    return rows
 
 
 @functools.cache
@@ -171,14 +183,18 @@ def manual(page):
     assert run("man", "--warnings", "-E", "UTF-8", "-l", page)[1] == ""
 
 
+def preloaded(source, room):
+    """A library to preload, built by the toolchain's compiler and linker."""
+    tools, flags = kit() / "toolchain/bin", "-O2 -Wall -Wextra -Werror -ffreestanding -nostdinc -fPIC -c".split()
+    run(tools / "clang", *flags, source, "-o", room / "it.o")
+    run(tools / "ld.lld", "-shared", "-o", room / "it.so", room / "it.o")
+    return room / "it.so"
+
+
 @pytest.fixture(scope="session")
 def refuse(tmp_path_factory):
-    """What refuses memory, as a library to preload, built by the toolchain's compiler or this machine's."""
-    tools, room = kit() / "toolchain/bin", tmp_path_factory.mktemp("refuse")
-    flags = "-O2 -Wall -Wextra -Werror -ffreestanding -nostdinc -fPIC -c".split()
-    run(tools / "clang", *flags, ROOT / "tests/memory/refuse.c", "-o", room / "refuse.o")
-    run(tools / "ld.lld", "-shared", "-o", room / "refuse.so", room / "refuse.o")
-    return room / "refuse.so"
+    """What refuses memory, as a library to preload."""
+    return preloaded(ROOT / "tests/memory/refuse.c", tmp_path_factory.mktemp("refuse"))
 
 
 def refused_in_turn(preload, words, refusal=(b"", 3), like=None, marks=False, by=()):

@@ -1,6 +1,9 @@
 """A second reader of the rules, by docs/GRAMMAR.md alone: a search for readings and for faults, as they are defined, and
 what rows of text ask of them."""
 
+import re
+
+ESCAPES = {b"\\": b"\\\\", b"\t": b"\\t", b"\n": b"\\n", b"\r": b"\\r"}
 KINDS = {  # of argument and of occurrence, by the call that declares the group
     "optflag": ("no", "optional"), "optflagmulti": ("no", "multi"), "optflagopt": ("maybe", "optional"),
     "optmulti": ("yes", "multi"), "optopt": ("yes", "optional"), "reqopt": ("yes", "req"),
@@ -167,18 +170,11 @@ def first_character(text):
 
 
 def field(text):
-    for byte, letter in ((b"\\", b"\\\\"), (b"\t", b"\\t"), (b"\n", b"\\n"), (b"\r", b"\\r")):
-        text = text.replace(byte, letter)
-    return text
+    return re.sub(rb"[\\\t\n\r]", lambda it: ESCAPES[it[0]], text)
 
 
 def text_of(written):
-    out, rest = b"", written
-    while b"\\" in rest:
-        before, _, rest = rest.partition(b"\\")
-        out += before + {b"t": b"\t", b"n": b"\n", b"r": b"\r", b"\\": b"\\"}[rest[:1]]
-        rest = rest[1:]
-    return out + rest
+    return re.sub(rb"\\.", lambda it: {escape: byte for byte, escape in ESCAPES.items()}[it[0]], written)
 
 
 def line(*fields):

@@ -54,14 +54,18 @@ def runner(target, room):
     return words
 
 
+def need_std(target):
+    if not Path(run(OLD["RUSTC"], "--print", "target-libdir", "--target", target)[0].strip()).exists():
+        pytest.skip(f"/usr/bin/rustc has no std for {target}: see tests/targets.py")
+
+
 def cargo_for(target, folder, *words, env=None):
     """Runs Debian's cargo for a target on a copy of a crate, in whose folder it writes, and returns what it wrote."""
     cargo, (linker, by) = Path("/usr/bin/cargo"), TARGETS[target]
     if not cargo.exists() or not offline():
         pytest.skip("there is no /usr/bin/cargo or no unicode-width: apt-get install cargo librust-unicode-width-dev")
     need(*[linker] if linker else [])
-    if not Path(run(OLD["RUSTC"], "--print", "target-libdir", "--target", target)[0].strip()).exists():
-        pytest.skip(f"/usr/bin/rustc has no std for {target}: see tests/targets.py")
+    need_std(target)
     name = f"CARGO_TARGET_{target.upper().replace('-', '_')}"
     settings = {f"{name}_LINKER": linker, f"{name}_RUNNER": " ".join(runner(target, folder)) if by else None}
     env = {**{key: word for key, word in settings.items() if word}, **(env or {})}

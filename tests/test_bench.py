@@ -1,10 +1,10 @@
 """What the programs take, as valgrind counts it: some jobs are near their record, and a shell script's call is short."""
 
-import importlib.util
 import re
 
+import bench as bench_py
 import pytest
-from conftest import MACHINE, ROOT, need, run
+from conftest import ROOT, need, run
 
 # How far a job may be from its record: C libraries differ.
 WITHIN = 0.02
@@ -12,16 +12,8 @@ WITHIN = 0.02
 MOST = 38_000
 
 
-@pytest.fixture(scope="module")
-def bench_py():
-    spec = importlib.util.spec_from_file_location("bench_py", ROOT / "bench/bench.py")
-    module = importlib.util.module_from_spec(spec)
-    spec.loader.exec_module(module)
-    return module
-
-
 @pytest.mark.parametrize("job", ["small", "typical", "long", "many", "usage"])
-def test_near_its_record(job, bench, bench_py, tmp_path):
+def test_near_its_record(job, bench, tmp_path):
     need("valgrind")
     work, line, few, more = bench_py.JOBS[job]
     (tmp_path / "rows").write_text(bench_py.rows(line), encoding="utf-8")
@@ -32,21 +24,15 @@ def test_near_its_record(job, bench, bench_py, tmp_path):
     assert abs(counted - int(recorded[1])) <= WITHIN * int(recorded[1]), f"{counted}: run bench/bench.py again"
 
 
-@pytest.mark.parametrize("file", sorted((ROOT / "crates/getopts_bench/data").glob("*.rows"), key=str))
-def test_stored_rows_are_those_of_the_script(file, bench_py):
-    if file.stem != "equal":
-        assert file.read_text(encoding="utf-8") == bench_py.rows(file.stem)
-
-
-def test_shell_call(bench_py):
+def test_shell_call(carried):
     need("valgrind", "getopt")
-    if not (ROOT / f"bindings/shell/{MACHINE}/getopts_shell").exists():
-        pytest.skip(f"there is no bindings/shell/{MACHINE}/getopts_shell")
-    assert 0 < bench_py.shell()["getopts_shell"] <= MOST
+    assert 0 < bench_py.shell(carried)["getopts_shell"] <= MOST
 
 
-def test_count_and_rows(bench_py):
+def test_count_and_rows():
     """The script's own calls."""
-    need("valgrind")
-    assert run(ROOT / "bench/bench.py", "--rows", "none")[0] == bench_py.rows("none")
+    need("valgrind", "getopt")
+    stored = (ROOT / "crates/getopts_bench/data/none.rows").read_text(encoding="utf-8")
+    assert run(ROOT / "bench/bench.py", "--rows", "none")[0] == bench_py.rows("none") == stored
     assert int(run(ROOT / "bench/bench.py", "--count", "requests", "0", "1", "/bin/echo")[0]) >= 0
+    assert run(ROOT / "bench/bench.py", "--shell", "/bin/true")[0].count(": ") == 3

@@ -4,11 +4,10 @@ import os
 import re
 import shlex
 import shutil
-from pathlib import Path
 
 import pytest
 from conftest import LINES, ROOT, ROWS, answer, manual, need, refused_in_turn, run
-from targets import cargo_for, copied, offline, runner
+from targets import OLD, cargo_for, copied, need_std, offline, runner
 
 C = ROOT / "bindings/c"
 WARNINGS = "-std=c11 -Wall -Wextra -Wpedantic -Wshadow -Wconversion -Wno-sign-conversion -Werror".split()
@@ -51,11 +50,11 @@ def library(tmp_path_factory):
 
 
 @pytest.fixture(params=BUILDS)
-def build(request, tmp_path, quick, library):
+def build(request, tmp_path, library):
     """Builds a program of a source as one compiler does, and returns the words that run it."""
     compiler, target, by = BUILDS[request.param]
-    if quick and target:
-        pytest.skip("other targets: this is the quick test")
+    if target:
+        request.getfixturevalue("other_targets")
     need(compiler[0], *(by or [])[:1])
     by = runner(target, tmp_path) if by is None else by
     archive = library(target)
@@ -88,7 +87,8 @@ def test_calls_under_refused_memory(build):
 
 
 def test_random_tables_and_words(build, cases):
-    run(*build(C / "tests/random.c"), cases(40_000) if build.name in ("gcc", "clang-san") else cases(4_000))
+    # Of fewer not each status comes.
+    run(*build(C / "tests/random.c"), max(4_000, cases(40_000 if build.name in ("gcc", "clang-san") else 4_000)))
 
 
 def test_threads(build):
@@ -164,7 +164,8 @@ def prefix(tmp_path_factory):
 
 
 @pytest.fixture(params=["getopts", "getopts-static"])
-def flags(request, prefix):
+def flags(request, prefix, monkeypatch):
+    monkeypatch.setenv("LD_LIBRARY_PATH", str(prefix / "lib"))
     env = {"PKG_CONFIG_PATH": str(prefix / "lib/pkgconfig")}
     version = re.search(r'GETOPTS_VERSION "(.*)"', (C / "getopts.h").read_text())[1]
     assert run("pkg-config", "--modversion", request.param, env=env)[0] == f"{version}\n"
@@ -173,25 +174,22 @@ def flags(request, prefix):
 
 
 @pytest.mark.parametrize("compiler", ["gcc", "clang", "gcc-san", "clang-san"])
-def test_example(compiler, flags, prefix, tmp_path):
+def test_example(compiler, flags, tmp_path):
     command = BUILDS[compiler][0]
     need(command[0])
     run(*command, *WARNINGS, C / "head.c", *flags, "-o", tmp_path / "head")
     for name in ("FILE", "\udcff.txt"):
         (tmp_path / name).write_text("1\n2\n3\n")
     for status, output, errors, words in HEAD:
-        env = {"LD_LIBRARY_PATH": str(prefix / "lib")}
-        out, err = run(tmp_path / "head", *words, status=status, cwd=tmp_path, env=env)
+        out, err = run(tmp_path / "head", *words, status=status, cwd=tmp_path)
         assert ("".join(out.splitlines(True)[:2]).startswith(output), err) == (True, errors), words
 
 
 @pytest.mark.parametrize("compiler", ["g++", "clang++"])
-def test_cpp(compiler, flags, prefix, tmp_path):
+def test_cpp(compiler, flags, tmp_path):
     need(compiler)
     run(compiler, *PLUS_WARNINGS, C / "tests/installed.cpp", *flags, "-o", tmp_path / "plus")
-    words = "--verbose -ox --verbose a --verbose".split()
-    out = run(tmp_path / "plus", *words, env={"LD_LIBRARY_PATH": str(prefix / "lib")})[0]
-    assert out == "2 x a --verbose\n"
+    assert run(tmp_path / "plus", *"--verbose -ox --verbose a --verbose".split())[0] == "2 x a --verbose\n"
 
 
 def test_exports(prefix):
@@ -229,13 +227,12 @@ def test_installed_for(compiler, link, show_c, tmp_path):
 
 def test_installed_for_another_target(show_c, tmp_path):
     """By the folder that has Debian's rustc, whose cargo is asked for what newer ones have."""
-    by, compiler = runner("aarch64-unknown-linux-gnu", tmp_path), "aarch64-linux-gnu-gcc"
+    target, compiler = "aarch64-unknown-linux-gnu", "aarch64-linux-gnu-gcc"
+    by = runner(target, tmp_path)
     need("/usr/bin/cargo", compiler)
-    env = {"CARGO": "/usr/bin/cargo", "CARGO_FLAGS": "--ignore-rust-version", "RUSTFLAGS": "--cfg old_rustc",
-           "RUSTC": "/usr/bin/rustc", "RUSTC_BOOTSTRAP": "1", "CARGO_BUILD_TARGET": "aarch64-unknown-linux-gnu"}
-    std = run("/usr/bin/rustc", "--print", "target-libdir", "--target", env["CARGO_BUILD_TARGET"])[0].strip()
-    if not Path(std).exists():
-        pytest.skip("/usr/bin/rustc has no std for aarch64: see tests/targets.py")
+    need_std(target)
+    env = {**OLD, "CARGO": "/usr/bin/cargo", "CARGO_FLAGS": "--ignore-rust-version", "RUSTFLAGS": "--cfg old_rustc",
+           "CARGO_BUILD_TARGET": target}
     _, errors = run("sh", C / "install.sh", tmp_path / "to", env=env, status=1)
     assert "CC has to name the C compiler for aarch64-unknown-linux-gnu" in errors
     run("sh", C / "install.sh", tmp_path / "to", env={**env, "CC": compiler})

@@ -9,7 +9,6 @@ import functools
 import os
 import re
 import shutil
-import subprocess
 import textwrap
 
 import pytest
@@ -21,21 +20,19 @@ def read(name):
     return (ROOT / name).read_text(encoding="utf-8")
 
 
-def output_of(*command):
-    return subprocess.run(command, capture_output=True, text=True, check=True, cwd=ROOT).stdout
-
-
 tracked = all_tracked()
 pages = {name: read(name) for name in tracked if name.endswith(".md")}
+sources = {name: read(name) for name in tracked if re.match(r"crates/\w*/src/.*\.rt$", name)}
+CALLING, CONTRACTS = (next(name for name in pages if name.endswith(end)) for end in ("CALLING.md", "CONTRACTS.md"))
+edits = {os.path.basename(name)[:-5] for name in tracked if name.endswith(".edit") and "/private/" not in name}
 
 
-def place(page, at):
-    """A page, and the line of a place in it."""
-    return f"{page}:{pages[page].count(chr(10), 0, at) + 1}"
+def none(failures):
+    failures = list(dict.fromkeys(failures))
+    assert not failures, "\n".join(failures)
 
 
-# ---- what is recorded ----
-
+# ---- figures
 
 @functools.cache
 def tables():
@@ -79,17 +76,12 @@ def minutes(command):
 @functools.cache
 def logic():
     """The sum of the logic that the toolchain proves with."""
-    return output_of("rt", "version").split()[-1] if shutil.which("rt") else "unknown"
+    return run("rt", "version")[0].split()[-1] if shutil.which("rt") else "unknown"
 
 
 INSTRUCTIONS = "Instructions of one turn"
 PEAK = "The most bytes held at once for reading 100,000 words, above the words and the options"
-COLUMNS = {"this library": "this library", "Rust crate": "Rust crate", "drop-in": "bindings/rust", "lexopt": "lexopt",
-           "pico-args": "pico-args", "clap": "clap"}
-
-CALLING = next(name for name in pages if name.endswith("CALLING.md"))
 # The figures that stand in no table of jobs: a page, a pattern whose groups are figures, and what each has to be.
-edits = {os.path.basename(name)[:-5] for name in tracked if name.endswith(".edit") and "/private/" not in name}
 FIGURES = [
     ("README.md", r"\| ([\d,]+) named wrong bodies", lambda: [str(len(edits))]),
     ("README.md", r"logic `(\w+)`", lambda: [logic()]),
@@ -102,15 +94,11 @@ FIGURES = [
      lambda: [share("small", "bindings/rust"), share("long", "bindings/rust")]),
     ("docs/DECISIONS.md", r"Up to (\d+) groups have no table",
      lambda: re.findall(r"const FEW: usize = (\d+)", read("crates/getopts/src/table.rt"))),
-    (CALLING, r"the library once, in ([^|]*?) of processor time, by the clock in ([^|]*?)\s+on four", lambda: minutes("rt lib")),
     ("tests/differential/README.md", r"first ([\d,]+) of seed 1",
      lambda: [f"{int(re.search(r'choose 1 (.*?) ', read('tests/differential/record.sh'))[1]):,}"]),
-    ("bindings/rust/README.md", r"Rust ([\d.]+) or later",
-     lambda: re.findall(r'rust-version = "(.*)"', read("bindings/rust/Cargo.toml"))),
-    ("bindings/c/README.md", r"Rust ([\d.]+) or later",
-     lambda: re.findall(r'rust-version = "(.*)"', read("bindings/c/Cargo.toml"))),
-    ("bindings/shell/README.md", r"Rust ([\d.]+) or later",
-     lambda: re.findall(r'rust-version = "(.*)"', read("bindings/shell/Cargo.toml"))),
+    *((f"bindings/{folder}/README.md", r"Rust ([\d.]+) or later",
+       lambda folder=folder: re.findall(r'rust-version = "(.*)"', read(f"bindings/{folder}/Cargo.toml")))
+      for folder in ("rust", "c", "shell")),
     ("bench/README.md", r"holds is ([\d.]+) MB here, ([\d.]+) MB in the Rust\s+crate and ([\d.]+) MB",
      lambda: [megabytes("this library"), megabytes("Rust crate"), megabytes("bindings/rust")]),
 ]
@@ -119,14 +107,8 @@ FIGURES = [
 NO_FIGURES = re.compile(r"""
     \bU\+\w+ | \b0\.2\.24\b | Apache-2\.0 | x86-64(-v2)?
     | 1,000\ words | 100,000\ words | 20\ options | 10\ words
-    | (32|64)\ bits | 54\ columns | 24\ (spaces|columns) | stop\ at\ 255 | 24\ bytes | C\+\+11 | Debian\ 12 | 80\ words | 200,000\ cases
-    # experiments that were done once
-    | 2,500\ random\ lines | 393\ small\ changes | detected\ 375 | 585\ small\ changes | detected\ 492 | 54\ of\ the\ other\ 93 | 39\ are
+    | (32|64)\ bits | 54\ columns | 24\ (spaces|columns) | stop\ at\ 255 | 24\ bytes | 4\.2\ or\ later | C\+\+11 | Debian\ 12 | 80\ words | 200,000\ cases
 """, re.X)
-
-
-# ---- what is compared ----
-
 
 def table_figures(page):
     """The figures in tables of jobs, by the job and the column of each."""
@@ -137,8 +119,8 @@ def table_figures(page):
             columns = [it for _, it in cells]
         elif columns and (job := re.match(r"`([\w-]+)`", cells[0][1])):
             for (at, cell_text), column in list(zip(cells, columns))[1:]:
-                if column in COLUMNS and (INSTRUCTIONS, job[1]) in tables():
-                    wanted = tables()[INSTRUCTIONS, job[1]].get(COLUMNS[column], "0")
+                wanted = tables().get((INSTRUCTIONS, job[1]), {}).get("bindings/rust" if column == "drop-in" else column)
+                if wanted:
                     yield at, cell_text, re.sub(r"^\d+", lambda it: f"{int(it[0]):,}", wanted)
 
 
@@ -175,15 +157,18 @@ def put_in(page):
         pages[page] = text
 
 
-# ---- what is checked ----
+@pytest.mark.parametrize("page", pages)
+def test_figures(page, request):
+    def place(at):
+        return f"{page}:{pages[page].count(chr(10), 0, at) + 1}"
+
+    if request.config.getoption("--fix"):
+        put_in(page)
+    none([f"{place(at)}: {is_now} has to be {wanted}" for at, is_now, wanted in figures_of(page) if is_now != wanted] +
+         [f"{place(at)}: no check knows the figure {it}" for at, it in unknown_in(page)])
 
 
-def none(failures):
-    failures = list(dict.fromkeys(failures))
-    assert not failures, "\n".join(failures)
-
-
-# ---- code ----
+# ---- code
 
 USE = re.compile(r"^[ \t]*(?:pub )?(?:ghost )?use ([^;{\n]*?)(?:\{([^}]*)\})?;?[ \t]*$\n?", re.M)
 
@@ -196,9 +181,6 @@ def imports_of(text):
         for name in several.split(",") if several else [last]:
             names[name.strip()] = path.strip() if several else front
     return names
-
-
-sources = {name: read(name) for name in tracked if re.match(r"crates/\w*/src/.*\.rt$", name)}
 
 
 blocks = [(page, block) for page in ("README.md", CALLING)
@@ -220,10 +202,7 @@ def test_code_of_the_pages(page, block):
         assert name not in here or here[name] == there.get(name), f"{found[0]} doesn't import {name} from there"
 
 
-# ---- contracts ----
-
-CONTRACTS = next(name for name in pages if name.endswith("CONTRACTS.md"))
-
+# ---- contracts
 
 def contracts_in(text):
     """Each public function of a module's text, with the type that it is of, its name and its contract."""
@@ -259,16 +238,16 @@ def contracts():
     return "\n\n".join(parts) + "\n"
 
 
-def test_contracts(fix):
+def test_contracts(request):
     """CONTRACTS.md has the contract of each public function, as the sources have it."""
     wanted = re.sub(r"^```\w+\n.*?^```", lambda _: f"```text\n{contracts()}```", pages[CONTRACTS], flags=re.M | re.S)
-    if fix and wanted != pages[CONTRACTS]:
+    if request.config.getoption("--fix") and wanted != pages[CONTRACTS]:
         (ROOT / CONTRACTS).write_text(wanted, encoding="utf-8")
         pages[CONTRACTS] = wanted
     assert pages[CONTRACTS] == wanted, "pytest tests/test_pages.py --fix writes it anew"
 
 
-# ---- promises ----
+# ---- promises
 
 def clauses_of():
     """The named clauses of each function."""
@@ -293,7 +272,7 @@ def test_promises_have_clauses():
     none(lacking)
 
 
-# ---- names ----
+# ---- names
 
 @pytest.mark.parametrize("crate", ["getopts", "getopts_show", "getopts_bytes", "getopts_shell"])
 def test_definitions_are_in_the_grammar(crate):
@@ -320,7 +299,7 @@ def test_edits_are_in_the_proofs():
 
 
 # Names of the toolchain, of Rust and of Debian's packages.
-OTHERS = """Lends LendsIfOk RestsIfErr Send Sync unicode-width x86-64-v2 POSIXLY_CORRECT optind IFS copied-
+OTHERS = """Send Sync unicode-width x86-64-v2 POSIXLY_CORRECT optind IFS copied-
     librust-clap-dev librust-lexopt-dev librust-pico-args-dev librust-unicode-width-dev"""
 
 
@@ -355,7 +334,7 @@ def test_names_and_links(page):
     none(failures)
 
 
-# ---- modules ----
+# ---- modules
 
 @pytest.mark.parametrize("crate", sorted({name.split("/")[1] for name in sources}))
 def test_no_module_uses_one_that_uses_it(crate):
@@ -367,18 +346,6 @@ def test_no_module_uses_one_that_uses_it(crate):
         for module in ready:
             del left[module]
     assert not left, f"in a circle: {', '.join(left)}"
-
-
-# ---- figures and scripts ----
-
-
-@pytest.mark.parametrize("page", pages)
-def test_figures(page, fix):
-    if fix:
-        put_in(page)
-    failures = [f"{place(page, at)}: {is_now} has to be {wanted}"
-                for at, is_now, wanted in figures_of(page) if is_now != wanted]
-    none(failures + [f"{place(page, at)}: no check knows the figure {it}" for at, it in unknown_in(page)])
 
 
 def test_shell_scripts():

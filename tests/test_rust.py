@@ -1,8 +1,8 @@
 """The Rust crate: it is the proved source, its form, and it answers as the crate getopts 0.2.24, on five targets."""
 
+import itertools
 import re
 import shutil
-import subprocess
 import sys
 from pathlib import Path
 
@@ -22,14 +22,16 @@ def same_tokens(source, folder):
     return answer(sys.executable, RUST / "same_tokens.py", source, folder)
 
 
+def edited(file, right, wrong):
+    """Puts a wrong text in the place of a right one that stands there."""
+    text = file.read_text()
+    assert right in text
+    file.write_text(text.replace(right, wrong, 1))
+
+
 @pytest.mark.parametrize("crate", ERASED)
 def test_tokens_are_those_of_the_source(crate):
     assert same_tokens(ROOT / f"crates/{crate}/src", ERASED[crate]) == (b"", 0)
-
-
-def test_erased_source_is_that_of_today():
-    need("rustfmt")
-    assert run(sys.executable, RUST / "erase.py", "--check") == ("", "")
 
 
 @pytest.mark.parametrize("file, right, wrong", [
@@ -38,9 +40,8 @@ def test_erased_source_is_that_of_today():
     ("table.rs", "entries.dedup_by", "entries.reverse(); entries.dedup_by")])
 def test_other_tokens_are_found(file, right, wrong, tmp_path):
     shutil.copytree(ERASED["getopts"], tmp_path / "planted")
-    planted = tmp_path / "planted" / file
-    planted.write_text(planted.read_text().replace(right, wrong, 1))
-    assert wrong in planted.read_text() and same_tokens(ROOT / "crates/getopts/src", tmp_path / "planted")[1] == 1
+    edited(tmp_path / "planted" / file, right, wrong)
+    assert same_tokens(ROOT / "crates/getopts/src", tmp_path / "planted")[1] == 1
 
 
 @pytest.fixture
@@ -77,15 +78,8 @@ def test_readers_stop(plant, reader, tmp_path):
 def test_eraser_stops(file, right, wrong, why, reader):
     eraser, source = reader
     shutil.copytree(ROOT / "crates/getopts/src", source, dirs_exist_ok=True)
-    text = (source / file).read_text()
-    assert right in text
-    (source / file).write_text(text.replace(right, wrong, 1))
+    edited(source / file, right, wrong)
     assert re.search(rf"{file}:\d+: {re.escape(why)}", run(sys.executable, eraser, "--check", status=1)[1])
-
-
-def test_licences():
-    for name in ("LICENSE-MIT", "LICENSE-APACHE", "NOTICE"):
-        assert (ROOT / name).read_bytes() == (ROOT / "crates/getopts" / name).read_bytes() == (RUST / name).read_bytes()
 
 
 # ---- the crate
@@ -152,6 +146,18 @@ def test_example_answers_as_getopts_show(line, example, show):
 
 # ---- beside the crate getopts 0.2.24
 
+def twin_over(room, over, edit=None):
+    """A copy of tests/differential's program over a copy of a crate."""
+    ignored = shutil.ignore_patterns("target", "Cargo.lock")
+    for source, to in ((TWIN, "twin"), (over, "crate")):
+        shutil.copytree(source, room / to, ignore=ignored)
+    if edit:
+        edited(room / "crate/src" / edit[0], *edit[1:])
+    with open(room / "twin/Cargo.toml", "a") as file:
+        file.write('\n[patch.crates-io]\ngetopts = { path = "../crate" }\n')
+    return room / "twin"
+
+
 @pytest.fixture(scope="module")
 def twin(tmp_path_factory):
     """twin(CRATE, FLAG..): the program of tests/differential over a crate in a folder."""
@@ -160,18 +166,9 @@ def twin(tmp_path_factory):
 
     def twin(over, *flags, edit=None):
         if (over, flags, edit) not in built:
-            room = tmp_path_factory.mktemp("twin")
-            shutil.copytree(TWIN, room / "twin")
-            shutil.copytree(over, room / "crate", ignore=shutil.ignore_patterns("target", "Cargo.lock"))
-            if edit:
-                file, right, wrong = edit
-                text = (room / "crate/src" / file).read_text()
-                assert right in text
-                (room / "crate/src" / file).write_text(text.replace(right, wrong))
-            with open(room / "twin/Cargo.toml", "a") as file:
-                file.write('\n[patch.crates-io]\ngetopts = { path = "../crate" }\n')
-            run("cargo", "build", "--release", *offline(), *flags, cwd=room / "twin")
-            built[over, flags, edit] = room / "twin/target/release/twin"
+            folder = twin_over(tmp_path_factory.mktemp("twin"), over, edit)
+            run("cargo", "build", "--release", *offline(), *flags, cwd=folder)
+            built[over, flags, edit] = folder / "target/release/twin"
         return built[over, flags, edit]
 
     return twin
@@ -187,44 +184,36 @@ def test_rows(ours, rows):
     assert ", 0 differ" in run(ours, "check", rows)[0]
 
 
-def differ(room, ours, theirs, seed, count):
-    """What two twins answer to so many cases of a seed, compared."""
+def differing(ours, theirs, seed, count):
+    """The first of so many cases of a seed that two twins answer otherwise."""
     cases = run(theirs, "generate", seed, count)[0]
-    (room / "theirs").write_text(run(theirs, "answer", input=cases)[0])
-    (room / "ours").write_text(run(ours, "answer", input=cases)[0])
-    return subprocess.run([theirs, "compare", room / "ours", room / "theirs"]).returncode
+    answers = (run(twin, "answer", input=cases)[0].split("\ncase\t") for twin in (ours, theirs))
+    return next((pair for pair in itertools.zip_longest(*answers) if pair[0] != pair[1]), None)
 
 
 @pytest.mark.parametrize("flags, seed", [(("--features", "canonical"), 1), (("--no-default-features",), 3)])
-def test_cases(twin, crate, cases, tmp_path, flags, seed):
+def test_cases(twin, crate, cases, flags, seed):
     without = flags if "--no-default-features" in flags else ()
     ours, theirs = twin(RUST, *flags), twin(crate, *without)
     for of in (seed, seed + 1):
-        assert differ(tmp_path, ours, theirs, of, cases(20_000)) == 0
+        assert differing(ours, theirs, of, cases(20_000)) is None
     assert run(ours, "panics") == run(theirs, "panics")
 
 
-def test_a_difference_is_found(twin, crate, tmp_path):
+def test_a_difference_is_found(twin, crate):
     planted = twin(RUST, edit=("matches.rs", "first_value_or(def)", 'first_value_or("")'))
-    assert differ(tmp_path, planted, twin(crate), 1, 2000) == 1
+    assert differing(planted, twin(crate), 1, 2000)
 
 
 # ---- other targets
 
 @pytest.mark.parametrize("target", TARGETS)
-def test_target(target, tmp_path, quick, request, ours, example):
+def test_target(target, other_targets, tmp_path, request, ours, example):
     """By Debian's rustc 1.63: the crate's public tests, the rows, the example, words of any bytes, and `bare`."""
-    if quick:
-        pytest.skip("other targets: this is the quick test")
-    shutil.copytree(TWIN, tmp_path / "twin")
-    copied(tmp_path, "bindings/rust")
-    twin = tmp_path / "twin"
-    with open(twin / "Cargo.toml", "a") as file:
-        file.write('\n[patch.crates-io]\ngetopts = { path = "../bindings/rust" }\n')
-    (twin / "src/bin").mkdir()
-    shutil.copy(RUST / "examples/show.rs", twin / "src/bin")
-    (twin / "tests").mkdir()
-    shutil.copy(RUST / "tests/os.rs", twin / "tests")
+    twin = twin_over(tmp_path, RUST)
+    for file, to in (("examples/show.rs", "src/bin"), ("tests/os.rs", "tests")):
+        (twin / to).mkdir()
+        shutil.copy(RUST / file, twin / to)
     panics = [] if target in UNWINDS else ["panics", "test_long_name_too_short", "test_undefined_opt_present"]
     left_out = [word for name in panics for word in ("--skip", name)]
     crate = request.config.getoption("--getopts")
@@ -232,7 +221,7 @@ def test_target(target, tmp_path, quick, request, ours, example):
         shutil.copy(Path(crate) / "tests/public.rs", twin / "tests")
     cargo_for(target, twin, "build", "--release", "--features", "canonical")
     cargo_for(target, twin, "test", "--release", "--features", "canonical", "--test", "*", "--", *left_out)
-    cargo_for(target, tmp_path / "bindings/rust", "build", "--features", "bare")
+    cargo_for(target, tmp_path / "crate", "build", "--features", "bare")
     by, built = runner(target, tmp_path), twin / "target" / target / "release"
     program = {path.stem: path for path in built.iterdir() if path.suffix in ("", ".exe", ".wasm") and path.is_file()}
     for rows in ROWS:

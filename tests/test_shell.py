@@ -1,80 +1,305 @@
-"""The program for shell scripts: what it answers, and what each shell that is installed makes of its code."""
+"""The programs for shell scripts: what they answer, and what each shell that is installed makes of their code. They are the
+proved one, those that bindings/shell carries, this machine's and aarch64's by qemu, and the one that cargo builds, also for
+Windows. And their installation, and start.c by itself."""
 
+import functools
 import os
-import sys
+import random
+import re
+import shlex
+import shutil
+import stat
+import subprocess
+from pathlib import Path
 
 import pytest
-from conftest import ROOT, need
+from conftest import MACHINE, ROOT, answer, manual, need, rows_in, run
+from shell import common, complete, lines, tables
+from targets import cargo_for, copied, offline, runner
 
-sys.path.insert(0, str(ROOT / "tests/shell"))
-import common  # noqa: E402
-import complete  # noqa: E402
-import lines  # noqa: E402
-import rows  # noqa: E402
-import run as shells  # noqa: E402
+SHELL = ROOT / "bindings/shell"
+SHELLS = ["dash", "bash", "bash --posix", "zsh", "ksh93", "mksh", "yash", "busybox sh"]
+START = ["-std=c11", "-Wall", "-Wextra", "-Wpedantic", "-Wshadow", "-Wconversion", "-Wno-sign-conversion", "-Werror",
+         "-Wl,--wrap=main", ROOT / "tests/system/start.c", SHELL / "start.c", "-o"]
+ROWS = rows_in("tests/shell/answers.rows")
+TABLE = next(fields[3] for fields, _ in ROWS if fields[1:3] == ["-u", "backup"])
+
+# The programs, by the fixtures that have them. What cargo builds, one worker builds.
+PROVED = pytest.param("shell", id="proved", marks=pytest.mark.built)
+BY_CARGO = pytest.param("by_cargo", marks=pytest.mark.xdist_group("getopts_shell by cargo"))
+BY_WINE = pytest.param("by_wine", marks=pytest.mark.xdist_group("getopts_shell by wine"))
+HERE = pytest.mark.parametrize("program", [PROVED, "carried", BY_CARGO], indirect=True)
+EACH = pytest.mark.parametrize("program", [PROVED, "carried", BY_CARGO, "by_qemu", BY_WINE], indirect=True)
+OTHERS = pytest.mark.parametrize("program", [BY_CARGO, "by_qemu", BY_WINE], indirect=True)
 
 
-@pytest.fixture(scope="module")
-def program(shell, tmp_path_factory):
-    """The program in a folder of its own, by the name that scripts call."""
-    folder = tmp_path_factory.mktemp("bin")
-    (folder / "getopts_shell").symlink_to(shell)
+def wrapped(path, text):
+    """A script that runs a program by another."""
+    path.write_text(text)
+    path.chmod(path.stat().st_mode | stat.S_IXUSR)
+    return path
+
+
+@pytest.fixture(scope="session")
+def by_qemu(tmp_path_factory):
+    if MACHINE == "aarch64":
+        pytest.skip("this machine is one")
+    need("qemu-aarch64")
+    text = f'#!/bin/sh\nexec qemu-aarch64 "{SHELL}/aarch64/getopts_shell" "$@"\n'
+    return wrapped(tmp_path_factory.mktemp("qemu") / "by_qemu", text)
+
+
+@pytest.fixture(scope="session")
+def by_cargo(tmp_path_factory):
+    """The program that cargo installs from a clone."""
+    need("cargo", "cc", "git")
+    room = tmp_path_factory.mktemp("cargo")
+    clone = copied(room, "bindings/rust", "bindings/shell") / "bindings"
+    for words in (["init", "-q"], ["add", "-A"], ["-c", "user.name=a", "-c", "user.email=a@b", "commit", "-q", "-m", "a"]):
+        run("git", *words, cwd=clone)
+    registry = [word for word in offline() if word != "--offline"]
+    run("cargo", "install", *registry, "--quiet", "--git", f"file://{clone}", "--root", room / "root", "getopts_shell")
+    return room / "root/bin/getopts_shell"
+
+
+@pytest.fixture(scope="session")
+def by_wine(tmp_path_factory, other_targets):
+    room, target = tmp_path_factory.mktemp("wine"), "x86_64-pc-windows-gnu"
+    folder = copied(room, "bindings/rust", "bindings/shell") / "bindings/shell"
+    # Cargo of that age reads no lock of today, and rustc asks for what the source has that is newer.
+    cargo_for(target, folder, "build", "--release", "--ignore-rust-version",
+              env={"RUSTFLAGS": "-Zcrate-attr=feature(let_else)"})
+    wine = shutil.which(runner(target, room)[0])
+    by = wrapped(room / "by_wine", f"""#!/usr/bin/env bash
+# What wine itself says is left out.
+"{wine}" "{folder}/target/{target}/release/getopts_shell.exe" "$@" 2>"{room}/errors"
+status=$?
+sed '/^wine: /d' "{room}/errors" >&2
+exit $status
+""")
+    # The server stays, so that no run meets one that is ending. The first run makes wine's folder, and begins what would
+    # hold a later run's pipes.
+    (room / "wine").mkdir(exist_ok=True)
+    server = shutil.which("wineserver") or next(map(str, Path("/usr/lib/wine").glob("wineserver*")), None)
+    alone = {"stdin": subprocess.DEVNULL, "stdout": subprocess.DEVNULL, "stderr": subprocess.DEVNULL, "timeout": 300}
+    if server:
+        subprocess.run([server, "-p"], **alone)
+    subprocess.run([by, "--help"], **alone)
+    yield by
+    if server:
+        subprocess.run([server, "-k"], **alone)
+
+
+@pytest.fixture
+def program(request, tmp_path_factory, monkeypatch):
+    """One of the programs, by the name that scripts call, and first on the path."""
+    folder = tmp_path_factory.getbasetemp() / f"bin-{request.param}"
+    if not folder.exists():
+        built = request.getfixturevalue(request.param)
+        folder.mkdir()
+        (folder / "getopts_shell").symlink_to(built)
+    monkeypatch.setenv("PATH", f"{folder}:{os.environ['PATH']}")
     return folder / "getopts_shell"
 
 
-@pytest.fixture(autouse=True)
-def nothing_failed():
-    """What the modules of tests/shell found wrong fails a test."""
-    common.failed.clear()
-    yield
-    assert common.failed == []
-
-
-@pytest.fixture(params=common.SHELLS)
+@pytest.fixture(params=SHELLS)
 def one_shell(request):
     """One of the shells, as its words."""
     words = request.param.split()
-    need({"busybox": "busybox"}.get(words[0], words[0]))
+    need(words[0])
     return words
 
 
-@pytest.mark.parametrize("words, text, status", [pytest.param(*row, id=str(at)) for at, row in enumerate(rows.all_rows())])
-def test_row(program, words, text, status):
-    streams = (text, "") if status == 0 else ("", text)
-    common.expect(f"{[word[:60] for word in words]}", common.run([program, *words]), status, *streams)
+# ---- what they answer
+
+@EACH
+@pytest.mark.parametrize("row", ROWS, ids=[str(at) for at in range(len(ROWS))])
+def test_row(program, row):
+    (status, *words), text = row
+    if "wine" in program.parent.name and sum(map(len, words)) > 10_000:
+        pytest.skip("words that are too long for Windows")
+    streams = (text, "") if status == "0" else ("", text)
+    common.expect(f"{[word[:60] for word in words]}", common.run([program, *words]), int(status), *streams)
 
 
-def test_help_and_faults_are_those_without_variables(program):
-    shells.without_variables(program)
+@OTHERS
+@pytest.mark.parametrize("name", ["bash", "zsh", "fish"])
+def test_completion_is_that_of_the_carried_program(program, name, carried):
+    words = ["--complete", name, "backup", TABLE]
+    common.expect(words, common.run([program, *words]), 0, common.run([carried, *words]).stdout.decode())
 
 
+@HERE
+@pytest.mark.parametrize("own", [["-V", "opt_"], ["-AV", "opt_"]], ids=" ".join)
+@pytest.mark.parametrize("words", [["--help"], ["-x"], ["x"], ["-ia", "-ib"], ["-i"]], ids=" ".join)
+def test_help_and_faults_are_those_without_variables(program, own, words):
+    plain = common.run([program, "try", TABLE, *words])
+    common.expect("with variables", common.run([program, *own, "try", TABLE, *words]),
+                  plain.returncode, plain.stdout.decode(), plain.stderr.decode())
+
+
+@HERE
+def test_tables_with_one_byte_changed(program):
+    tables.changed_tables(program)
+
+
+@pytest.mark.parametrize("program", [PROVED], indirect=True)
+def test_what_may_come(program):
+    complete.answers(program)
+
+
+def by_getopt(options, words):
+    """What getopt(1) reads, in canonical form, or None where it refuses the words."""
+    colons = {"no": "", "yes": ":", "maybe": "::"}
+    shorts = "".join(short + colons[kind] for short, _, kind, _ in options if short)
+    longs = ",".join(long + colons[kind] for _, long, kind, _ in options if long)
+    done = common.run(["getopt", "-o", shorts, "--long", longs, "--", *words])
+    if done.returncode != 0:
+        return None
+    names = {}
+    for place, (short, long, _, _) in enumerate(options):
+        names |= {f"-{short}": place, f"--{long}": place}
+    wrote, given = shlex.split(os.fsdecode(done.stdout)), []
+    while (name := wrote.pop(0)) != "--":
+        place = names[name]
+        value = wrote.pop(0) if options[place][2] != "no" else None
+        # With getopt(1) an optional argument that is empty is none.
+        given.append((place, None if options[place][2] == "maybe" and not value else value))
+    return lines.canonical(options, given, wrote)
+
+
+@HERE
+def test_lines_as_getopt_reads_them(program):
+    need("getopt")
+    if answer("getopt", "--test")[1] != 4:
+        pytest.skip("this getopt isn't that of util-linux")
+    rng, asked, refused = random.Random(44), 0, 0
+    while asked < 500:
+        options, words, given, _ = lines.case_of(rng, alone=0)
+        if any(options[place][2] == "maybe" and value == "" for place, value in given):
+            continue
+        if rng.random() < 0.2:
+            short, long, kind, _ = rng.choice(options)
+            flags = ([f"-{short}x"] if short else []) + ([f"--{long}=a"] if long else []) if kind == "no" else []
+            words.insert(0, rng.choice(["-x", "--nope", "--nope=b"] + flags))
+        if rng.random() < 0.1 and "--" not in words:
+            words += [f"-{short}" if short else f"--{long}" for short, long, kind, _ in options if kind == "yes"][:1]
+        done = common.run([program, "try", lines.written(options), *words])
+        ours = shlex.split(os.fsdecode(done.stdout))[2:] if done.returncode == 0 else None
+        assert ours == by_getopt(options, words), words
+        asked, refused = asked + 1, refused + (ours is None)
+    print(f"{asked} lines, {refused} refused by both")
+
+
+# ---- in each shell
+
+@functools.cache
+def random_scripts(program, way, count):
+    return lines.random_scripts(program, way, count)
+
+
+@HERE
 @pytest.mark.parametrize("way", ["words", "variables", "arrays"])
 def test_random_lines(program, one_shell, tmp_path, cases, way):
     if way == "arrays" and one_shell[0] not in lines.WITH_ARRAYS:
         pytest.skip(f"{one_shell[0]} has no arrays")
-    lines.random_lines(program, [one_shell], tmp_path, cases(2000), way)
+    count = cases(2000 if program.parent.name == "bin-shell" else 500)
+    lines.in_shell(one_shell, tmp_path, *random_scripts(program, way, count))
 
 
-def test_scripts_of_the_page(program, one_shell, tmp_path):
-    shells.page(program, [one_shell], tmp_path)
+@HERE
+def test_scripts_of_the_page(program, one_shell, tmp_path, monkeypatch):
+    """The page's first script, and its loop with what shows what it read; and the examples."""
+    first, loop = re.findall(r"```sh\n(.*?)```", (SHELL / "README.md").read_text(), re.S)[:2]
+    show = "printf '%s\\n' \"$input|$output|$verbose|$color|$folders\"\nfor word do printf '%s\\n' \"$word\"; done\n"
+    (tmp_path / "first").write_text(first)
+    (tmp_path / "loop").write_text(first[:first.index("code=")] + loop + show)
+    for name in ("backup", "notes"):
+        (tmp_path / name).symlink_to(SHELL / "examples" / name)
+    (tmp_path / "notes.txt").write_text("")
+    # What the scripts read doesn't come from variables that are there already.
+    for name in ("input", "output", "verbose", "color", "folders", "L", "help"):
+        monkeypatch.setenv(name, "1")
+        monkeypatch.setenv(f"opt_{name}", "1")
+    for (status, *words), text in rows_in("tests/shell/scripts.rows"):
+        done = common.run([*one_shell, *words], cwd=tmp_path)
+        wrote = (done.stdout or done.stderr).decode()
+        if text.endswith("...\n") and wrote.startswith(text[:-4]):
+            text = wrote
+        common.expect(words, done, int(status), *((text, "") if status == "0" else ("", text)))
+    code = common.run([*one_shell, "backup", "--completion", "fish"], cwd=tmp_path)
+    assert code.returncode == 0 and b"\n_getopts_shell_complete 'backup' '\n-i|--input FILE " in code.stdout
 
 
-@pytest.mark.parametrize("what, where, script, out", [pytest.param(*row, id=row[0]) for row in shells.MINDS])
-def test_sentence_of_the_page(program, one_shell, what, where, script, out):
-    if where is not None and one_shell[0] not in where:
-        pytest.skip(f"it is said of {', '.join(where)}")
-    env = {**os.environ, "PATH": f"{program.parent}:{os.environ['PATH']}"}
-    assert common.run(one_shell + ["-c", script], env=env).stdout == out.encode()
+@HERE
+@pytest.mark.parametrize("row", rows_in("tests/shell/sentences.rows"), ids=lambda row: row[0][0])
+def test_sentence_of_the_page(program, one_shell, row):
+    (_, where, out), script = row
+    if where != "all" and one_shell[0] not in where.split():
+        pytest.skip(f"it is said of {where}")
+    assert common.run([*one_shell, "-c", script]).stdout == out.encode()
 
 
-def test_lines_as_getopt_reads_them(program):
-    need("getopt")
-    shells.beside_getopt(program)
+@pytest.mark.parametrize("words", ["-vi a x", "--input=a -v -- -v", "--help", "-x", "--completion fish"])
+def test_with_nothing_but_busybox(words, carried, tmp_path):
+    """In a root that has busybox, the program and a script, the script does what it does here."""
+    need("busybox")
+    busybox = Path(shutil.which("busybox"))
+    if answer("ldd", busybox)[1] == 0:
+        pytest.skip("busybox isn't static: apt-get install busybox-static")
+    if os.getuid() != 0:
+        pytest.skip("only the system administrator may make a root")
+    folder = tmp_path / "root/bin"
+    folder.mkdir(parents=True)
+    for file in (busybox, carried, SHELL / "examples/backup"):
+        shutil.copy2(file, folder / file.name)
+    (folder / "sh").hardlink_to(folder / "busybox")
+    inside = answer("chroot", tmp_path / "root", "/bin/busybox", "env", "-i", "PATH=/bin", "sh", "/bin/backup", *words.split())
+    here = answer("busybox", "sh", SHELL / "examples/backup", *words.split(), env={"PATH": f"{folder}:{os.environ['PATH']}"})
+    assert inside == here
 
 
-def test_tables_with_one_byte_changed(program):
-    shells.changed_tables(program)
+# ---- how they are built and installed
+
+@pytest.mark.parametrize("compiler", ["gcc", "clang", "musl-gcc", "aarch64-linux-gnu-gcc"])
+def test_start(compiler, tmp_path):
+    """start.c does what is declared of it."""
+    flags = ["-static", "-O2"] if "-gcc" in compiler else ["-fsanitize=undefined", "-fno-sanitize-recover=all", "-g"]
+    by = ["qemu-aarch64"] if compiler.startswith("aarch64") and MACHINE != "aarch64" else []
+    need(compiler, *by)
+    run(compiler, *flags, *START, tmp_path / "start")
+    run(*by, tmp_path / "start", "", "three")
 
 
-def test_what_may_come(program):
-    complete.answers(program)
+def test_install(carried, tmp_path):
+    """The program where the caller says, below DESTDIR, of another processor; and nothing after --uninstall."""
+    def install(*words, status=0, **env):
+        run("sh", SHELL / "install.sh", *words, status=status, cwd=tmp_path, env=env)
+
+    install("a prefix", CDPATH=f"/:{SHELL}")
+    assert (tmp_path / "a prefix/bin/getopts_shell").read_bytes() == carried.read_bytes()
+    assert (tmp_path / "a prefix/share/man/man1/getopts_shell.1").is_file()
+    for machine in ("x86_64", "aarch64"):
+        install("/usr", DESTDIR="stage", MACHINE=machine)
+        there = SHELL / machine / "getopts_shell"
+        assert (tmp_path / "stage/usr/bin/getopts_shell").read_bytes() == there.read_bytes()
+    install("/nowhere", status=1, MACHINE="m68k")
+    assert not Path("/nowhere").exists()
+    install("--uninstall", "a prefix")
+    install("--uninstall", "/usr", DESTDIR="stage/")
+    assert not [path for path in tmp_path.rglob("*") if not path.is_dir()]
+
+
+def test_manual():
+    manual(SHELL / "getopts_shell.1")
+
+
+def test_cargo_form():
+    need("cargo", "rustfmt")
+    run("cargo", "fmt", "--check", cwd=SHELL)
+
+
+def test_cargo_without_a_warning(tmp_path):
+    need("cargo", "cc")
+    folder = copied(tmp_path, "bindings/rust", "bindings/shell") / "bindings/shell"
+    run("cargo", "check", *offline(), cwd=folder, env={"RUSTFLAGS": "-D warnings"})

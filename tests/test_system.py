@@ -13,8 +13,7 @@ import signal
 import subprocess
 
 import pytest
-from conftest import MACHINE, ROOT, kit, program
-from conftest import run as run_whole
+from conftest import MACHINE, ROOT, preloaded, program, rows_in
 
 SHOW = ROOT / "crates/getopts_show/out/getopts_show"
 BUILT = ROOT / "crates/getopts_shell/out/getopts_shell"
@@ -40,12 +39,8 @@ def built():
 
 @pytest.fixture(scope="module")
 def preload(tmp_path_factory):
-    """What stands between the program and the C library, by the toolchain's compiler and linker."""
-    tools, room = kit() / "toolchain/bin", tmp_path_factory.mktemp("between")
-    flags = "-O2 -Wall -Wextra -Werror -ffreestanding -nostdinc -fPIC -c".split()
-    run_whole(tools / "clang", *flags, ROOT / "tests/system/between.c", "-o", room / "between.o")
-    run_whole(tools / "ld.lld", "-shared", "-o", room / "between.so", room / "between.o")
-    return {"LD_PRELOAD": str(room / "between.so")}
+    """What stands between the program and the C library."""
+    return {"LD_PRELOAD": str(preloaded(ROOT / "tests/system/between.c", tmp_path_factory.mktemp("between")))}
 
 
 def run(words=(), program=SHOW, limits=None, closed=(), name=None, stdout=subprocess.PIPE, stderr=subprocess.PIPE,
@@ -87,48 +82,16 @@ def shown(given=(), free=()):
 
 
 V_X = shown([("verbose", 0, None)], ["x"])
-HELP = b"""\
-Usage: getopts_show [options] FILE
-
-Options:
-    -o, --output NAME   set output file name
-    -h, --help          print this help menu
-    -v, --verbose       say more
-    -L DIR              add a folder
-    -c, --color [WHEN]  colour the output
-"""
-# Words, the options that they give, and the free words.
-ROWS = [
-    (["--output=x.txt", "--verbose", "in.txt"], [("output", 0, "x.txt"), ("verbose", 1, None)], ["in.txt"]),
-    (["-vvLd", "-c", "auto", "f"],
-     [("verbose", 0, None), ("verbose", 0, None), ("L", 0, "d"), ("color", 1, "auto")], ["f"]),
-    (["--color", "x"], [("color", 0, None)], ["x"]),
-    (["-La", "b", "--L", "c", "-o", "", "--", "-v", ""], [("L", 0, "a"), ("L", 2, "c"), ("output", 4, "")], ["b", "-v", ""]),
-    (["-o", "x", "-v"], [("output", 0, "x"), ("verbose", 2, None)], []),
-    ([], [], []),
-    (["free"] * 200, [], ["free"] * 200),
-]
-# Words, and their fault.
-FAULTS = [
-    (["-h", "--nope"], "Unrecognized option: 'nope'"),
-    (["-h", "-h"], "Option 'help' given more than once"),
-    (["--nope"], "Unrecognized option: 'nope'"),
-    (["-o"], "Argument to option 'o' missing"),
-    (["--output=x", "--output", "y"], "Option 'output' given more than once"),
-    (["-o", "x", "--output=y"], "Option 'output' given more than once"),
-    (["--verbose=much"], "Option 'verbose' does not take an argument"),
-    (["-vé"], "Unrecognized option: 'é'"),
-    (["x", "--L"], "Argument to option 'L' missing"),
-]
 
 
-def test_rows():
-    for words, given, free in ROWS:
-        ends(f"words {words[:9]}", run(words), SHOWN, shown(given, free))
-    for words in (["-h"], ["-h", "x"], ["-vo", "x", "--help", "--", "y"]):
-        ends(f"words {words}", run(words), SHOWN, HELP)
-    for words, fault in FAULTS:
-        ends(f"words {words}", run(words), REFUSED, f"getopts_show: {fault}\n".encode())
+@pytest.mark.parametrize("row", rows_in("tests/system/answers.rows"), ids=lambda row: " ".join(row[0]))
+def test_row(row):
+    (status, *words), text = row
+    ends(words, run(words), int(status), text.encode())
+
+
+def test_many_words():
+    ends("200 words", run(["free"] * 200), SHOWN, shown(free=["free"] * 200))
 
 
 def test_words_that_are_no_text():
@@ -151,50 +114,56 @@ GIVEN = ["try", "[-v]..  say more\n[-o FILE]  write to FILE", "-vo", "it's"]
 CODE = rb"\set -- '--v' '--o=it'\''s' '--' 'x'" + b"\n"
 
 
-def test_outputs_that_take_nothing():
-    for program, words in ((SHOW, ["-v", "x"]), (SHOW, ["--help"]), (SHOW, ["--nope"]), (SHELL, [*GIVEN, "x"])):
-        what = f"{program.name} {words[-1]}:"
-        ends(f"{what} a closed output", run(words, program, closed=[1], stdout=None), NOT_WRITTEN, b"")
-        ends(f"{what} all files closed", run(words, program, closed=[0, 1, 2], stdout=None, stderr=None), NOT_WRITTEN, b"")
-        with open("/dev/null", "rb") as only_read, open("/dev/full", "wb") as full:
-            ends(f"{what} an output that is only read", run(words, program, stdout=only_read), NOT_WRITTEN, b"")
-            ends(f"{what} a full output", run(words, program, stdout=full), NOT_WRITTEN, b"")
-        for restore in (True, False):
-            reader, writer = os.pipe()
-            os.close(reader)
-            ends(f"{what} a pipe whose reader is gone, with the signal {'' if restore else 'not '}restored",
-                 run(words, program, stdout=writer, restore_signals=restore), NOT_WRITTEN, b"")
-            os.close(writer)
-    for what, words in (("a refusal", [*GIVEN, "--nope"]), ("a wrong table", ["try", "-ab"]), ("a wrong call", ["--nope"])):
-        ends(f"static, {what} to a closed error stream", run(words, SHELL, closed=[2], stderr=None), NOT_WRITTEN, b"")
-        with open("/dev/full", "wb") as full:
-            ends(f"static, {what} to a full error stream", run(words, SHELL, stderr=full), NOT_WRITTEN, b"")
+def each(*calls):
+    """Calls of a test, each a program and its words."""
+    return pytest.mark.parametrize("program, words", calls, ids=[f"{call[0].name} {call[1][-1][:9]}" for call in calls])
 
 
-def test_texts_are_written_at_once():
-    """Each write to such a pipe is a packet, which one read takes."""
-    for program, words in ((SHOW, ["-v", "x"]), (SHOW, ["-h"]), (SHELL, [*GIVEN, "x"]), (SHELL, ["-h"])):
-        text = run(words, program)[1]
-        reader, writer = os.pipe2(os.O_DIRECT)
-        run(words, program, stdout=writer)
+@each((SHOW, ["-v", "x"]), (SHOW, ["--help"]), (SHOW, ["--nope"]), (SHELL, [*GIVEN, "x"]))
+def test_outputs_that_take_nothing(program, words):
+    ends("a closed output", run(words, program, closed=[1], stdout=None), NOT_WRITTEN, b"")
+    ends("all files closed", run(words, program, closed=[0, 1, 2], stdout=None, stderr=None), NOT_WRITTEN, b"")
+    with open("/dev/null", "rb") as only_read, open("/dev/full", "wb") as full:
+        ends("an output that is only read", run(words, program, stdout=only_read), NOT_WRITTEN, b"")
+        ends("a full output", run(words, program, stdout=full), NOT_WRITTEN, b"")
+    for restore in (True, False):
+        reader, writer = os.pipe()
+        os.close(reader)
+        ends(f"a pipe whose reader is gone, with the signal {'' if restore else 'not '}restored",
+             run(words, program, stdout=writer, restore_signals=restore), NOT_WRITTEN, b"")
         os.close(writer)
-        with os.fdopen(reader, "rb", buffering=0) as packets:
-            wrote = packets.read(MIB)
-            assert wrote == text and not packets.read(MIB), f"{program.name}: {described(wrote)}"
 
 
-def test_a_file_of_so_many_bytes(tmp_path):
+@each((SHELL, [*GIVEN, "--nope"]), (SHELL, ["try", "-ab"]), (SHELL, ["--nope"]))
+def test_error_streams_that_take_nothing(program, words):
+    ends("a closed error stream", run(words, program, closed=[2], stderr=None), NOT_WRITTEN, b"")
+    with open("/dev/full", "wb") as full:
+        ends("a full error stream", run(words, program, stderr=full), NOT_WRITTEN, b"")
+
+
+@each((SHOW, ["-v", "x"]), (SHOW, ["-h"]), (SHELL, [*GIVEN, "x"]), (SHELL, ["-h"]))
+def test_texts_are_written_at_once(program, words):
+    """Each write to such a pipe is a packet, which one read takes."""
+    text = run(words, program)[1]
+    reader, writer = os.pipe2(os.O_DIRECT)
+    run(words, program, stdout=writer)
+    os.close(writer)
+    with os.fdopen(reader, "rb", buffering=0) as packets:
+        wrote = packets.read(MIB)
+        assert wrote == text and not packets.read(MIB), described(wrote)
+
+
+@each((SHOW, ["x" * 200]), (SHELL, [*GIVEN, "x" * 200]))
+@pytest.mark.parametrize("ignored", [True, False])
+def test_a_file_of_so_many_bytes(program, words, ignored, tmp_path):
     """A limit on the length of files. The system sends a signal where it isn't ignored, as Python ignores it."""
-    for program, words in ((SHOW, ["x" * 200]), (SHELL, [*GIVEN, "x" * 200])):
-        text = run(words, program)[1]
-        for most in (0, 1, 100, len(text) - 1, len(text)):
-            for ignored in (True, False):
-                with open(tmp_path / "file", "wb") as file:
-                    status, said = run(words, program, {resource.RLIMIT_FSIZE: most}, stdout=file, restore_signals=not ignored)
-                wanted = SHOWN if most == len(text) else NOT_WRITTEN if ignored else -signal.SIGXFSZ
-                # With the signal not ignored, what fits is written first, and the next write brings it.
-                ends(f"{program.name}: a file of at most {most} bytes, its signal {'' if ignored else 'not '}ignored",
-                     (status, said + (tmp_path / "file").read_bytes()), wanted, text[:most])
+    text = run(words, program)[1]
+    for most in (0, 1, 100, len(text) - 1, len(text)):
+        with open(tmp_path / "file", "wb") as file:
+            status, said = run(words, program, {resource.RLIMIT_FSIZE: most}, stdout=file, restore_signals=not ignored)
+        wanted = SHOWN if most == len(text) else NOT_WRITTEN if ignored else -signal.SIGXFSZ
+        # With the signal not ignored, what fits is written first, and the next write brings it.
+        ends(f"at most {most} bytes", (status, said + (tmp_path / "file").read_bytes()), wanted, text[:most])
 
 
 def test_a_full_pipe():
@@ -206,21 +175,20 @@ def test_a_full_pipe():
         ends("static, a pipe that is full", (status, some.read()[:6]), NOT_WRITTEN, CODE[:6])
 
 
-def test_writes_that_take_little_or_fail(preload):
-    for program, words, status, text in ((SHOW, ["-v", "x"], SHOWN, V_X), (SHOW, ["--nope"], REFUSED, FAULT),
-                                         (BUILT, ["x", "[-a]", "-a"], SHOWN, b"\\set -- '--a' '--'\n"),
-                                         (BUILT, ["x", "[-a]", "-b"], REFUSED,
-                                          b"x: Unrecognized option: 'b'\nUsage: x [-a]\n")):
-        for most in (1, 2, 3, 7, 4096):
-            ends(f"{words}: writes of {most} bytes",
-                 run(words, program, environment={**preload, "WRITE_MOST": str(most)}), status, text)
-        for error in (0, errno.EIO, errno.ENOSPC, errno.EAGAIN, errno.EBADF, errno.EPIPE, errno.EINTR):
-            fails = {**preload, "WRITE_MOST": "1", "WRITE_ERROR": str(error)}
-            for at in range(1, len(text) + 1):
-                ended = run(words, program, environment={**fails, "WRITE_AT": str(at)})
-                # A write that was interrupted may be tried again.
-                again = error == errno.EINTR and ended == (status, text)
-                assert again or ended == (NOT_WRITTEN, text[:at - 1]), f"{words}: write {at} fails with error {error}"
+@pytest.mark.parametrize("program, words, status, text", [
+    (SHOW, ["-v", "x"], SHOWN, V_X), (SHOW, ["--nope"], REFUSED, FAULT),
+    (BUILT, ["x", "[-a]", "-a"], SHOWN, b"\\set -- '--a' '--'\n"),
+    (BUILT, ["x", "[-a]", "-b"], REFUSED, b"x: Unrecognized option: 'b'\nUsage: x [-a]\n")])
+def test_writes_that_take_little_or_fail(program, words, status, text, preload):
+    for most in (1, 2, 3, 7, 4096):
+        ends(f"writes of {most} bytes", run(words, program, environment={**preload, "WRITE_MOST": str(most)}), status, text)
+    for error in (0, errno.EIO, errno.ENOSPC, errno.EAGAIN, errno.EBADF, errno.EPIPE, errno.EINTR):
+        fails = {**preload, "WRITE_MOST": "1", "WRITE_ERROR": str(error)}
+        for at in range(1, len(text) + 1):
+            ended = run(words, program, environment={**fails, "WRITE_AT": str(at)})
+            # A write that was interrupted may be tried again.
+            again = error == errno.EINTR and ended == (status, text)
+            assert again or ended == (NOT_WRITTEN, text[:at - 1]), f"write {at} fails with error {error}"
 
 
 def test_large_words(preload):
@@ -271,12 +239,10 @@ def test_little_memory(preload):
                 words=[*GIVEN, *LONG_WORDS], program=SHELL)
 
 
-def test_little_stack():
+@pytest.mark.parametrize("program, words, text, sizes", [
+    (SHOW, ["-v", "x"], V_X, (16, 24, 32, 48, 64, 96, 128, 256, 1024)), (SHELL, [*GIVEN, "x"], CODE, (16, 32, 64, 256)),
+    (SHOW, ["f"] * 20_000, shown(free=["f"] * 20_000), (2048, 4096, 8192))], ids=["show", "shell", "many words"])
+def test_little_stack(program, words, text, sizes):
     """Limits on the stack. What the words themselves take of it the system asks for before the program begins."""
-    many = ["f"] * 20_000
-    for program, words, text, sizes in ((SHOW, ["-v", "x"], V_X, (16, 24, 32, 48, 64, 96, 128, 256, 1024)),
-                                        (SHELL, [*GIVEN, "x"], CODE, (16, 32, 64, 256)),
-                                        (SHOW, many, shown(free=many), (2048, 4096, 8192))):
-        for kib in sizes:
-            ends(f"{program.name}, {len(words)} words: a stack of {kib} KiB",
-                 run(words, program, {resource.RLIMIT_STACK: kib * 1024}), SHOWN, text)
+    for kib in sizes:
+        ends(f"a stack of {kib} KiB", run(words, program, {resource.RLIMIT_STACK: kib * 1024}), SHOWN, text)

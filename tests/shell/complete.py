@@ -1,10 +1,7 @@
-#!/usr/bin/env python3
-"""Tries completion by getopts_shell in bash, zsh and fish, each in a terminal of its own.
-
-usage: tests/shell/complete.py [PROGRAM]
+"""Completion by getopts_shell in bash, zsh and fish, each in a terminal of its own.
 
 Lines are typed with a tab at the end and run; a command of the same name then says which words it was given. What is
-expected is computed here, by the rules of completion, and not by the program. A shell that isn't there is skipped.
+expected is computed here, by the rules of completion, and not by the program.
 """
 
 import os
@@ -15,7 +12,8 @@ import shlex
 import shutil
 import time
 
-from common import expect, fail, main, run
+from pytest import fail
+from shell.common import expect, run
 
 NO, YES, MAYBE = range(3)
 # Short name, long name, kind of argument, whether it may come again, and description.
@@ -97,7 +95,6 @@ def answers(program):
              ["--color", "--c"], ["--output=f"], ["--verbose="], ["--color=a=b"], ["--nope", "-"], ["-vc", "-"], ["-o=x"],
              ["-L", "x", "-L"], ["-input", "-"], ["-input", "x", "-"], ["-help", "--h"], ["-output=x"], ["-", "-"], ["x"],
              ["--a"], ["-hvi", "-", "--"]]
-    tried = 0
     for words in lines:
         for flags, modes in (([], {}), (["-s"], {"stop": True}), (["-l"], {"long_only": True}),
                              (["-sl"], {"stop": True, "long_only": True})):
@@ -106,8 +103,6 @@ def answers(program):
                 upto = words[:at + 1] if at < len(words) else words + [""]
                 said = run([program] + flags + ["--complete-words", "zsh", "backup", table_of(OPTIONS)] + upto)
                 expect(f"{flags} {words} at {at}", said, 0, "".join(line + "\n" for line in wanted))
-                tried += 1
-    print(f"{tried} questions about words")
 
 
 def quoted(program, room):
@@ -134,7 +129,6 @@ def quoted(program, room):
         said = run([program, "--complete", "zsh", name, table]).stdout.decode()
         if said.startswith(f"#compdef {name}\n") != named or said.startswith("#") != named:
             fail(f"the first line for {name!r}: {said[:40]!r}")
-    print("a name and a table of any bytes")
 
 
 class Terminal:
@@ -232,7 +226,6 @@ def start(shell, program, room, files):
 def in_terminal(shell, program, room, files=False):
     terminal = start(shell, program, room, files)
     modes = {"backup": {}, "stops": {"stop": True}, "longs": {"long_only": True}}
-    tried = 0
     terminal.type("backup ready\r")
     for name, lines in LINES.items():
         for typed in lines:
@@ -242,13 +235,11 @@ def in_terminal(shell, program, room, files=False):
                 fail(f"{shell}: {name} {typed}: {got}, and not {wanted}: {shown!r}")
             if "command not found" in shown or "unbound" in shown or "getopts_shell" in shown:
                 fail(f"{shell}: {name} {typed}: {shown!r}")
-            tried += 1
     got, shown = terminal.type(f"{room}/bin/backup --inp\t\r")
     if got != ["--input"]:
         fail(f"{shell}: a script by its path: {got}: {shown!r}")
     listed(shell, terminal)
     terminal.close()
-    print(f"completion in {shell}{' by files' * files}: {tried} lines")
 
 
 def listed(shell, terminal):
@@ -261,25 +252,3 @@ def listed(shell, terminal):
             fail(f"{shell}: {line!r} isn't shown: {shown!r}")
     if "--help" in shown:
         fail(f"{shell}: an option that was given is shown: {shown!r}")
-
-
-def test(program, room):
-    for name in LINES:
-        (room / "bin" / name).write_text('#!/bin/sh\nprintf "%s\\0" "$@" >>"$LOG"\nprintf "\\001" >>"$LOG"\n')
-        (room / "bin" / name).chmod(0o755)
-    answers(program)
-    quoted(program, room)
-    for shell, files in (("bash", False), ("zsh", False), ("zsh", True), ("fish", False)):
-        if not shutil.which(shell):
-            print(f"skipped: completion in {shell}: it isn't installed")
-            continue
-        place = room / f"{shell}{files}"
-        (place / "here").mkdir(parents=True)
-        (place / "bin").symlink_to(room / "bin")
-        for name in NAMES:
-            (place / "here" / name).write_text("")
-        in_terminal(shell, program, place, files)
-
-
-if __name__ == "__main__":
-    main(test)

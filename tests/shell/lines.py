@@ -1,48 +1,32 @@
-"""Random words by random tables, what they give, and what each shell makes of what the program writes for them.
-
-What is expected is computed here, by the rules, and not by the program.
-"""
+"""Random words by random tables, what they give, and what a shell makes of what the program writes for them. What is
+expected is computed here, by the rules, and not by the program."""
 
 import os
 import random
 
-from common import fail, run
+from shell.common import run
 
 WITH_ARRAYS = ["bash", "zsh", "ksh93", "mksh", "yash"]
 SPECIAL = list("'\"\\$`!~=*?[]{}()<>|&;#%^ \t\n\r-") + ["''", "\\'", "$(", "\n\n", "$HOME", "--", "\u00a0", "\u2028"]
 
 
 def is_text(word):
-    try:
-        word.encode()
-    except UnicodeEncodeError:
-        return False
-    return True
+    return not any("\ud800" <= char < "\ue000" for char in word)
+
+
+# What a word may hold: how often in a hundred, and a random piece of it. Last come the marks of bytes,
+# and bytes as they are.
+PIECES = [(50, lambda rng: rng.choice(SPECIAL)), (20, lambda rng: chr(rng.randrange(1, 128))),
+          (20, lambda rng: rng.choice("abcxyz")), (2, lambda rng: chr(rng.randrange(0x80, 0xD800))),
+          (2, lambda rng: chr(rng.randrange(0xE000, 0x110000))), (2, lambda rng: chr(rng.randrange(0x80, 0xA0))),
+          (2, lambda rng: chr(rng.randrange(0x10FF80, 0x110000))),
+          (2, lambda rng: os.fsdecode(bytes([rng.randrange(0x80, 0x100)])))]
 
 
 def text_of(rng):
-    """A random word of up to ten characters or bytes, of every kind that a word may hold."""
-    chars = []
-    for _ in range(rng.choice([0, 1, 1, 2, 3, 5, 10])):
-        kind = rng.random()
-        if kind < 0.5:
-            chars.append(rng.choice(SPECIAL))
-        elif kind < 0.7:
-            chars.append(chr(rng.randrange(1, 128)))
-        elif kind < 0.9:
-            chars.append(rng.choice("abcxyz"))
-        elif kind < 0.94:
-            code = rng.randrange(0x80, 0x110000)
-            chars.append(chr(code if not 0xD800 <= code < 0xE000 else 0xE9))
-        elif kind < 0.96:
-            chars.append(chr(rng.randrange(0x80, 0xA0)))
-        elif kind < 0.98:
-            # the marks of bytes
-            chars.append(chr(rng.randrange(0x10FF80, 0x110000)))
-        else:
-            # a byte as it is
-            chars.append(os.fsdecode(bytes([rng.randrange(0x80, 0x100)])))
-    return "".join(chars)
+    """A random word of up to ten pieces, of every kind that a word may hold."""
+    often, pieces = zip(*PIECES)
+    return "".join(piece(rng) for piece in rng.choices(pieces, often, k=rng.choice([0, 1, 1, 2, 3, 5, 10])))
 
 
 def table_of(rng, alone):
@@ -126,26 +110,6 @@ def canonical(options, given, free):
     return [f"--{mains[place]}" + ("" if value is None else f"={value}") for place, value in given] + ["--"] + free
 
 
-def in_each_shell(what, found, room, cases, env):
-    """Runs scripts one after the other in each shell. A case is a script and the words that it writes, with a NUL byte
-    after each."""
-    for shell in found:
-        # yash takes no bytes that are no text of its locale.
-        taken = [case for case in cases if shell != ["yash"] or is_text("".join(case[1]))]
-        (room / "cases").write_text("\n".join(["set -eu"] + [script for script, _ in taken]) + "\n")
-        done = run(shell + [str(room / "cases")], cwd=room, env=env)
-        wrote, place = done.stdout.split(b"\0"), 0
-        for script, words in taken:
-            wanted = [os.fsencode(word) for word in words]
-            got = wrote[place : place + len(wanted)]
-            if got != wanted:
-                fail(f"{' '.join(shell)}: {what}: {script}: {got!r}, and not {wanted!r}; {done.stderr[:300]!r}")
-                break
-            place += len(wanted)
-        else:
-            print(f"{' '.join(shell)}: {what} of {len(taken)} random lines")
-
-
 def shown_of(option, values):
     """What the script shows of an option's variable."""
     if option[2] == "no":
@@ -155,19 +119,17 @@ def shown_of(option, values):
     return ["set", values[-1]] if values else ["", ""]
 
 
-def random_lines(program, found, room, count, way):
-    """After random words each shell holds what they say: as the words of the canonical line, or in variables or arrays.
-    Each variable holds something else before, and is in the environment."""
-    rng, cases, env = random.Random(way), [], dict(os.environ)
+def random_scripts(program, way, count):
+    """Scripts that read random words, each with what it writes: as the words of the canonical line, or from variables or
+    arrays; the program's code for each; and an environment that has each variable, which holds something else."""
+    rng, cases, codes, env = random.Random(way), [], [], dict(os.environ)
     for number in range(count):
         options, words, given, free = case_of(rng)
         prefix = rng.choice(["opt_", "x", "_", "Opt9"])
         own = {"words": [], "variables": ["-V", prefix], "arrays": ["-A", "-V", prefix]}[way]
         done = run([program] + own + ["try", written(options)] + words)
-        if done.returncode != 0 or done.stderr:
-            fail(f"random line {number}: {written(options)!r} {words!r}: {done}")
-            return
-        (room / f"code.{number}").write_bytes(done.stdout)
+        assert done.returncode == 0 and not done.stderr, f"random line {number}: {written(options)!r} {words!r}: {done}"
+        codes.append(done.stdout)
         script = [f"code=$(cat code.{number}) || exit\neval \"$code\"\nprintf '%s\\0' \"$#\" \"$@\""]
         line = canonical(options, given, free) if way == "words" else free
         wanted = [str(len(line)), *line]
@@ -182,7 +144,20 @@ def random_lines(program, found, room, count, way):
                 script.append(f"printf '%s\\0' \"${{{name}+set}}\" \"${{{name}-}}\"")
             wanted += shown_of(option, [value or "" for at, value in given if at == place])
         cases.append(("\n".join(script), wanted))
-    if way == "arrays":
-        print("skipped: arrays in shells that have none:", ", ".join(shell[0] for shell in found if shell[0] not in WITH_ARRAYS))
-        found = [shell for shell in found if shell[0] in WITH_ARRAYS]
-    in_each_shell(way, found, room, cases, env)
+    return cases, codes, env
+
+
+def in_shell(shell, room, cases, codes, env):
+    """Runs scripts one after the other in a shell. Each writes its words with a NUL byte after each."""
+    for number, code in enumerate(codes):
+        (room / f"code.{number}").write_bytes(code)
+    # yash takes no bytes that are no text of its locale.
+    taken = [case for case in cases if shell != ["yash"] or is_text("".join(case[1]))]
+    (room / "cases").write_text("\n".join(["set -eu"] + [script for script, _ in taken]) + "\n")
+    done = run(shell + [str(room / "cases")], cwd=room, env=env)
+    wrote, place = done.stdout.split(b"\0"), 0
+    for script, words in taken:
+        wanted = [os.fsencode(word) for word in words]
+        got = wrote[place : place + len(wanted)]
+        assert got == wanted, f"{script}: {got!r}, and not {wanted!r}; {done.stderr[:300]!r}"
+        place += len(wanted)

@@ -13,9 +13,7 @@ pub fn turn(input: &Input) -> usize {
         if option.is_flag() {
             sum += usize::from(matches.get_count(option.id));
         } else {
-            sum += lengths(&matches, option.id)
-                .map(|length| 1 + length)
-                .sum::<usize>();
+            sum += lengths(&matches, option.id).map(|length| 1 + length).sum::<usize>();
         }
     }
     sum
@@ -47,9 +45,5 @@ fn argument(option: &Named) -> Arg {
 
 /// The lengths of an argument's values.
 fn lengths<'m>(matches: &'m ArgMatches, id: &str) -> impl Iterator<Item = usize> + 'm {
-    matches
-        .get_many::<String>(id)
-        .into_iter()
-        .flatten()
-        .map(String::len)
+    matches.get_many::<String>(id).into_iter().flatten().map(String::len)
 }

@@ -14,9 +14,7 @@ pub fn run(job: &str, input: &Input, times: usize) -> Option<usize> {
     }
     let options = declared(&input.options);
     match job {
-        "read" => Some(turns(times, || {
-            matches_of(&options, &input.words).free.len()
-        })),
+        "read" => Some(turns(times, || matches_of(&options, &input.words).free.len())),
         "equal" => Some(equal(&options, &input.words, times)),
         "usage" => Some(turns(times, || options.usage(BRIEF).len())),
         "defined" => Some(counted(&options, input, times, Matches::opt_defined)),
@@ -36,9 +34,7 @@ fn whole(input: &Input, times: usize) -> usize {
 fn equal(options: &Options, words: &[String], times: usize) -> usize {
     let (first, second) = words.split_at(words.len() / 2);
     let (matches, others) = (matches_of(options, first), matches_of(options, second));
-    turns(times, || {
-        usize::from(black_box(&matches) == black_box(&others))
-    })
+    turns(times, || usize::from(black_box(&matches) == black_box(&others)))
 }
 
 /// How many names the call answers with yes.
@@ -49,13 +45,7 @@ fn counted(
     call: fn(&Matches, &str) -> bool,
 ) -> usize {
     let matches = matches_of(options, &input.words);
-    turns(times, || {
-        input
-            .options
-            .iter()
-            .filter(|option| call(&matches, option.main()))
-            .count()
-    })
+    turns(times, || input.options.iter().filter(|option| call(&matches, option.main())).count())
 }
 
 fn held(options: &Options, words: &[String], times: usize) -> usize {

@@ -34,9 +34,7 @@ pub fn turn(input: &Input) -> usize {
 /// The place of the option that an argument is.
 fn place_of(options: &[Named], argument: &Arg<'_>) -> Option<usize> {
     match argument {
-        Short(name) => options
-            .iter()
-            .position(|option| option.short.chars().next() == Some(*name)),
+        Short(name) => options.iter().position(|option| option.short.chars().next() == Some(*name)),
         Long(name) => options.iter().position(|option| option.long == *name),
         Value(_) => None,
     }

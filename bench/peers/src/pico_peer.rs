@@ -20,11 +20,7 @@ pub fn turn(input: &Input) -> usize {
             }
         }
     }
-    sum + arguments
-        .finish()
-        .iter()
-        .map(|word| word.len())
-        .sum::<usize>()
+    sum + arguments.finish().iter().map(|word| word.len()).sum::<usize>()
 }
 
 /// Whether the flag is there once more. It is taken.

@@ -3,31 +3,20 @@
 use crate::form::Line;
 use getopts::{Fail, HasArg, Matches, Occur, Options, ParsingStyle};
 use std::panic::catch_unwind;
+use std::str::FromStr;
 
 /// Options, and what the last words gave by them.
-#[derive(Clone)]
+#[derive(Clone, Default)]
 struct Side {
     options: Options,
     read: Option<Result<Matches, Fail>>,
 }
 
-impl Side {
-    fn new() -> Side {
-        Side {
-            options: Options::new(),
-            read: None,
-        }
-    }
-}
-
 /// The case that is read.
+#[derive(Default)]
 pub struct Session {
     side: Side,
     kept: Option<Side>,
-}
-
-fn line(parts: &[&str]) -> String {
-    Line::new(parts).written()
 }
 
 /// `-` for no value, else `=` and the value.
@@ -35,19 +24,11 @@ fn optional(value: Option<String>) -> String {
     value.map_or("-".to_string(), |value| format!("={value}"))
 }
 
-fn line_of(mut head: Vec<String>, rest: impl IntoIterator<Item = String>) -> String {
-    head.extend(rest);
-    Line(head).written()
+fn line(head: &[&str], rest: impl IntoIterator<Item = String>) -> String {
+    Line(head.iter().map(|field| field.to_string()).chain(rest).collect()).written()
 }
 
 impl Session {
-    pub fn new() -> Session {
-        Session {
-            side: Side::new(),
-            kept: None,
-        }
-    }
-
     /// Does what a line says, and gives its answer.
     pub fn answer(&mut self, asked: &Line) -> String {
         let fields = asked.fields();
@@ -55,88 +36,56 @@ impl Session {
         let f = |place: usize| fields[place].as_str();
         match asked.word() {
             "case" => {
-                *self = Session::new();
+                *self = Session::default();
                 return asked.written();
             }
             "keep" => self.kept = Some(self.side.clone()),
-            "anew" => self.side = Side::new(),
-            "style" => {
-                let style = match f(0) {
-                    "floating" => ParsingStyle::FloatingFrees,
-                    "stop" => ParsingStyle::StopAtFirstFree,
-                    other => panic!("no style {other}"),
-                };
-                options.parsing_style(style);
-            }
-            "mode" => {
-                options.long_only(match f(0) {
-                    "ordinary" => false,
-                    "long-only" => true,
-                    other => panic!("no mode {other}"),
-                });
-            }
+            "anew" => self.side = Side::default(),
+            "style" => match f(0) {
+                "floating" => _ = options.parsing_style(ParsingStyle::FloatingFrees),
+                "stop" => _ = options.parsing_style(ParsingStyle::StopAtFirstFree),
+                other => panic!("no style {other}"),
+            },
+            "mode" => match f(0) {
+                "ordinary" => _ = options.long_only(false),
+                "long-only" => _ = options.long_only(true),
+                other => panic!("no mode {other}"),
+            },
             "opt" | "add_group" => {
-                options.opt(f(0), f(1), f(2), f(3), kind_of(f(4)), occur_of(f(5)));
+                _ = options.opt(f(0), f(1), f(2), f(3), kind_of(f(4)), occur_of(f(5)));
             }
-            "optflag" => {
-                options.optflag(f(0), f(1), f(2));
-            }
-            "optflagmulti" => {
-                options.optflagmulti(f(0), f(1), f(2));
-            }
-            "optflagopt" => {
-                options.optflagopt(f(0), f(1), f(2), f(3));
-            }
-            "optmulti" => {
-                options.optmulti(f(0), f(1), f(2), f(3));
-            }
-            "optopt" => {
-                options.optopt(f(0), f(1), f(2), f(3));
-            }
-            "reqopt" => {
-                options.reqopt(f(0), f(1), f(2), f(3));
-            }
-            "words" => return self.read_words(fields),
+            "optflag" => _ = options.optflag(f(0), f(1), f(2)),
+            "optflagmulti" => _ = options.optflagmulti(f(0), f(1), f(2)),
+            "optflagopt" => _ = options.optflagopt(f(0), f(1), f(2), f(3)),
+            "optmulti" => _ = options.optmulti(f(0), f(1), f(2), f(3)),
+            "optopt" => _ = options.optopt(f(0), f(1), f(2), f(3)),
+            "reqopt" => _ = options.reqopt(f(0), f(1), f(2), f(3)),
+            "words" => self.side.read = Some(options.parse(fields)),
             #[cfg(feature = "canonical")]
-            "ignoring_counts" => return self.read_ignoring_counts(fields),
-            "clear" => return self.clear(),
+            "ignoring_counts" => self.side.read = Some(options.parse_ignoring_counts(fields)),
+            "clear" => {
+                if let Some(Ok(matches)) = &mut self.side.read {
+                    matches.free.clear();
+                }
+            }
             "same" => return self.same(f(0)),
             _ => return self.ask(asked),
         }
-        String::new()
-    }
-
-    fn read_words(&mut self, words: &[String]) -> String {
-        self.side.read = Some(self.side.options.parse(words));
-        self.told()
-    }
-
-    #[cfg(feature = "canonical")]
-    fn read_ignoring_counts(&mut self, words: &[String]) -> String {
-        self.side.read = Some(self.side.options.parse_ignoring_counts(words));
-        self.told()
-    }
-
-    /// Empties the free words.
-    fn clear(&mut self) -> String {
-        if let Some(Ok(matches)) = &mut self.side.read {
-            matches.free.clear();
+        match asked.word() {
+            "words" | "ignoring_counts" | "clear" => self.told(),
+            _ => String::new(),
         }
-        self.told()
     }
 
     /// What the last words gave.
     fn told(&self) -> String {
         match &self.side.read {
             Some(Ok(matches)) => {
-                let start = match matches.free_trailing_start() {
-                    Some(start) => start.to_string(),
-                    None => "-".to_string(),
-                };
-                line_of(vec!["accepted".to_string(), start], matches.free.clone())
+                let start = matches.free_trailing_start().map(|start| start.to_string());
+                line(&["accepted", start.as_deref().unwrap_or("-")], matches.free.clone())
             }
-            Some(Err(fail)) => line_of(vec!["refused".to_string()], fault(fail)),
-            None => line(&["clear", "nothing"]),
+            Some(Err(fail)) => line(&["refused"], fault(fail)),
+            None => line(&["clear", "nothing"], []),
         }
     }
 
@@ -147,29 +96,29 @@ impl Session {
             "answers" => kept.read == self.side.read,
             other => panic!("nothing is called {other}"),
         };
-        line(&["same", what, &same.to_string()])
+        line(&["same", what], [same.to_string()])
     }
 
     /// What a line asks of the options.
     fn ask(&self, asked: &Line) -> String {
         let options = &self.side.options;
         match (asked.word(), asked.fields()) {
-            ("lawful", [short, long]) => line(&["lawful", &names_lawful(short, long).to_string()]),
+            ("lawful", [short, long]) => line(&["lawful"], [names_lawful(short, long).to_string()]),
             #[cfg(feature = "canonical")]
             ("canonical", words) => canonical(options, words),
-            ("short", [program]) => line(&["short", &options.short_usage(program)]),
-            ("usage", [brief]) => line(&["usage", &options.usage(brief)]),
+            ("short", [program]) => line(&["short"], [options.short_usage(program)]),
+            ("usage", [brief]) => line(&["usage"], [options.usage(brief)]),
             ("rows", []) => {
                 let mut given = Vec::new();
                 let made = options.usage_with_format(|rows| {
                     given = rows.collect();
                     format!("{} rows", given.len())
                 });
-                line_of(vec!["rows".to_string(), made], given)
+                line(&["rows", &made], given)
             }
             _ => match &self.side.read {
                 Some(Ok(matches)) => ask_of_matches(matches, asked),
-                _ => line(&[asked.word(), "nothing"]),
+                _ => line(&[asked.word(), "nothing"], []),
             },
         }
     }
@@ -177,11 +126,10 @@ impl Session {
 
 #[cfg(feature = "canonical")]
 fn canonical(options: &Options, words: &[String]) -> String {
-    let head = |word: &str| vec!["canonical".to_string(), word.to_string()];
     match options.canonical(words) {
-        Ok(Some(words)) => line_of(head("line"), words),
-        Ok(None) => line_of(head("none"), []),
-        Err(fail) => line_of(head("refused"), fault(&fail)),
+        Ok(Some(words)) => line(&["canonical", "line"], words),
+        Ok(None) => line(&["canonical", "none"], []),
+        Err(fail) => line(&["canonical", "refused"], fault(&fail)),
     }
 }
 
@@ -203,31 +151,27 @@ fn ask_of_matches(matches: &Matches, asked: &Line) -> String {
         return any(matches, asked.fields());
     }
     let name = asked.fields()[0].as_str();
-    let head = vec![asked.word().to_string(), name.to_string()];
+    let head = &[asked.word(), name];
     let defined = matches.opt_defined(name);
     if asked.word() == "opt_defined" {
-        return line_of(head, [defined.to_string()]);
+        return line(head, [defined.to_string()]);
     }
     if !defined {
-        return line_of(head, ["undefined".to_string()]);
+        return line(head, ["undefined".to_string()]);
     }
     match (asked.word(), &asked.fields()[1..]) {
-        ("opt_present", []) => line_of(head, [matches.opt_present(name).to_string()]),
-        ("opt_count", []) => line_of(head, [matches.opt_count(name).to_string()]),
-        ("opt_str", []) => line_of(head, [optional(matches.opt_str(name))]),
-        ("opt_strs", []) => line_of(head, matches.opt_strs(name)),
-        ("opt_strs_pos", []) => line_of(head, pairs(matches, name)),
-        ("opt_positions", []) => line_of(head, positions(matches, name)),
+        ("opt_present", []) => line(head, [matches.opt_present(name).to_string()]),
+        ("opt_count", []) => line(head, [matches.opt_count(name).to_string()]),
+        ("opt_str", []) => line(head, [optional(matches.opt_str(name))]),
+        ("opt_strs", []) => line(head, matches.opt_strs(name)),
+        ("opt_strs_pos", []) => line(head, pairs(matches, name)),
+        ("opt_positions", []) => line(head, positions(matches, name)),
         ("opt_default", [default]) => {
             let value = optional(matches.opt_default(name, default));
-            line_of(head, [default.clone(), value])
+            line(head, [default.clone(), value])
         }
         ("option", [default]) => {
-            let present = if matches.opt_present(name) {
-                "present"
-            } else {
-                "absent"
-            };
+            let present = if matches.opt_present(name) { "present" } else { "absent" };
             let of_option = [
                 present.to_string(),
                 matches.opt_count(name).to_string(),
@@ -235,48 +179,26 @@ fn ask_of_matches(matches: &Matches, asked: &Line) -> String {
                 optional(matches.opt_default(name, default)),
             ];
             let texts = matches.opt_strs_pos(name).into_iter().map(|(_, text)| text);
-            line_of(head, of_option)
-                + &line_of(vec!["strs".to_string()], matches.opt_strs(name))
-                + &line_of(vec!["pairs".to_string()], texts)
+            line(head, of_option)
+                + &line(&["strs"], matches.opt_strs(name))
+                + &line(&["pairs"], texts)
         }
         ("positions", []) => {
-            line_of(head, positions(matches, name))
-                + &line_of(vec!["pairs".to_string()], pairs(matches, name))
+            line(head, positions(matches, name)) + &line(&["pairs"], pairs(matches, name))
         }
-        ("number", [default]) => {
-            let default: i64 = default.parse().expect("a number");
-            let got = matches
-                .opt_get::<i64>(name)
-                .map(|got| got.map(|n| n.to_string()));
-            let or = matches
-                .opt_get_default(name, default)
-                .map(|n| n.to_string());
-            line_of(
-                head,
-                [
-                    got.map_or("error".to_string(), optional),
-                    or.unwrap_or("error".to_string()),
-                ],
-            )
-        }
-        ("truth", [default]) => {
-            let default: bool = default.parse().expect("a truth");
-            let got = matches
-                .opt_get::<bool>(name)
-                .map(|got| got.map(|b| b.to_string()));
-            let or = matches
-                .opt_get_default(name, default)
-                .map(|b| b.to_string());
-            line_of(
-                head,
-                [
-                    got.map_or("error".to_string(), optional),
-                    or.unwrap_or("error".to_string()),
-                ],
-            )
-        }
+        ("number", [default]) => line(head, got::<i64>(matches, name, default)),
+        ("truth", [default]) => line(head, got::<bool>(matches, name, default)),
         _ => panic!("nobody asks for {asked:?}"),
     }
+}
+
+/// A value as it is read, and with a default.
+fn got<T: FromStr + ToString>(matches: &Matches, name: &str, default: &str) -> [String; 2] {
+    let default = default.parse::<T>().ok().expect("a default");
+    let value = matches.opt_get::<T>(name).map(|got| got.map(|it| it.to_string()));
+    let or = matches.opt_get_default(name, default).map(|it| it.to_string());
+    let error = "error".to_string();
+    [value.map_or(error.clone(), optional), or.unwrap_or(error)]
 }
 
 fn positions(matches: &Matches, name: &str) -> Vec<String> {
@@ -294,16 +216,16 @@ fn pairs(matches: &Matches, name: &str) -> Vec<String> {
 /// What a line asks of several names at once. Those calls that panic on an undefined name are made where
 /// all names are defined.
 fn any(matches: &Matches, names: &[String]) -> String {
-    let head = vec!["any".to_string(), matches.opts_present(names).to_string()];
+    let head = &["any", &matches.opts_present(names).to_string()];
     if !names.iter().all(|name| matches.opt_defined(name)) {
-        return line_of(head, ["undefined".to_string()]);
+        return line(head, ["undefined".to_string()]);
     }
     let all = [
         matches.opts_present_any(names).to_string(),
         optional(matches.opts_str(names)),
         optional(matches.opts_str_first(names)),
     ];
-    line_of(head, all)
+    line(head, all)
 }
 
 /// The calls that add a group.
@@ -329,10 +251,7 @@ fn names_lawful(short: &str, long: &str) -> bool {
         })
         .is_ok()
     });
-    assert!(
-        taken.iter().all(|one| *one == taken[0]),
-        "the calls agree on names"
-    );
+    assert!(taken.iter().all(|one| *one == taken[0]), "the calls agree on names");
     taken[0]
 }
 

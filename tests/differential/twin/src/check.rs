@@ -28,7 +28,7 @@ fn answer_beside(lines: &mut Peekable<Lines>) -> String {
 /// words are passed over.
 pub fn check(rows: &str, words: &[String]) -> bool {
     let mut lines = rows.lines().peekable();
-    let mut session = Session::new();
+    let mut session = Session::default();
     let (mut cases, mut same, mut differ, mut passed) = (0, 0, 0, 0);
     while let Some(line) = lines.next() {
         let asked = match Line::read(line) {

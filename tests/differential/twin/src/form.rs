@@ -56,9 +56,7 @@ impl Line {
         if line.is_empty() || line.starts_with('#') {
             return None;
         }
-        let parts = line
-            .split('\t')
-            .map(|field| text_of(field).expect("an escape that is known"));
+        let parts = line.split('\t').map(|field| text_of(field).expect("an escape that is known"));
         Some(Line(parts.collect()))
     }
 

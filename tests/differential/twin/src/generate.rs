@@ -4,7 +4,8 @@ use crate::answer::Session;
 use crate::form::{Case, Line};
 use crate::options::{Declared, Group, CALLS};
 use crate::random::Random;
-use crate::{tables, texts};
+use crate::tables::{self, Table};
+use crate::texts;
 
 /// A case as it is made: what it has declared, and what the Rust crate answered to it so far.
 struct Making {
@@ -18,9 +19,9 @@ impl Making {
         let mut making = Making {
             lines: Vec::new(),
             declared: Declared::default(),
-            session: Session::new(),
+            session: Session::default(),
         };
-        making.add(Line::new(&["case", &format!("{theme}-{number}")]));
+        making.put(&["case", &format!("{theme}-{number}")]);
         making
     }
 
@@ -30,6 +31,10 @@ impl Making {
         let answer = self.session.answer(&line);
         self.lines.push(line);
         answer
+    }
+
+    fn put(&mut self, parts: &[&str]) {
+        self.add(Line::new(parts));
     }
 
     fn declare(&mut self, declared: &Declared) {
@@ -57,12 +62,10 @@ pub fn case(seed: u64, number: usize) -> Case {
         76..=85 => same(random, number),
         86..=91 => value(random, number),
         92..=93 => long_line(random, number),
-        94..=97 => table(random, "harness", number, &tables::harness()),
-        _ => table(random, "doctool", number, &tables::doctool()),
+        94..=97 => table(random, "harness", number, tables::HARNESS),
+        _ => table(random, "doctool", number, tables::DOCTOOL),
     };
-    Case {
-        lines: making.lines,
-    }
+    Case { lines: making.lines }
 }
 
 /// A random group, with no description.
@@ -73,11 +76,7 @@ fn group(random: &mut Random) -> Group {
         _ => (texts::short_name(random), texts::long_name(random)),
     };
     let (call, kind, occur) = if random.one_in(3) {
-        (
-            "opt",
-            random.of(&["yes", "no", "maybe"]),
-            random.of(&["req", "optional", "multi"]),
-        )
+        ("opt", random.of(&["yes", "no", "maybe"]), random.of(&["req", "optional", "multi"]))
     } else {
         random.of(&CALLS)
     };
@@ -86,11 +85,7 @@ fn group(random: &mut Random) -> Group {
         short,
         long,
         desc: String::new(),
-        hint: if has_hint && random.one_in(8) {
-            texts::hint(random)
-        } else {
-            String::new()
-        },
+        hint: if has_hint && random.one_in(8) { texts::hint(random) } else { String::new() },
         kind,
         occur,
         call,
@@ -99,11 +94,7 @@ fn group(random: &mut Random) -> Group {
 
 fn declared(random: &mut Random, most: usize) -> Declared {
     let groups = (0..random.below(most + 1)).map(|_| group(random)).collect();
-    Declared {
-        groups,
-        stop: random.one_in(4),
-        long_only: random.one_in(4),
-    }
+    Declared { groups, stop: random.one_in(4), long_only: random.one_in(4) }
 }
 
 /// A name of a group, or one that is made up.
@@ -152,11 +143,7 @@ fn item(random: &mut Random, declared: &Declared) -> Vec<String> {
 fn cluster(random: &mut Random, declared: &Declared) -> String {
     let mut word = "-".to_string();
     for _ in 0..1 + random.below(3) {
-        let shorts: Vec<&str> = declared
-            .groups
-            .iter()
-            .map(|group| group.short.as_str())
-            .collect();
+        let shorts: Vec<&str> = declared.groups.iter().map(|group| group.short.as_str()).collect();
         if shorts.is_empty() || random.one_in(14) {
             word.push_str(&texts::short_name(random));
         } else {
@@ -170,9 +157,7 @@ fn cluster(random: &mut Random, declared: &Declared) -> String {
 }
 
 fn words(random: &mut Random, declared: &Declared, most: usize) -> Vec<String> {
-    (0..random.below(most + 1))
-        .flat_map(|_| item(random, declared))
-        .collect()
+    (0..random.below(most + 1)).flat_map(|_| item(random, declared)).collect()
 }
 
 /// Adds what a line of accepted words is asked.
@@ -182,21 +167,16 @@ fn ask(random: &mut Random, making: &mut Making, words: &[String], most: usize) 
     for _ in 0..1 + random.below(most) {
         let name = name(random, &declared);
         match random.below(6) {
-            0 if counts_words => {
-                making.add(Line::new(&["positions", &name]));
-            }
+            0 if counts_words => making.put(&["positions", &name]),
             1 => {
                 let mut line = vec!["any".to_string()];
                 line.extend((0..random.below(4)).map(|_| self::name(random, &declared)));
                 making.add(Line(line));
             }
             _ => {
-                let default = if random.one_in(3) {
-                    texts::value(random)
-                } else {
-                    "def".to_string()
-                };
-                making.add(Line::new(&["option", &name, &default]));
+                let default =
+                    if random.one_in(3) { texts::value(random) } else { "def".to_string() };
+                making.put(&["option", &name, &default]);
             }
         }
     }
@@ -248,19 +228,13 @@ fn text(random: &mut Random, number: usize) -> Making {
     }
     making.declare(&declared);
     match random.below(4) {
-        0 => {
-            making.add(Line::new(&["rows"]));
-        }
-        1 => {
-            making.add(Line::new(&["short", &texts::value(random)]));
-        }
+        0 => making.put(&["rows"]),
+        1 => making.put(&["short", &texts::value(random)]),
         2 => {
-            making.add(Line::new(&["usage", "Usage: x"]));
-            making.add(Line::new(&["short", "x"]));
+            making.put(&["usage", "Usage: x"]);
+            making.put(&["short", "x"]);
         }
-        _ => {
-            making.add(Line::new(&["usage", &texts::value(random)]));
-        }
+        _ => making.put(&["usage", &texts::value(random)]),
     }
     making
 }
@@ -275,7 +249,7 @@ fn names(random: &mut Random, number: usize) -> Making {
             2 => texts::noise(random),
             _ => String::new(),
         });
-        making.add(Line::new(&["lawful", &pair[0], &pair[1]]));
+        making.put(&["lawful", &pair[0], &pair[1]]);
     }
     making
 }
@@ -287,14 +261,14 @@ fn same(random: &mut Random, number: usize) -> Making {
     making.declare(&first);
     let first_words = words(random, &first, 3);
     making.words(&first_words);
-    making.add(Line::new(&["keep"]));
+    making.put(&["keep"]);
     let mut second = first.clone();
     if random.one_in(2) {
         change(random, &mut second);
-        making.add(Line::new(&["anew"]));
+        making.put(&["anew"]);
         making.declare(&second);
     }
-    making.add(Line::new(&["same", "options"]));
+    making.put(&["same", "options"]);
     let second_words = if random.one_in(3) {
         first_words.clone()
     } else {
@@ -302,7 +276,7 @@ fn same(random: &mut Random, number: usize) -> Making {
     };
     if first.counts_words(&first_words) && second.counts_words(&second_words) {
         making.words(&second_words);
-        making.add(Line::new(&["same", "answers"]));
+        making.put(&["same", "answers"]);
     }
     making
 }
@@ -364,11 +338,7 @@ fn value(random: &mut Random, number: usize) -> Making {
     let kind = random.of(&["yes", "yes", "maybe", "no"]);
     let group = Group {
         short: "n".to_string(),
-        long: if random.one_in(2) {
-            "number".to_string()
-        } else {
-            String::new()
-        },
+        long: if random.one_in(2) { "number".to_string() } else { String::new() },
         desc: String::new(),
         hint: String::new(),
         kind,
@@ -388,39 +358,30 @@ fn value(random: &mut Random, number: usize) -> Making {
     for _ in 0..1 + random.below(2) {
         if random.one_in(2) {
             let default = random.of(&["0", "7", "-12"]);
-            making.add(Line::new(&["number", "n", default]));
+            making.put(&["number", "n", default]);
         } else {
             let default = random.of(&["true", "false"]);
-            making.add(Line::new(&["truth", group.main(), default]));
+            making.put(&["truth", group.main(), default]);
         }
     }
     making
 }
 
 /// Lines of words by the options of a real program.
-fn table(random: &mut Random, theme: &str, number: usize, table: &tables::Table) -> Making {
+fn table(random: &mut Random, theme: &str, number: usize, rows: &str) -> Making {
+    let table = Table::of(rows);
     let mut making = Making::begin(theme, number);
-    let declared = Declared {
-        groups: table.groups.clone(),
-        stop: false,
-        long_only: random.one_in(8),
-    };
+    let declared = Declared { groups: table.groups, stop: false, long_only: random.one_in(8) };
     making.declare(&declared);
     if random.one_in(4) {
-        making.add(Line::new(&["usage", table.brief]));
-        making.add(Line::new(&["short", table.brief]));
+        making.put(&["usage", &table.brief]);
+        making.put(&["short", &table.brief]);
     }
     for _ in 0..2 + random.below(6) {
         let words: Vec<String> = if random.one_in(2) {
-            (0..random.below(5))
-                .flat_map(|_| real_item(random, &declared))
-                .collect()
+            (0..random.below(5)).flat_map(|_| real_item(random, &declared)).collect()
         } else {
-            random
-                .of(table.lines)
-                .split(' ')
-                .map(str::to_string)
-                .collect()
+            table.lines[random.below(table.lines.len())].clone()
         };
         if making.words(&words) {
             ask(random, &mut making, &words, 4);
@@ -435,23 +396,11 @@ fn real_item(random: &mut Random, declared: &Declared) -> Vec<String> {
         return item(random, declared);
     }
     if random.one_in(4) {
-        return vec![random
-            .of(&["src/lib.rs", "parser::reads", "--", "main.rs"])
-            .to_string()];
+        return vec![random.of(&["src/lib.rs", "parser::reads", "--", "main.rs"]).to_string()];
     }
     let group = &declared.groups[random.below(declared.groups.len())];
-    let value = random
-        .of(&[
-            "1",
-            "8",
-            "auto",
-            "json",
-            "target/doc",
-            "tests::",
-            "warnings",
-            "",
-        ])
-        .to_string();
+    let value =
+        random.of(&["1", "8", "auto", "json", "target/doc", "tests::", "warnings", ""]).to_string();
     match (group.kind, group.long.is_empty(), random.one_in(2)) {
         ("no", true, _) => vec![format!("-{}", group.short)],
         ("no", false, _) => vec![format!("--{}", group.long)],

@@ -13,28 +13,12 @@ fn resolved<'d>(groups: &'d [Group], name: &str) -> Option<(&'d Group, &'static 
     let by_main = |name: &str| groups.iter().find(|group| group.main() == name);
     if let Some(group) = by_main(name) {
         let more = groups.iter().filter(|group| group.main() == name).count() > 1;
-        return Some((
-            group,
-            if more {
-                "doubled main name"
-            } else {
-                "main name"
-            },
-        ));
+        return Some((group, if more { "doubled main name" } else { "main name" }));
     }
-    let declarer = groups
-        .iter()
-        .find(|group| !group.long.is_empty() && group.short == name)?;
+    let declarer = groups.iter().find(|group| !group.long.is_empty() && group.short == name)?;
     let group = by_main(declarer.main())?;
     let is_own = std::ptr::eq(group, declarer);
-    Some((
-        group,
-        if is_own {
-            "alias"
-        } else {
-            "alias of another group"
-        },
-    ))
+    Some((group, if is_own { "alias" } else { "alias of another group" }))
 }
 
 fn shape(word: Option<&String>) -> &'static str {
@@ -53,27 +37,15 @@ fn item(declared: &Declared, words: &[String], kinds: &mut BTreeSet<String>) -> 
     let word = &words[0];
     let next = words.get(1);
     let in_long_form = word.starts_with("--") || declared.long_only;
-    let mut add = |text: String| {
-        kinds.insert(text);
-    };
+    let mut add = |text: String| _ = kinds.insert(text);
     if in_long_form {
-        let dashes = if word.starts_with("--") {
-            "long"
-        } else {
-            "long after one dash"
-        };
+        let dashes = if word.starts_with("--") { "long" } else { "long after one dash" };
         let tail = word.strip_prefix("--").unwrap_or(&word[1..]);
         let (name, argument) = match tail.split_once('=') {
-            Some((name, argument)) => (name, Some(argument)),
-            None => (tail, None),
+            Some((name, "")) => (name, "with an empty argument"),
+            Some((name, _)) => (name, "with an argument"),
+            None => (tail, "alone"),
         };
-        let argument = argument.map_or("alone", |text| {
-            if text.is_empty() {
-                "with an empty argument"
-            } else {
-                "with an argument"
-            }
-        });
         let (group, how) = match resolved(&declared.groups, name) {
             Some(found) => found,
             None => {
@@ -93,19 +65,12 @@ fn item(declared: &Declared, words: &[String], kinds: &mut BTreeSet<String>) -> 
     for (start, letter) in word.char_indices().skip(1) {
         place += 1;
         let at = if place == 1 { "first" } else { "later" };
-        let found = if letter.is_ascii() {
-            resolved(&declared.groups, &letter.to_string())
-        } else {
-            None
-        };
+        let found =
+            if letter.is_ascii() { resolved(&declared.groups, &letter.to_string()) } else { None };
         let (group, how) = match found {
             Some(found) => found,
             None => {
-                let wide = if letter.is_ascii() {
-                    "unknown"
-                } else {
-                    "no ASCII"
-                };
+                let wide = if letter.is_ascii() { "unknown" } else { "no ASCII" };
                 add(format!("cluster, {wide}, {at}"));
                 return false;
             }
@@ -136,11 +101,7 @@ fn line(declared: &Declared, words: &[String], kinds: &mut BTreeSet<String>) {
         let word = &words[place];
         if word == "--" {
             let after = words.len() - place - 1;
-            kinds.insert(format!(
-                "stop, {} free before, {} after",
-                frees.min(2),
-                after.min(2)
-            ));
+            kinds.insert(format!("stop, {} free before, {} after", frees.min(2), after.min(2)));
             return;
         }
         if !(word.starts_with('-') && word.len() > 1) {
@@ -154,11 +115,7 @@ fn line(declared: &Declared, words: &[String], kinds: &mut BTreeSet<String>) {
             place += 1;
             continue;
         }
-        place += if item(declared, &words[place..], kinds) {
-            2
-        } else {
-            1
-        };
+        place += if item(declared, &words[place..], kinds) { 2 } else { 1 };
     }
     kinds.insert(format!("end, {} free", frees.min(2)));
 }
@@ -175,18 +132,9 @@ fn text(group: &Group, kinds: &mut BTreeSet<String>) {
         18..=19 => "a long name of 18 or 19",
         _ => "a longer long name",
     };
-    let short = if group.short.is_empty() {
-        "no short name"
-    } else {
-        "a short name"
-    };
+    let short = if group.short.is_empty() { "no short name" } else { "a short name" };
     kinds.insert(format!("text, {short}, {long}, {}", group.kind));
-    kinds.insert(format!(
-        "text, {}, {}, {}",
-        group.kind,
-        group.occur,
-        group.hint.is_empty()
-    ));
+    kinds.insert(format!("text, {}, {}, {}", group.kind, group.occur, group.hint.is_empty()));
     if !group.long.is_ascii() || !group.hint.is_ascii() {
         kinds.insert(format!("text, wide head, {}", group.kind));
     }
@@ -201,11 +149,7 @@ fn text(group: &Group, kinds: &mut BTreeSet<String>) {
         61..=108 => "of two rows",
         _ => "long",
     };
-    let ascii = if group.desc.is_ascii() {
-        "ASCII"
-    } else {
-        "wide"
-    };
+    let ascii = if group.desc.is_ascii() { "ASCII" } else { "wide" };
     kinds.insert(format!("text, description {letters}, {ascii}"));
     if lines > 1 {
         kinds.insert(format!("text, description of {lines} lines, {letters}"));
@@ -236,10 +180,7 @@ pub fn of_case(case: &Case, answers: &str) -> BTreeSet<String> {
             }
             ("same", [what]) if what == "options" => {
                 for (group, other) in kept.groups.iter().zip(&declared.groups) {
-                    let is_same = Group {
-                        call: group.call,
-                        ..other.clone()
-                    } == *group;
+                    let is_same = Group { call: group.call, ..other.clone() } == *group;
                     if group.call != other.call && is_same {
                         kinds.insert(format!(
                             "same, a group by {} and by {}",
@@ -249,9 +190,7 @@ pub fn of_case(case: &Case, answers: &str) -> BTreeSet<String> {
                 }
             }
             ("case" | "style" | "mode", _) => {}
-            (word, _) => {
-                kinds.insert(format!("line {word}"));
-            }
+            (word, _) => _ = kinds.insert(format!("line {word}")),
         }
         if let Some(group) = Group::of_line(asked) {
             kinds.insert(format!("group {}, {}", group.kind, group.occur));
@@ -270,27 +209,19 @@ pub fn of_case(case: &Case, answers: &str) -> BTreeSet<String> {
                     kinds.insert(format!("accepted, trailing start {}", fields[1]));
                 }
             }
-            "refused" => {
-                kinds.insert(format!("refused, {}", fields[1]));
-            }
+            "refused" => _ = kinds.insert(format!("refused, {}", fields[1])),
             "option" if fields.len() > 5 => {
                 let given =
                     [&fields[4], &fields[5]].map(|field| field.chars().next().unwrap_or(' '));
                 let count = fields[3].parse::<usize>().unwrap_or(0).min(3);
                 kinds.insert(format!("option, {count} times, {given:?}"));
             }
-            "option" => {
-                kinds.insert(format!("option, {}", fields.last().unwrap()));
-            }
+            "option" => _ = kinds.insert(format!("option, {}", fields.last().unwrap())),
             "strs" | "pairs" => {
-                kinds.insert(format!(
-                    "{}, {} of them",
-                    fields[0],
-                    (fields.len() - 1).min(4)
-                ));
+                _ = kinds.insert(format!("{}, {} of them", fields[0], (fields.len() - 1).min(4)))
             }
             "positions" => {
-                kinds.insert(format!("positions, {} of them", (fields.len() - 2).min(4)));
+                _ = kinds.insert(format!("positions, {} of them", (fields.len() - 2).min(4)))
             }
             "any" | "same" | "lawful" => {
                 let told: Vec<&str> = fields[1..].iter().map(|field| told(field)).collect();
@@ -301,46 +232,26 @@ pub fn of_case(case: &Case, answers: &str) -> BTreeSet<String> {
                 kinds.insert(format!("{}, {}", fields[0], told.join(", ")));
             }
             "usage" | "rows" | "short" => {
-                kinds.insert(format!(
-                    "{} of {} bytes",
-                    fields[0],
-                    answer.len() / 100 * 100
-                ));
+                _ = kinds.insert(format!("{} of {} bytes", fields[0], answer.len() / 100 * 100))
             }
             _ => {}
         }
     }
     let style = if declared.stop { "stop" } else { "floating" };
-    let mode = if declared.long_only {
-        "long-only"
-    } else {
-        "ordinary"
-    };
+    let mode = if declared.long_only { "long-only" } else { "ordinary" };
     kinds.insert(format!("{style}, {mode}"));
     match case.name().split('-').next() {
         // A table's kinds stand by themselves: its cases are long, and have several lines of words.
-        Some(table @ ("harness" | "doctool")) => kinds
-            .into_iter()
-            .map(|kind| format!("{table}: {kind}"))
-            .collect(),
+        Some(table @ ("harness" | "doctool")) => {
+            kinds.into_iter().map(|kind| format!("{table}: {kind}")).collect()
+        }
         _ => kinds,
     }
 }
 
 /// A field, where it is one of a few, or that it has a value.
 fn told(field: &str) -> &'static str {
-    const KNOWN: [&str; 8] = [
-        "true",
-        "false",
-        "undefined",
-        "-",
-        "error",
-        "options",
-        "answers",
-        "nothing",
-    ];
-    KNOWN
-        .iter()
-        .find(|known| **known == field)
-        .unwrap_or(&"a value")
+    const KNOWN: [&str; 8] =
+        ["true", "false", "undefined", "-", "error", "options", "answers", "nothing"];
+    KNOWN.iter().find(|known| **known == field).unwrap_or(&"a value")
 }

@@ -1,9 +1,8 @@
 //! The Rust crate `getopts`, in the form of the rows of `crates/getopts_vectors`: makes cases from a seed,
-//! answers them, chooses those that are recorded, and compares answers.
+//! answers them, and chooses those that are recorded.
 
 mod answer;
 mod check;
-mod compare;
 mod form;
 mod generate;
 mod kinds;
@@ -20,15 +19,12 @@ use std::process::ExitCode;
 const USE: &str = "twin generate SEED COUNT     prints the cases of a seed
 twin answer                  prints the cases on its standard input as rows, with their answers beside them
 twin choose SEED COUNT LEAST of so many cases of a seed prints at least LEAST that show all pairs of kinds
-twin count ROWS              prints how many cases and answers of each kind there are
-twin compare OURS THEIRS     the same of two files of the same cases; status 1 where an answer differs
 twin check ROWS [WORD..]     answers rows that have their answers beside them; status 1 where one differs. Lines of
                              these words are passed over
 twin panics                  prints what each call says that panics";
 
 fn number(word: Option<&String>) -> u64 {
-    word.and_then(|word| word.parse().ok())
-        .unwrap_or_else(|| panic!("{USE}"))
+    word.and_then(|word| word.parse().ok()).unwrap_or_else(|| panic!("{USE}"))
 }
 
 fn text_of(file: Option<&String>) -> String {
@@ -50,7 +46,7 @@ fn main() -> ExitCode {
             }
         }
         Some("answer") => {
-            let mut session = answer::Session::new();
+            let mut session = answer::Session::default();
             for line in std::io::stdin().lock().lines() {
                 if let Some(line) = form::Line::read(&line.expect("a line")) {
                     let row = form::row(&line, &session.answer(&line));
@@ -63,12 +59,6 @@ fn main() -> ExitCode {
             let cases = record::chosen(seed, count as usize, number(words.get(3)) as usize);
             for case in cases {
                 out.write_all(case.written().as_bytes()).expect("a write");
-            }
-        }
-        Some("count") => compare::count(&text_of(words.get(1))),
-        Some("compare") => {
-            if compare::compare(&text_of(words.get(1)), &text_of(words.get(2))) > 0 {
-                return ExitCode::FAILURE;
             }
         }
         Some("check") => {

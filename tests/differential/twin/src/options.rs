@@ -28,10 +28,7 @@ const KINDS: [&str; 3] = ["yes", "no", "maybe"];
 const OCCURS: [&str; 3] = ["req", "optional", "multi"];
 
 fn known(text: &str, among: &[&'static str]) -> &'static str {
-    among
-        .iter()
-        .find(|one| **one == text)
-        .expect("a word that is known")
+    among.iter().find(|one| **one == text).expect("a word that is known")
 }
 
 impl Group {
@@ -39,37 +36,16 @@ impl Group {
     pub fn of_line(line: &Line) -> Option<Group> {
         let fields = line.fields();
         let field = |place: usize| fields.get(place).cloned().unwrap_or_default();
-        if line.word() == "opt" {
-            return Some(Group {
-                short: field(0),
-                long: field(1),
-                desc: field(2),
-                hint: field(3),
-                kind: known(&field(4), &KINDS),
-                occur: known(&field(5), &OCCURS),
-                call: "opt",
-            });
-        }
-        let (call, kind, occur) = CALLS.iter().find(|(call, _, _)| *call == line.word())?;
-        Some(Group {
-            short: field(0),
-            long: field(1),
-            desc: field(2),
-            hint: field(3),
-            kind,
-            occur,
-            call,
-        })
+        let (call, kind, occur) = match line.word() {
+            "opt" => ("opt", known(&field(4), &KINDS), known(&field(5), &OCCURS)),
+            word => *CALLS.iter().find(|(call, _, _)| *call == word)?,
+        };
+        let [short, long, desc, hint] = [0, 1, 2, 3].map(field);
+        Some(Group { short, long, desc, hint, kind, occur, call })
     }
 
     pub fn line(&self) -> Line {
-        let Group {
-            short,
-            long,
-            desc,
-            hint,
-            ..
-        } = self;
+        let Group { short, long, desc, hint, .. } = self;
         match self.call {
             "opt" => Line::new(&["opt", short, long, desc, hint, self.kind, self.occur]),
             "optflag" | "optflagmulti" => Line::new(&[self.call, short, long, desc]),
@@ -128,14 +104,7 @@ impl Declared {
         options.long_only(self.long_only);
         for group in &self.groups {
             let kind = crate::answer::kind_of(group.kind);
-            options.opt(
-                &group.short,
-                &group.long,
-                "",
-                "",
-                kind,
-                getopts::Occur::Multi,
-            );
+            options.opt(&group.short, &group.long, "", "", kind, getopts::Occur::Multi);
         }
         options.optflagmulti("", PROBE, "");
         options
@@ -151,11 +120,8 @@ impl Declared {
         let probe = format!("--{PROBE}");
         for end in (0..=words.len()).rev() {
             let line = words[..end].iter().chain([&probe]);
-            let matches = match options.parse(line) {
-                Ok(matches) => matches,
-                Err(_) => continue,
-            };
-            if let Some(place) = matches.opt_positions(PROBE).first() {
+            let places = options.parse(line).map(|matches| matches.opt_positions(PROBE));
+            if let Some(place) = places.unwrap_or_default().first() {
                 return *place == end;
             }
         }

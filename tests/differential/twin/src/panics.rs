@@ -29,9 +29,7 @@ pub fn lines() -> Vec<String> {
         }
     }
     let mut options = Options::new();
-    options
-        .optopt("o", "", "", "FILE")
-        .optopt("i", "", "", "FILE");
+    options.optopt("o", "", "", "FILE").optopt("i", "", "", "FILE");
     let matches = options.parse(["-ox"]).expect("an accepted line");
     for name in ["", "nope", "é"] {
         lines.extend(of_name(&matches, name));

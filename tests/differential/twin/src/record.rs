@@ -7,22 +7,17 @@ use std::collections::HashMap;
 
 /// What the Rust crate answers to a case.
 pub fn answers(case: &Case) -> String {
-    let mut session = Session::new();
+    let mut session = Session::default();
     case.lines.iter().map(|line| session.answer(line)).collect()
 }
 
 /// Whether the recorded cases show two kinds together, and not each by itself alone: a kind of item with
 /// another, and any kind with a style and mode or with how a line of words came out.
 fn go_together(first: &str, second: &str) -> bool {
-    let is_item = |kind: &str| {
-        ["cluster", "long", "free", "stop"]
-            .iter()
-            .any(|word| kind.starts_with(word))
-    };
+    let is_item =
+        |kind: &str| ["cluster", "long", "free", "stop"].iter().any(|word| kind.starts_with(word));
     let is_setting = |kind: &str| {
-        ["floating", "stop, ord", "stop, long", "refused"]
-            .iter()
-            .any(|word| kind.starts_with(word))
+        ["floating", "stop, ord", "stop, long", "refused"].iter().any(|word| kind.starts_with(word))
     };
     let is_text = |kind: &str| kind.starts_with("text") || kind.contains("bytes");
     first == second
@@ -52,9 +47,7 @@ fn candidates(seed: u64, count: usize) -> Vec<Candidate> {
         };
         let mut shows = Vec::new();
         for (at, first) in kinds.iter().enumerate() {
-            let others = kinds[at..]
-                .iter()
-                .filter(|second| go_together(first, second));
+            let others = kinds[at..].iter().filter(|second| go_together(first, second));
             shows.extend(others.map(|second| (number_of(first), number_of(second))));
         }
         let size = case.written().len() + answers.len();
@@ -87,9 +80,6 @@ pub fn chosen(seed: u64, count: usize, least: usize) -> Vec<Case> {
             break;
         }
     }
-    let cases = candidates
-        .into_iter()
-        .zip(taken)
-        .filter(|(_, taken)| *taken);
+    let cases = candidates.into_iter().zip(taken).filter(|(_, taken)| *taken);
     cases.map(|(candidate, _)| candidate.case).collect()
 }

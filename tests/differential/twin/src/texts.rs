@@ -4,127 +4,44 @@
 
 use crate::random::Random;
 
+#[rustfmt::skip]
 const SHORT_NAMES: [&str; 16] = [
     "a", "b", "c", "v", "a", "b", "c", "o", "t", "L", "-", "=", " ", "1", "?", "h",
 ];
 
+#[rustfmt::skip]
 const LONG_NAMES: [&str; 26] = [
-    "apple",
-    "banana",
-    "verbose",
-    "ab",
-    "abc",
-    "no",
-    "aa",
-    "apple",
-    "ab",
-    "color",
-    "é",
-    "日",
-    "日本",
-    "naïve",
-    "a=b",
-    "=x",
-    "x=",
-    "--",
-    "-a",
-    "-apple",
-    "two words",
-    "\u{301}",
-    "ab-c",
-    "hi",
-    "e\u{301}a",
-    "a-very-long-name-of-an-option",
+    "apple", "banana", "verbose", "ab", "abc", "no", "aa", "apple", "ab", "color", "é", "日", "日本",
+    "naïve", "a=b", "=x", "x=", "--", "-a", "-apple", "two words", "\u{301}", "ab-c", "hi",
+    "e\u{301}a", "a-very-long-name-of-an-option",
 ];
 
+#[rustfmt::skip]
 const VALUES: [&str; 32] = [
-    "",
-    "-",
-    "--",
-    "x",
-    "y",
-    "1",
-    "7",
-    "-3",
-    "+5",
-    "-a",
-    "-b",
-    "--ab",
-    "-ab",
-    "--apple",
-    "=",
-    "a=b",
-    "=5",
-    "true",
-    "false",
-    "free word",
-    "é",
-    "日本",
-    "a\tb",
-    "line\nend",
-    "back\\slash",
-    "\r",
-    "-1",
-    "---",
-    "9223372036854775807",
-    "9223372036854775808",
-    "-9223372036854775808",
-    "abc",
+    "", "-", "--", "x", "y", "1", "7", "-3", "+5", "-a", "-b", "--ab", "-ab", "--apple", "=", "a=b",
+    "=5", "true", "false", "free word", "é", "日本", "a\tb", "line\nend", "back\\slash", "\r", "-1",
+    "---", "9223372036854775807", "9223372036854775808", "-9223372036854775808", "abc",
 ];
 
+#[rustfmt::skip]
 const WORDS: [&str; 30] = [
-    "a",
-    "an",
-    "the",
-    "of",
-    "with",
-    "set",
-    "file",
-    "name",
-    "output",
-    "option",
-    "argument",
-    "whenever",
-    "directory",
-    "description",
-    "characteristics",
-    "日本語",
-    "テスト",
-    "naïve",
-    "e\u{301}te\u{301}",
-    "“quoted”",
-    "0.51€",
-    "ＡＢＣ",
-    "한국어",
-    "русский",
-    "ελληνικά",
-    "\u{301}",
-    "x,",
-    "(y)",
-    "misunderstandings;",
+    "a", "an", "the", "of", "with", "set", "file", "name", "output", "option", "argument",
+    "whenever", "directory", "description", "characteristics", "日本語", "テスト", "naïve",
+    "e\u{301}te\u{301}", "“quoted”", "0.51€", "ＡＢＣ", "한국어", "русский", "ελληνικά", "\u{301}", "x,",
+    "(y)", "misunderstandings;",
     "HereWeNeedOneSingleWordThatIsLongerThanTheWrappingLengthAndThisIsIt",
 ];
 
+#[rustfmt::skip]
 const SPACES: [&str; 16] = [
     " ", " ", " ", " ", " ", " ", " ", " ", "  ", "\t", "\n", "\n\n", " \n ", "\u{3000}", "\u{a0}",
     "\r\n",
 ];
 
+#[rustfmt::skip]
 const HINTS: [&str; 14] = [
-    "",
-    "",
-    "VAL",
-    "FILE",
-    "N",
-    "NAME",
-    "日本",
-    "[X]",
-    "a b",
-    "TYPE,TYPE",
-    "é",
-    "a-long-hint-for-an-argument",
-    "=",
-    "VAL",
+    "", "", "VAL", "FILE", "N", "NAME", "日本", "[X]", "a b", "TYPE,TYPE", "é",
+    "a-long-hint-for-an-argument", "=", "VAL",
 ];
 
 pub fn short_name(random: &mut Random) -> String {
