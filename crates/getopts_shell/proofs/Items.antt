@@ -216,7 +216,7 @@ shape : (names : Names) (text : Text) → AreNames names text → Shape names.sh
 shape names text are = shape_of names.short names.long text are.may_be are.written
 
 -- a text with two dashes has only a long name
-pub only_long : (text : Text) → get_or text 1 0 ≡ 45 → (names : Names) → AreNames names text
+only_long : (text : Text) → get_or text 1 0 ≡ 45 → (names : Names) → AreNames names text
     → (names.short ≡ []) × (names.long ≡ drop 2 text)
 only_long text dash names are = by_shape (shape names text are)
   where
@@ -228,7 +228,7 @@ only_long text dash names are = by_shape (shape names text are)
         absurd (plain (sym (ap (λ (t : Text). get_or t 1 0) is) ∙ dash))
 
 -- one of two bytes has only a short name
-pub only_short : (text : Text) → get_or text 1 0 ≢ 45 → length text ≡ 2
+only_short : (text : Text) → get_or text 1 0 ≢ 45 → length text ≡ 2
     → (names : Names) → AreNames names text → (names.short ≡ drop 1 text) × (names.long ≡ [])
 only_short text no_dash two names are = by_shape (shape names text are)
   where

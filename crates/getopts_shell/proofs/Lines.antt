@@ -136,7 +136,7 @@ kept None = refl
 kept (Some entry) = refl
 
 -- one more line
-pub one_more_line : (lines : List Text) (line : Text) (entries : List Entry)
+one_more_line : (lines : List Text) (line : Text) (entries : List Entry)
     (declared : Option Entry)
     → DeclareOptions lines entries → Declares line declared
     → IfSome declared (λ entry. name_again entries entry ≡ None)
