@@ -260,8 +260,7 @@ fn make_variable_bytes(name: &str) -> bool {
 /// Whether a prefix and a main name begin with no digit, and not both are empty.
 fn begins_variable(prefix: &str, name: &str) -> bool {
     match (prefix.as_bytes(), name.as_bytes()) {
-        ([first, ..], _) => !first.is_ascii_digit(),
-        ([], [first, ..]) => !first.is_ascii_digit(),
+        ([first, ..], _) | ([], [first, ..]) => !first.is_ascii_digit(),
         _ => false,
     }
 }
