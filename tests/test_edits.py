@@ -7,9 +7,11 @@ nothing, so any body is refused. Such an edit, or one that adds a way out, has a
 
 On a copy of the repository each edit is put beside its function, under a name of its own and with a copy of its proof
 files, so that one check of the crate tries all that were asked for. A method of a trait can't be copied: it is tried
-alone. The edits in private/ turn bodies that no public clause speaks of; they are tried with --many.
+alone. Half of what the check of a small program takes is reading the library, so the modules of two programs are put
+beside those of a third. The edits in private/ turn bodies that no public clause speaks of; they are tried with --many.
 """
 
+import itertools
 import os
 import re
 import shutil
@@ -19,8 +21,13 @@ from conftest import ROOT, answer, copy_tree, kit, wait_for
 
 EDITS = sorted(path for path in (ROOT / "tests/must-fail").rglob("*.edit"))
 LIBRARIES = ["getopts", "getopts_bytes"]
+# Programs whose modules are tried in another, which has no module of the same name.
+GUESTS = {"getopts_greet": "getopts_uses", "getopts_show": "getopts_uses"}
 # What a check says of a proof file that names a step which an edit took away: it says nothing of the contract.
 NAMES = re.compile(r"has no field|has no `|is not in scope|was not admitted|was rejected, was not checked")
+# What stands in the proof file of a wrong body that has none, and what is said of it.
+UNOFFERED = "use Rattle.std.proofs.Common.{◌≡◌, refl, true, false}\nunoffered : true ≡ false\nunoffered = refl\n"
+OWN_ERROR = "error: `unoffered`: "
 
 
 class Edit:
@@ -29,6 +36,7 @@ class Edit:
     def __init__(self, path, variant):
         self.path, self.variant, self.name = path, variant, path.stem + (":right" if variant == "right" else "")
         self.crate = path.relative_to(ROOT / "tests/must-fail").parts[0]
+        self.host = GUESTS.get(self.crate, self.crate)
         self.pairs, self.function, file, texts = [], "", "", {}
         for line in [*path.read_text(encoding="utf-8").splitlines(), "end:"]:
             kind, _, rest = line.partition(":")
@@ -37,7 +45,7 @@ class Edit:
                 self.pairs.append((file, {kind: "\n".join(lines) for kind, lines in texts.items()}))
                 texts = {}
             if kind == "fn":
-                self.function = rest
+                self.function = rest.replace(self.crate, self.host, 1)
             elif kind == "file":
                 file = rest
             elif kind in ("old", "new", "right"):
@@ -109,7 +117,9 @@ class Copies:
             for name in re.findall(r"^pub\(crate\) fn (\w+)\(", text, re.M):
                 self.files[other] = re.sub(rf"^fn {name}\(", f"pub(crate) fn {name}(", self.files[other], flags=re.M)
         self.copy_proofs(path, new)
-        return "::".join([edit.crate, *path[:-1], new])
+        if edit.variant == "new":
+            self.keep_unoffered(path, new)
+        return "::".join([edit.host, *path[:-1], new])
 
     def copy_proofs(self, path, new):
         source, to = (self.folder.joinpath("proofs", *path[:-1], name) for name in (path[-1], new))
@@ -118,6 +128,13 @@ class Copies:
             for file in (file for file in to.rglob("*") if file.is_file()):
                 text, module = file.read_text(encoding="utf-8"), ".".join(["proofs", *path[:-1]])
                 file.write_text(text.replace(f"{module}.{path[-1]}.", f"{module}.{new}."), encoding="utf-8")
+
+    def keep_unoffered(self, path, new):
+        """Adds a proof file with an error of its own: with none, rattle reads all again to offer the file that is missing."""
+        folder = self.folder.joinpath("proofs", *path[:-1], new)
+        if not (folder / "Answers.antt").exists() and not (folder / "Proof.antt").exists():
+            folder.mkdir(parents=True, exist_ok=True)
+            (folder / "Answers.antt").write_text(UNOFFERED, encoding="utf-8")
 
     def write(self):
         for file, text in self.files.items():
@@ -130,6 +147,18 @@ class Copies:
                 end = span(text, name, owner)[1]
                 text = text[:end] + "\n" + body + text[end:] + "".join(added)
             (self.folder / file).write_text(text, encoding="utf-8")
+
+
+def join(folder, guest):
+    """Puts the modules of a program beside those of the one in this folder."""
+    for file in (file for part in ("src", "specs", "proofs") for file in (guest / part).rglob("*") if file.is_file()):
+        to, text = folder / file.relative_to(guest), file.read_text(encoding="utf-8")
+        if file.name == "main.rt":
+            text = to.read_text(encoding="utf-8") + "\n".join(re.findall(r"^mod \w+;$", text, re.M)) + "\n"
+        elif file.name == "Lib.antt" and to.exists():
+            text = to.read_text(encoding="utf-8") + text
+        to.parent.mkdir(parents=True, exist_ok=True)
+        to.write_text(text.replace(f"Rattle.{guest.name}.", f"Rattle.{folder.name}."), encoding="utf-8")
 
 
 def check(folder, functions):
@@ -149,51 +178,56 @@ def verdict(said, function):
     if "no proof: " in own and "`search` did not prove" in own:
         return "refused"
     if own.startswith(f"fn {function}: not proved"):
-        if any(proof in line and ": error: " in line and not NAMES.search(line) for line in lines):
+        if any(proof in line and ": error: " in line and OWN_ERROR not in line and not NAMES.search(line) for line in lines):
+            return "refused"
+        notes = itertools.takewhile(lambda line: not line.startswith("fn "), reversed(lines[:lines.index(own)]))
+        if any(re.match(r"note: src/.*: it is not proved that ", line) for line in notes):
             return "refused"
     return own or next((line for line in lines if ": error: " in line), said[-300:])
 
 
 @pytest.fixture(scope="session")
 def verdicts(request, tmp_path_factory):
-    """verdicts(CRATE): by the name of each edit that was asked for, what the prover says to it."""
+    """verdicts(HOST): what the prover says to each edit of a crate, and of its guests, that was asked for."""
     kit()
     found = {}
 
-    def of(crate):
-        if crate not in found:
-            found[crate] = {}
+    def of(host):
+        if host not in found:
+            found[host] = {}
             items = [item for item in request.session.items if item.name.startswith("test_edit[")]
             asked = [edit for edit in (item.callspec.params["edit"] for item in items)
-                     if edit.crate == crate and not passed_over(edit, request.config)]
-            found[crate] = tried(asked, tmp_path_factory.mktemp(crate))
-        return found[crate]
+                     if edit.host == host and not passed_over(edit, request.config)]
+            found[host] = tried(asked, tmp_path_factory.mktemp(host))
+        return found[host]
 
     return of
 
 
 def tried(edits, room):
-    crate = edits[0].crate
-    below = [] if crate in LIBRARIES else LIBRARIES
+    host = edits[0].host
+    below = [] if host in LIBRARIES else LIBRARIES
     wait_for(*below)
-    folder = copy_tree(room / "copy", *below) / "crates" / crate
+    folder = copy_tree(room / "copy", *below) / "crates" / host
+    for crate in sorted({edit.crate for edit in edits} - {host}):
+        join(folder, folder.parent / crate)
     copies, functions, said = Copies(folder), {}, {}
     for edit in edits:
-        functions[edit.name] = copies.add(edit)
-    alone = [edit for edit in edits if not functions[edit.name]]
+        functions[edit] = copies.add(edit)
+    alone = [edit for edit in edits if not functions[edit]]
     plain = {file: (folder / file).read_text(encoding="utf-8") for edit in alone for file, _ in edit.pairs}
     copies.write()
     checked = check(folder, [function for function in functions.values() if function])
     (room / "said").write_text(checked)
     for edit in edits:
-        if functions[edit.name]:
-            said[edit.name] = verdict(checked, functions[edit.name])
+        if functions[edit]:
+            said[edit] = verdict(checked, functions[edit])
     for edit in alone:
         for file, text in plain.items():
             (folder / file).write_text(text, encoding="utf-8")
         for file, text in edit.applied(folder).items():
             (folder / file).write_text(text, encoding="utf-8")
-        said[edit.name] = verdict(check(folder, [edit.function]), edit.function)
+        said[edit] = verdict(check(folder, [edit.function]), edit.function)
     return said
 
 
@@ -208,7 +242,7 @@ def passed_over(edit, config):
 
 def marks(edit):
     """The edits of a crate are tried by one worker, those of callers once their libraries are proved."""
-    group = pytest.mark.xdist_group(f"edits of {edit.crate}")
+    group = pytest.mark.xdist_group(f"edits of {edit.host}")
     return [group] if edit.crate in LIBRARIES else [group, pytest.mark.built]
 
 
@@ -216,7 +250,7 @@ def marks(edit):
 def test_edit(edit, verdicts, request):
     if why := passed_over(edit, request.config):
         pytest.skip(why)
-    assert verdicts(edit.crate).get(edit.name, "the check failed before") == ("proved" if edit.variant == "right" else "refused")
+    assert verdicts(edit.host).get(edit, "the check failed before") == ("proved" if edit.variant == "right" else "refused")
 
 
 @pytest.mark.parametrize("edit", [pytest.param(edit, id=f"{edit.crate}-{edit.name}")
