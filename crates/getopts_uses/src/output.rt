@@ -11,7 +11,6 @@ pub fn output_of(alloc: Global, words: &[&str]) -> Result<Option<String>, Fail> 
     let mut options = Options::new(alloc);
     options
         .optopt("o", "output", "set output file name", "NAME")?
-        .optflag("h", "help", "print this help menu")?
         .optflagmulti("v", "verbose", "say more")?;
     let matches = options.parse(alloc, words.iter().copied())?;
     Ok(matches.opt_str(alloc, "output")?)
@@ -26,8 +25,10 @@ pub fn writes_out(matches: &Matches) -> bool
     };
     let outputs = matches.occurrences_at(place);
     for nth in 0..outputs.len() {
-        if let Some((_, Some("-"))) = outputs.get(nth) {
-            return true;
+        if let Some((_, Some(output))) = outputs.get(nth) {
+            if output == "-" {
+                return true;
+            }
         }
     }
     false

@@ -18,7 +18,10 @@ use std::alloc::{AllocError, Global};
 use std::fmt::Debug;
 
 /// Adds what a call returned, and a line end.
-fn push<T: Debug, E: Debug>(text: &mut String, res: &Result<T, E>) -> Result<(), AllocError> {
+fn push<T: Debug + Drop, E: Debug + Drop>(
+    text: &mut String,
+    res: Result<T, E>,
+) -> Result<(), AllocError> {
     match res {
         Ok(value) => writeln!(text, "{value:?}"),
         Err(error) => writeln!(text, "{error:?}"),
@@ -46,21 +49,21 @@ fn push_caller(
     words: &[&str],
 ) -> Result<(), AllocError> {
     match caller {
-        "peek" => push(text, &read_request(alloc, words)),
-        "peek_help" => push(text, &help_text(alloc)),
-        "logged" => push(text, &log_line(alloc, words)),
-        "wrapper" => push(text, &handed_on(alloc, words)),
-        "compile" => push(text, &read_job(alloc, words)),
-        "command" => push(text, &read_command(alloc, words)),
-        "log" => push(text, &read_log(alloc, words).map(|matches| matches.free)),
-        "output" => push(text, &output_of(alloc, words)),
-        "input" => push(text, &input_of(alloc, words)),
-        "input_count" => push(text, &input_count(alloc, words)),
+        "peek" => push(text, read_request(alloc, words)),
+        "peek_help" => push(text, help_text(alloc)),
+        "logged" => push(text, log_line(alloc, words)),
+        "wrapper" => push(text, handed_on(alloc, words)),
+        "compile" => push(text, read_job(alloc, words)),
+        "command" => push(text, read_command(alloc, words)),
+        "log" => push(text, read_log(alloc, words).map(|matches| matches.free)),
+        "output" => push(text, output_of(alloc, words)),
+        "input" => push(text, input_of(alloc, words)),
+        "input_count" => push(text, input_count(alloc, words)),
         "fault" => faults::push_faults(alloc, text, words),
         "unreadable" => values::push_unreadable(alloc, text, words),
         "closures" => closures::push_texts(alloc, text),
-        "taken" => iterators::push_taken(alloc, text),
-        "promised" => iterators::push_promised(alloc, text),
+        "taken" => iterators::push_taken(alloc, text, words),
+        "promised" => iterators::push_promised(alloc, text, words),
         _ => wrapped::push_wrapped(alloc, text, caller, words),
     }
 }

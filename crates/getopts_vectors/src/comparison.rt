@@ -209,7 +209,7 @@ impl Comparison {
     /// Tells what was expected of the last line, and what it was answered.
     fn tell(&mut self) {
         self.told.raw("line ");
-        self.told.whole(self.answered);
+        self.told.shown(&self.answered);
         self.told.raw(" of ");
         self.told.raw(self.case.text());
         self.told.raw(", expected:\n");
@@ -220,13 +220,13 @@ impl Comparison {
 
     /// Tells how many there were.
     fn sum_up(&mut self) {
-        self.told.whole(self.counts.cases);
+        self.told.shown(&self.counts.cases);
         self.told.raw(" cases, ");
-        self.told.whole(self.counts.questions);
+        self.told.shown(&self.counts.questions);
         self.told.raw(" questions, ");
-        self.told.whole(self.counts.answers);
+        self.told.shown(&self.counts.answers);
         self.told.raw(" expected lines, ");
-        self.told.whole(self.counts.differences);
+        self.told.shown(&self.counts.differences);
         self.told.raw(" differ\n");
     }
 }

@@ -141,23 +141,23 @@ impl Answer {
     }
 
     /// Adds a number as it is.
-    pub fn decimal(&mut self, number: usize) {
-        if write!(self.text, "{number}").is_err() {
-            self.stop = Some(Stop::NoMemory);
-        }
-    }
-
-    /// Adds a number of lines as it is.
-    pub fn whole(&mut self, number: u64) {
-        if write!(self.text, "{number}").is_err() {
-            self.stop = Some(Stop::NoMemory);
+    pub fn shown<T: Display>(&mut self, number: &T) {
+        match number.to_string(self.alloc) {
+            Ok(text) => self.raw(text.as_str()),
+            Err(_) => self.stop = Some(Stop::NoMemory),
         }
     }
 
     /// Adds a number in five digits.
     pub fn five_digits(&mut self, number: usize) {
-        if write!(self.text, "{number:05}").is_err() {
-            self.stop = Some(Stop::NoMemory);
+        match number.to_string(self.alloc) {
+            Ok(text) => {
+                for _ in text.len()..5 {
+                    self.letter('0');
+                }
+                self.raw(text.as_str());
+            }
+            Err(_) => self.stop = Some(Stop::NoMemory),
         }
     }
 
@@ -190,9 +190,9 @@ impl Answer {
 
     /// Adds a field with a number behind a text.
     pub fn number(&mut self, front: &str, number: i64) {
-        if write!(self.text, "\t{front}{number}").is_err() {
-            self.stop = Some(Stop::NoMemory);
-        }
+        self.raw("\t");
+        self.raw(front);
+        self.shown(&number);
     }
 
     /// Adds a field with what a value prints.
@@ -250,9 +250,8 @@ impl Field for bool {
 
 impl Field for usize {
     fn put(&self, answer: &mut Answer) {
-        if write!(answer.text, "\t{self}").is_err() {
-            answer.stop = Some(Stop::NoMemory);
-        }
+        answer.raw("\t");
+        answer.shown(self);
     }
 }
 

@@ -220,18 +220,32 @@ fn takes(word: &str, count: usize) -> bool {
     }
 }
 
+/// How many fields words have.
+const COUNTS: [(usize, &str); 6] = [
+    (0, "anew called clear keep rows usage_rows"),
+    (1, "case mode same short style usage"),
+    (
+        2,
+        "lawful number occurrences_at opt_default option truth wrap",
+    ),
+    (3, "optflag optflagmulti"),
+    (4, "optflagopt optmulti optopt reqopt"),
+    (6, "add_group opt"),
+];
+
 /// How many fields a word has, unless it has any number or isn't known.
 fn count_of(word: &str) -> Option<usize> {
-    match word {
-        "anew" | "called" | "clear" | "keep" | "rows" | "usage_rows" => Some(0),
-        "case" | "mode" | "same" | "short" | "style" | "usage" => Some(1),
-        "opt_default" | "option" | "number" | "truth" => Some(2),
-        "lawful" | "occurrences_at" | "wrap" => Some(2),
-        "optflag" | "optflagmulti" => Some(3),
-        "optflagopt" | "optmulti" | "optopt" | "reqopt" => Some(4),
-        "add_group" | "opt" => Some(6),
-        _ if accessors::has(word) && word != "any" => Some(1),
-        _ => None,
+    for (count, words) in &COUNTS {
+        for known in words.split(' ') {
+            if known == word {
+                return Some(*count);
+            }
+        }
+    }
+    if accessors::has(word) && word != "any" {
+        Some(1)
+    } else {
+        None
     }
 }
 

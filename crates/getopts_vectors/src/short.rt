@@ -7,7 +7,7 @@ pub fn put_at_length(case: &str, length: usize, text: &mut Answer) {
     text.clear();
     for letter in case.chars() {
         match letter {
-            '$' => text.decimal(length),
+            '$' => text.shown(&length),
             _ => text.letter(letter),
         }
     }
@@ -41,9 +41,9 @@ fn put_repeated(repeated: &str, lines: &mut Answer) {
 fn put_turn(turn: &str, number: usize, lines: &mut Answer) {
     for letter in turn.chars() {
         match letter {
-            '#' => lines.decimal(number),
+            '#' => lines.shown(&number),
             '%' => lines.five_digits(number),
-            '&' => lines.decimal(number.saturating_mul(2)),
+            '&' => lines.shown(&number.saturating_mul(2)),
             _ => lines.letter(letter),
         }
     }

@@ -29,23 +29,23 @@ impl<'a> Iterator for Counted<'a, '_> {
     }
 }
 
-/// Three words, of which no option has the first, with a cell that says how many of them are taken.
-fn counting(count: &Cell<usize>) -> Counted<'static, '_> {
+/// Words of which none is taken yet.
+fn none_taken<'a, 'c>(words: &'a [&'a str], count: &'c Cell<usize>) -> Counted<'a, 'c> {
     Counted {
-        words: &["--nope", "x", "y"],
+        words,
         taken: 0,
         count,
     }
 }
 
 /// Adds which faults come of words, and how many words are taken before each.
-pub fn push_taken(alloc: Global, text: &mut String) -> Result<(), AllocError> {
+pub fn push_taken(alloc: Global, text: &mut String, words: &[&str]) -> Result<(), AllocError> {
     let options = Options::new(alloc);
     let count = Cell::new(0);
-    let read = options.parse(alloc, counting(&count));
+    let read = options.parse(alloc, none_taken(words, &count));
     write!(text, "{:?} after {}; ", read.err(), count.get())?;
     count.set(0);
-    let written = options.canonical(alloc, counting(&count));
+    let written = options.canonical(alloc, none_taken(words, &count));
     writeln!(text, "{:?} after {}", written.err(), count.get())
 }
 
@@ -72,18 +72,13 @@ impl<'a> Iterator for Promising<'a> {
     }
 }
 
-/// Two words, with the promise of more.
-fn two_words() -> Promising<'static> {
-    Promising {
-        words: &["x", "y"],
-        taken: 0,
-    }
-}
-
-/// Adds what comes of two words where more are promised.
-pub fn push_promised(alloc: Global, text: &mut String) -> Result<(), AllocError> {
+/// Adds what comes of words where more are promised.
+pub fn push_promised(alloc: Global, text: &mut String, words: &[&str]) -> Result<(), AllocError> {
     let options = Options::new(alloc);
-    let read = options.parse(alloc, two_words());
+    let read = options.parse(alloc, Promising { words, taken: 0 });
     write!(text, "{:?}, ", read.map(|matches| matches.free))?;
-    push(text, &options.canonical(alloc, two_words()))
+    push(
+        text,
+        options.canonical(alloc, Promising { words, taken: 0 }),
+    )
 }

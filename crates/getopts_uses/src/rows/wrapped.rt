@@ -30,7 +30,7 @@ pub fn push_wrapped(
 ) -> Result<(), AllocError> {
     let mut options = wrapped(alloc)?;
     match (caller, words) {
-        ("flag", words) => push(text, &says_more(alloc, &options, words)),
+        ("flag", words) => push(text, says_more(alloc, &options, words)),
         ("plugin", [name]) => push_plugin(text, &mut options, name),
         ("chained", words) => push_chained(alloc, text, &mut options, words),
         _ => push_asked(alloc, text, &mut options, caller, words),
