@@ -15,12 +15,11 @@ use Rattle.std.proofs.lemmas.Bool.Decides.{nat_tests}
 use Rattle.std.proofs.lemmas.List.{length-map}
 use Rattle.std.proofs.lemmas.Str.{IsUtf8-string_bytes}
 use Rattle.getopts.specs.Matches.{Found}
-use Rattle.getopts.specs.Names.{AreTexts, Names, Text}
-use Rattle.getopts.specs.Options.{names_of}
+use Rattle.getopts.specs.Names.{AreTexts, Text}
 use Rattle.getopts.specs.declared.groups.HasArg.{HasArg}
 use Rattle.getopts.specs.declared.groups.HasArg.TheVariants.{Yes, No, Maybe}
 use Rattle.getopts_bytes.specs.Marks.{bytes_of}
-use Rattle.getopts_shell.specs.Program.{IsOneWord, read_groups}
+use Rattle.getopts_shell.specs.Program.{IsOneWord}
 use Rattle.getopts_shell.specs.Table.{Entry}
 use Rattle.getopts_shell.specs.Variables.{AreTextValues, CodeSetsVariables, found_in_bytes, Given}
 use Rattle.getopts_shell.specs.Variables.{given_alone, HaveOwnVariables, held_value, holds_all}
@@ -148,27 +147,28 @@ line_code_gives words are =
     (append_gives (words_give words are) (ascii_gives (codes "\n") refl))
 
 -- the commands for all options
-codes_give : (prefix : Text) (arrays : Bool) (before : List Names) (options : List Given)
-    → HaveOwnVariables prefix before (map (λ (option : Given). option.names) options)
+codes_give : (prefix : Text) (arrays : Bool) (before : List Entry) (options : List Given)
+    → HaveOwnVariables prefix before (map (λ (option : Given). option.entry) options)
     → HoldTexts options
     → Gives (flat_map (option_code prefix arrays) options)
     (flat_map (option_code prefix arrays) (map in_bytes options))
 codes_give prefix arrays before [] own hold = ascii_gives [] refl
 codes_give prefix arrays before (option ∷ options) own hold =
-    let name = variable_of prefix option.names in
+    let name = variable_of prefix option.entry in
     let named = variable_gives name own.0 in
     append_gives (append_gives (ascii_gives (codes "\\unset -v ") refl)
     (append_gives named (append_gives (ascii_gives (codes "\n") refl)
-    (value_gives name arrays option.all option.kind option.found named hold.0))))
-    (codes_give prefix arrays (before ++ option.names ∷ []) options own.2 hold.1)
+    (value_gives name arrays (holds_all option.entry) option.entry.signature.kind option.found
+    named hold.0))))
+    (codes_give prefix arrays (before ++ option.entry ∷ []) options own.2 hold.1)
 
--- the names stay where values are taken in bytes
-names_kept : (options : List Given)
-    → map (λ (option : Given). option.names) (map in_bytes options)
-    ≡ map (λ (option : Given). option.names) options
-names_kept [] = refl
-names_kept (option ∷ options) =
-    ap (λ (names : List Names). option.names ∷ names) (names_kept options)
+-- the entries stay where values are taken in bytes
+entries_kept : (options : List Given)
+    → map (λ (option : Given). option.entry) (map in_bytes options)
+    ≡ map (λ (option : Given). option.entry) options
+entries_kept [] = refl
+entries_kept (option ∷ options) =
+    ap (λ (entries : List Entry). option.entry ∷ entries) (entries_kept options)
 
 -- ---- what a shell makes of it
 
@@ -189,7 +189,7 @@ code_sets prefix arrays options free own = record {
       (append_gives (codes_give prefix arrays [] options own hold)
       (line_code_gives free are)).bytes_are
       (code_runs prefix arrays (map in_bytes options) (map bytes_of free)
-      (subst (HaveOwnVariables prefix []) (sym (names_kept options)) own) before);
+      (subst (HaveOwnVariables prefix []) (sym (entries_kept options)) own) before);
   once_more = once_more options;
 }
 
@@ -212,25 +212,23 @@ pub alone_holds_texts : (entries : List Entry) (alone : Entry)
     → HoldTexts (given_alone entries alone)
 alone_holds_texts [] alone = tt
 alone_holds_texts (entry ∷ entries) alone = (
-  bare_texts entry.signature.kind (holds_all entry.mark entry.signature.occurrence) _,
+  bare_texts entry.signature.kind (holds_all entry) _,
   alone_holds_texts entries alone,
 )
 
--- its names are those of the table
-alone_names : (entries : List Entry) (alone : Entry)
-    → map (λ (option : Given). option.names) (given_alone entries alone)
-    ≡ names_of (read_groups entries)
-alone_names [] alone = refl
-alone_names (entry ∷ entries) alone =
-    ap (λ (names : List Names). entry.signature.names ∷ names) (alone_names entries alone)
+-- its entries are those of the table
+alone_entries : (entries : List Entry) (alone : Entry)
+    → map (λ (option : Given). option.entry) (given_alone entries alone) ≡ entries
+alone_entries [] alone = refl
+alone_entries (entry ∷ entries) alone =
+    ap (λ (others : List Entry). entry ∷ others) (alone_entries entries alone)
 
 -- so the text for it sets variables where the table's options make them
 pub alone_sets : (prefix : Text) (arrays : Bool) (entries : List Entry) (alone : Entry)
-    → HaveOwnVariables prefix [] (names_of (read_groups entries))
-    → SetsVariables prefix arrays (given_alone entries alone) []
+    → HaveOwnVariables prefix [] entries → SetsVariables prefix arrays (given_alone entries alone) []
 alone_sets prefix arrays entries alone own =
     code_sets prefix arrays (given_alone entries alone) []
-    (subst (HaveOwnVariables prefix []) (sym (alone_names entries alone)) own)
+    (subst (HaveOwnVariables prefix []) (sym (alone_entries entries alone)) own)
 
 -- ---- words
 

@@ -25,6 +25,7 @@ use Rattle.getopts_shell.specs.declared.variables.VariableError.TheVariants as v
 -- the entry of a row
 abbrev pub entry_of_row : Row → Entry
 entry_of_row row = record {
+  line = row.line;
   signature = (group_of row.short.now row.long.now row.description.now row.hint.now
       row.kind row.occurrence).signature;
   hint = row.hint.now;
