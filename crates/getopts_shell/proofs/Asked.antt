@@ -3,7 +3,7 @@ use Rattle.std.proofs.Common.{◌≡◌, ℕ, ◌+◌, ◌<◌, ◌≤◌, zero,
 use Rattle.std.proofs.Common.{cond, List, [], ◌∷◌, Option, Some, None, Ok, ap, drop}
 use Rattle.std.proofs.Common.{drop_of_length-le, get_or, length, map, refl, subst, sym, ◌∙◌}
 use Rattle.std.specs.Prelude.{if◌then◌else◌, ◌&&◌}
-use Rattle.std.specs.Option.{is_none, option_map_or}
+use Rattle.std.specs.Option.{is_none}
 use Rattle.std.proofs.lemmas.Bool.{false≢true}
 use Rattle.getopts.specs.Accessors.{found_in}
 use Rattle.getopts.specs.Fail.{Fault}
@@ -20,10 +20,8 @@ use Rattle.getopts_shell.specs.Held.{group_of_row, groups_of, held_signatures}
 use Rattle.getopts_shell.specs.Program.{Asked, asked_fault}
 use Rattle.getopts_shell.specs.Table.{Entry}
 use Rattle.getopts_shell.specs.Variables.{Given, HaveOwnVariables, SetsVariables, VariableFault}
-use Rattle.getopts_shell.specs.Variables.{arrays_only, first_fault, given_from, is_prefix}
-use Rattle.getopts_shell.specs.Variables.{prefix_fault}
+use Rattle.getopts_shell.specs.Variables.{first_fault, given_from, is_prefix}
 use Rattle.getopts_shell.specs.declared.row.Row.{Row}
-use Rattle.getopts_shell.proofs.Assignments.{own_variables}
 use Rattle.getopts_shell.proofs.Written.{code_sets}
 
 begun : (begins : Bool) (first : Option VariableFault) (fault : VariableFault) → cond begins first
@@ -35,13 +33,9 @@ begun false first fault is = absurd cc
 -- where there is no fault, the options make their own variables
 pub asked_own : (asked : Asked) (prefix : Text) (entries : List Entry)
     → asked.variables ≡ Some prefix → asked_fault asked entries ≡ None
-    → HaveOwnVariables prefix [] entries
+    → HaveOwnVariables prefix entries
 asked_own asked prefix entries given none =
-    own_variables prefix [] entries (begun (is_prefix prefix) (first_fault prefix [] entries) _
-    (sym (ap (λ (variables : Option Text). option_map_or
-    (λ (prefix : Text). prefix_fault prefix entries) variables
-    (cond asked.arrays (Some arrays_only) None)) given)
-    ∙ none))
+    begun (is_prefix prefix) (first_fault prefix [] entries) _ (rw given at none)
 
 given_entries : (place : ℕ) (entries : List Entry) (held : List MatchedGroup)
     → map (λ (option : Given). option.entry) (given_from place entries held) ≡ entries
@@ -55,7 +49,7 @@ pub asked_sets : (asked : Asked) (prefix : Text) (entries : List Entry) (held : 
     → SetsVariables prefix asked.arrays (given_from 0 entries held) free
 asked_sets asked prefix entries held free given none =
     code_sets prefix asked.arrays (given_from 0 entries held) free
-    (subst (HaveOwnVariables prefix []) (sym (given_entries 0 entries held))
+    (subst (HaveOwnVariables prefix) (sym (given_entries 0 entries held))
     (asked_own asked prefix entries given none))
 
 -- ---- counts

@@ -5,7 +5,7 @@ use Rattle.std.proofs.Common.{take, drop, map, append_assoc, append-nil, add-one
 use Rattle.std.proofs.Common.{get_or, ◌+◌, ◌-◌, ◌<◌}
 use Rattle.std.specs.Prelude.{nat_lt, not, slice_get, ◌&&◌}
 use Rattle.std.specs.Char.{is_ascii_digit}
-use Rattle.std.specs.List.{flat_map, last_or, list_all, list_any}
+use Rattle.std.specs.List.{AllByRecursion, flat_map, last_or, list_all, list_any}
 use Rattle.std.specs.Option.{option_map_or, option_or, unwrap_or}
 use Rattle.std.specs.Str.{bytes_eq}
 use Rattle.std.proofs.lemmas.Bool.{eq-eqb}
@@ -21,7 +21,7 @@ use Rattle.getopts_shell.specs.Held.{entries_of, entry_of_row, group_of_row}
 use Rattle.getopts_shell.specs.Quote.{quoted, quoted_words, replaced, spaced}
 use Rattle.getopts_shell.specs.Table.{Entry}
 use Rattle.getopts_shell.specs.Variables.{any_has_variable, first_fault, given_from}
-use Rattle.getopts_shell.specs.Variables.{HaveOwnVariables, is_variable, is_variable_byte}
+use Rattle.getopts_shell.specs.Variables.{is_variable, is_variable_byte}
 use Rattle.getopts_shell.specs.Variables.{texts_found, variable, variable_byte, variable_fault}
 use Rattle.getopts_shell.specs.Variables.{VariableFault, variable_of}
 use Rattle.getopts_shell.specs.declared.row.Row.{Row}
@@ -171,19 +171,20 @@ fault_from prefix rows place row below row_is =
     rw (take_more rows place row below, ← row_is) (simp map-append) in
     rw (rows_from rows place row below row_is, more) refl
 
--- an entry without a fault makes its own variable
+-- an entry without a fault makes a variable
 no_fault : (made again : Bool) (one two : VariableFault) (rest : Option VariableFault)
     → option_or (cond made (cond again (Some two) None) (Some one)) rest ≡ None
-    → (made ≡ true) × (again ≡ false) × (rest ≡ None)
+    → (made ≡ true) × (rest ≡ None)
 no_fault false again one two rest is = absurd cc
 no_fault true true one two rest is = absurd cc
-no_fault true false one two rest is = (refl, refl, is)
+no_fault true false one two rest is = (refl, is)
 
--- where no fault is found, the entries make their own variables
-pub own_variables : (prefix : Text) (before entries : List Entry)
-    → first_fault prefix before entries ≡ None → HaveOwnVariables prefix before entries
-own_variables prefix before [] is = tt
-own_variables prefix before (entry ∷ more) is =
+-- where no fault is found, each entry makes a variable
+pub each_makes : (prefix : Text) (before entries : List Entry)
+    → first_fault prefix before entries ≡ None
+    → AllByRecursion (λ entry. is_variable (variable_of prefix entry) ≡ true) entries
+each_makes prefix before [] is = tt
+each_makes prefix before (entry ∷ more) is =
     let parts = no_fault (is_variable (variable_of prefix entry))
     (any_has_variable prefix before entry) _ _ _ is in
-    (parts.0, parts.1, own_variables prefix (before ++ entry ∷ []) more parts.2)
+    (parts.0, each_makes prefix (before ++ entry ∷ []) more parts.1)

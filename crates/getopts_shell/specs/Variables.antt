@@ -105,12 +105,42 @@ abbrev pub any_has_variable : Text → List Entry → Entry → Bool
 any_has_variable prefix before entry =
     list_any (λ other. bytes_eq (variable_of prefix other) (variable_of prefix entry)) before
 
--- each of these entries makes a variable, and no two make the same; these stand before the first
-abbrev pub HaveOwnVariables : Text → List Entry → List Entry → Type 0
-HaveOwnVariables prefix before [] = ⊤
-HaveOwnVariables prefix before (entry ∷ more) = (is_variable (variable_of prefix entry) ≡ true)
-    × (any_has_variable prefix before entry ≡ false)
-    × HaveOwnVariables prefix (before ++ entry ∷ []) more
+-- a fault of variables: arrays are asked for without them, or that of the prefix, or of a name in
+-- the line with this number
+pub data VariableFault : Type 0 where
+  arrays_only : VariableFault
+  no_prefix : Text → VariableFault
+  no_variable : ℕ → Text → VariableFault
+  variable_twice : ℕ → Text → VariableFault
+
+-- the fault of an entry after others, if it has one
+abbrev pub variable_fault : Text → List Entry → Entry → Option VariableFault
+variable_fault prefix before entry =
+    if is_variable (variable_of prefix entry) then
+    (if any_has_variable prefix before entry then Some
+    (variable_twice entry.line (main_name entry.signature.names)) else None)
+    else Some (no_variable entry.line (main_name entry.signature.names))
+
+-- the first fault of entries after others
+abbrev pub first_fault : Text → List Entry → List Entry → Option VariableFault
+first_fault prefix before [] = None
+first_fault prefix before (entry ∷ more) =
+    option_or (variable_fault prefix before entry) (first_fault prefix (before ++ entry ∷ []) more)
+
+-- each of these entries makes a variable, and no two make the same
+abbrev pub HaveOwnVariables : Text → List Entry → Type 0
+HaveOwnVariables prefix entries = first_fault prefix [] entries ≡ None
+
+-- a prefix that a variable may begin with: none, or the name of a variable
+abbrev pub is_prefix : Text → Bool
+is_prefix prefix = is_empty prefix || is_variable prefix
+
+-- the fault of a prefix with the entries of a table
+abbrev pub prefix_fault : Text → List Entry → Option VariableFault
+prefix_fault prefix entries =
+    if is_prefix prefix then first_fault prefix [] entries else Some (no_prefix prefix)
+
+-- ---- options as words give them
 
 -- An option as words give it: its entry, and its occurrences.
 pub record Given : Type 0 where
@@ -232,7 +262,7 @@ pub record SetsWords (words : List Text) : Type 0 where
 -- that runs the bytes of the text holds the bytes of all.
 pub record SetsVariables (prefix : Text) (arrays : Bool) (options : List Given) (free : List Text)
     : Type 0 where
-  pub own : HaveOwnVariables prefix [] (map (λ option. option.entry) options)
+  pub own : HaveOwnVariables prefix (map (λ option. option.entry) options)
   pub shell : (before : Shell) → Runs before (variables_code prefix arrays options free)
       (with_options prefix arrays options free before)
   pub bytes : HoldTexts options → AreTexts free → (before : Shell)
@@ -244,38 +274,5 @@ pub record SetsVariables (prefix : Text) (arrays : Bool) (options : List Given) 
 -- the text for options sets variables, where each option makes one, no two the same
 abbrev pub CodeSetsVariables : Type 0
 CodeSetsVariables = (prefix : Text) (arrays : Bool) (options : List Given) (free : List Text)
-    → HaveOwnVariables prefix [] (map (λ option. option.entry) options)
+    → HaveOwnVariables prefix (map (λ option. option.entry) options)
     → SetsVariables prefix arrays options free
-
--- ---- faults
-
--- a fault of variables: arrays are asked for without them, or that of the prefix, or of a name in
--- the line with this number
-pub data VariableFault : Type 0 where
-  arrays_only : VariableFault
-  no_prefix : Text → VariableFault
-  no_variable : ℕ → Text → VariableFault
-  variable_twice : ℕ → Text → VariableFault
-
--- a prefix that a variable may begin with: none, or the name of a variable
-abbrev pub is_prefix : Text → Bool
-is_prefix prefix = is_empty prefix || is_variable prefix
-
--- the fault of an entry after others, if it has one
-abbrev pub variable_fault : Text → List Entry → Entry → Option VariableFault
-variable_fault prefix before entry =
-    if is_variable (variable_of prefix entry) then
-    (if any_has_variable prefix before entry then Some
-    (variable_twice entry.line (main_name entry.signature.names)) else None)
-    else Some (no_variable entry.line (main_name entry.signature.names))
-
--- the first fault of entries after others
-abbrev pub first_fault : Text → List Entry → List Entry → Option VariableFault
-first_fault prefix before [] = None
-first_fault prefix before (entry ∷ more) =
-    option_or (variable_fault prefix before entry) (first_fault prefix (before ++ entry ∷ []) more)
-
--- the fault of a prefix with the entries of a table
-abbrev pub prefix_fault : Text → List Entry → Option VariableFault
-prefix_fault prefix entries =
-    if is_prefix prefix then first_fault prefix [] entries else Some (no_prefix prefix)
