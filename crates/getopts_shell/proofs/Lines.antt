@@ -25,10 +25,10 @@ use Rattle.getopts_shell.specs.Table.{line_number, name_again}
 use Rattle.getopts_shell.specs.Table.{IsLineFault, IsTableFault, no_option, none}
 
 -- a test of what is made of elements
-pub list_any-map : {X Y : Type 0} (p : Y → Bool) (f : X → Y) (xs : List X)
+pub list_any_map : {X Y : Type 0} (p : Y → Bool) (f : X → Y) (xs : List X)
     → list_any p (map f xs) ≡ list_any (λ x. p (f x)) xs
-list_any-map p f [] = refl
-list_any-map p f (x ∷ xs) = ap (λ (b : Bool). p (f x) || b) (list_any-map p f xs)
+list_any_map p f [] = refl
+list_any_map p f (x ∷ xs) = ap (λ (b : Bool). p (f x) || b) (list_any_map p f xs)
 
 -- what the trimming of std gives
 pub trimmed_is : (text other : Text) → IsTrimAscii text other → other ≡ trimmed text
@@ -47,10 +47,9 @@ declares_entry number line text item rest description entry number_is text_is th
     description_is is of_item =
     record {
       number_is = number_is;
-      there = ap (λ (t : Text). is_empty t || (slice_index t 0 == 35)) (sym text_is) ∙ there;
-      item = subst (λ (t : Text). IsItem t entry.signature entry.hint entry.mark)
-          (item_is ∙ ap (λ (t : Text). trimmed (before_gap t)) text_is) of_item;
-      description = is ∙ description_is ∙ ap trimmed (rest_is ∙ ap from_gap text_is);
+      there = rw text_is at there;
+      item = rw (item_is, text_is) at of_item;
+      description = is ∙ description_is ∙ rw (rest_is, text_is) refl;
     }
 
 -- a line that isn't passed over and has no option has a fault
@@ -59,18 +58,15 @@ pub faulty_line : (line text item : Text) (number : ℕ) (entries : List Entry) 
     → ((known : Signature) (hint : Text) (mark : Mark) → ¬ (IsItem item known hint mark))
     → IsLineFault number entries line (no_option number item)
 faulty_line line text item number entries text_is there item_is none_of =
-    subst (λ (t : Text). IsLineFault number entries line (no_option number t))
-    (sym (item_is ∙ ap (λ (t : Text). trimmed (before_gap t)) text_is))
-    (none declares_not)
+    rw (item_is, text_is) (none declares_not)
   where
     passed_not : is_passed line ≡ false
-    passed_not = ap (λ (t : Text). is_empty t || (slice_index t 0 == 35)) (sym text_is) ∙ there
+    passed_not = rw text_is at there
 
     declares_not : (declared : Option Entry) → ¬ (Declares number line declared)
     declares_not None is = let both : true ≡ false = sym is ∙ passed_not in cc
     declares_not (Some entry) is = none_of entry.signature entry.hint entry.mark
-        (subst (λ (t : Text). IsItem t entry.signature entry.hint entry.mark)
-        (sym (item_is ∙ ap (λ (t : Text). trimmed (before_gap t)) text_is)) is.item)
+        (rw (item_is, text_is) is.item)
 
 -- ---- lines, one after the other
 

@@ -137,7 +137,7 @@ pub no_fault : (table : Text) (entries : List Entry) (fault : TableFault)
     → ¬ (IsTableFault table fault)
 no_fault table entries fault declares is =
     no_fault_at is.before is.after is.line is.entries entries fault is.declared
-    (subst (λ (lines : List Text). DeclareOptions lines entries) is.lines_are declares) is.fault_at
+    (rw is.lines_are at declares) is.fault_at
 
 -- a line has one fault at most
 one_line_fault : (number : ℕ) (entries : List Entry) (line : Text) (fault other : TableFault)
@@ -167,23 +167,12 @@ one_fault table fault other is also =
     by_place : Places is.before also.before is.line also.line → other ≡ fault
     by_place (here before_is line_is) =
         let entries_are = one_list is.before is.entries also.entries is.declared
-        (subst (λ (lines : List Text). DeclareOptions lines also.entries) before_is
-        also.declared) in
+        (rw before_is at also.declared) in
         one_line_fault (line_number (length is.before)) is.entries is.line fault other is.fault_at
-        (subst (λ (lines : List Text).
-        IsLineFault (line_number (length lines)) is.entries is.line other) before_is
-        (subst (λ (gs : List Entry).
-        IsLineFault (line_number (length also.before)) gs is.line other) entries_are
-        (subst (λ (line : Text). IsLineFault (line_number (length also.before)) also.entries line
-        other) line_is
-        also.fault_at)))
+        (rw (before_is, entries_are, line_is) at also.fault_at)
     by_place (later more others_are) =
-        absurd (no_fault_at is.before more is.line is.entries also.entries fault
-        is.declared (subst (λ (lines : List Text). DeclareOptions lines also.entries) others_are
-        also.declared)
-        is.fault_at)
+        absurd (no_fault_at is.before more is.line is.entries also.entries fault is.declared
+        (rw others_are at also.declared) is.fault_at)
     by_place (earlier more before_is) =
-        absurd (no_fault_at also.before more also.line also.entries is.entries other
-        also.declared (subst (λ (lines : List Text). DeclareOptions lines is.entries) before_is
-        is.declared)
-        also.fault_at)
+        absurd (no_fault_at also.before more also.line also.entries is.entries other also.declared
+        (rw before_is at is.declared) also.fault_at)
