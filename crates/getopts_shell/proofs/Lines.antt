@@ -155,7 +155,7 @@ pub next_line : (lines : List Text) (line : Text) (number next : ℕ) (entries :
     → LinesSoFar (lines ++ line ∷ []) next more
 next_line lines line number next entries more declared so_far next_is is more_is new = record {
   number_is = omega (arith, so_far.number_is, length-append lines (line ∷ []));
-  declared = subst (DeclareOptions (lines ++ line ∷ [])) (sym more_is) (record {
+  declared = rw more_is (record {
     declared = one_more_line 0 lines line next entries declared so_far.declared.declared
         (omega (arith, next_is, so_far.number_is)) is;
     once = new_names-append entries declared so_far.declared.once new;
@@ -167,8 +167,7 @@ in_parts : (all : List Text) (n : ℕ) (x : Text) → n < length all → x ≡ g
     → all ≡ take n all ++ x ∷ drop (n + 1) all
 in_parts all n x below is =
     sym (take-append-drop n all)
-    ∙ ap (λ (t : List Text). take n all ++ t) (at_drop_more (λ (t : List Text). t) all n x below
-    ∙ ap (λ (y : Text). y ∷ drop (n + 1) all) (sym is))
+    ∙ rw (at_drop_more (λ (t : List Text). t) all n x below, ← is) refl
 
 -- the fault of a line is the table's
 pub table_fault : (table : Text) (lines : List Text) (line : Text) (number next : ℕ)
@@ -184,8 +183,7 @@ table_fault table lines line number next entries fault so_far_are below line_is 
       line = line;
       after = drop (length lines + 1) (lines_of table);
       lines_are = in_parts (lines_of table) (length lines) line below line_is
-          ∙ ap (λ (t : List Text). t ++ line ∷ drop (length lines + 1) (lines_of table))
-          (sym so_far_are);
+          ∙ rw (← so_far_are) refl;
       entries = entries;
       declared = so_far.declared;
       fault_at = subst (λ (n : ℕ). IsLineFault n entries line fault)
