@@ -9,7 +9,7 @@ use Rattle.getopts_shell.specs.Program.{is_alone}
 use Rattle.getopts_shell.specs.declared.row.Row.{Row}
 
 -- the rows from a place on
-rows_from : (rows : List Row) (at : ℕ) (row : Row) → at < length rows → row ≡ get_or rows at row
+pub rows_from : (rows : List Row) (at : ℕ) (row : Row) → at < length rows → row ≡ get_or rows at row
     → drop at rows ≡ row ∷ drop (at + 1) rows
 rows_from rows at row below row_is =
     at_drop_more (λ (t : List Row). t) rows at row below

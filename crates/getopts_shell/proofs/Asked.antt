@@ -3,28 +3,25 @@ use Rattle.std.proofs.Common.{◌≡◌, ℕ, ◌+◌, ◌<◌, ◌≤◌, zero,
 use Rattle.std.proofs.Common.{cond, List, [], ◌∷◌, Option, Some, None, Ok, ap, drop}
 use Rattle.std.proofs.Common.{drop_of_length-le, get_or, length, map, refl, subst, sym, ◌∙◌}
 use Rattle.std.specs.Prelude.{if◌then◌else◌, ◌&&◌}
-use Rattle.std.specs.Option.{is_none, option_map_or}
+use Rattle.std.specs.Option.{is_none}
 use Rattle.std.proofs.lemmas.Bool.{false≢true}
 use Rattle.getopts.specs.Accessors.{found_in}
 use Rattle.getopts.specs.Fail.{Fault}
 use Rattle.getopts.specs.Matches.{Matched, MatchedGroup, matched, matches_of}
-use Rattle.getopts.specs.Names.{Text, Names}
-use Rattle.getopts.specs.Options.{Declared, Group, Signature, names_of, signatures_of}
+use Rattle.getopts.specs.Names.{Text}
+use Rattle.getopts.specs.Options.{Declared, Signature, signatures_of}
 use Rattle.getopts.specs.Reading.{Occurrence, Reading}
 use Rattle.getopts.specs.Results.{broken_count, first_count_fault, fits_count, line_result, made_of}
 use Rattle.getopts.specs.Results.{parse_result, read_result, reading_result, unless_fault}
 use Rattle.getopts.specs.Results.{with_counts_kept}
-use Rattle.getopts.specs.Wrap.{lines_of}
 use Rattle.getopts.specs.declared.groups.Occur.{Occur}
 use Rattle.getopts.proofs.MainTheorem.Results.{made_of-ok}
 use Rattle.getopts_shell.specs.Held.{group_of_row, groups_of, held_signatures}
-use Rattle.getopts_shell.specs.Program.{Asked, asked_fault, read_groups}
+use Rattle.getopts_shell.specs.Program.{Asked, asked_fault}
 use Rattle.getopts_shell.specs.Table.{Entry}
 use Rattle.getopts_shell.specs.Variables.{Given, HaveOwnVariables, SetsVariables, VariableFault}
-use Rattle.getopts_shell.specs.Variables.{arrays_only, first_fault, given_from, is_prefix}
-use Rattle.getopts_shell.specs.Variables.{option_lines, prefix_fault}
+use Rattle.getopts_shell.specs.Variables.{first_fault, given_from, is_prefix}
 use Rattle.getopts_shell.specs.declared.row.Row.{Row}
-use Rattle.getopts_shell.proofs.Assignments.{own_variables}
 use Rattle.getopts_shell.proofs.Written.{code_sets}
 
 begun : (begins : Bool) (first : Option VariableFault) (fault : VariableFault) → cond begins first
@@ -34,36 +31,26 @@ begun true first fault is = is
 begun false first fault is = absurd cc
 
 -- where there is no fault, the options make their own variables
-pub asked_own : (asked : Asked) (table prefix : Text) (groups : List Group) → asked.variables
-    ≡ Some prefix
-    → asked_fault asked table groups ≡ None → HaveOwnVariables prefix [] (names_of groups)
-asked_own asked table prefix groups given none =
-    let lines = option_lines 0 (lines_of table) in
-    let first = first_fault prefix lines [] (names_of groups) in
-    own_variables prefix lines [] (names_of groups) (begun (is_prefix prefix) first _
-    (sym (ap (λ (variables : Option Text). option_map_or
-    (λ (prefix : Text). prefix_fault prefix table (names_of groups)) variables
-    (cond asked.arrays (Some arrays_only) None)) given)
-    ∙ none))
+pub asked_own : (asked : Asked) (prefix : Text) (entries : List Entry)
+    → asked.variables ≡ Some prefix → asked_fault asked entries ≡ None
+    → HaveOwnVariables prefix entries
+asked_own asked prefix entries given none =
+    begun (is_prefix prefix) (first_fault prefix [] entries) _ (rw given at none)
 
-given_names : (place : ℕ) (entries : List Entry) (held : List MatchedGroup)
-    → map (λ (option : Given). option.names) (given_from place entries held)
-    ≡ names_of (read_groups entries)
-given_names place [] held = refl
-given_names place (entry ∷ entries) held =
-    ap (λ (names : List Names). entry.signature.names ∷ names) (given_names (place + 1) entries
-    held)
+given_entries : (place : ℕ) (entries : List Entry) (held : List MatchedGroup)
+    → map (λ (option : Given). option.entry) (given_from place entries held) ≡ entries
+given_entries place [] held = refl
+given_entries place (entry ∷ entries) held =
+    ap (λ (others : List Entry). entry ∷ others) (given_entries (place + 1) entries held)
 
 -- so the code for matches sets variables
-pub asked_sets : (asked : Asked) (table prefix : Text) (entries : List Entry)
-    (held : List MatchedGroup)
-    (free : List Text) → asked.variables ≡ Some prefix → asked_fault asked table
-    (read_groups entries) ≡ None
+pub asked_sets : (asked : Asked) (prefix : Text) (entries : List Entry) (held : List MatchedGroup)
+    (free : List Text) → asked.variables ≡ Some prefix → asked_fault asked entries ≡ None
     → SetsVariables prefix asked.arrays (given_from 0 entries held) free
-asked_sets asked table prefix entries held free given none =
+asked_sets asked prefix entries held free given none =
     code_sets prefix asked.arrays (given_from 0 entries held) free
-    (subst (HaveOwnVariables prefix []) (sym (given_names 0 entries held))
-    (asked_own asked table prefix (read_groups entries) given none))
+    (subst (HaveOwnVariables prefix) (sym (given_entries 0 entries held))
+    (asked_own asked prefix entries given none))
 
 -- ---- counts
 

@@ -18,7 +18,7 @@ use Rattle.getopts_shell.specs.Program.{AnswersWords, Asked, IsAnswer, IsHelp, I
 use Rattle.getopts_shell.specs.Program.{PrintsHelp, Script, TellsOptions, asked_by, asked_fault}
 use Rattle.getopts_shell.specs.Program.{asks_help, declared, done, faulty, has_completion}
 use Rattle.getopts_shell.specs.Program.{help_code, is_alone, is_given, last_word, misused}
-use Rattle.getopts_shell.specs.Program.{no_completion, own_options, read_groups, read_options}
+use Rattle.getopts_shell.specs.Program.{no_completion, own_options, read_options}
 use Rattle.getopts_shell.specs.Program.{table_fault_line}
 use Rattle.getopts_shell.specs.Table.{Entry, TableFault}
 use Rattle.getopts_shell.proofs.Offers.{one_offer}
@@ -172,7 +172,7 @@ by_completion fault None = is_misused
 one_declared : (script : Script) (table : Text) (words : List Text)
     → IsOne (AnswersDeclared script table words)
 one_declared script table words = one_option script.asked.complete
-    (one_option (asked_fault script.asked table (read_groups script.entries))
+    (one_option (asked_fault script.asked script.entries)
     (one_script script words) (λ fault. one_equal _ is_misused))
     (λ shell. one_equal _ (by_completion (no_completion shell).text
     (stub shell script.asked.stop script.asked.long_only script.name table)))

@@ -1,14 +1,14 @@
 -- A table declares one list of options at most, or has one fault.
 use Rattle.std.proofs.Common.{◌≡◌, ℕ, true, false, List, [], ◌∷◌, ◌++◌, length, Option, Some, None}
 use Rattle.std.proofs.Common.{refl, sym, ap, subst, ◌∙◌}
-use Rattle.std.specs.List.{AllZip, filter_map}
-use Rattle.std.proofs.lemmas.List.Elements.{filter_map-append}
+use Rattle.std.proofs.Common.{append_assoc, arith, ◌+◌}
+use Rattle.std.specs.Option.{option_to_list}
 use Rattle.getopts.specs.Names.{Text}
 use Rattle.getopts.specs.Options.{Signature}
 use Rattle.getopts.specs.Wrap.{lines_of}
 use Rattle.getopts_shell.specs.Table.{AreNames, Entry, IsItem, HasParts, IsArgument}
 use Rattle.getopts_shell.specs.declared.row.Mark.{Mark}
-use Rattle.getopts_shell.specs.Table.{Declares, DeclaresOptions}
+use Rattle.getopts_shell.specs.Table.{Declares, DeclareEntries, DeclaresOptions}
 use Rattle.getopts_shell.specs.Table.{OneTableOneList, DeclareOptions, name_again, TableFault}
 use Rattle.getopts_shell.specs.Table.{name_twice}
 use Rattle.getopts_shell.specs.Table.{IsLineFault, none, twice, IsTableFault, line_number}
@@ -38,44 +38,48 @@ one_item text known other hint another mark behind is also =
     )
 
 -- a line declares one thing
-one_declared : (line : Text) (declared other : Option Entry) → Declares line declared
-    → Declares line other → other ≡ declared
-one_declared line None None is also = refl
-one_declared line None (Some entry) is also = let both : true ≡ false = sym is ∙ also.there in cc
-one_declared line (Some entry) None is also = let both : true ≡ false = sym also ∙ is.there in cc
-one_declared line (Some entry) (Some other) is also =
+one_declared : (number : ℕ) (line : Text) (declared other : Option Entry)
+    → Declares number line declared → Declares number line other → other ≡ declared
+one_declared number line None None is also = refl
+one_declared number line None (Some entry) is also =
+    let both : true ≡ false = sym is ∙ also.there in cc
+one_declared number line (Some entry) None is also =
+    let both : true ≡ false = sym also ∙ is.there in cc
+one_declared number line (Some entry) (Some other) is also =
     let same = one_item _ entry.signature other.signature entry.hint other.hint entry.mark
     other.mark is.item
     also.item in
-    let make = λ (known : Signature) (hint description : Text) (mark : Mark).
-    let made : Entry =
-    record { signature = known; hint = hint; description = description; mark = mark } in made in
-    ap Some (ap (λ (k : Signature). make k other.hint other.description other.mark) same.0
-    ∙ ap (λ (h : Text). make entry.signature h other.description other.mark) same.1
-    ∙ ap (λ (d : Text). make entry.signature entry.hint d other.mark)
+    let make = λ (number : ℕ) (known : Signature) (hint description : Text) (mark : Mark).
+    let made : Entry = record {
+      line = number;
+      signature = known;
+      hint = hint;
+      description = description;
+      mark = mark;
+    } in made in
+    ap Some (
+    ap (λ (n : ℕ). make n other.signature other.hint other.description other.mark)
+    (also.number_is ∙ sym is.number_is)
+    ∙ ap (λ (k : Signature). make entry.line k other.hint other.description other.mark) same.0
+    ∙ ap (λ (h : Text). make entry.line entry.signature h other.description other.mark) same.1
+    ∙ ap (λ (d : Text). make entry.line entry.signature entry.hint d other.mark)
     (also.description ∙ sym is.description)
-    ∙ ap (make entry.signature entry.hint entry.description) same.2)
+    ∙ ap (make entry.line entry.signature entry.hint entry.description) same.2)
 
--- lines declare one thing each
-one_each : (lines : List Text) (each others : List (Option Entry)) → AllZip Declares lines each
-    → AllZip Declares lines others → others ≡ each
-one_each [] [] [] is also = refl
-one_each [] [] (other ∷ others) is also = absurd also
-one_each [] (declared ∷ each) others is also = absurd is
-one_each (line ∷ lines) [] others is also = absurd is
-one_each (line ∷ lines) (declared ∷ each) [] is also = absurd also
-one_each (line ∷ lines) (declared ∷ each) (other ∷ others) is also =
-    let first = one_declared line declared other is.0 also.0 in
-    let rest = one_each lines each others is.1 also.1 in cc
+-- lines declare one list of entries
+one_entries : (before : ℕ) (lines : List Text) (entries others : List Entry)
+    → DeclareEntries before lines entries → DeclareEntries before lines others → others ≡ entries
+one_entries before [] entries others is also = also ∙ sym is
+one_entries before (line ∷ lines) entries others is also =
+    let first = one_declared (line_number before) line is.0 also.0 is.2 also.2 in
+    let rest = one_entries (before + 1) lines is.1 also.1 is.3 also.3 in
+    also.4 ∙ rw (first, rest) (sym is.4)
 
 -- lines declare one list of options at most
 one_list : (lines : List Text) (entries others : List Entry) → DeclareOptions lines entries
     → DeclareOptions lines others → others ≡ entries
 one_list lines entries others is also =
-    also.declared.2
-    ∙ ap (λ (each : List (Option Entry)). filter_map (λ (d : Option Entry). d) each)
-    (one_each lines is.declared.0 also.declared.0 is.declared.1 also.declared.1)
-    ∙ sym is.declared.2
+    one_entries 0 lines entries others is.declared also.declared
 
 -- and so does a table
 pub one_table : OneTableOneList
@@ -84,64 +88,56 @@ one_table table = one_list (lines_of table)
 -- ---- faults
 
 -- what a line among lines declares, where it is known what the lines before it declare
-data DeclaresAt (line : Text) (front each : List (Option Entry)) : Type 0 where
-  stands : (declared : Option Entry) (back : List (Option Entry)) → Declares line declared
-      → each ≡ front ++ declared ∷ back → DeclaresAt line front each
+data DeclaresAt (number : ℕ) (line : Text) (entries all : List Entry) : Type 0 where
+  stands : (declared : Option Entry) (others : List Entry) → Declares number line declared
+      → all ≡ entries ++ (option_to_list declared ++ others) → DeclaresAt number line entries all
 
 -- a line declares something, where lines around it do
-declares_at : (before after : List Text) (line : Text) (front each : List (Option Entry))
-    → AllZip Declares before front → AllZip Declares (before ++ line ∷ after) each
-    → DeclaresAt line front each
-declares_at [] after line [] [] is also = absurd also
-declares_at [] after line [] (declared ∷ back) is also = stands declared back also.0 refl
-declares_at [] after line (first ∷ front) each is also = absurd is
-declares_at (first ∷ before) after line [] each is also = absurd is
-declares_at (first ∷ before) after line (declared ∷ front) [] is also = absurd also
-declares_at (first ∷ before) after line (declared ∷ front) (other ∷ each) is also =
-    more (declares_at before after line front each is.1 also.1)
+declares_at : (count number : ℕ) (before after : List Text) (line : Text)
+    (entries all : List Entry) → number ≡ line_number (count + length before)
+    → DeclareEntries count before entries → DeclareEntries count (before ++ line ∷ after) all
+    → DeclaresAt number line entries all
+declares_at count number [] after line entries all number_is is also =
+    stands also.0 also.1
+    (subst (λ (n : ℕ). Declares n line also.0) (omega (arith, number_is)) also.2) (rw is also.4)
+declares_at count number (first ∷ before) after line entries all number_is is also =
+    more (declares_at (count + 1) number before after line is.1 also.1 (number_is ∙ omega arith)
+    is.3 also.3)
   where
-    more : DeclaresAt line front each → DeclaresAt line (declared ∷ front) (other ∷ each)
-    more (stands found back declares each_is) =
-        let same = one_declared first declared other is.0 also.0 in stands found back declares cc
+    more : DeclaresAt number line is.1 also.1 → DeclaresAt number line entries all
+    more (stands declared others declares all_is) =
+        let same = one_declared (line_number count) first is.0 also.0 is.2 also.2 in
+        stands declared others declares
+        (also.4 ∙ rw (same, all_is, is.4) (sym (append_assoc (option_to_list is.0) is.1 _)))
 
 -- a line among lines that declare options has no fault
-no_fault_at : (before after : List Text) (line : Text) (number : ℕ) (entries all : List Entry)
+no_fault_at : (before after : List Text) (line : Text) (entries all : List Entry)
     (fault : TableFault)
     → DeclareOptions before entries → DeclareOptions (before ++ line ∷ after) all
-    → ¬ (IsLineFault number entries line fault)
-no_fault_at before after line number entries all fault so_far whole =
-    by_line (declares_at before after line so_far.declared.0 whole.declared.0 so_far.declared.1
-    whole.declared.1)
+    → ¬ (IsLineFault (line_number (length before)) entries line fault)
+no_fault_at before after line entries all fault so_far whole =
+    by_line (declares_at 0 _ before after line entries all (omega arith) so_far.declared
+    whole.declared)
   where
-    none_again : (entry : Entry) (back : List (Option Entry))
-        → whole.declared.0 ≡ so_far.declared.0 ++ Some entry ∷ back → name_again entries entry
-        ≡ None
-    none_again entry back each_is =
-        let each = filter_map (λ (d : Option Entry). d) in
-        ap (λ (gs : List Entry). name_again gs entry) so_far.declared.2
-        ∙ whole.once (each so_far.declared.0) (each back) entry (whole.declared.2 ∙ ap each each_is
-        ∙ filter_map-append (λ (d : Option Entry). d) so_far.declared.0 (Some entry ∷ back))
-
-    by_line : {fault : TableFault} → DeclaresAt line so_far.declared.0 whole.declared.0
-        → ¬ (IsLineFault number entries line fault)
-    by_line (stands declared back declares each_is) (none no_declared) =
+    by_line : {fault : TableFault} → DeclaresAt (line_number (length before)) line entries all
+        → ¬ (IsLineFault (line_number (length before)) entries line fault)
+    by_line (stands declared others declares all_is) (none no_declared) =
         no_declared declared declares
-    by_line (stands None back declares each_is) (twice entry name of again) =
+    by_line (stands None others declares all_is) (twice entry name of again) =
         let both : true ≡ false = sym declares ∙ of.there in cc
-    by_line (stands (Some other) back declares each_is) (twice entry name of again) =
-        let same = one_declared line (Some other) (Some entry) declares of in
+    by_line (stands (Some other) others declares all_is) (twice entry name of again) =
+        let same = one_declared _ line (Some other) (Some entry) declares of in
         let entry_is : entry ≡ other = cc in
         let both : Some name ≡ None = sym again ∙ ap (name_again entries) entry_is
-        ∙ none_again other back each_is in cc
+        ∙ whole.once entries others other all_is in cc
 
 -- a table that declares options has no fault
 pub no_fault : (table : Text) (entries : List Entry) (fault : TableFault)
     → DeclaresOptions table entries
     → ¬ (IsTableFault table fault)
 no_fault table entries fault declares is =
-    no_fault_at is.before is.after is.line (line_number (length is.before)) is.entries entries fault
-    is.declared
-    (subst (λ (lines : List Text). DeclareOptions lines entries) is.lines_are declares) is.fault_at
+    no_fault_at is.before is.after is.line is.entries entries fault is.declared
+    (rw is.lines_are at declares) is.fault_at
 
 -- a line has one fault at most
 one_line_fault : (number : ℕ) (entries : List Entry) (line : Text) (fault other : TableFault)
@@ -153,7 +149,7 @@ one_line_fault number entries line fault other (twice entry name of again) (none
     absurd (is (Some entry) of)
 one_line_fault number entries line fault other (twice entry name of again)
     (twice also another of_also again_also) =
-    let same = one_declared line (Some entry) (Some also) of of_also in
+    let same = one_declared number line (Some entry) (Some also) of of_also in
     let entry_is : also ≡ entry = cc in
     let names : Some another ≡ Some name = sym again_also ∙ ap (name_again entries) entry_is
     ∙ again in
@@ -171,25 +167,12 @@ one_fault table fault other is also =
     by_place : Places is.before also.before is.line also.line → other ≡ fault
     by_place (here before_is line_is) =
         let entries_are = one_list is.before is.entries also.entries is.declared
-        (subst (λ (lines : List Text). DeclareOptions lines also.entries) before_is
-        also.declared) in
+        (rw before_is at also.declared) in
         one_line_fault (line_number (length is.before)) is.entries is.line fault other is.fault_at
-        (subst (λ (lines : List Text).
-        IsLineFault (line_number (length lines)) is.entries is.line other) before_is
-        (subst (λ (gs : List Entry).
-        IsLineFault (line_number (length also.before)) gs is.line other) entries_are
-        (subst (λ (line : Text). IsLineFault (line_number (length also.before)) also.entries line
-        other) line_is
-        also.fault_at)))
+        (rw (before_is, entries_are, line_is) at also.fault_at)
     by_place (later more others_are) =
-        absurd (no_fault_at is.before more is.line (line_number (length is.before)) is.entries
-        also.entries fault
-        is.declared (subst (λ (lines : List Text). DeclareOptions lines also.entries) others_are
-        also.declared)
-        is.fault_at)
+        absurd (no_fault_at is.before more is.line is.entries also.entries fault is.declared
+        (rw others_are at also.declared) is.fault_at)
     by_place (earlier more before_is) =
-        absurd (no_fault_at also.before more also.line (line_number (length also.before))
-        also.entries is.entries other
-        also.declared (subst (λ (lines : List Text). DeclareOptions lines is.entries) before_is
-        is.declared)
-        also.fault_at)
+        absurd (no_fault_at also.before more also.line also.entries is.entries other also.declared
+        (rw before_is at is.declared) also.fault_at)

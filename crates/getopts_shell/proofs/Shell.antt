@@ -6,10 +6,10 @@ use Rattle.std.specs.Prelude.{codes}
 use Rattle.std.specs.List.{AllByRecursion, flat_map}
 use Rattle.std.specs.Str.{bytes_eq}
 use Rattle.std.proofs.lemmas.Slice.Eq.{bytes_eq-Decides}
-use Rattle.getopts.specs.Names.{Text, Names}
+use Rattle.getopts.specs.Names.{Text}
 use Rattle.getopts_shell.specs.Quote.{quoted, quoted_words, shell_words}
 use Rattle.getopts_shell.specs.Variables.{array_front, array_words, assigns, Given}
-use Rattle.getopts_shell.specs.Variables.{HaveOwnVariables, is_variable, command_line, last_command}
+use Rattle.getopts_shell.specs.Variables.{is_variable, command_line, last_command}
 use Rattle.getopts_shell.specs.Variables.{line_code, many, no_command, one, option_code, own_value}
 use Rattle.getopts_shell.specs.Variables.{Runs, RunsCommand, RunsText, sets, Shell, texts_found}
 use Rattle.getopts_shell.specs.Variables.{unsets, value_line, variable_of, Value, variables_code}
@@ -67,12 +67,12 @@ after_value_line shell after name (Some (many words)) more is runs =
 
 -- the commands for an option, and what follows
 after_option : (prefix : Text) (arrays : Bool) (shell after : Shell) (option : Given) (more : Text)
-    → is_variable (variable_of prefix option.names) ≡ true
+    → is_variable (variable_of prefix option.entry) ≡ true
     → RunsText
-    (with_variable shell (variable_of prefix option.names) (own_value arrays option)) more after
+    (with_variable shell (variable_of prefix option.entry) (own_value arrays option)) more after
     → RunsText shell (option_code prefix arrays option ++ more) after
 after_option prefix arrays shell after option more is runs =
-    let name = variable_of prefix option.names in
+    let name = variable_of prefix option.entry in
     let value = own_value arrays option in
     line_then shell (with_variable shell name None) after (unset_front ++ name)
     (value_line name value ++ more) _
@@ -84,37 +84,38 @@ after_option prefix arrays shell after option more is runs =
 -- ---- all commands
 
 -- the commands for options and then the words, and what is written after these
-after_codes : (prefix : Text) (arrays : Bool) (before : List Names) (shell : Shell)
-    (options : List Given)
+after_codes : (prefix : Text) (arrays : Bool) (shell : Shell) (options : List Given)
     (free : List Text) (more : Text)
-    → HaveOwnVariables prefix before (map (λ (option : Given). option.names) options)
+    → AllByRecursion (λ entry. is_variable (variable_of prefix entry) ≡ true)
+    (map (λ (option : Given). option.entry) options)
     → ((held : Shell) → RunsText held more (record held { words = free }))
     → RunsText shell (flat_map (option_code prefix arrays) options ++ more)
     (with_options prefix arrays options free shell)
-after_codes prefix arrays before shell [] free more own last = last shell
-after_codes prefix arrays before shell (option ∷ options) free more own last =
+after_codes prefix arrays shell [] free more make last = last shell
+after_codes prefix arrays shell (option ∷ options) free more make last =
     let code = option_code prefix arrays in
-    let name = variable_of prefix option.names in
+    let name = variable_of prefix option.entry in
     let next = with_variable shell name (own_value arrays option) in
     subst (λ (t : Text). RunsText shell t (with_options prefix arrays options free next))
     (sym (append_assoc (code option) (flat_map code options) more))
-    (after_option prefix arrays shell _ option (flat_map code options ++ more) own.0
-    (after_codes prefix arrays (before ++ option.names ∷ []) next options free more own.2 last))
+    (after_option prefix arrays shell _ option (flat_map code options ++ more) make.0
+    (after_codes prefix arrays next options free more make.1 last))
 
 -- a shell that runs the text holds what the options do; also where its last line end has gone
 pub code_runs : (prefix : Text) (arrays : Bool) (options : List Given) (free : List Text)
-    → HaveOwnVariables prefix [] (map (λ (option : Given). option.names) options) → (before : Shell)
+    → AllByRecursion (λ entry. is_variable (variable_of prefix entry) ≡ true)
+    (map (λ (option : Given). option.entry) options) → (before : Shell)
     → Runs before (variables_code prefix arrays options free)
     (with_options prefix arrays options free before)
-code_runs prefix arrays options free own before =
+code_runs prefix arrays options free make before =
     let front = flat_map (option_code prefix arrays) options in
     let last = set_front ++ quoted_words free in record {
-      whole = after_codes prefix arrays [] before options free (line_code free) own
+      whole = after_codes prefix arrays before options free (line_code free) make
           (λ held. line_then held _ _ last [] _ (sets (quoted_words free) free (words_same free))
           (no_command (record held { words = free })) (simp append_assoc refl));
       cut = front ++ last;
       cut_is = simp append_assoc refl;
-      runs_cut = after_codes prefix arrays [] before options free last own
+      runs_cut = after_codes prefix arrays before options free last make
           (λ held. last_command held _ last (sets (quoted_words free) free (words_same free)));
     }
 

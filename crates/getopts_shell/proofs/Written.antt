@@ -1,13 +1,13 @@
 -- What a shell makes of the bytes that are written.
 use Rattle.std.proofs.Common.{◌≡◌, ℕ, ◌%◌, ◌/◌, zero, suc, Bool, true, false, cond, eqb, List, []}
-use Rattle.std.proofs.Common.{◌∷◌, ◌++◌, Option, Some, None, refl, sym, ap, subst, length, map}
+use Rattle.std.proofs.Common.{◌∷◌, Option, Some, None, refl, sym, ap, subst, length, map}
 use Rattle.std.proofs.Common.{string_bytes, arith}
 use Rattle.std.specs.Prelude.{MatchOption, codes, decimal, not, ⊤}
 use Rattle.std.specs.Char.{is_ascii, is_ascii_digit}
 use Rattle.std.specs.declared.alloc.Global.{Global}
 use Rattle.std.specs.declared.string.String.{String}
 use Rattle.std.specs.Fmt.{digits, digits_onto, digit_glyph}
-use Rattle.std.specs.List.{flat_map, last_or, list_all}
+use Rattle.std.specs.List.{AllByRecursion, flat_map, last_or, list_all}
 use Rattle.std.specs.Option.{option_map, unwrap_or}
 use Rattle.std.specs.Str.{IsUtf8}
 use Rattle.std.proofs.lemmas.Bool.{and_from, and_parts, cond_both}
@@ -15,18 +15,18 @@ use Rattle.std.proofs.lemmas.Bool.Decides.{nat_tests}
 use Rattle.std.proofs.lemmas.List.{length-map}
 use Rattle.std.proofs.lemmas.Str.{IsUtf8-string_bytes}
 use Rattle.getopts.specs.Matches.{Found}
-use Rattle.getopts.specs.Names.{AreTexts, Names, Text}
-use Rattle.getopts.specs.Options.{names_of}
+use Rattle.getopts.specs.Names.{AreTexts, Text}
 use Rattle.getopts.specs.declared.groups.HasArg.{HasArg}
 use Rattle.getopts.specs.declared.groups.HasArg.TheVariants.{Yes, No, Maybe}
 use Rattle.getopts_bytes.specs.Marks.{bytes_of}
-use Rattle.getopts_shell.specs.Program.{IsOneWord, read_groups}
+use Rattle.getopts_shell.specs.Program.{IsOneWord}
 use Rattle.getopts_shell.specs.Table.{Entry}
 use Rattle.getopts_shell.specs.Variables.{AreTextValues, CodeSetsVariables, found_in_bytes, Given}
 use Rattle.getopts_shell.specs.Variables.{given_alone, HaveOwnVariables, held_value, holds_all}
 use Rattle.getopts_shell.specs.Variables.{HoldTexts, in_bytes, is_variable, is_variable_byte}
 use Rattle.getopts_shell.specs.Variables.{line_code, many, once, one, option_code, SetsVariables}
 use Rattle.getopts_shell.specs.Variables.{SetsWords, texts_found, Value, value_line, variable_of}
+use Rattle.getopts_shell.proofs.Assignments.{each_makes}
 use Rattle.getopts_shell.proofs.Quoting.{word_same}
 use Rattle.getopts_shell.proofs.QuotedBytes.{append_gives, ascii_gives, Gives, quoted_gives}
 use Rattle.getopts_shell.proofs.QuotedBytes.{text_gives, words_give}
@@ -148,27 +148,29 @@ line_code_gives words are =
     (append_gives (words_give words are) (ascii_gives (codes "\n") refl))
 
 -- the commands for all options
-codes_give : (prefix : Text) (arrays : Bool) (before : List Names) (options : List Given)
-    → HaveOwnVariables prefix before (map (λ (option : Given). option.names) options)
+codes_give : (prefix : Text) (arrays : Bool) (options : List Given)
+    → AllByRecursion (λ entry. is_variable (variable_of prefix entry) ≡ true)
+    (map (λ (option : Given). option.entry) options)
     → HoldTexts options
     → Gives (flat_map (option_code prefix arrays) options)
     (flat_map (option_code prefix arrays) (map in_bytes options))
-codes_give prefix arrays before [] own hold = ascii_gives [] refl
-codes_give prefix arrays before (option ∷ options) own hold =
-    let name = variable_of prefix option.names in
-    let named = variable_gives name own.0 in
+codes_give prefix arrays [] make hold = ascii_gives [] refl
+codes_give prefix arrays (option ∷ options) make hold =
+    let name = variable_of prefix option.entry in
+    let named = variable_gives name make.0 in
     append_gives (append_gives (ascii_gives (codes "\\unset -v ") refl)
     (append_gives named (append_gives (ascii_gives (codes "\n") refl)
-    (value_gives name arrays option.all option.kind option.found named hold.0))))
-    (codes_give prefix arrays (before ++ option.names ∷ []) options own.2 hold.1)
+    (value_gives name arrays (holds_all option.entry) option.entry.signature.kind option.found
+    named hold.0))))
+    (codes_give prefix arrays options make.1 hold.1)
 
--- the names stay where values are taken in bytes
-names_kept : (options : List Given)
-    → map (λ (option : Given). option.names) (map in_bytes options)
-    ≡ map (λ (option : Given). option.names) options
-names_kept [] = refl
-names_kept (option ∷ options) =
-    ap (λ (names : List Names). option.names ∷ names) (names_kept options)
+-- the entries stay where values are taken in bytes
+entries_kept : (options : List Given)
+    → map (λ (option : Given). option.entry) (map in_bytes options)
+    ≡ map (λ (option : Given). option.entry) options
+entries_kept [] = refl
+entries_kept (option ∷ options) =
+    ap (λ (entries : List Entry). option.entry ∷ entries) (entries_kept options)
 
 -- ---- what a shell makes of it
 
@@ -182,16 +184,18 @@ sets_words words are = record {
 
 -- the text for options sets variables
 pub code_sets : CodeSetsVariables
-code_sets prefix arrays options free own = record {
-  own = own;
-  shell = code_runs prefix arrays options free own;
-  bytes = λ hold are before. rw
-      (append_gives (codes_give prefix arrays [] options own hold)
-      (line_code_gives free are)).bytes_are
-      (code_runs prefix arrays (map in_bytes options) (map bytes_of free)
-      (subst (HaveOwnVariables prefix []) (sym (names_kept options)) own) before);
-  once_more = once_more options;
-}
+code_sets prefix arrays options free own =
+    let make = each_makes prefix [] (map (λ (option : Given). option.entry) options) own in record {
+      own = own;
+      shell = code_runs prefix arrays options free make;
+      bytes = λ hold are before. rw
+          (append_gives (codes_give prefix arrays options make hold)
+          (line_code_gives free are)).bytes_are
+          (code_runs prefix arrays (map in_bytes options) (map bytes_of free)
+          (subst (AllByRecursion (λ entry. is_variable (variable_of prefix entry) ≡ true))
+          (sym (entries_kept options)) make) before);
+      once_more = once_more options;
+    }
 
 -- ---- one option alone
 
@@ -212,25 +216,23 @@ pub alone_holds_texts : (entries : List Entry) (alone : Entry)
     → HoldTexts (given_alone entries alone)
 alone_holds_texts [] alone = tt
 alone_holds_texts (entry ∷ entries) alone = (
-  bare_texts entry.signature.kind (holds_all entry.mark entry.signature.occurrence) _,
+  bare_texts entry.signature.kind (holds_all entry) _,
   alone_holds_texts entries alone,
 )
 
--- its names are those of the table
-alone_names : (entries : List Entry) (alone : Entry)
-    → map (λ (option : Given). option.names) (given_alone entries alone)
-    ≡ names_of (read_groups entries)
-alone_names [] alone = refl
-alone_names (entry ∷ entries) alone =
-    ap (λ (names : List Names). entry.signature.names ∷ names) (alone_names entries alone)
+-- its entries are those of the table
+alone_entries : (entries : List Entry) (alone : Entry)
+    → map (λ (option : Given). option.entry) (given_alone entries alone) ≡ entries
+alone_entries [] alone = refl
+alone_entries (entry ∷ entries) alone =
+    ap (λ (others : List Entry). entry ∷ others) (alone_entries entries alone)
 
 -- so the text for it sets variables where the table's options make them
 pub alone_sets : (prefix : Text) (arrays : Bool) (entries : List Entry) (alone : Entry)
-    → HaveOwnVariables prefix [] (names_of (read_groups entries))
-    → SetsVariables prefix arrays (given_alone entries alone) []
+    → HaveOwnVariables prefix entries → SetsVariables prefix arrays (given_alone entries alone) []
 alone_sets prefix arrays entries alone own =
     code_sets prefix arrays (given_alone entries alone) []
-    (subst (HaveOwnVariables prefix []) (sym (alone_names entries alone)) own)
+    (subst (HaveOwnVariables prefix) (sym (alone_entries entries alone)) own)
 
 -- ---- words
 

@@ -22,11 +22,16 @@ use Rattle.getopts_shell.specs.declared.table.TableError.TheVariants as error
 use Rattle.getopts_shell.specs.declared.variables.VariableError.{VariableError}
 use Rattle.getopts_shell.specs.declared.variables.VariableError.TheVariants as variable
 
+-- the group that a row is read by
+abbrev pub group_of_row : Row → Group
+group_of_row row = group_of row.short.now row.long.now row.description.now row.hint.now
+    row.kind row.occurrence
+
 -- the entry of a row
 abbrev pub entry_of_row : Row → Entry
 entry_of_row row = record {
-  signature = (group_of row.short.now row.long.now row.description.now row.hint.now
-      row.kind row.occurrence).signature;
+  line = row.line;
+  signature = (group_of_row row).signature;
   hint = row.hint.now;
   description = row.description.now;
   mark = row.mark;
@@ -34,11 +39,6 @@ entry_of_row row = record {
 
 abbrev pub entries_of : List Row → List Entry
 entries_of rows = map entry_of_row rows
-
--- the group that a row is read by
-abbrev pub group_of_row : Row → Group
-group_of_row row = group_of row.short.now row.long.now row.description.now row.hint.now
-    row.kind row.occurrence
 
 -- the groups of rows
 abbrev pub groups_of : List Row → List Group

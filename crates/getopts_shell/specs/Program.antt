@@ -14,7 +14,7 @@ use Rattle.getopts.specs.Fail.{Fault, fault_text}
 use Rattle.getopts.specs.Matches.{Matched}
 use Rattle.getopts.specs.Names.{AreTexts, Text, main_name}
 use Rattle.getopts.specs.Only.{IsTheOnly}
-use Rattle.getopts.specs.Options.{Group, Declared, group_of, names_of}
+use Rattle.getopts.specs.Options.{Group, Declared, group_of}
 use Rattle.getopts.specs.Reading.{stop_word}
 use Rattle.getopts.specs.Results.{canonical_result, parse_result, read_result}
 use Rattle.getopts.specs.Usage.{IsUsageText, short_usage_text}
@@ -115,14 +115,17 @@ misused text = record { text = text; status = 5 }
 abbrev pub fault_line : Text → Fault → Text
 fault_line name fault = name ++ (codes ": " ++ (fault_text fault ++ codes "\n"))
 
+-- what is said of the line of a table with this number
+abbrev pub of_line : ℕ → Text → Text
+of_line number text =
+    codes "getopts_shell: line " ++ (decimal number ++ (codes " of the options: " ++ text))
+
 -- the line of a fault of a table
 abbrev pub table_fault_line : TableFault → Text
-table_fault_line (no_option number item) = codes "getopts_shell: line "
-    ++ (decimal number ++ (codes " of the options: " ++ (item
-    ++ (codes ": " ++ (reason_of item ++ codes "\n")))))
-table_fault_line (name_twice number name) = codes "getopts_shell: line "
-    ++ (decimal number ++ (codes " of the options: the name '"
-    ++ (name ++ codes "' stands there already\n")))
+table_fault_line (no_option number item) =
+    of_line number (item ++ (codes ": " ++ (reason_of item ++ codes "\n")))
+table_fault_line (name_twice number name) =
+    of_line number (codes "the name '" ++ (name ++ codes "' stands there already\n"))
 
 -- ---- a script
 
@@ -209,15 +212,14 @@ abbrev pub variable_fault_line : VariableFault → Text
 variable_fault_line arrays_only = codes "getopts_shell: --arrays needs --variables\n"
 variable_fault_line (no_prefix prefix) =
     codes "getopts_shell: '" ++ (prefix ++ codes "' makes no variable\n")
-variable_fault_line (no_variable number name) = codes "getopts_shell: line " ++ (decimal number
-    ++ (codes " of the options: '" ++ (name ++ codes "' makes no variable\n")))
-variable_fault_line (variable_twice number name) = codes "getopts_shell: line " ++ (decimal number
-    ++ (codes " of the options: '" ++ (name ++ codes "' makes the variable of another option\n")))
+variable_fault_line (no_variable number name) =
+    of_line number (codes "'" ++ (name ++ codes "' makes no variable\n"))
+variable_fault_line (variable_twice number name) =
+    of_line number (codes "'" ++ (name ++ codes "' makes the variable of another option\n"))
 
--- the fault of the variables or the arrays that are asked for, with a table of these options
-abbrev pub asked_fault : Asked → Text → List Group → Option VariableFault
-asked_fault asked table groups = option_map_or
-    (λ prefix. prefix_fault prefix table (names_of groups)) asked.variables
+-- the fault of the variables or the arrays that are asked for, with a table of these entries
+abbrev pub asked_fault : Asked → List Entry → Option VariableFault
+asked_fault asked entries = option_map_or (λ prefix. prefix_fault prefix entries) asked.variables
     (if asked.arrays then Some arrays_only else None)
 
 -- What a canonical line tells: a shell that runs its code holds its words; it is accepted in both
@@ -318,7 +320,7 @@ AnswersScript script words answer = MatchBool script.asked.usage
 -- variables, or the answer for the script
 abbrev pub AnswersDeclared : Script → Text → List Text → Answer → Type 0
 AnswersDeclared script table words answer = MatchOption script.asked.complete
-    (MatchOption (asked_fault script.asked table (read_groups script.entries))
+    (MatchOption (asked_fault script.asked script.entries)
     (AnswersScript script words answer) (λ fault. answer ≡ misused (variable_fault_line fault)))
     (λ shell. answer ≡ completion_answer script.asked shell script.name table)
 

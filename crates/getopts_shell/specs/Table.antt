@@ -5,10 +5,10 @@ use Rattle.std.specs.Prelude.{List, [], ◌∷◌, ◌++◌, Option, Some, None,
 use Rattle.std.specs.Prelude.{slice_index, length}
 use Rattle.std.specs.Prelude.{drop, take, find}
 use Rattle.std.specs.Char.{is_ascii_alphanumeric, is_ascii_whitespace}
-use Rattle.std.specs.List.{AllByRecursion, AllZip, after_first, before_first, ends_with, filter_map}
+use Rattle.std.specs.List.{AllByRecursion, after_first, before_first, ends_with}
 use Rattle.std.specs.List.{list_all, list_any}
 use Rattle.std.specs.List.{prefix_len, starts_with, suffix_len}
-use Rattle.std.specs.Option.{option_map_or}
+use Rattle.std.specs.Option.{option_map_or, option_to_list}
 use Rattle.std.specs.Str.{bytes_eq}
 use Rattle.getopts.specs.Names.{Text, Names, AreLawful, is_empty}
 use Rattle.getopts.specs.Options.{Group, Signature}
@@ -123,8 +123,10 @@ pub record IsItem (text : Text) (known : Signature) (hint : Text) (mark : Mark) 
   pub argument_is : IsArgument known.kind hint argument
   pub fits_kind : fits mark known.kind ≡ true
 
--- An entry of a table: what is asked of its option, the hint, the description, and the mark.
+-- An entry of a table: the number of its line, what is asked of its option, the hint, the
+-- description, and the mark.
 pub record Entry : Type 0 where
+  pub line : ℕ
   pub signature : Signature
   pub hint : Text
   pub description : Text
@@ -188,23 +190,31 @@ item_of line = trimmed (before_gap (trimmed line))
 abbrev pub is_passed : Text → Bool
 is_passed line = is_empty (trimmed line) || slice_index (trimmed line) 0 == 35
 
--- A line declares an entry: its option, and after a tab or two spaces its description.
-pub record DeclaresEntry (line : Text) (entry : Entry) : Type 0 where
+-- A line with this number declares an entry: its option, and after a tab or two spaces its
+-- description.
+pub record DeclaresEntry (number : ℕ) (line : Text) (entry : Entry) : Type 0 where
+  pub number_is : entry.line ≡ number
   pub there : is_passed line ≡ false
   pub item : IsItem (item_of line) entry.signature entry.hint entry.mark
   pub description : entry.description ≡ trimmed (from_gap (trimmed line))
 
--- what a line declares: nothing, or an entry
-abbrev pub Declares : Text → Option Entry → Type 0
-Declares line None = is_passed line ≡ true
-Declares line (Some entry) = DeclaresEntry line entry
+-- what a line with this number declares: nothing, or an entry
+abbrev pub Declares : ℕ → Text → Option Entry → Type 0
+Declares number line None = is_passed line ≡ true
+Declares number line (Some entry) = DeclaresEntry number line entry
 
 -- ---- tables
 
--- the entries that lines declare, in order
-abbrev pub DeclareEntries : List Text → List Entry → Type 0
-DeclareEntries lines entries = (each : List (Option Entry)) × AllZip Declares lines each
-    × (entries ≡ filter_map (λ declared. declared) each)
+-- the number of the line after so many; numbers end at the highest of 64 bits
+abbrev pub line_number : ℕ → ℕ
+line_number before = min (before + 1) (2 ^ 64 - 1)
+
+-- the entries that lines declare, in order, where so many lines stand before them
+abbrev pub DeclareEntries : ℕ → List Text → List Entry → Type 0
+DeclareEntries before [] entries = entries ≡ []
+DeclareEntries before (line ∷ lines) entries = (declared : Option Entry) × (others : List Entry)
+    × Declares (line_number before) line declared × DeclareEntries (before + 1) lines others
+    × (entries ≡ option_to_list declared ++ others)
 
 -- whether one of these entries has this name
 abbrev pub any_has_name : List Entry → Text → Bool
@@ -224,7 +234,7 @@ HaveNewNames entries = (before after : List Entry) (entry : Entry)
 
 -- Lines declare these options.
 pub record DeclareOptions (lines : List Text) (entries : List Entry) : Type 0 where
-  pub declared : DeclareEntries lines entries
+  pub declared : DeclareEntries 0 lines entries
   pub once : HaveNewNames entries
 
 -- the table declares these options
@@ -299,15 +309,11 @@ pub data TableFault : Type 0 where
 -- the fault of the line with this number, where the lines before it declare these entries: it
 -- declares neither nothing nor an entry, or an entry with a name that stands there already
 pub data IsLineFault (number : ℕ) (entries : List Entry) (line : Text) : TableFault → Type 0 where
-  none : ((declared : Option Entry) → ¬ (Declares line declared))
+  none : ((declared : Option Entry) → ¬ (Declares number line declared))
       → IsLineFault number entries line (no_option number (item_of line))
-  twice : (entry : Entry) (name : Text) → DeclaresEntry line entry
+  twice : (entry : Entry) (name : Text) → DeclaresEntry number line entry
       → name_again entries entry ≡ Some name
       → IsLineFault number entries line (name_twice number name)
-
--- the number of the line after so many; numbers end at the highest of 64 bits
-abbrev pub line_number : ℕ → ℕ
-line_number before = min (before + 1) (2 ^ 64 - 1)
 
 -- the fault of a table: that of the first line that has one
 pub record IsTableFault (table : Text) (fault : TableFault) : Type 0 where

@@ -1,24 +1,20 @@
 -- Options as variables: what a shell does with a text of commands, and the text that is written.
 use Rattle.std.specs.Prelude.{◌≡◌, ◌==◌, ◌||◌, ◌&&◌, not, ⊤, ℕ, ◌+◌, Bool, true, false, List, []}
 use Rattle.std.specs.Prelude.{◌∷◌, ◌++◌, Option, Some, None, codes, decimal, fold, if◌then◌else◌}
-use Rattle.std.specs.Prelude.{length, map, MatchOption, slice_index}
+use Rattle.std.specs.Prelude.{length, map, MatchOption}
 use Rattle.std.specs.Char.{is_ascii_alphanumeric, is_ascii_digit}
 use Rattle.std.specs.List.{AllByRecursion, flat_map, last_or, list_all, list_any}
 use Rattle.std.specs.Option.{option_map, option_or, unwrap_or}
 use Rattle.std.specs.Str.{IsUtf8, bytes_eq}
 use Rattle.getopts.specs.Accessors.{each_value, found_in}
 use Rattle.getopts.specs.Matches.{Found, MatchedGroup}
-use Rattle.getopts.specs.Names.{AreTexts, Text, Names, is_empty, main_name}
+use Rattle.getopts.specs.Names.{AreTexts, Text, is_empty, main_name}
 use Rattle.getopts.specs.declared.groups.HasArg.{HasArg}
 use Rattle.getopts.specs.declared.groups.HasArg.TheVariants.{No}
-use Rattle.getopts.specs.declared.groups.Occur.{Occur}
-use Rattle.getopts.specs.Wrap.{lines_of}
 use Rattle.getopts_bytes.specs.Marks.{bytes_of}
 use Rattle.getopts_shell.specs.Completion.{is_multi}
 use Rattle.getopts_shell.specs.Quote.{quoted, quoted_words, shell_words}
-use Rattle.getopts_shell.specs.Table.{Entry, is_passed, line_number}
-use Rattle.getopts_shell.specs.declared.row.Mark.{Mark}
-use Rattle.getopts_shell.specs.declared.row.Mark.TheVariants.{Last}
+use Rattle.getopts_shell.specs.Table.{Entry, shown_occurrence}
 use Rattle.getopts_shell.specs.declared.variables.Came.{Came}
 use Rattle.getopts_shell.specs.declared.variables.Came.TheVariants as came
 
@@ -100,50 +96,67 @@ variable_byte byte = if byte == 45 then 95 else byte
 abbrev pub variable : Text → Text → Text
 variable prefix name = prefix ++ map variable_byte name
 
--- the variable of an option
-abbrev pub variable_of : Text → Names → Text
-variable_of prefix names = variable prefix (main_name names)
+-- the variable of an entry's option
+abbrev pub variable_of : Text → Entry → Text
+variable_of prefix entry = variable prefix (main_name entry.signature.names)
 
--- whether one of these names makes the variable that others make
-abbrev pub any_has_variable : Text → List Names → Names → Bool
-any_has_variable prefix before names =
-    list_any (λ other. bytes_eq (variable_of prefix other) (variable_of prefix names)) before
+-- whether one of these entries makes the variable that another makes
+abbrev pub any_has_variable : Text → List Entry → Entry → Bool
+any_has_variable prefix before entry =
+    list_any (λ other. bytes_eq (variable_of prefix other) (variable_of prefix entry)) before
 
--- each of these names makes a variable, and no two make the same; these stand before the first
-abbrev pub HaveOwnVariables : Text → List Names → List Names → Type 0
-HaveOwnVariables prefix before [] = ⊤
-HaveOwnVariables prefix before (names ∷ more) = (is_variable (variable_of prefix names) ≡ true)
-    × (any_has_variable prefix before names ≡ false)
-    × HaveOwnVariables prefix (before ++ names ∷ []) more
+-- a fault of variables: arrays are asked for without them, or that of the prefix, or of a name in
+-- the line with this number
+pub data VariableFault : Type 0 where
+  arrays_only : VariableFault
+  no_prefix : Text → VariableFault
+  no_variable : ℕ → Text → VariableFault
+  variable_twice : ℕ → Text → VariableFault
 
--- An option as words give it: its names, its kind, whether its variable holds all values, and its
--- occurrences.
+-- the fault of an entry after others, if it has one
+abbrev pub variable_fault : Text → List Entry → Entry → Option VariableFault
+variable_fault prefix before entry =
+    if is_variable (variable_of prefix entry) then
+    (if any_has_variable prefix before entry then Some
+    (variable_twice entry.line (main_name entry.signature.names)) else None)
+    else Some (no_variable entry.line (main_name entry.signature.names))
+
+-- the first fault of entries after others
+abbrev pub first_fault : Text → List Entry → List Entry → Option VariableFault
+first_fault prefix before [] = None
+first_fault prefix before (entry ∷ more) =
+    option_or (variable_fault prefix before entry) (first_fault prefix (before ++ entry ∷ []) more)
+
+-- each of these entries makes a variable, and no two make the same
+abbrev pub HaveOwnVariables : Text → List Entry → Type 0
+HaveOwnVariables prefix entries = first_fault prefix [] entries ≡ None
+
+-- a prefix that a variable may begin with: none, or the name of a variable
+abbrev pub is_prefix : Text → Bool
+is_prefix prefix = is_empty prefix || is_variable prefix
+
+-- the fault of a prefix with the entries of a table
+abbrev pub prefix_fault : Text → List Entry → Option VariableFault
+prefix_fault prefix entries =
+    if is_prefix prefix then first_fault prefix [] entries else Some (no_prefix prefix)
+
+-- ---- options as words give them
+
+-- An option as words give it: its entry, and its occurrences.
 pub record Given : Type 0 where
-  pub names : Names
-  pub kind : HasArg
-  pub all : Bool
+  pub entry : Entry
   pub found : List Found
 
 -- whether the variable of an entry's option holds all values: it may come any number of times, and
 -- not only its last value counts
-abbrev pub holds_all : Mark → Occur → Bool
-holds_all Last occurrence = false
-holds_all mark occurrence = is_multi occurrence
-
--- the option of an entry, with these occurrences
-abbrev pub given_as : Entry → List Found → Given
-given_as entry found = record {
-  names = entry.signature.names;
-  kind = entry.signature.kind;
-  all = holds_all entry.mark entry.signature.occurrence;
-  found = found;
-}
+abbrev pub holds_all : Entry → Bool
+holds_all entry = is_multi (shown_occurrence entry.mark entry.signature.occurrence)
 
 -- the options of a table as matches give them, where the first has this place
 abbrev pub given_from : ℕ → List Entry → List MatchedGroup → List Given
 given_from place [] held = []
 given_from place (entry ∷ entries) held =
-    given_as entry (found_in held place) ∷ given_from (place + 1) entries held
+    record { entry = entry; found = found_in held place } ∷ given_from (place + 1) entries held
 
 -- one occurrence without a value
 abbrev pub once : List Found
@@ -157,7 +170,8 @@ found_alone entry alone =
 
 -- the options of a table where nothing else is given
 abbrev pub given_alone : List Entry → Entry → List Given
-given_alone entries alone = map (λ entry. given_as entry (found_alone entry alone)) entries
+given_alone entries alone =
+    map (λ entry. record { entry = entry; found = found_alone entry alone }) entries
 
 -- the occurrences of an option, as the code holds them
 abbrev pub founds_of : Came → List Found
@@ -183,13 +197,14 @@ held_value arrays kind false founds = option_map one (last_or None (texts_found 
 
 -- what the variable of an option holds
 abbrev pub own_value : Bool → Given → Option Value
-own_value arrays option = held_value arrays option.kind option.all option.found
+own_value arrays option =
+    held_value arrays option.entry.signature.kind (holds_all option.entry) option.found
 
 -- a shell where each option's variable has its value, or none, all other variables are as they
 -- were, and the words are the free words
 abbrev pub with_options : Text → Bool → List Given → List Text → Shell → Shell
 with_options prefix arrays options free shell = record (fold
-    (λ held option. with_variable held (variable_of prefix option.names) (own_value arrays option))
+    (λ held option. with_variable held (variable_of prefix option.entry) (own_value arrays option))
     shell options) { words = free }
 
 -- ---- the text
@@ -203,8 +218,8 @@ value_line name (Some (many words)) =
 
 -- the commands for an option: its variable is taken away, with its attributes, and given its value
 abbrev pub option_code : Text → Bool → Given → Text
-option_code prefix arrays option = codes "\\unset -v " ++ (variable_of prefix option.names
-    ++ (codes "\n" ++ value_line (variable_of prefix option.names) (own_value arrays option)))
+option_code prefix arrays option = codes "\\unset -v " ++ (variable_of prefix option.entry
+    ++ (codes "\n" ++ value_line (variable_of prefix option.entry) (own_value arrays option)))
 
 -- the command that sets the words `$@`
 abbrev pub line_code : List Text → Text
@@ -232,7 +247,8 @@ AreTextValues kind false founds = MatchOption (last_or None (texts_found founds)
 
 abbrev pub HoldTexts : List Given → Type 0
 HoldTexts options =
-    AllByRecursion (λ option. AreTextValues option.kind option.all option.found) options
+    AllByRecursion (λ option. AreTextValues option.entry.signature.kind (holds_all option.entry)
+    option.found) options
 
 -- A shell that runs the command holds these words; and one that runs its bytes holds the bytes of
 -- the words.
@@ -246,7 +262,7 @@ pub record SetsWords (words : List Text) : Type 0 where
 -- that runs the bytes of the text holds the bytes of all.
 pub record SetsVariables (prefix : Text) (arrays : Bool) (options : List Given) (free : List Text)
     : Type 0 where
-  pub own : HaveOwnVariables prefix [] (map (λ option. option.names) options)
+  pub own : HaveOwnVariables prefix (map (λ option. option.entry) options)
   pub shell : (before : Shell) → Runs before (variables_code prefix arrays options free)
       (with_options prefix arrays options free before)
   pub bytes : HoldTexts options → AreTexts free → (before : Shell)
@@ -258,46 +274,5 @@ pub record SetsVariables (prefix : Text) (arrays : Bool) (options : List Given) 
 -- the text for options sets variables, where each option makes one, no two the same
 abbrev pub CodeSetsVariables : Type 0
 CodeSetsVariables = (prefix : Text) (arrays : Bool) (options : List Given) (free : List Text)
-    → HaveOwnVariables prefix [] (map (λ option. option.names) options)
+    → HaveOwnVariables prefix (map (λ option. option.entry) options)
     → SetsVariables prefix arrays options free
-
--- ---- faults
-
--- a fault of variables: arrays are asked for without them, or that of the prefix, or of a name in
--- the line with this number
-pub data VariableFault : Type 0 where
-  arrays_only : VariableFault
-  no_prefix : Text → VariableFault
-  no_variable : ℕ → Text → VariableFault
-  variable_twice : ℕ → Text → VariableFault
-
--- a prefix that a variable may begin with: none, or the name of a variable
-abbrev pub is_prefix : Text → Bool
-is_prefix prefix = is_empty prefix || is_variable prefix
-
--- the fault of names after others, in the line with this number, if they have one
-abbrev pub name_fault : Text → List Names → Names → ℕ → Option VariableFault
-name_fault prefix before names number =
-    if is_variable (variable_of prefix names) then
-    (if any_has_variable prefix before names then Some
-    (variable_twice number (main_name names)) else None)
-    else Some (no_variable number (main_name names))
-
--- the first fault of names after others, where the lines of all are these
-abbrev pub first_fault : Text → List ℕ → List Names → List Names → Option VariableFault
-first_fault prefix lines before [] = None
-first_fault prefix lines before (names ∷ more) =
-    option_or (name_fault prefix before names (slice_index lines (length before)))
-    (first_fault prefix lines (before ++ names ∷ []) more)
-
--- the numbers of the lines that declare options, where so many stand before the first
-abbrev pub option_lines : ℕ → List Text → List ℕ
-option_lines before [] = []
-option_lines before (line ∷ lines) = if is_passed line then option_lines (before + 1) lines
-    else line_number before ∷ option_lines (before + 1) lines
-
--- the fault of a prefix with the names of a table's options
-abbrev pub prefix_fault : Text → Text → List Names → Option VariableFault
-prefix_fault prefix table names =
-    if is_prefix prefix then first_fault prefix (option_lines 0 (lines_of table)) [] names
-    else Some (no_prefix prefix)

@@ -21,13 +21,13 @@ ghost use Rattle.getopts_shell.specs.declared.row.Mark.{Mark as Behind};
 use crate::row::{Mark, Row};
 use getopts::{HasArg, Occur, names_lawful};
 
-/// The option of an item with this description, if the text is one.
-pub(crate) fn row_of<'t>(item: &'t str, description: &'t str) -> Option<Row<'t>>
+/// The option of an item in the line with this number, with this description, if the text is one.
+pub(crate) fn row_of<'t>(line: usize, item: &'t str, description: &'t str) -> Option<Row<'t>>
     ensures option { MatchOption result
         ((known : Signature) (hint : Text) (mark : Behind) → ¬ (IsItem item.now known hint mark))
         (λ row. IsItem item.now (entry_of_row row).signature row.hint.now row.mark) }
-    ensures description { MatchOption result (Unit {0})
-        (λ row. row.description.now ≡ description.now) }
+    ensures place { MatchOption result (Unit {0})
+        (λ row. (row.line ≡ line) × (row.description.now ≡ description.now)) }
 {
     let (inside, occurrence, mark) = unbracketed(item)?;
     let (names, argument) = parts_of(inside);
@@ -37,6 +37,7 @@ pub(crate) fn row_of<'t>(item: &'t str, description: &'t str) -> Option<Row<'t>>
         return None;
     }
     Some(Row {
+        line,
         short,
         long,
         kind,

@@ -1,7 +1,7 @@
 //! What is asked of the program, and the script that it is asked for.
 
 ghost use Rattle.std.specs.Prelude.{◌≡◌, None};
-ghost use Rattle.getopts_shell.specs.Held.{asked_of, groups_of};
+ghost use Rattle.getopts_shell.specs.Held.{asked_of, entries_of, groups_of};
 ghost use Rattle.getopts_shell.specs.Program.{asked_fault, options_in};
 
 use crate::row::Row;
@@ -21,17 +21,16 @@ pub(crate) struct Asked {
     pub arrays: bool,
 }
 
-/// A script: what is asked for it, its name, its table, and its options, as the rows of the table
-/// declare them.
+/// A script: what is asked for it, its name, and its options, as the rows of its table declare
+/// them.
 #[derive(Clone, Copy)]
 pub(crate) struct Script<'s> {
     pub asked: &'s Asked,
     pub name: &'s str,
-    pub table: &'s str,
     pub rows: &'s [Row<'s>],
     pub options: &'s Options,
     ghost options_are: { options.now ≡ options_in (asked_of asked.now) (groups_of rows.now) },
-    ghost no_fault: { asked_fault (asked_of asked.now) table.now (groups_of rows.now) ≡ None },
+    ghost no_fault: { asked_fault (asked_of asked.now) (entries_of rows.now) ≡ None },
 }
 
 impl<'s> Script<'s> {

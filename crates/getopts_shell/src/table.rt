@@ -52,7 +52,7 @@ fn push_line<'t>(
     number: usize,
     line: &'t str,
 ) -> Result<(), TableError<'t>>
-    ensures declared { OnOk result ((declared : Option Entry) × Declares line.now declared
+    ensures declared { OnOk result ((declared : Option Entry) × Declares number line.now declared
         × (entries_of rows.new.items ≡ entries_of rows.old.items ++ option_to_list declared)
         × IfSome declared (λ entry. name_again (entries_of rows.old.items) entry ≡ None)) }
     ensures fault { IfErr result (λ error.
@@ -64,7 +64,7 @@ fn push_line<'t>(
     }
     let (item, description) = cut_at_gap(line);
     let item = trimmed(item);
-    let Some(row) = row_of(item, trimmed(description)) else {
+    let Some(row) = row_of(number, item, trimmed(description)) else {
         return Err(TableError::NoOption(number, item));
     };
     match name_again(rows, row) {
@@ -77,7 +77,7 @@ fn push_line<'t>(
 }
 
 /// Whether a line without blanks at its ends declares nothing.
-pub(crate) fn declares_nothing(line: &str) -> bool
+fn declares_nothing(line: &str) -> bool
     ensures { result ≡ (is_empty line.now || slice_index line.now 0 == 35) }
 {
     line.is_empty() || line.starts_with('#')
@@ -113,7 +113,7 @@ fn any_is_called(rows: &[Row<'_>], text: &str) -> bool
 }
 
 /// A text without the ASCII white space at both ends.
-pub(crate) fn trimmed(text: &str) -> &str
+fn trimmed(text: &str) -> &str
     ensures { result.now ≡ trimmed text.now }
 {
     text.trim_ascii()

@@ -1,7 +1,7 @@
 //! Options as variables of a script: the code that sets them, and why a table has none.
 
 ghost use Rattle.std.specs.Prelude.{◌≡◌, ◌++◌, [], codes, length, map, IfOk, OnOk, false, not};
-ghost use Rattle.std.specs.Prelude.{slice_get, decimal, slice_index, get_or, None, Some};
+ghost use Rattle.std.specs.Prelude.{slice_get, decimal, get_or, None, Some};
 ghost use Rattle.std.specs.Prelude.{MatchOption, true, ⊤};
 ghost use Rattle.std.specs.Char.{is_ascii_digit};
 ghost use Rattle.std.specs.Option.{option_map, option_map_or};
@@ -9,22 +9,20 @@ ghost use Rattle.std.specs.List.{last_or, list_all, list_any};
 ghost use Rattle.std.specs.String.{string_bytes};
 ghost use Rattle.std.specs.Str.{IsUtf8, bytes_eq};
 ghost use Rattle.getopts.specs.Names.{AreTexts, main_name};
-ghost use Rattle.getopts.specs.Options.{names_of};
-ghost use Rattle.getopts.specs.Wrap.{lines_of, parting};
-ghost use Rattle.getopts_shell.specs.Held.{entries_of, entry_of_row, group_of_row, groups_of};
+ghost use Rattle.getopts.specs.Wrap.{parting};
+ghost use Rattle.getopts_shell.specs.Held.{entries_of, entry_of_row, group_of_row};
 ghost use Rattle.getopts_shell.specs.Held.{variable_fault_told};
 ghost use Rattle.getopts_shell.specs.Quote.{quoted, quoted_words};
 ghost use Rattle.getopts_shell.specs.Variables.{AreTextValues, CodeSetsVariables, HoldTexts};
 ghost use Rattle.getopts_shell.specs.Variables.{all_values, found_alone, founds_of, given_alone};
-ghost use Rattle.getopts_shell.specs.Variables.{given_as, given_from, holds_all, is_prefix};
+ghost use Rattle.getopts_shell.specs.Variables.{given_from, holds_all, is_prefix};
 ghost use Rattle.getopts_shell.specs.Variables.{is_variable, is_variable_byte, option_code};
-ghost use Rattle.getopts_shell.specs.Variables.{option_lines, prefix_fault, texts_found};
+ghost use Rattle.getopts_shell.specs.Variables.{prefix_fault, texts_found, variable_fault};
 ghost use Rattle.getopts_shell.specs.Variables.{value_line, variable, variable_byte};
 ghost use Rattle.getopts_shell.specs.Variables.{variables_code, many, one};
 
 use crate::quote::{push_line, push_parting, push_quoted, push_replaced};
 use crate::row::{Mark, Row};
-use crate::table::{declares_nothing, trimmed};
 use getopts::{HasArg, Matches, Occur, Occurrences};
 use std::alloc::{AllocError, Global};
 
@@ -134,9 +132,9 @@ fn push_option(
 ) -> Result<(), AllocError>
     ensures text { OnOk result (string_bytes text.new ≡ string_bytes text.old
         ++ option_code variables.entry.prefix.now variables.entry.arrays
-        (given_as (entry_of_row row.entry) (founds_of given.entry))) }
+        record { entry = entry_of_row row.entry; found = founds_of given.entry }) }
     ensures values { OnOk result (AreTextValues row.entry.kind
-        (holds_all row.entry.mark row.entry.occurrence) (founds_of given.entry)) }
+        (holds_all (entry_of_row row.entry)) (founds_of given.entry)) }
 {
     let name = main_name(row);
     text.push_str("\\unset -v ")?;
@@ -281,27 +279,34 @@ fn push_variable(text: &mut String, prefix: &str, name: &str) -> Result<(), Allo
 }
 
 /// Why a prefix and the options of a table make no variables, if they make none.
-pub(crate) fn variable_error<'t>(
-    prefix: &'t str,
-    table: &'t str,
-    rows: &[Row<'t>],
-) -> Option<VariableError<'t>>
+pub(crate) fn variable_error<'t>(prefix: &'t str, rows: &[Row<'t>]) -> Option<VariableError<'t>>
     ensures { option_map variable_fault_told result
-        ≡ prefix_fault prefix.now table.now (names_of (groups_of rows.now)) }
+        ≡ prefix_fault prefix.now (entries_of rows.now) }
 {
     if !is_prefix(prefix) {
         return Some(VariableError::NoPrefix(prefix));
     }
     for place in 0..rows.len() {
-        let name = main_name(rows[place]);
-        if !makes_variable(prefix, name) {
-            return Some(VariableError::NoVariable(option_line(table, place), name));
-        }
-        if any_has_variable(&rows[..place], name) {
-            return Some(VariableError::VariableTwice(option_line(table, place), name));
+        if let Some(error) = row_error(prefix, &rows[..place], rows[place]) {
+            return Some(error);
         }
     }
     None
+}
+
+/// Why a row after others makes no variable of its own, if it makes none.
+fn row_error<'t>(prefix: &str, before: &[Row<'t>], row: Row<'t>) -> Option<VariableError<'t>>
+    ensures { option_map variable_fault_told result
+        ≡ variable_fault prefix.now (entries_of before.now) (entry_of_row row.entry) }
+{
+    let name = main_name(row);
+    if !makes_variable(prefix, name) {
+        Some(VariableError::NoVariable(row.line, name))
+    } else if any_has_variable(before, name) {
+        Some(VariableError::VariableTwice(row.line, name))
+    } else {
+        None
+    }
 }
 
 /// Whether a variable may begin with a text.
@@ -383,22 +388,4 @@ fn variable_byte(byte: u8) -> u8
     ensures { result ≡ variable_byte byte }
 {
     if byte == b'-' { b'_' } else { byte }
-}
-
-/// The number of the line of the option at a place, or 0 past the last.
-fn option_line(table: &str, place: usize) -> usize
-    ensures { result ≡ slice_index (option_lines 0 (lines_of table.now)) place }
-{
-    let mut number = 0usize;
-    let mut before = 0usize;
-    for line in table.split('\n') {
-        number = number.saturating_add(1);
-        if !declares_nothing(trimmed(line)) {
-            if before == place {
-                return number;
-            }
-            before = before.saturating_add(1);
-        }
-    }
-    0
 }

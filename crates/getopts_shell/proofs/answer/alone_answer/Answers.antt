@@ -1,6 +1,6 @@
 use Rattle.std.proofs.Common.{Some, ap, string_bytes, sym, ◌∙◌}
 use Rattle.std.specs.Option.{option_map}
-use Rattle.getopts_shell.specs.Held.{asked_of, entries_of, entry_of_row, groups_of}
+use Rattle.getopts_shell.specs.Held.{asked_of, entries_of, entry_of_row}
 use Rattle.getopts_shell.specs.Program.{alone_line, done}
 use Rattle.getopts_shell.proofs.Asked.{asked_own}
 use Rattle.getopts_shell.proofs.Chosen.{at_none, at_some}
@@ -16,8 +16,7 @@ returns-in_ok-alone_code-in-Some c =
     let prefix = ap (option_map string_bytes) c.in-Some.is ∙ ap Some (sym c.as_str.ensures.value) in
     at_some _ _ c.as_str.result.now prefix (record {
       sets = alone_sets c.as_str.result.now asked.arrays entries entry
-          (asked_own asked script.table.now c.as_str.result.now (groups_of script.rows.now) prefix
-          script.no_fault);
+          (asked_own asked c.as_str.result.now entries prefix script.no_fault);
       values = alone_holds_texts entries entry;
       free_values = tt;
       answer_is = c.done.ensures

@@ -9,7 +9,7 @@ returns c =
     let script = c.args.script in
     let matches = c.args.matches.now in
     record {
-      sets = asked_sets (asked_of script.asked.now) script.table.now c.args.prefix.now
+      sets = asked_sets (asked_of script.asked.now) c.args.prefix.now
           (entries_of script.rows.now) matches.groups matches.free c.requires script.no_fault;
       values = c.in_ok-variables_code.ensures.values;
       free_values = c.in_ok-variables_code.ensures.free;

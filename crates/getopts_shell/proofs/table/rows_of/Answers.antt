@@ -1,21 +1,17 @@
-use Rattle.std.proofs.Common.{[], ◌∷◌, map, lit<, ap, ◌∙◌, subst, sym}
+use Rattle.std.proofs.Common.{[], ◌∷◌, map, lit<, ap, ◌∙◌}
 use Rattle.std.specs.Str.Iter.{split_text, split_has_more, split_pattern}
 use Rattle.std.proofs.lemmas.Iterator.Consumers.{YieldsList-end, YieldsList-turn, YieldsList-so_far}
 use Rattle.std.proofs.lemmas.Iterator.Splits.{YieldsList-from_str_split}
 use Rattle.std.proofs.lemmas.List.{map-append, length-map}
 use Rattle.std.proofs.lemmas.Result.{err_from_is_err_and}
-use Rattle.getopts_shell.specs.Held.{entries_of}
-use Rattle.getopts_shell.specs.Table.{DeclareOptions}
-use Rattle.getopts_shell.proofs.Lines.{LinesSoFar, next_line, table_fault, tells_weaker}
+use Rattle.getopts_shell.proofs.Lines.{next_line, table_fault, tells_weaker}
 use Rattle.getopts_shell.proofs.table.rows_of.Goals as goal
 
 pub loop-line-preserved : goal.loop-line-preserved
 loop-line-preserved c =
     let lines = map (λ line. line.now) c.loop-line.yielded in
     let pushed = c.in_ok-push_line.ensures.declared in
-    subst (λ lines. LinesSoFar lines c.saturating_add-number.result
-    (entries_of c.push_line.new.rows.items))
-    (sym (map-append (λ line. line.now) c.loop-line.yielded (c.in-Some.line ∷ [])))
+    rw (map-append (λ line. line.now) c.loop-line.yielded (c.in-Some.line ∷ []))
     (next_line lines c.in-Some.line.now c.loop-line.number _ _ _ pushed.0 c.loop-line.invariant
     c.saturating_add-number.ensures pushed.1 pushed.2 pushed.3)
 
@@ -49,5 +45,4 @@ returns c =
     (ap split_has_more start ∙ split.has_more) (ap split_pattern start ∙ split.pattern) in
     let each = YieldsList-end all c.loop-line.yielded _ c.loop-line.yielded_by _ _ c.in-None.is
     c.next.ensures.steps in
-    subst (λ lines. DeclareOptions lines (entries_of c.loop-line.rows.items)) each.0
-    c.loop-line.invariant.declared
+    rw each.0 at c.loop-line.invariant.declared
