@@ -105,7 +105,8 @@ pub given_more : (place : ℕ) (rows : List Row) (held : List MatchedGroup) (row
     (found : List Found)
     → place < length rows → row ≡ get_or rows place row → found ≡ found_in held place
     → given_from 0 (entries_of (take (place + 1) rows)) held
-    ≡ given_from 0 (entries_of (take place rows)) held ++ record { entry = entry_of_row row; found = found } ∷ []
+    ≡ given_from 0 (entries_of (take place rows)) held
+    ++ record { entry = entry_of_row row; found = found } ∷ []
 given_more place rows held row found below is found_is =
     rw (add-one place, found_is) (by_place 0 place rows below is (omega arith))
   where

@@ -1,7 +1,7 @@
 //! What the program answers to words.
 
 ghost use Rattle.std.specs.Prelude.{◌≡◌, ◌≢◌, ◌⊎◌, ◌++◌, ◌-◌, ◌&&◌, codes, map, length, take, true};
-ghost use Rattle.std.specs.Prelude.{false, List, Option, IfOk, OnOk, Some, None, ◌∷◌, [], IsTrue};
+ghost use Rattle.std.specs.Prelude.{false, Option, IfOk, OnOk, Some, None};
 ghost use Rattle.std.specs.Option.{is_none, option_map};
 ghost use Rattle.std.specs.Io.KnownBytes.{Appends};
 ghost use Rattle.std.specs.List.{find, list_any};
@@ -9,7 +9,7 @@ ghost use Rattle.std.specs.Str.{IsUtf8, bytes_eq};
 ghost use Rattle.std.specs.String.{string_bytes};
 ghost use Rattle.getopts.specs.Fail.{Fault, fault_of};
 ghost use Rattle.getopts.specs.Names.{AreTexts, Text, texts};
-ghost use Rattle.getopts.specs.Options.{signatures_of, with_group};
+ghost use Rattle.getopts.specs.Options.{signatures_of};
 ghost use Rattle.getopts.specs.Results.{first_count_fault, fits_count, read_result};
 ghost use Rattle.getopts_shell.specs.Completion.{IsOffer};
 ghost use Rattle.getopts_shell.specs.Held.{HasOwnGroups, answer_of, asked_of, entries_of};
@@ -20,7 +20,7 @@ ghost use Rattle.getopts_shell.specs.Program.{AnswersAlone, AnswersCounted, Answ
 ghost use Rattle.getopts_shell.specs.Program.{AnswersFree, AnswersLine, AnswersOffer, AnswersOwn};
 ghost use Rattle.getopts_shell.specs.Program.{AnswersRead, AnswersScript, AnswersTable};
 ghost use Rattle.getopts_shell.specs.Program.{AnswersVariables, AnswersWords, AppendsFront};
-ghost use Rattle.getopts_shell.specs.Program.{IsAnswer, IsHelp, IsOneWord, IsOutput, IsStatus};
+ghost use Rattle.getopts_shell.specs.Program.{IsAnswer, IsHelp, IsOutput, IsStatus};
 ghost use Rattle.getopts_shell.specs.Program.{ShowsAnswer, ShowsFront, TellsOptions, alone_line};
 ghost use Rattle.getopts_shell.specs.Program.{asked_by, asked_fault, asks_help, brief_text};
 ghost use Rattle.getopts_shell.specs.Program.{completion_answer, done, fault_line, has_completion};
@@ -320,7 +320,8 @@ fn table_answer(
     words: &[&str],
 ) -> Result<Outcome, AllocError>
     ensures { IfOk result (λ outcome.
-        AnswersTable (asked_of asked.now) name.now table.now (texts words.now) (answer_of outcome)) }
+        AnswersTable (asked_of asked.now) name.now table.now (texts words.now)
+        (answer_of outcome)) }
 {
     match rows_of(alloc, table) {
         Ok(rows) => declared_answer(alloc, asked, name, table, &rows, words),
@@ -674,7 +675,8 @@ fn alone_line(alloc: Global, row: Row<'_>) -> Result<String, AllocError>
 /// The code that prints the help of a script, and ends it.
 fn help_code(alloc: Global, script: Script<'_>) -> Result<String, AllocError>
     ensures { IfOk result (λ text. (help : Text)
-        × IsHelp (script_of script.entry) help × IsUtf8 help × (string_bytes text ≡ help_code help)) }
+        × IsHelp (script_of script.entry) help × IsUtf8 help
+        × (string_bytes text ≡ help_code help)) }
 {
     let help = help_of(alloc, script)?;
     let mut text = String::from_str(alloc, "\\printf %s ")?;
@@ -738,7 +740,8 @@ fn parsed_answer(
 ) -> Result<Outcome, AllocError>
     requires { (asked_of script.asked.now).variables ≡ Some prefix.now }
     ensures { IfOk result (λ outcome.
-        AnswersVariables (script_of script.entry) prefix.now (texts words.now) (answer_of outcome)) }
+        AnswersVariables (script_of script.entry) prefix.now (texts words.now)
+        (answer_of outcome)) }
 {
     match script.options.parse_words(alloc, words) {
         Ok(matches) => variables_answer(alloc, script, prefix, &matches),

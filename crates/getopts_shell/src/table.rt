@@ -1,11 +1,11 @@
 //! Tables of options: their lines, and the options that these declare.
 
-ghost use Rattle.std.specs.Prelude.{◌≡◌, ◌++◌, ◌∷◌, [], List, Option, ◌||◌, ◌==◌, slice_index, map};
+ghost use Rattle.std.specs.Prelude.{◌≡◌, ◌++◌, Option, ◌||◌, ◌==◌, slice_index};
 ghost use Rattle.std.specs.Prelude.{MatchResult, IfErr, IfSome, OnOk, Some, None};
 ghost use Rattle.std.specs.List.{list_any};
 ghost use Rattle.std.specs.Option.{option_copied, option_to_list};
 ghost use Rattle.std.specs.Str.{bytes_eq};
-ghost use Rattle.getopts.specs.Names.{Text, is_empty};
+ghost use Rattle.getopts.specs.Names.{is_empty};
 ghost use Rattle.getopts_shell.specs.Held.{entry_of_row, entries_of, TellsFault};
 ghost use Rattle.getopts_shell.specs.Table.{trimmed, begins_gap, before_gap, from_gap};
 ghost use Rattle.getopts_shell.specs.Table.{any_has_name, name_again};

@@ -1,6 +1,6 @@
 //! Options as variables of a script: the code that sets them, and why a table has none.
 
-ghost use Rattle.std.specs.Prelude.{◌≡◌, ◌++◌, [], codes, length, map, IfOk, OnOk, false, not};
+ghost use Rattle.std.specs.Prelude.{◌≡◌, ◌++◌, [], length, map, IfOk, OnOk, false, not};
 ghost use Rattle.std.specs.Prelude.{slice_get, decimal, get_or, None, Some};
 ghost use Rattle.std.specs.Prelude.{MatchOption, true, ⊤};
 ghost use Rattle.std.specs.Char.{is_ascii_digit};
@@ -9,10 +9,9 @@ ghost use Rattle.std.specs.List.{last_or, list_all, list_any};
 ghost use Rattle.std.specs.String.{string_bytes};
 ghost use Rattle.std.specs.Str.{IsUtf8, bytes_eq};
 ghost use Rattle.getopts.specs.Names.{AreTexts, main_name};
-ghost use Rattle.getopts.specs.Wrap.{parting};
 ghost use Rattle.getopts_shell.specs.Held.{entries_of, entry_of_row, group_of_row};
 ghost use Rattle.getopts_shell.specs.Held.{variable_fault_told};
-ghost use Rattle.getopts_shell.specs.Quote.{quoted, quoted_words};
+ghost use Rattle.getopts_shell.specs.Quote.{quoted_words};
 ghost use Rattle.getopts_shell.specs.Variables.{AreTextValues, CodeSetsVariables, HoldTexts};
 ghost use Rattle.getopts_shell.specs.Variables.{all_values, found_alone, founds_of, given_alone};
 ghost use Rattle.getopts_shell.specs.Variables.{given_from, holds_all, is_prefix};
