@@ -254,14 +254,13 @@ fn declared_answer(
     if let Some(shell) = &asked.complete {
         return completion_answer(alloc, asked, shell.as_str(), name, table);
     }
-    if let Some(error) = asked_error(asked, table, rows) {
+    if let Some(error) = asked_error(asked, rows) {
         return Ok(Outcome::misused(variable_refusal(alloc, error)?));
     }
     let options = options_of(alloc, asked, rows, false)?;
     let script = Script {
         asked,
         name,
-        table,
         rows,
         options: &options,
     };
@@ -283,13 +282,9 @@ fn table_refusal(alloc: Global, error: TableError<'_>) -> Result<String, AllocEr
 }
 
 /// Why there are no variables where they, or arrays, are asked for.
-fn asked_error<'t>(
-    asked: &'t Asked,
-    table: &'t str,
-    rows: &[Row<'t>],
-) -> Option<VariableError<'t>> {
+fn asked_error<'t>(asked: &'t Asked, rows: &[Row<'t>]) -> Option<VariableError<'t>> {
     match &asked.variables {
-        Some(prefix) => variable_error(prefix.as_str(), table, rows),
+        Some(prefix) => variable_error(prefix.as_str(), rows),
         None if asked.arrays => Some(VariableError::ArraysOnly),
         None => None,
     }

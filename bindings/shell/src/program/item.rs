@@ -6,8 +6,8 @@ use crate::host::*;
 use super::row::{Mark, Row};
 use crate::getopts::{HasArg, Occur, names_lawful};
 
-/// The option of an item with this description, if the text is one.
-pub(crate) fn row_of<'t>(item: &'t str, description: &'t str) -> Option<Row<'t>> {
+/// The option of an item in the line with this number, with this description, if the text is one.
+pub(crate) fn row_of<'t>(line: usize, item: &'t str, description: &'t str) -> Option<Row<'t>> {
     let (inside, occurrence, mark) = unbracketed(item)?;
     let (names, argument) = parts_of(inside);
     let (short, long) = names_of(names)?;
@@ -16,6 +16,7 @@ pub(crate) fn row_of<'t>(item: &'t str, description: &'t str) -> Option<Row<'t>>
         return None;
     }
     Some(Row {
+        line,
         short,
         long,
         kind,

@@ -16,9 +16,10 @@ pub enum Mark {
     Last,
 }
 
-/// An option that a line of a table declares, by lawful names.
+/// An option that the line of a table with this number declares, by lawful names.
 #[derive(Clone, Copy)]
 pub struct Row<'t> {
+    pub line: usize,
     pub short: &'t str,
     pub long: &'t str,
     pub kind: HasArg,

@@ -19,13 +19,12 @@ pub(crate) struct Asked {
     pub arrays: bool,
 }
 
-/// A script: what is asked for it, its name, its table, and its options, as the rows of the table
-/// declare them.
+/// A script: what is asked for it, its name, and its options, as the rows of its table declare
+/// them.
 #[derive(Clone, Copy)]
 pub(crate) struct Script<'s> {
     pub asked: &'s Asked,
     pub name: &'s str,
-    pub table: &'s str,
     pub rows: &'s [Row<'s>],
     pub options: &'s Options,
 }

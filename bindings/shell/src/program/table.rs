@@ -43,7 +43,7 @@ fn push_line<'t>(
     }
     let (item, description) = cut_at_gap(line);
     let item = trimmed(item);
-    let Some(row) = row_of(item, trimmed(description)) else {
+    let Some(row) = row_of(number, item, trimmed(description)) else {
         return Err(TableError::NoOption(number, item));
     };
     match name_again(rows, row) {
@@ -56,7 +56,7 @@ fn push_line<'t>(
 }
 
 /// Whether a line without blanks at its ends declares nothing.
-pub(crate) fn declares_nothing(line: &str) -> bool {
+fn declares_nothing(line: &str) -> bool {
     line.is_empty() || line.starts_with('#')
 }
 
@@ -82,7 +82,7 @@ fn any_is_called(rows: &[Row<'_>], text: &str) -> bool {
 }
 
 /// A text without the ASCII white space at both ends.
-pub(crate) fn trimmed(text: &str) -> &str {
+fn trimmed(text: &str) -> &str {
     text.trimmed_ascii()
 }
 

@@ -5,7 +5,6 @@ use crate::host::*;
 
 use super::quote::{push_line, push_parting, push_quoted, push_replaced};
 use super::row::{Mark, Row};
-use super::table::{declares_nothing, trimmed};
 use crate::getopts::{HasArg, Matches, Occur, Occurrences};
 use crate::host::alloc::{AllocError, Global};
 
@@ -213,27 +212,28 @@ fn push_variable(text: &mut String, prefix: &str, name: &str) -> Result<(), Allo
 }
 
 /// Why a prefix and the options of a table make no variables, if they make none.
-pub(crate) fn variable_error<'t>(
-    prefix: &'t str,
-    table: &'t str,
-    rows: &[Row<'t>],
-) -> Option<VariableError<'t>> {
+pub(crate) fn variable_error<'t>(prefix: &'t str, rows: &[Row<'t>]) -> Option<VariableError<'t>> {
     if !is_prefix(prefix) {
         return Some(VariableError::NoPrefix(prefix));
     }
     for place in 0..rows.len() {
-        let name = main_name(rows[place]);
-        if !makes_variable(prefix, name) {
-            return Some(VariableError::NoVariable(option_line(table, place), name));
-        }
-        if any_has_variable(&rows[..place], name) {
-            return Some(VariableError::VariableTwice(
-                option_line(table, place),
-                name,
-            ));
+        if let Some(error) = row_error(prefix, &rows[..place], rows[place]) {
+            return Some(error);
         }
     }
     None
+}
+
+/// Why a row after others makes no variable of its own, if it makes none.
+fn row_error<'t>(prefix: &str, before: &[Row<'t>], row: Row<'t>) -> Option<VariableError<'t>> {
+    let name = main_name(row);
+    if !makes_variable(prefix, name) {
+        Some(VariableError::NoVariable(row.line, name))
+    } else if any_has_variable(before, name) {
+        Some(VariableError::VariableTwice(row.line, name))
+    } else {
+        None
+    }
 }
 
 /// Whether a variable may begin with a text.
@@ -293,20 +293,4 @@ fn same_variable(name: &str, other: &str) -> bool {
 /// A byte of a main name, as it stands in a variable.
 fn variable_byte(byte: u8) -> u8 {
     if byte == b'-' { b'_' } else { byte }
-}
-
-/// The number of the line of the option at a place, or 0 past the last.
-fn option_line(table: &str, place: usize) -> usize {
-    let mut number = 0usize;
-    let mut before = 0usize;
-    for line in table.split('\n') {
-        number = number.saturating_add(1);
-        if !declares_nothing(trimmed(line)) {
-            if before == place {
-                return number;
-            }
-            before = before.saturating_add(1);
-        }
-    }
-    0
 }
