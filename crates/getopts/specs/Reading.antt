@@ -1,6 +1,6 @@
 -- How words are read: items, their spelling, when they are lawful, readings of a line, the
 -- occurrences and free words of a reading, and the faults of a line that has none.
-use Rattle.std.specs.Prelude.{◌≡◌, ◌≢◌, ◌==◌, ◌⊎◌, ⊤, ℕ, ◌+◌, ◌<◌, Bool, true, false, List, [], ◌∷◌}
+use Rattle.std.specs.Prelude.{◌≡◌, ◌≢◌, ◌==◌, ⊤, ℕ, ◌+◌, ◌<◌, Bool, true, false, List, [], ◌∷◌}
 use Rattle.std.specs.Prelude.{◌++◌, length, map, Option, Some, None, encode_utf8}
 use Rattle.std.specs.Char.{IsScalar}
 use Rattle.std.specs.List.{AllByRecursion, list_any}
@@ -310,10 +310,14 @@ pub data IsFaultAt (grammar : Grammar) (word : Text) (after : List Text) : Fault
   -- in long form, a name that doesn't resolve
   unknown_name : (name : Text) (argument : Option Text) → IsLongForm grammar word name argument
       → grammar.kind name ≡ None → IsFaultAt grammar word after (unrecognized_option name)
-  -- in short form, after flags, a character that has more than one byte or doesn't resolve
-  unknown_character : (character : ℕ) (more : Text) → IsScalar character
+  -- in short form, after flags, a byte of ASCII that doesn't resolve
+  unknown_byte : (byte : ℕ) (more : Text) → byte < 128 → HasAfterFlags grammar word (byte ∷ more)
+      → grammar.kind (byte ∷ []) ≡ None
+      → IsFaultAt grammar word after (unrecognized_option (byte ∷ []))
+  -- or a character of more bytes, which no short name is
+  wide_character : (character : ℕ) (more : Text) → IsScalar character
+      → 1 < length (encode_utf8 character)
       → HasAfterFlags grammar word (encode_utf8 character ++ more)
-      → (1 < length (encode_utf8 character)) ⊎ (grammar.kind (encode_utf8 character) ≡ None)
       → IsFaultAt grammar word after (unrecognized_option (encode_utf8 character))
   -- in long form, an attached argument for kind No
   unwanted_argument : (name argument : Text) → IsLongForm grammar word name (Some argument)

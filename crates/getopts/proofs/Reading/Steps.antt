@@ -1,22 +1,23 @@
 -- One word: what `turn` says of it is what the definitions say.
-use Rattle.std.proofs.Common.{◌≡◌, ◌≢◌, ◌==◌, ◌⊎◌, ℕ, ◌<◌, Bool, true, false, List, [], ◌∷◌, ◌++◌}
+use Rattle.std.proofs.Common.{◌≡◌, ◌≢◌, ◌==◌, ℕ, ◌<◌, Bool, true, false, List, [], ◌∷◌, ◌++◌}
 use Rattle.std.proofs.Common.{length, Option, Some, None, Ok, refl, sym, ap, ◌∙◌, subst, inl, inr}
 use Rattle.std.proofs.Common.{arith, encode_utf8, unwrap_or, append_assoc, append-nil}
 use Rattle.std.proofs.lemmas.Bool.{cases_Bool, cases_lt, eqb-true, false≢true}
 use Rattle.std.specs.List.{AllByRecursion}
 use Rattle.std.specs.Str.{IsUtf8}
 use Rattle.std.proofs.lemmas.List.{length-append}
-use Rattle.std.proofs.lemmas.Str.{length-encode, len_utf8_bounds}
+use Rattle.std.proofs.lemmas.Str.{encode_ascii, length-encode, len_utf8_bounds}
 use Rattle.getopts.specs.Names.{Text}
 use Rattle.getopts.specs.Options.{Grammar}
 use Rattle.getopts.specs.Fail.{Fault, unrecognized_option}
 use Rattle.getopts.specs.Reading.{dash, Dashes, flags, ends_in, cluster, FitsEnd, IsFlag, is_bare}
 use Rattle.getopts.specs.Reading.{is_dashed, stop_word, attached, long_word, tail_words, IsLongForm}
 use Rattle.getopts.specs.Reading.{holds_equals, one, argument_words, MayStandBefore, EndsOrIsDashed}
-use Rattle.getopts.specs.Reading.{Argument, attached_argument, unknown_character, unwanted_argument}
+use Rattle.getopts.specs.Reading.{Argument, attached_argument, unknown_byte, unwanted_argument}
 use Rattle.getopts.specs.Reading.{none, two, End, Item, free, long, stop}
 use Rattle.getopts.specs.Reading.{separate, end_text, end_words, FitsLong, dash_text, IsFaultAt}
 use Rattle.getopts.specs.Reading.{item_words, IsLawfulEnd, IsLawfulItem, IsLawfulTail, unknown_name}
+use Rattle.getopts.specs.Reading.{wide_character}
 use Rattle.getopts.specs.Reading.{IsLawfulCluster, HasAfterFlags, long_unfinished, short_unfinished}
 use Rattle.getopts.specs.Turn.{with_equals, Turn, ends, takes, faults, IsInLongForm, IsShortForm}
 use Rattle.getopts.specs.Turn.{chosen_long, chosen_end, chosen_turn, named_turn, cut_at_equals}
@@ -173,20 +174,26 @@ module _ (grammar : Grammar) (word : Text) (bytes : List ℕ)
   unknown_flag named byte text more form resolved utf8 =
       let begins = begins_with_char byte text
       (IsUtf8-after_flags grammar named word bytes (byte ∷ text) form each utf8) in
-      let form_there = subst (λ (t : Text). IsShortForm grammar word (bytes ++ t)) begins.1.text_is
-      form in
-      rw begins.1.first (unknown_character begins.0 begins.1.rest begins.1.scalar (record {
-        bytes = bytes;
-        ordinary = form_there.ordinary;
-        word_is = form_there.word_is;
-        second = form_there.second;
-        each = each;
-      }) (elim (cases_lt byte 128) [
+      rw begins.1.first (elim (cases_lt byte 128) [
         | inl ascii ↦
-            inr (rw (encode-ascii_byte begins.0 byte text begins.1.rest begins.1.text_is ascii)
-            resolved)
-        | inr wide ↦ inl (length-encode-wide begins.0 byte text begins.1.rest begins.1.text_is wide)
-      ]))
+            rw (encode-ascii_byte begins.0 byte text begins.1.rest begins.1.text_is ascii)
+            (unknown_byte byte text ascii (after_flags (byte ∷ text) form) resolved)
+        | inr wide ↦
+            wide_character begins.0 begins.1.rest begins.1.scalar
+            (length-encode-wide begins.0 byte text begins.1.rest begins.1.text_is wide)
+            (after_flags (encode_utf8 begins.0 ++ begins.1.rest)
+            (subst (λ (t : Text). IsShortForm grammar word (bytes ++ t)) begins.1.text_is form))
+      ])
+    where
+      after_flags : (rest : Text) → IsShortForm grammar word (bytes ++ rest)
+          → HasAfterFlags grammar word rest
+      after_flags rest form = record {
+        bytes = bytes;
+        ordinary = form.ordinary;
+        word_is = form.word_is;
+        second = form.second;
+        each = each;
+      }
 
   -- one more byte, by its kind, with what a flag more gives
   byte_sound : IsNamed grammar → (byte : ℕ) (kind : Option HasArg) (text : Text) (more : List Text)
@@ -510,29 +517,25 @@ spelled_turn grammar named (cluster bytes (ends_in option argument)) more lawful
       refl,
     )
 
--- a character that is wide or doesn't resolve is unknown by its first byte
-unknown_byte : (grammar : Grammar) → IsNamed grammar → (c byte : ℕ) (others text : Text)
-    → byte ∷ others ≡ encode_utf8 c ++ text
-    → (1 < length (encode_utf8 c)) ⊎ (grammar.kind (encode_utf8 c) ≡ None)
+-- a wide character is unknown by its first byte
+wide_unknown : (grammar : Grammar) → IsNamed grammar → (c byte : ℕ) (others text : Text)
+    → byte ∷ others ≡ encode_utf8 c ++ text → 1 < length (encode_utf8 c)
     → grammar.kind (byte ∷ []) ≡ None
-unknown_byte grammar named c byte others text e unknown = elim (named.ascii byte) [
+wide_unknown grammar named c byte others text e wide = elim (named.ascii byte) [
   | inr unresolved ↦ unresolved
   | inl ascii ↦
       let alone : encode_utf8 c ≡ byte ∷ [] = encode-ascii_byte c byte others text e ascii in
-      elim unknown [
-        | inl longer ↦ absurd (omega (arith, rw alone at longer))
-        | inr unresolved ↦ rw alone at unresolved
-      ]
+      absurd (omega (arith, rw alone at wide))
 ]
 
--- a word with an unknown flag, by what stands after the flags
-unknown_turn : (grammar : Grammar) → IsNamed grammar
+-- a word with a wide character after its flags
+wide_turn : (grammar : Grammar) → IsNamed grammar
     → (word : Text) (names : List ℕ) (c : ℕ) (text whole : Text) (more : List Text)
     → whole ≡ encode_utf8 c ++ text → IsUtf8 whole → IsShortForm grammar word (names ++ whole)
     → AllByRecursion (IsFlag grammar) names
-    → (1 < length (encode_utf8 c)) ⊎ (grammar.kind (encode_utf8 c) ≡ None)
+    → 1 < length (encode_utf8 c)
     → turn grammar word more ≡ faults (unrecognized_option (encode_utf8 c))
-unknown_turn grammar named word names c text [] more e utf8 form each unknown =
+wide_turn grammar named word names c text [] more e utf8 form each wide =
     absurd (omega (
       arith,
       ap length e,
@@ -540,9 +543,9 @@ unknown_turn grammar named word names c text [] more e utf8 form each unknown =
       length-encode c,
       len_utf8_bounds c,
     ))
-unknown_turn grammar named word names c text (byte ∷ others) more e utf8 form each unknown =
+wide_turn grammar named word names c text (byte ∷ others) more e utf8 form each wide =
     short_turn_byte grammar word names byte others more None form each
-    (unknown_byte grammar named c byte others text e unknown)
+    (wide_unknown grammar named c byte others text e wide)
     ∙ ap (λ (t : Text). faults (unrecognized_option t))
     (rw e (first_char-append c text (rw e at utf8)))
 
@@ -570,18 +573,30 @@ long_dashed one [] word is filled = absurd (filled is)
 long_dashed one (c ∷ rest) word is filled = rw is refl
 long_dashed two rest word is filled = rw is refl
 
+-- a text that begins with a byte of ASCII begins with that character
+first_byte : (byte : ℕ) (text : Text) → byte < 128 → IsUtf8 (byte ∷ text)
+    → first_char (byte ∷ text) ≡ byte ∷ []
+first_byte byte text ascii utf8 =
+    let encoded = encode_ascii byte ascii in
+    let whole : encode_utf8 byte ++ text ≡ byte ∷ text = ap (λ (t : Text). t ++ text) encoded in
+    ap first_char (sym whole) ∙ first_char-append byte text (subst IsUtf8 (sym whole) utf8) ∙ encoded
+
 -- a word with a fault
 pub fault_turn : (grammar : Grammar) → IsNamed grammar
     → (word : Text) (more : List Text) (fault : Fault) → IsUtf8 word
     → IsFaultAt grammar word more fault → turn grammar word more ≡ faults fault
 fault_turn grammar named word more fault utf8 (unknown_name name argument form unknown) =
     long_form_turn grammar word name argument more None form unknown
-fault_turn grammar named word more fault utf8
-    (unknown_character character text scalar has unknown) =
-    unknown_turn grammar named word has.bytes character text _ more refl
-    (IsUtf8-after_flags grammar named word has.bytes (encode_utf8 character ++ text)
-    (short_of grammar word _ has (filled-character has.bytes character text)) has.each utf8)
-    (short_of grammar word _ has (filled-character has.bytes character text)) has.each unknown
+fault_turn grammar named word more fault utf8 (unknown_byte byte text ascii has unknown) =
+    let form = short_of grammar word _ has (filled-append has.bytes byte text) in
+    short_turn_byte grammar word has.bytes byte text more None form has.each unknown
+    ∙ ap (λ (t : Text). faults (unrecognized_option t)) (first_byte byte text ascii
+    (IsUtf8-after_flags grammar named word has.bytes (byte ∷ text) form has.each utf8))
+fault_turn grammar named word more fault utf8 (wide_character character text scalar wide has) =
+    let form = short_of grammar word _ has (filled-character has.bytes character text) in
+    wide_turn grammar named word has.bytes character text _ more refl
+    (IsUtf8-after_flags grammar named word has.bytes (encode_utf8 character ++ text) form has.each
+    utf8) form has.each wide
 fault_turn grammar named word more fault utf8 (unwanted_argument name argument form kind) =
     long_form_turn grammar word name (Some argument) more (Some No) form kind
 fault_turn grammar named word more fault utf8 (long_unfinished name form kind ended) =
@@ -595,7 +610,10 @@ pub fault_dashed : (grammar : Grammar) (word : Text) (more : List Text) (fault :
     → IsFaultAt grammar word more fault → is_dashed word ≡ true
 fault_dashed grammar word more fault (unknown_name name argument form unknown) =
     long_dashed form.dashes (name ++ with_equals argument) word form.word_is form.filled
-fault_dashed grammar word more fault (unknown_character character text scalar has unknown) =
+fault_dashed grammar word more fault (unknown_byte byte text ascii has unknown) =
+    short_dashed grammar word (has.bytes ++ byte ∷ text)
+    (short_of grammar word _ has (filled-append has.bytes byte text))
+fault_dashed grammar word more fault (wide_character character text scalar wide has) =
     short_dashed grammar word (has.bytes ++ (encode_utf8 character ++ text))
     (short_of grammar word _ has (filled-character has.bytes character text))
 fault_dashed grammar word more fault (unwanted_argument name argument form kind) =
