@@ -39,6 +39,8 @@ def pytest_addoption(parser):
 
 
 def pytest_collection_modifyitems(items):
+    # Edits take longest, and wait for libraries alone.
+    items.sort(key=lambda item: not item.name.startswith("test_edit["))
     for item in items:
         if {"show", "shell", "vectors", "bench", "built"} & set(item.fixturenames):
             item.add_marker(pytest.mark.built)
