@@ -131,7 +131,7 @@ int getopts_free_count(const struct getopts *options);
 /* The free words, with NULL after the last, as argv. Valid until the next reading. */
 char *const *getopts_free_words(const struct getopts *options);
 
-/* How many free words come before those after `--`; -1 if no `--` ended the options. */
+/* How many free words come before those after `--`; -1 if no word follows a `--` that ended the options. */
 int getopts_trailing_start(const struct getopts *options);
 
 /* The help: the brief, and each option with its description. The caller frees it by free(). Returns NULL if out

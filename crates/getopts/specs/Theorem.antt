@@ -38,7 +38,7 @@ abbrev pub HaveResults : Declared → Type 0
 HaveResults options = (words : List Text) → AreTexts words → HasResults options words
 
 -- Each occurrence of each name has the same value, or none in both, and free words are the same.
--- Two matches hold the same, but for positions.
+-- Two matches hold the same; positions and the trailing start may differ.
 pub record HoldSame (matches other : Matched) : Type 0 where
   pub values : (name : Text)
       → each_value (found_of other.groups name) ≡ each_value (found_of matches.groups name)

@@ -14,10 +14,11 @@ use std::fmt;
 
 /// Why a line was refused.
 ///
-/// Scan faults come first, and the first in word order is named: `ArgumentMissing`,
-/// `UnrecognizedOption` and `UnexpectedArgument`, with the name as typed. Count faults come after a
-/// whole scan, and the first group in order of definition is named: `OptionMissing` and
-/// `OptionDuplicated`, with the main name.
+/// Faults of the words come first: of `ArgumentMissing`, `UnrecognizedOption` and `UnexpectedArgument` that of the
+/// first word that has one, with the name as typed. Only a line without these has its counts checked:
+/// `OptionMissing` and `OptionDuplicated` name the first option, in order of definition, by its main name, which is
+/// the long one, or the short one where there is no long one. A fault prints as in the Rust crate; `?` turns an
+/// `AllocError` into `OutOfMemory`.
 #[derive(Debug, Drop)]
 pub enum Fail {
     /// The option needs an argument, and the line ends. Holds the name as typed.

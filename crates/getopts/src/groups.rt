@@ -26,29 +26,30 @@ const FIRST_NAMES: usize = 512;
 /// What the first free word does to the words after it.
 #[derive(Debug, Clone, Copy, PartialEq, Eq)]
 pub enum ParsingStyle {
-    /// Options and free words may stand in any order.
+    /// Options and free words may stand in any order. This is the style of `Options::new`.
     FloatingFrees,
-    /// All words from the first free one on are free.
+    /// All words from the first free one on are free, also those that begin with a dash.
     StopAtFirstFree,
 }
 
 /// Whether an option takes an argument.
 #[derive(Debug, Clone, Copy, PartialEq, Eq)]
 pub enum HasArg {
-    /// The option needs an argument.
+    /// The option needs an argument, in the same word or as the next.
     Yes,
     /// The option takes no argument.
     No,
-    /// The option may have an argument.
+    /// The option may have an argument: after `=`, or, of a short name in ordinary mode, right after the name or as
+    /// the next word, where that is `-` or doesn't begin with a dash.
     Maybe,
 }
 
 /// How often an option may come.
 #[derive(Debug, Clone, Copy, PartialEq, Eq)]
 pub enum Occur {
-    /// The option comes exactly once.
+    /// The option comes exactly once, or else the line fails with `OptionMissing` or `OptionDuplicated`.
     Req,
-    /// The option comes at most once.
+    /// The option comes at most once, or else the line fails with `OptionDuplicated`.
     Optional,
     /// The option may come any number of times.
     Multi,

@@ -39,7 +39,8 @@ pub fn one_reading_one_canonical_line(options: &Options)
     ensures refused { RefusedExactlyWhen options.now }
     ensures results { HaveResults options.now }
 
-    // Words that say the same give matches that are the same but for positions.
+    // Words that say the same give the same values to each name and the same free words; positions and the
+    // trailing start may differ.
     ensures holds_same { OneContentHoldsSame options.now }
 
     // Canonical lines are equal exactly if they say the same: those of contents, and those that are
@@ -62,8 +63,8 @@ pub fn one_reading_one_canonical_line(options: &Options)
     let _groups = options.groups();
 }
 
-/// The laws of readings and of canonical lines, and that words of one content have equal matches but for
-/// positions, for all options that may be declared: a law to cite, which does nothing.
+/// The laws of readings and of canonical lines, and that words of one content have matches with the same values
+/// and free words, for all options that may be declared: a law to cite, which does nothing.
 pub fn declared_options_keep_laws()
     ensures reading_laws { (options : Declared) → MayBeDeclared options.groups
         → KeepsReadingLaws (grammar_of options) }

@@ -209,7 +209,8 @@ impl Clone for LineOccurrences {
 
 /// The occurrences of one option group, in the order of the line, lent by the matches.
 ///
-/// `Matches::occurrences_at` returns them. No text is copied. They can be gone over:
+/// `Matches::occurrences_at` returns them. No text is copied. The Rust crate has no such type. They can be gone
+/// over:
 ///
 /// ```
 /// for (position, value) in matches.occurrences_at(place) { .. }
@@ -258,8 +259,8 @@ impl<'m> Occurrences<'m> {
         self.len() == 0
     }
 
-    /// The position of one of them, counted from 0, and its value if it has one. Past the last there is
-    /// none.
+    /// The position of the occurrence at this place, from 0 on, and its value if it has one; `None` past the
+    /// last.
     #[inline]
     pub fn get(&self, nth: usize) -> Option<(usize, Option<&'m str>)>
         ensures { option_map held_found result ≡ slice_get self.now nth }

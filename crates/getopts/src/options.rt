@@ -14,7 +14,8 @@ use crate::help::{Group, Groups};
 use std::alloc::{AllocError, Global};
 use std::marker::Model;
 
-/// A list of option groups, a parsing style and a mode.
+/// Option groups, a parsing style and a mode: what `optflag` and its kin declare, `parse` reads words by, and
+/// `usage` prints help of.
 #[derive(Debug)]
 pub struct Options {
     alloc: Global,
@@ -48,7 +49,7 @@ impl Model for Options {
 
 impl Options {
     /// Options with no groups, in `FloatingFrees` and ordinary mode. Takes no memory; the calls that
-    /// add a group grow the options with this allocator.
+    /// add a group grow the options with this allocator, which the Rust crate doesn't ask for.
     pub fn new(alloc: Global) -> Options
         ensures { result ≡ record {
           groups = [];
@@ -96,8 +97,8 @@ impl Options {
     /// Sets what the first free word does to the words after it. The groups and the mode stay.
     ///
     /// `options.parsing_style(ParsingStyle::StopAtFirstFree)` makes all words from the first free one on
-    /// free, as a program that runs another one wants. The result is the same options. As in the Rust, it
-    /// takes no memory.
+    /// free, as a program that runs another one wants. The result is the same options. As in the Rust
+    /// crate, it takes no memory.
     pub fn parsing_style(&mut self, style: ParsingStyle) -> &mut Options
         ensures set { result.now ≡ record self.old { style = style } }
         ensures same_options { result.ghost_name ≡ self.entry.ghost_name }
@@ -110,7 +111,7 @@ impl Options {
     ///
     /// In long-only mode a long name follows one dash or two, and no short names are joined in a word:
     /// after `options.long_only(true)` the word `-verbose` is the option `verbose`. The result is the same
-    /// options. As in the Rust, it takes no memory.
+    /// options. As in the Rust crate, it takes no memory.
     pub fn long_only(&mut self, long_only: bool) -> &mut Options
         ensures set { result.now ≡ record self.old { long_only = long_only } }
         ensures same_options { result.ghost_name ≡ self.entry.ghost_name }
@@ -120,7 +121,7 @@ impl Options {
     }
 }
 
-// The calls that add a group, named as in the Rust.
+// The calls that add a group, named as in the Rust crate.
 impl Options {
     /// Adds an option with any kind of argument and any kind of occurrence, as the last group.
     ///

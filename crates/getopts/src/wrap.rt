@@ -21,7 +21,7 @@ use unicode_width::UnicodeWidthStr;
 /// `usize::MAX`.
 ///
 /// ```
-/// let rows = each_split_within(alloc, "\nMary had a little lamb\nLittle lamb\n", 15)?;
+/// let rows = wrap::each_split_within(alloc, "\nMary had a little lamb\nLittle lamb\n", 15)?;
 /// // "Mary had a", "little lamb", "Little lamb"
 /// ```
 ///

@@ -20,8 +20,8 @@ fn copied(alloc: Global, text: Option<&str>) -> Result<Option<String>, AllocErro
 impl Matches {
     /// The place of the option group that a name resolves to, from 0, in the order of declaration.
     ///
-    /// Names of one group have the same place. The result is `None` where `opt_defined` is false. The
-    /// Rust has no such call.
+    /// Names of one group have the same place. The result is `None` where `opt_defined` is false. After
+    /// `optopt("o",..)` and `optflag("v",..)` it is `Some(1)` of `v`. The Rust crate has no such call.
     #[inline]
     pub fn opt_place(&self, name: &str) -> Option<usize> {
         self.held.are_lawful();
@@ -58,16 +58,16 @@ impl Matches {
         self.opt_place(name).is_some()
     }
 
-    /// How often an option was given, by any of its names: 0 where it wasn't.
+    /// How often an option was given, by any of its names: 0 where it wasn't, and 3 after `-vv --verbose`.
     ///
-    /// The name has to be defined, which `opt_defined` tests.
+    /// The name has to be defined, which `opt_defined` tests. The Rust crate panics where it isn't.
     pub fn opt_count(&self, name: &str) -> usize {
         self.held.occurrences_of(name).len()
     }
 
     /// Whether an option was given at least once, by any of its names.
     ///
-    /// The name has to be defined, which `opt_defined` tests.
+    /// The name has to be defined, which `opt_defined` tests. The Rust crate panics where it isn't.
     pub fn opt_present(&self, name: &str) -> bool {
         self.has(name)
     }
@@ -86,8 +86,8 @@ impl Matches {
 
     /// The values of an option's occurrences, in the order of the line.
     ///
-    /// An occurrence without a value gives none, so there may be fewer values than `opt_count` says, and
-    /// there are none where the option wasn't given. The name has to be defined, which `opt_defined`
+    /// After `-La -L b` those of `L` are `a` and `b`. An occurrence without a value gives none, so there may be
+    /// fewer values than `opt_count` says, and there are none where the option wasn't given. The name has to be defined, which `opt_defined`
     /// tests. An error comes only where memory was refused.
     pub fn opt_strs(&self, alloc: Global, name: &str) -> Result<Vec<String>, AllocError> {
         self.held.occurrences_of(name).values(alloc)
@@ -109,7 +109,7 @@ impl Matches {
 
     /// The value of an option's first occurrence.
     ///
-    /// The result is `None` where the option wasn't given, and also where its first occurrence has no
+    /// After `-ofile` that of `o` is `file`. The result is `None` where the option wasn't given, and also where its first occurrence has no
     /// value, even if a later one has: `opt_strs` gives those. Of a required option that needs an
     /// argument it is there. The name has to be defined, which `opt_defined` tests. An error comes only
     /// where memory was refused.
@@ -133,7 +133,7 @@ impl Matches {
 
     /// The value of an option's first occurrence, read as a `T`.
     ///
-    /// The result is `Ok(None)` where there is no such value, as where the option wasn't given, and the
+    /// After `-n 7` `opt_get::<u8>("n")` is `Ok(Some(7))`. The result is `Ok(None)` where there is no such value, as where the option wasn't given, and the
     /// error is the one that reading gives. The name has to be defined, which `opt_defined` tests. The
     /// text is lent to the reading, where the Rust crate copies it first.
     pub fn opt_get<T: FromStr>(&self, name: &str) -> Result<Option<T>, T::Err> {
@@ -157,7 +157,7 @@ impl Matches {
 
     /// Where the words after `--` begin among the free words.
     ///
-    /// That is the number of free words before `--`, where the line had one that ended its options and
+    /// After `a -- b` it is `Some(1)`: the number of free words before `--`, where the line had one that ended its options and
     /// a word follows it. It is the number that reading the line gave: a change of `free` doesn't
     /// change it.
     pub fn free_trailing_start(&self) -> Option<usize> {

@@ -17,11 +17,14 @@ pub(crate) struct ReadLine {
     pub index: Index,
 }
 
-/// What an accepted line gave: the options by name, and the words that are no option.
+/// What a line gave: the options by name, and the words that are no option.
+///
+/// After `let matches = options.parse_words(alloc, &["-v", "a"])?` the result of `matches.opt_present("v")` is
+/// true, and `matches.free` holds `a`.
 #[derive(Debug)]
 pub struct Matches {
-    /// The free words, in the order of the line. They are the caller's to change: no call that asks
-    /// for an option, and not `free_trailing_start` either, reads them.
+    /// The free words, in the order of the line. They are the caller's to change: no call that asks for an
+    /// option, and not `free_trailing_start` either, reads them; `==` and `clone` do.
     pub free: Vec<String>,
     pub(crate) held: MatchedGroups,
     pub(crate) trailing_start: Option<usize>,

@@ -15,12 +15,10 @@ use crate::alloc::{AllocError, Global};
 impl Options {
     /// Reads the words of a line, without the program's own name.
     ///
-    /// Every list of words is one of three things, and only one: it has a reading that keeps the counts,
-    /// and the result is what that reading gives; it has a reading that breaks them, and the result is the
-    /// fault of the first option, in order of definition, that is missing or came too often; or it has no
-    /// reading, and the result is the first fault in the order of the words. `Fail::OutOfMemory` comes
-    /// where memory was refused, in place of any other result. A refusal gives no matches, and the options
-    /// stay as they are.
+    /// The result is what the words give, or else their first fault: that of the first word that can't be read, or,
+    /// where all can, that of the first option, in order of definition, that is required and missing or came too
+    /// often. `Fail::OutOfMemory` comes where memory was refused, in place of any other result. The options stay as
+    /// they are.
     ///
     /// With an option `o`/`output` that needs an argument, `["-ofile", "x"]`, `["-o", "file", "x"]` and
     /// `["--output=file", "x"]` all give `output` the value `file`, and the free word `x`.
@@ -34,9 +32,9 @@ impl Options {
     /// Reads the words of a line, as `parse_words` does, whatever their counts.
     ///
     /// It is for a program that prints its help also where a required option is missing: it calls this
-    /// first, prints its help where the help option was given, and then calls `parse_words`. The result is
-    /// `Ok` exactly where the words have a reading. Then the matches are what that reading gives, though a
-    /// required option may be missing and an option that may come once may have come again. The faults of
+    /// first, prints its help where the help option was given, and then calls `parse_words`. `Ok` comes
+    /// exactly where all words can be read. Then the matches are what the words give, though a required
+    /// option may be missing and an option that may come once may have come again. The faults of
     /// the words themselves come as from `parse_words`. The Rust crate has no such call.
     pub fn parse_ignoring_counts(&self, alloc: Global, words: &[&str]) -> super::Result {
         let read = self.read_line(alloc, words)?;
@@ -45,7 +43,7 @@ impl Options {
 
     /// Reads the words of a line, as `parse_words` does, over the items of an iterator.
     ///
-    /// The iterator has to end; `words.iter().copied()` of a list of words does. All its items are taken
+    /// The iterator has to end; that of `options.parse(alloc, words.iter().copied())?` does. All its items are taken
     /// before any result but `Fail::OutOfMemory`. The Rust crate takes words that may be no UTF-8, and refuses
     /// those.
     pub fn parse<'a, I: Iterator<Item = &'a str>>(&self, alloc: Global, args: I) -> super::Result {

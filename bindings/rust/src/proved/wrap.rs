@@ -19,7 +19,7 @@ use crate::width::UnicodeWidthStr;
 /// `usize::MAX`.
 ///
 /// ```text
-/// let rows = each_split_within(alloc, "\nMary had a little lamb\nLittle lamb\n", 15)?;
+/// let rows = wrap::each_split_within(alloc, "\nMary had a little lamb\nLittle lamb\n", 15)?;
 /// // "Mary had a", "little lamb", "Little lamb"
 /// ```
 ///

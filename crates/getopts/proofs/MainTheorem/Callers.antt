@@ -182,7 +182,7 @@ each_value-values founds others same =
     values_of-each founds ∙ ap (filter_map (λ (value : Option Text). value)) same
     ∙ sym (values_of-each others)
 
--- readings with one content give matches that hold the same but for positions
+-- readings with one content give matches that hold the same
 HoldSame-content : (options : Declared) (old new : Reading)
     → mentions_of (grammar_of options) new ≡ mentions_of (grammar_of options) old
     → free_words new ≡ free_words old → HoldSame (matches_of options old) (matches_of options new)
