@@ -8,8 +8,8 @@ use Rattle.getopts.specs.CanonAnswers.{IsUnwritable, IsWritten, KeepsLineLaws}
 use Rattle.getopts.specs.Names.{AreTexts, Text, resolution, EmptyResolvesNot}
 use Rattle.getopts.specs.Options.{Declared, Group, names_of}
 use Rattle.getopts.specs.Reading.{Mention, holds_equals, stop_word}
-use Rattle.getopts_shell.specs.Held.{ArePlainlyNamed}
 use Rattle.getopts_shell.specs.Program.{TellsWords}
+use Rattle.getopts_shell.proofs.Plain.{ArePlainlyNamed}
 use Rattle.getopts_shell.proofs.Written.{sets_words}
 
 -- no main name holds `=`

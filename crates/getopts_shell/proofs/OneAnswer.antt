@@ -10,13 +10,13 @@ use Rattle.getopts.specs.Matches.{Matched}
 use Rattle.getopts.specs.Names.{Text}
 use Rattle.getopts.specs.Only.{IsTheOnly}
 use Rattle.getopts.specs.Results.{canonical_result, parse_result, read_result}
-use Rattle.getopts_shell.specs.Completion.{stub}
+use Rattle.getopts_shell.specs.Completion.{functions, stub}
 use Rattle.getopts_shell.specs.Program.{Answer, AnswersAlone, AnswersCounted, AnswersDeclared}
 use Rattle.getopts_shell.specs.Program.{AnswersFree, AnswersLine, AnswersOffer, AnswersOwn}
 use Rattle.getopts_shell.specs.Program.{AnswersRead, AnswersScript, AnswersTable, AnswersVariables}
 use Rattle.getopts_shell.specs.Program.{AnswersWords, Asked, IsAnswer, IsHelp, IsStatus, OneAnswer}
 use Rattle.getopts_shell.specs.Program.{PrintsHelp, Script, TellsOptions, asked_by, asked_fault}
-use Rattle.getopts_shell.specs.Program.{asks_help, declared, done, faulty, has_completion}
+use Rattle.getopts_shell.specs.Program.{asks_help, declared, done, faulty}
 use Rattle.getopts_shell.specs.Program.{help_code, is_alone, is_given, last_word, misused}
 use Rattle.getopts_shell.specs.Program.{no_completion, own_options, read_options}
 use Rattle.getopts_shell.specs.Program.{table_fault_line}
@@ -153,10 +153,9 @@ one_words script words = one_result (read_result (read_options script) words)
 
 one_at_word : (script : Script) (shell : Text) (words : List Text)
     → IsOne (AnswersOffer script shell words)
-one_at_word script shell words = one_bool (has_completion shell)
-    (one_made (λ text other is also. one_offer (read_options script)
+one_at_word script shell words = one_option (functions shell) (one_equal _ is_misused)
+    (λ functions. one_made (λ text other is also. one_offer (read_options script)
     (take (length words - 1) words) (last_word words) is also) (λ text. one_equal _ is_done))
-    (one_equal _ is_misused)
 
 one_script : (script : Script) (words : List Text) → IsOne (AnswersScript script words)
 one_script script words = one_bool script.asked.usage

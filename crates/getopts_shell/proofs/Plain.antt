@@ -2,10 +2,11 @@
 use Rattle.std.proofs.Common.{◌≡◌, ℕ, Bool, true, false, cond, eqb, List, [], ◌∷◌}
 use Rattle.std.proofs.Common.{refl, arith}
 use Rattle.std.specs.Prelude.{◌&&◌, not}
-use Rattle.std.specs.List.{ends_with, list_all}
+use Rattle.std.specs.List.{AllByRecursion, ends_with, list_all}
 use Rattle.getopts.specs.Names.{Text, Names, is_empty, main_name}
+use Rattle.getopts.specs.Options.{Group}
 use Rattle.getopts.specs.Reading.{begins_with_dash, holds_equals}
-use Rattle.getopts_shell.specs.Held.{ArePlainlyNamed, group_of_row, groups_of}
+use Rattle.getopts_shell.specs.Held.{group_of_row, groups_of}
 use Rattle.getopts_shell.specs.declared.row.Row.{Row}
 use Rattle.getopts_shell.specs.Table.{is_long_byte, is_long_name, is_name, is_name_byte}
 use Rattle.std.proofs.lemmas.Bool.{and_parts, or_from}
@@ -39,6 +40,11 @@ plain_main names short long = by_test (is_empty names.long)
         (and_parts (list_all is_long_byte names.long) (not (ends_with eqb names.long (58 ∷ [])))
         (and_parts (not (begins_with_dash names.long))
         (list_all is_long_byte names.long && not (ends_with eqb names.long (58 ∷ []))) long).1).0
+
+-- no main name holds `=`
+abbrev pub ArePlainlyNamed : List Group → Type 0
+ArePlainlyNamed groups =
+    AllByRecursion (λ group. holds_equals (main_name group.signature.names) ≡ false) groups
 
 -- no main name of a row holds `=`
 pub plain_rows : (rows : List Row) → ArePlainlyNamed (groups_of rows)

@@ -1,14 +1,13 @@
 -- What the code holds, as the definitions see it.
 use Rattle.std.specs.Prelude.{Bool, if◌then◌else◌, ◌≡◌, ⊤, List, [], ◌∷◌, Option, Some, None, map}
-use Rattle.std.specs.Prelude.{MatchOption, false}
-use Rattle.std.specs.List.{AllByRecursion}
+use Rattle.std.specs.Prelude.{MatchOption}
 use Rattle.std.specs.Option.{option_map}
 use Rattle.std.specs.String.{string_bytes}
 use Rattle.getopts.specs.Matches.{MatchedGroup, matched}
-use Rattle.getopts.specs.Names.{Text, main_name}
+use Rattle.getopts.specs.Names.{Text}
 use Rattle.getopts.specs.Options.{Declared, Group, Signature, group_of, signatures_of, with_group}
 use Rattle.getopts.specs.Parse.{Reads}
-use Rattle.getopts.specs.Reading.{Occurrence, Reading, holds_equals}
+use Rattle.getopts.specs.Reading.{Occurrence, Reading}
 use Rattle.getopts_shell.specs.Program.{Answer, Asked, own_groups, read_groups}
 use Rattle.getopts_shell.specs.Variables.{VariableFault, arrays_only, no_prefix, no_variable}
 use Rattle.getopts_shell.specs.Variables.{variable_twice}
@@ -80,11 +79,6 @@ asked_of asked = record {
 abbrev pub HasOwnGroups : List MatchedGroup → Type 0
 HasOwnGroups groups = (occurrences : List Occurrence) × (groups
     ≡ matched 0 (signatures_of own_groups) occurrences)
-
--- no main name holds `=`
-abbrev pub ArePlainlyNamed : List Group → Type 0
-ArePlainlyNamed groups =
-    AllByRecursion (λ group. holds_equals (main_name group.signature.names) ≡ false) groups
 
 -- the words have a reading
 abbrev pub HaveReading : Declared → List Text → Type 0

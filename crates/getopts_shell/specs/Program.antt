@@ -1,7 +1,7 @@
 -- The program: what it answers to words, and with which status.
-use Rattle.std.specs.Prelude.{◌≡◌, ◌≢◌, ◌≤◌, ◌&&◌, ◌||◌, ◌-◌, ℕ, Bool, true, false, List, [], ◌∷◌}
+use Rattle.std.specs.Prelude.{◌≡◌, ◌≢◌, ◌≤◌, ◌&&◌, ◌-◌, ℕ, Bool, true, false, List, [], ◌∷◌}
 use Rattle.std.specs.Prelude.{◌++◌, Option, Some, None, MatchOption, MatchResult, codes, decimal}
-use Rattle.std.specs.Prelude.{if◌then◌else◌, length, map, take}
+use Rattle.std.specs.Prelude.{if◌then◌else◌, length, map, not, take}
 use Rattle.std.specs.Bool.{MatchBool}
 use Rattle.std.specs.Io.KnownBytes.{Appends}
 use Rattle.std.specs.List.{AllByRecursion, find, last_or, list_any}
@@ -18,12 +18,11 @@ use Rattle.getopts.specs.Options.{Group, Declared, group_of}
 use Rattle.getopts.specs.Reading.{stop_word}
 use Rattle.getopts.specs.Results.{canonical_result, parse_result, read_result}
 use Rattle.getopts.specs.Usage.{IsUsageText, short_usage_text}
-use Rattle.getopts.specs.declared.groups.HasArg.{HasArg}
 use Rattle.getopts.specs.declared.groups.HasArg.TheVariants.{Yes, No}
 use Rattle.getopts.specs.declared.groups.Occur.TheVariants.{Optional}
 use Rattle.getopts.specs.declared.groups.ParsingStyle.TheVariants.{FloatingFrees, StopAtFirstFree}
 use Rattle.getopts_bytes.specs.Marks.{bytes_of}
-use Rattle.getopts_shell.specs.Completion.{IsOffer, stub}
+use Rattle.getopts_shell.specs.Completion.{IsOffer, functions, stub, takes_argument}
 use Rattle.getopts_shell.specs.Quote.{quoted, shell_words}
 use Rattle.getopts_shell.specs.Table.{Entry, group_of_entry, shown_group, DeclaresOptions}
 use Rattle.getopts_shell.specs.Table.{IsTableFault, TableFault, no_option, name_twice, reason_of}
@@ -180,14 +179,9 @@ pub record IsOneWord (text : Text) : Type 0 where
 abbrev pub help_code : Text → Text
 help_code help = codes "\\printf %s " ++ (quoted help ++ codes "; \\exit\n")
 
--- whether a kind takes no argument
-abbrev pub is_no : HasArg → Bool
-is_no No = true
-is_no kind = false
-
 -- whether an entry is called `help`, and takes no argument
 abbrev pub is_help : Entry → Bool
-is_help entry = bytes_eq entry.signature.names.long (codes "help") && is_no entry.signature.kind
+is_help entry = bytes_eq entry.signature.names.long (codes "help") && not (takes_argument entry.signature.kind)
 
 -- whether matches ask for help: they have the option `help`, and one of the entries is that
 abbrev pub asks_help : List Entry → Matched → Bool
@@ -232,12 +226,7 @@ pub record TellsWords (options : Declared) (words line : List Text) : Type 0 whe
   pub stop_is_first :
       AllByRecursion (λ m. canonical_word options.groups m ≢ stop_word) written.content.mentions
 
--- whether there is completion in a shell
-abbrev pub has_completion : Text → Bool
-has_completion shell = bytes_eq shell (codes "bash") || bytes_eq shell (codes "zsh")
-    || bytes_eq shell (codes "fish")
-
--- what is said where there is none
+-- what is said where there is no completion in a shell
 abbrev pub no_completion : Text → Answer
 no_completion shell = misused (codes "getopts_shell: no completion for '" ++ (shell ++ codes "'\n"))
 
@@ -252,11 +241,11 @@ last_word words = unwrap_or (last_or None words) []
 
 -- the answer to a shell that asks what may come at the last word, if there is completion in it
 abbrev pub AnswersOffer : Script → Text → List Text → Answer → Type 0
-AnswersOffer script shell words answer = MatchBool (has_completion shell)
-    ((text : Text) × IsOffer (read_options script) (take (length words - 1) words) (last_word words)
-    text
-    × (answer ≡ done text))
+AnswersOffer script shell words answer = MatchOption (functions shell)
     (answer ≡ no_completion shell)
+    (λ functions. (text : Text)
+    × IsOffer (read_options script) (take (length words - 1) words) (last_word words) text
+    × (answer ≡ done text))
 
 -- The code that sets variables for options and free words: a shell that runs it holds these; and
 -- the values are UTF-8, so one that runs its bytes holds their bytes.

@@ -1,7 +1,7 @@
 //! What the program answers to words.
 
-ghost use Rattle.std.specs.Prelude.{◌≡◌, ◌≢◌, ◌⊎◌, ◌++◌, ◌-◌, ◌&&◌, codes, map, length, take, true};
-ghost use Rattle.std.specs.Prelude.{false, Option, IfOk, OnOk, Some, None};
+ghost use Rattle.std.specs.Prelude.{◌≡◌, ◌≢◌, ◌⊎◌, ◌++◌, ◌-◌, ◌&&◌, codes, map, length, not, take};
+ghost use Rattle.std.specs.Prelude.{true, false, Option, IfOk, OnOk, Some, None};
 ghost use Rattle.std.specs.Option.{is_none, option_map};
 ghost use Rattle.std.specs.Io.KnownBytes.{Appends};
 ghost use Rattle.std.specs.List.{find, list_any};
@@ -11,7 +11,7 @@ ghost use Rattle.getopts.specs.Fail.{Fault, fault_of};
 ghost use Rattle.getopts.specs.Names.{AreTexts, Text, texts};
 ghost use Rattle.getopts.specs.Options.{signatures_of};
 ghost use Rattle.getopts.specs.Results.{first_count_fault, fits_count, read_result};
-ghost use Rattle.getopts_shell.specs.Completion.{IsOffer};
+ghost use Rattle.getopts_shell.specs.Completion.{IsOffer, takes_argument};
 ghost use Rattle.getopts_shell.specs.Held.{HasOwnGroups, answer_of, asked_of, entries_of};
 ghost use Rattle.getopts_shell.specs.Held.{entry_of_row, fault_told, groups_as, groups_of};
 ghost use Rattle.getopts_shell.specs.Held.{held_signatures, variable_fault_told, with_groups};
@@ -23,15 +23,15 @@ ghost use Rattle.getopts_shell.specs.Program.{AnswersVariables, AnswersWords, Ap
 ghost use Rattle.getopts_shell.specs.Program.{IsAnswer, IsHelp, IsOutput, IsStatus};
 ghost use Rattle.getopts_shell.specs.Program.{ShowsAnswer, ShowsFront, TellsOptions, alone_line};
 ghost use Rattle.getopts_shell.specs.Program.{asked_by, asked_fault, asks_help, brief_text};
-ghost use Rattle.getopts_shell.specs.Program.{completion_answer, done, fault_line, has_completion};
-ghost use Rattle.getopts_shell.specs.Program.{help_code, is_alone, is_no, last_word, misused};
+ghost use Rattle.getopts_shell.specs.Program.{completion_answer, done, fault_line};
+ghost use Rattle.getopts_shell.specs.Program.{help_code, is_alone, last_word, misused};
 ghost use Rattle.getopts_shell.specs.Program.{no_completion, options_in, own_groups, own_options};
 ghost use Rattle.getopts_shell.specs.Program.{read_options, refused, shown_options, stands_alone};
 ghost use Rattle.getopts_shell.specs.Program.{table_fault_line, variable_fault_line};
 ghost use Rattle.getopts_shell.specs.Table.{TableFault, shown_occurrence};
 ghost use Rattle.getopts_shell.specs.Variables.{given_from, line_code};
 
-use crate::complete::{is_given, offers, stub};
+use crate::complete::{functions, is_given, offers, stub, takes_argument};
 use crate::item::reason_of;
 use crate::quote::{push_line, push_quoted};
 use crate::row::{Mark, Row};
@@ -41,7 +41,7 @@ use crate::variables::{
     VariableError, Variables, alone_code, main_name, variable_error, variables_code,
 };
 use crate::words::texts_of;
-use getopts::{Fail, HasArg, Matches, Occur, Options, ParsingStyle, names_resolve};
+use getopts::{Fail, Matches, Occur, Options, ParsingStyle, names_resolve};
 use getopts_bytes::push_bytes;
 use std::alloc::{AllocError, Global};
 use std::io;
@@ -530,13 +530,6 @@ fn no_completion(alloc: Global, shell: &str) -> Result<Outcome, AllocError>
     Ok(Outcome::misused(text))
 }
 
-/// Whether there is completion in a shell.
-fn has_completion(shell: &str) -> bool
-    ensures { result ≡ has_completion shell.now }
-{
-    shell == "bash" || shell == "zsh" || shell == "fish"
-}
-
 /// The answer to a shell that asks what may come at the last word.
 fn offer_answer(
     alloc: Global,
@@ -547,10 +540,10 @@ fn offer_answer(
     ensures { IfOk result (λ outcome.
         AnswersOffer (script_of script.entry) shell.now (texts words.now) (answer_of outcome)) }
 {
-    if !has_completion(shell) {
-        return no_completion(alloc, shell);
+    match functions(shell) {
+        Some(_) => Ok(Outcome::done(last_offers(alloc, script, words)?)),
+        None => no_completion(alloc, shell),
     }
-    Ok(Outcome::done(last_offers(alloc, script, words)?))
 }
 
 /// What may come at the last word.
@@ -611,11 +604,11 @@ fn asks_help(rows: &[Row<'_>], matches: &Matches) -> bool
 
 /// Whether one of the rows is called `help`, and takes no argument.
 fn offers_help(rows: &[Row<'_>]) -> bool
-    ensures { result ≡ list_any (λ row. bytes_eq row.long.now (codes "help") && is_no row.kind)
-        rows.now }
+    ensures { result ≡ list_any (λ row. bytes_eq row.long.now (codes "help")
+        && not (takes_argument row.kind)) rows.now }
 {
     rows.iter()
-        .any(|row| row.long == "help" && matches!(row.kind, HasArg::No))
+        .any(|row| row.long == "help" && !takes_argument(row.kind))
 }
 
 /// Whether an option with this mark stands alone.

@@ -131,7 +131,7 @@ pub(crate) fn stub(
 }
 
 /// The functions for all scripts in a shell, if there is completion in it.
-fn functions(shell: &str) -> Option<&'static str>
+pub(crate) fn functions(shell: &str) -> Option<&'static str>
     ensures { option_map (λ text. text.now) result ≡ functions shell.now }
 {
     match shell {
@@ -345,7 +345,7 @@ fn push_option(
 }
 
 /// Whether a kind takes an argument.
-fn takes_argument(kind: HasArg) -> bool
+pub(crate) fn takes_argument(kind: HasArg) -> bool
     ensures { result ≡ takes_argument kind }
 {
     !matches!(kind, HasArg::No)

@@ -2,7 +2,7 @@ use Rattle.std.proofs.Common.{Some, ap, map, string_bytes, subst, sym, ◌∙◌
 use Rattle.std.proofs.lemmas.Result.{IfOk-weaker}
 use Rattle.getopts.specs.Names.{texts}
 use Rattle.getopts.specs.Options.{Declared}
-use Rattle.getopts_shell.specs.Held.{ArePlainlyNamed}
+use Rattle.getopts_shell.proofs.Plain.{ArePlainlyNamed}
 use Rattle.getopts_shell.specs.Program.{done}
 use Rattle.getopts_shell.specs.Variables.{line_code}
 use Rattle.getopts_shell.proofs.Chosen.{at_err, at_ok}
