@@ -3,7 +3,7 @@
 
 use crate::host::*;
 
-use super::complete::{is_given, offers, stub};
+use super::complete::{functions, is_given, offers, stub, takes_argument};
 use super::item::reason_of;
 use super::quote::{push_line, push_quoted};
 use super::row::{Mark, Row};
@@ -13,7 +13,7 @@ use super::variables::{
     VariableError, Variables, alone_code, main_name, variable_error, variables_code,
 };
 use super::words::texts_of;
-use crate::getopts::{Fail, HasArg, Matches, Occur, Options, ParsingStyle, names_resolve};
+use crate::getopts::{Fail, Matches, Occur, Options, ParsingStyle, names_resolve};
 use ::getopts::bytes::push_bytes;
 use crate::host::alloc::{AllocError, Global};
 use crate::host::io;
@@ -404,11 +404,6 @@ fn no_completion(alloc: Global, shell: &str) -> Result<Outcome, AllocError> {
     Ok(Outcome::misused(text))
 }
 
-/// Whether there is completion in a shell.
-fn has_completion(shell: &str) -> bool {
-    shell == "bash" || shell == "zsh" || shell == "fish"
-}
-
 /// The answer to a shell that asks what may come at the last word.
 fn offer_answer(
     alloc: Global,
@@ -416,10 +411,10 @@ fn offer_answer(
     script: Script<'_>,
     words: &[&str],
 ) -> Result<Outcome, AllocError> {
-    if !has_completion(shell) {
-        return no_completion(alloc, shell);
+    match functions(shell) {
+        Some(_) => Ok(Outcome::done(last_offers(alloc, script, words)?)),
+        None => no_completion(alloc, shell),
     }
-    Ok(Outcome::done(last_offers(alloc, script, words)?))
 }
 
 /// What may come at the last word.
@@ -468,7 +463,7 @@ fn asks_help(rows: &[Row<'_>], matches: &Matches) -> bool {
 /// Whether one of the rows is called `help`, and takes no argument.
 fn offers_help(rows: &[Row<'_>]) -> bool {
     rows.iter()
-        .any(|row| row.long == "help" && matches!(row.kind, HasArg::No))
+        .any(|row| row.long == "help" && !takes_argument(row.kind))
 }
 
 /// Whether an option with this mark stands alone.

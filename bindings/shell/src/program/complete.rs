@@ -112,7 +112,7 @@ pub(crate) fn stub(
 }
 
 /// The functions for all scripts in a shell, if there is completion in it.
-fn functions(shell: &str) -> Option<&'static str> {
+pub(crate) fn functions(shell: &str) -> Option<&'static str> {
     match shell {
         "bash" => Some(BASH),
         "zsh" => Some(ZSH),
@@ -287,7 +287,7 @@ fn push_option(
 }
 
 /// Whether a kind takes an argument.
-fn takes_argument(kind: HasArg) -> bool {
+pub(crate) fn takes_argument(kind: HasArg) -> bool {
     !matches!(kind, HasArg::No)
 }
 
