@@ -6,8 +6,8 @@ nothing, so any body is refused. Such an edit, or one that adds a way out, has a
 ('right'), and with these the prover has to prove the function.
 
 On a copy of the repository each edit is put beside its function, under a name of its own and with a copy of its proof
-files, so that one check of the crate tries all that were asked for. A method of a trait can't be copied: it is tried
-alone. Half of what the check of a small program takes is reading the library, so the modules of two programs are put
+files, so that one check of the crate tries all that were asked for. A method of a trait can't be copied: it is edited in
+its place. Half of what the check of a small program takes is reading the library, so the modules of two programs are put
 beside those of a third. The edits in private/ turn bodies that no public clause speaks of; they are tried with --many.
 """
 
@@ -93,13 +93,13 @@ class Copies:
         return self.files.setdefault(file, (self.folder / file).read_text(encoding="utf-8"))
 
     def add(self, edit):
-        """Copies an edit's function, and returns its name in the copy, or nothing where it has to be tried alone."""
+        """Copies an edit's function, or turns it in its place where it can't be copied, and returns its name there."""
         path = edit.function.split("::")[1:]
         owner = path[-2] if len(path) > 1 and path[-2][0].isupper() else None
         files = edit.applied(self.folder)
         file = next((file for file in files if span(files[file], path[-1], owner)), None)
         if not file:
-            return None
+            return self.put_in_place(edit)
         self.count += 1
         there = set(re.findall(r"\bfn (\w+)", (self.folder / file).read_text(encoding="utf-8")))
         helpers = [name for name in dict.fromkeys(re.findall(r"\bfn (\w+)", files[file])) if name not in there]
@@ -120,6 +120,12 @@ class Copies:
         if edit.variant == "new":
             self.keep_unoffered(path, new)
         return "::".join([edit.host, *path[:-1], new])
+
+    def put_in_place(self, edit):
+        for file, texts in edit.pairs:
+            assert self.text(file).count(texts["old"]) == 1, f"another edit turned this in {file}: {texts['old']}"
+            self.files[file] = self.text(file).replace(texts["old"], texts.get(edit.variant, texts["new"]))
+        return edit.function
 
     def copy_proofs(self, path, new):
         source, to = (self.folder.joinpath("proofs", *path[:-1], name) for name in (path[-1], new))
@@ -211,24 +217,12 @@ def tried(edits, room):
     folder = copy_tree(room / "copy", *below) / "crates" / host
     for crate in sorted({edit.crate for edit in edits} - {host}):
         join(folder, folder.parent / crate)
-    copies, functions, said = Copies(folder), {}, {}
-    for edit in edits:
-        functions[edit] = copies.add(edit)
-    alone = [edit for edit in edits if not functions[edit]]
-    plain = {file: (folder / file).read_text(encoding="utf-8") for edit in alone for file, _ in edit.pairs}
+    copies = Copies(folder)
+    functions = {edit: copies.add(edit) for edit in edits}
     copies.write()
-    checked = check(folder, [function for function in functions.values() if function])
-    (room / "said").write_text(checked)
-    for edit in edits:
-        if functions[edit]:
-            said[edit] = verdict(checked, functions[edit])
-    for edit in alone:
-        for file, text in plain.items():
-            (folder / file).write_text(text, encoding="utf-8")
-        for file, text in edit.applied(folder).items():
-            (folder / file).write_text(text, encoding="utf-8")
-        said[edit] = verdict(check(folder, [edit.function]), edit.function)
-    return said
+    said = check(folder, functions.values())
+    (room / "said").write_text(said)
+    return {edit: verdict(said, function) for edit, function in functions.items()}
 
 
 def passed_over(edit, config):

@@ -109,10 +109,11 @@ fn asked(alloc: Global, words: &[&str]) -> Result<Matches, Fail>
 {
     let options = options(alloc)?;
     let matches = options.parse_ignoring_counts(alloc, words)?;
-    if matches.opt_present("help") || matches.opt_present("version") {
-        return Ok(matches);
+    if matches.opts_present_any(&["help", "version"]) {
+        Ok(matches)
+    } else {
+        options.parse_words(alloc, words)
     }
-    options.parse_words(alloc, words)
 }
 
 /// The number of an option, if it was given.
