@@ -1,5 +1,5 @@
 #!/usr/bin/env bash
-# Tests this repository: proves every crate and its tests, and beside that runs tests/ by pytest.
+# Tests this repository: proves every crate, and beside that runs tests/ by pytest.
 # usage: test.sh [--quick] [CRATE]
 #
 # CRATE is a folder with the Rust crate getopts 0.2.24, to compare with. With --quick nothing is proved: tests and programs

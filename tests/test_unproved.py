@@ -1,4 +1,4 @@
-"""The tests of all crates, and each program with its stored arguments, without any proof. `rt ci` runs them proved."""
+"""Each program with its stored arguments, without any proof. `rt ci` runs them proved."""
 
 import subprocess
 
@@ -7,8 +7,6 @@ from conftest import ROOT, VECTORS, need
 from test_rows import all_rows, written
 
 CRATES = sorted(path.parent.name for path in (ROOT / "crates").glob("*/src"))
-TESTED = [crate for crate in CRATES
-          if any("#[test]" in file.read_text(encoding="utf-8") for file in (ROOT / f"crates/{crate}/src").rglob("*.rt"))]
 # The rows of getopts_vectors take longer unproved: test_rows has what is short.
 PROGRAMS = [crate for crate in CRATES if (ROOT / f"crates/{crate}/stdout").exists() and crate != "getopts_vectors"]
 
@@ -24,12 +22,6 @@ def tried(crate, *words, folder=None):
     """What `rt try` writes in a crate."""
     return subprocess.run(["nice", "rt", "try", *(str(word) for word in words)], cwd=folder or ROOT / "crates" / crate,
                           stdin=subprocess.DEVNULL, capture_output=True, text=True)
-
-
-@pytest.mark.parametrize("crate", TESTED)
-def test_tests(crate):
-    done = tried(crate, "--test")
-    assert done.returncode == 0 and " 0 failed" in done.stdout + done.stderr, (done.stdout + done.stderr)[-3000:]
 
 
 @pytest.mark.parametrize("crate", PROGRAMS)

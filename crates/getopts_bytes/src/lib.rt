@@ -18,9 +18,6 @@ ghost use Rattle.std.specs.String.{string_bytes};
 ghost use Rattle.getopts_bytes.specs.Marks.{AreBytes, bytes_of, is_mark, is_plain, mark_of, text_of, written};
 ghost use Rattle.getopts_bytes.specs.Laws.{AreCutAlike, ComesBack, StaysPlain};
 
-#[cfg(test)]
-mod tests;
-
 use std::alloc::AllocError;
 
 /// The first mark, that of byte 128.
