@@ -1,6 +1,6 @@
 //! A tool that prints some lines of files: a required number, a flag, texts, an optional value, help, a version.
 
-ghost use Rattle.std.specs.Prelude.{◌≡◌, ◌||◌, false, codes, map, string_bytes, IfErr, IfOk};
+ghost use Rattle.std.specs.Prelude.{◌≡◌, ◌||◌, false, codes, map, string_bytes, IfErr, IfOk, Ok};
 ghost use Rattle.std.specs.Str.Parse.{ParsesUnsigned};
 ghost use Rattle.getopts.specs.Accessors.{IsDefined, IsReadAs, first_value, found_of};
 ghost use Rattle.getopts.specs.Holds.{HoldDeclared, HoldGiven};
@@ -90,6 +90,16 @@ pub fn read_request(alloc: Global, words: &[&str]) -> Result<Request, Refusal>
     if matches.opt_present("version") {
         return Ok(Request::Version);
     }
+    lines_asked(alloc, matches)
+}
+
+/// The lines that a line asks for, where it asks for neither help nor the version.
+fn lines_asked(alloc: Global, matches: Matches) -> Result<Request, Refusal>
+    requires declared { HoldDeclared peek_options matches.groups }
+    requires no_help { gives matches (codes "help") ≡ false }
+    requires no_version { gives matches (codes "version") ≡ false }
+    ensures { IsAskedBy (Ok matches) result }
+{
     Ok(Request::Peek(Peek {
         lines: number(&matches, "lines")?.unwrap(),
         reverse: matches.opt_present("reverse"),
