@@ -29,14 +29,10 @@ class Options:
         self.groups, self.stops, self.long_only = [], False, False
 
     def resolve(self, name):
-        """The place of the group that a name resolves to."""
+        """The place of the group that a name resolves to: by its main name, or else by its alias."""
         mains = [group.main for group in self.groups]
-        if name in mains:
-            return mains.index(name)
-        for group in self.groups:
-            if group.alias is not None and group.alias == name:
-                return mains.index(group.main)
-        return None
+        named = [name, *(group.main for group in self.groups if group.alias == name)]
+        return next((mains.index(main) for main in named if main in mains), None)
 
     def kind(self, name):
         place = self.resolve(name)
@@ -83,14 +79,15 @@ class Options:
                 if after and not is_dashed(after[0]):
                     yield mentions + [(place, after[0])], 2, False
 
-    def readings(self, words):
-        """Each reading of the words: occurrences, free words and the trailing start. There is one at most."""
+    def readings(self, words, whole=False):
+        """Each reading of the words: occurrences, free words and the trailing start. There is one at most. In a whole
+        one no word ends the options."""
         found = {len(words): [([], [], None)]}
         for at in range(len(words) - 1, -1, -1):
             found[at] = []
-            if words[at] == b"--":
+            if words[at] == b"--" and not whole:
                 found[at].append(([], words[at + 1:], 0 if words[at + 1:] else None))
-            if self.stops and not is_dashed(words[at]):
+            if self.stops and not is_dashed(words[at]) and not whole:
                 found[at].append(([], words[at:], None))
             for mentions, used, bare in self.items(words[at], words[at + 1:]):
                 after = at + used
@@ -104,9 +101,9 @@ class Options:
         return found[0]
 
     def faults(self, words):
-        """Each scan fault of the words. Those before the word at fault have a reading that ends there."""
+        """Each scan fault of the words. Those before the word at fault have a whole reading."""
         for at, word in enumerate(words):
-            if not self.readable_to_its_end(words[:at]):
+            if not self.readings(words[:at], whole=True):
                 continue
             for name, value in self.long_forms(word):
                 kind = self.kind(name)
@@ -125,16 +122,6 @@ class Options:
                     yield "UnrecognizedOption", letter
                 elif self.kind(letter) == "yes" and end + 1 == len(text) and at + 1 == len(words):
                     yield "ArgumentMissing", letter
-
-    def readable_to_its_end(self, words):
-        """Whether the words have a reading with no stop and no rest."""
-        found = {len(words)}
-        for at in range(len(words) - 1, -1, -1):
-            for _, used, bare in self.items(words[at], words[at + 1:]):
-                after = at + used
-                if after in found and (not bare or after == len(words) or is_dashed(words[after])):
-                    found.add(at)
-        return 0 in found
 
     def parse(self, words, with_counts=True):
         """The occurrences, free words and trailing start, or the fault and its name."""
