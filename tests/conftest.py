@@ -78,10 +78,10 @@ def need(*tools):
 
 def run(*words, status=0, env=None, **how):
     """Runs a command, which has to end with this status, and returns what it wrote to its two streams."""
-    how = {"capture_output": True, "text": True, "errors": "surrogateescape", **how}
-    done = subprocess.run([str(word) for word in words], env={**os.environ, **(env or {})}, **how)
-    assert done.returncode == status, f"{words[0]}: status {done.returncode}\n{done.stdout[-3000:]}{done.stderr[-3000:]}"
-    return done.stdout, done.stderr
+    done = subprocess.run([str(word) for word in words], capture_output=True, env={**os.environ, **(env or {})}, **how)
+    said = os.fsdecode(done.stdout), os.fsdecode(done.stderr)
+    assert done.returncode == status, f"{words[0]}: status {done.returncode}\n{said[0][-3000:]}{said[1][-3000:]}"
+    return said
 
 
 def answer(*words, env=None, **how):

@@ -25,8 +25,8 @@ class Group:
 class Options:
     """Groups, a style and a mode, and the readings of a line by them."""
 
-    def __init__(self):
-        self.groups, self.stops, self.long_only = [], False, False
+    def __init__(self, groups=(), stops=False, long_only=False):
+        self.groups, self.stops, self.long_only = list(groups), stops, long_only
 
     def resolve(self, name):
         """The place of the group that a name resolves to: by its main name, or else by its alias."""

@@ -1,6 +1,7 @@
 """The Rust crate: it is the proved source, its form, and it answers as the crate getopts 0.2.24, on five targets."""
 
 import itertools
+import os
 import re
 import shutil
 import sys
@@ -187,7 +188,7 @@ def test_rows(ours, rows):
 def differing(ours, theirs, seed, count):
     """The first of so many cases of a seed that two twins answer otherwise."""
     cases = run(theirs, "generate", seed, count)[0]
-    answers = (run(twin, "answer", input=cases)[0].split("\ncase\t") for twin in (ours, theirs))
+    answers = (run(twin, "answer", input=os.fsencode(cases))[0].split("\ncase\t") for twin in (ours, theirs))
     return next((pair for pair in itertools.zip_longest(*answers) if pair[0] != pair[1]), None)
 
 
