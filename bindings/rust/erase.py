@@ -209,10 +209,15 @@ class Eraser:
 
     # ---- the grammar: each of these goes from `at` to what follows
 
+    def take(self, pattern):
+        """Goes past this, if it stands here, and returns whether it does."""
+        there = self.has(self.at, pattern)
+        self.at += len(words(pattern)) if there else 0
+        return there
+
     def expect(self, pattern):
-        if not self.has(self.at, pattern):
+        if not self.take(pattern):
             self.stop(self.at, f"'{pattern}' has to stand here")
-        self.at += len(words(pattern))
 
     def name(self):
         if not re.fullmatch(r"[A-Za-z_]\w*", self.text(self.at)) or self.text(self.at) in STRANGE:
@@ -235,30 +240,26 @@ class Eraser:
                     self.stop(at, "it may not stand here")
             self.at = end
 
-    def braces(self):
-        """`{ .. }`"""
-        self.expect("{")
-        self.plain(["}"])
+    def past(self, end):
+        """Goes past the next sign like this."""
+        self.plain([end])
         self.at += 1
 
     def generics(self):
-        """`< .. >`, of whose bounds those of `Drop` are deleted."""
+        """`< .. >`, if it stands here, of whose bounds those of `Drop` are deleted."""
         depth = 0
-        while self.at < len(self.tokens):
+        while depth or self.has(self.at, "<"):
             text, before, after = self.text(self.at), self.text(self.at - 1), self.text(self.at + 1)
             if text == "Drop" and (before == "+" or before == ":" and after in (">", ",")):
                 self.delete(self.at - 1, self.at + 1)
                 self.at -= 1
-            elif text in STRANGE:
+            elif text in STRANGE or not text:
                 self.stop(self.at, "it is no bound")
             elif text in BRACKETS:
                 self.at = self.close(self.at)
             else:
                 depth += (text == "<") - (text == ">" and before != "-")
                 self.at += 1
-                if depth == 0:
-                    return
-        self.stop(self.at, "nothing closes it")
 
     def items(self, one, end=""):
         while self.text(self.at) != end:
@@ -272,26 +273,22 @@ class Eraser:
         while self.text(self.at) == "#":
             start, inner = self.at, self.has(self.at + 1, "!")
             self.at += 2 if inner else 1
-            end, name = self.close(self.at), self.text(self.at + 1)
+            end, name, derived = self.close(self.at), self.text(self.at + 1), []
             if self.has(start, "#[cfg(test)]"):
                 tested = True
             elif name == "derive":
                 derived = [token.text for token in self.tokens[self.at + 3 : end - 2] if token.text != ","]
                 if set(derived) - DERIVED or inner:
                     self.stop(start, "something else is derived")
-                if derived == ["Drop"]:
-                    self.at = end
-                    self.delete(start, end)
-                    end = start
-                elif "Drop" in derived:
-                    at = next(at for at in range(self.at, end) if self.text(at) == "Drop")
-                    self.delete(*(at - 1, at + 1) if self.text(at - 1) == "," else (at, at + 2))
-                    end -= 2
-            elif name == "tactic":
+            elif name != "tactic" and (name not in ATTRIBUTES or inner):
+                self.stop(start, "no attribute of this name is known")
+            if name == "tactic" or derived == ["Drop"]:
                 self.delete(start, end)
                 end = start
-            elif name not in ATTRIBUTES or inner:
-                self.stop(start, "no attribute of this name is known")
+            elif "Drop" in derived:
+                at = next(at for at in range(self.at, end) if self.text(at) == "Drop")
+                self.delete(*(at - 1, at + 1) if self.text(at - 1) == "," else (at, at + 2))
+                end -= 2
             self.at = end
         return tested
 
@@ -312,48 +309,43 @@ class Eraser:
             return self.ghost(start)
         self.visibility()
         kind = self.text(self.at)
-        if kind == "impl":
+        if self.take("impl"):
             self.implementation(start)
-        elif kind == "use":
+        elif self.take("use"):
             self.imported()
-        elif kind == "mod":
-            self.at += 1
+        elif self.take("mod"):
             self.name()
             self.expect(";")
-        elif kind in ("struct", "enum"):
-            self.at += 1
+        elif self.take("struct") or self.take("enum"):
             self.name()
-            if self.has(self.at, "<"):
-                self.generics()
-            if kind == "struct" and self.has(self.at, "{"):
-                return self.fields()
-            if self.has(self.at, "{"):
-                return self.braces()
-            self.plain([";"])
-            self.at += 1
+            self.generics()
+            if kind == "enum":
+                self.body()
+            elif self.has(self.at, "{"):
+                self.fields()
+            else:
+                self.past(";")
         else:
             self.member(start, False)
 
     def fields(self):
         """`{ field.. }`, of which those that are ghost are deleted."""
-        self.at += 1
-        while not self.has(self.at, "}"):
+        self.expect("{")
+        while not self.take("}"):
             start = self.at
-            if self.has(self.at, "ghost"):
-                self.at += 1
+            if self.take("ghost"):
                 self.name()
                 self.expect(":")
-                self.at = self.clause_end()
+                self.logic()
                 self.expect(",")
                 self.erase(start)
             else:
                 self.plain([",", "}"])
-                self.at += self.has(self.at, ",")
-        self.at += 1
+                self.take(",")
 
     def visibility(self):
-        if self.has(self.at, "pub"):
-            self.at = self.close(self.at + 1) if self.has(self.at + 1, "(") else self.at + 1
+        if self.take("pub") and self.has(self.at, "("):
+            self.at = self.close(self.at)
 
     def member(self, start, tested):
         """What may stand in an impl."""
@@ -361,47 +353,43 @@ class Eraser:
             self.stop(start, "no member is for tests alone")
         if self.has(self.at, "ghost use"):
             return self.ghost(start)
-        if self.has(self.at, "ghost"):
-            self.at += 1
+        if self.take("ghost"):
             self.name()
             self.expect("=")
-            self.at = self.clause_end()
+            self.logic()
             self.expect(";")
             return self.erase(start)
         self.visibility()
-        if self.text(self.at) in ("const", "type"):
-            self.at += 1
+        if self.take("const") or self.take("type"):
             self.name()
-            self.plain([";"])
-            self.at += 1
+            self.past(";")
         else:
             self.function()
 
     def function(self):
         self.expect("fn")
         self.name()
-        if self.has(self.at, "<"):
-            self.generics()
+        self.generics()
         if not self.has(self.at, "("):
             self.stop(self.at, "parameters have to stand here")
         self.plain(["-", "{", "requires", "ensures"])
-        if self.has(self.at, "->"):
-            self.at += 2
+        if self.take("->"):
             self.plain(["{", "requires", "ensures"])
         while self.text(self.at) in ("requires", "ensures"):
-            self.clause()
-        self.braces()
+            start = self.at
+            self.at += 1
+            if not self.has(self.at, "{"):
+                self.name()
+            self.logic()
+            self.erase(start)
+        self.body()
 
-    def clause(self):
-        start = self.at
-        self.at += 1
-        if not self.has(self.at, "{"):
-            self.name()
-        self.at = self.clause_end()
-        self.erase(start)
+    def body(self):
+        self.expect("{")
+        self.past("}")
 
-    def clause_end(self):
-        """The place after `{ .. }` of the logic, in which nothing may stand that hides a bracket."""
+    def logic(self):
+        """`{ .. }` of the logic, in which nothing may stand that hides a bracket."""
         if not self.has(self.at, "{"):
             self.stop(self.at, "'{' has to stand here")
         end = self.close(self.at)
@@ -410,11 +398,10 @@ class Eraser:
             comment = token.text + after.text in ("--", "{-", "-}", "/*") and not after.lead
             if comment or "//" in token.lead or token.text.lstrip("b")[:1] == "'":
                 self.stop(at, "no comment, and no character, may stand in a clause")
-        return end
+        self.at = end
 
     def imported(self):
         """`use .. ;`, of this crate, of another of this repository, or of what IMPORTS has."""
-        self.at += 1
         start = self.at
         self.at = self.after(self.at, ";")
         tree = "".join(token.text for token in self.tokens[start : self.at - 1])
@@ -426,39 +413,37 @@ class Eraser:
                     self.stop(start, f"{one} isn't among what may be imported")
 
     def implementation(self, start):
-        self.at += 1
-        if self.has(self.at, "<"):
-            self.generics()
-        if self.text(self.at) in ("Model", "Drop") and self.has(self.at + 1, "for"):
-            model, named = self.has(self.at, "Model"), self.at
+        self.generics()
+        trait = self.text(self.at) if self.has(self.at + 1, "for") else ""
+        if trait not in ("Model", "Drop"):
+            self.past("{")
+            self.items(self.member, "}")
             self.at += 1
-            self.plain(["{"])
-            inside, end = self.at + 1, self.close(self.at)
-            if model:
-                self.at = inside
-                while self.at < end - 1:
-                    if not self.has(self.at, "ghost"):
-                        self.stop(self.at, "it isn't `ghost` in an impl of `Model`")
-                    before = len(self.tokens)
-                    self.member(self.at, False)
-                    end -= before - len(self.tokens)
-            else:
-                # Its body is `let NAME { field: _, .. } = self;`.
-                drop = " ".join(token.text for token in self.tokens[inside : end - 1])
-                if not re.fullmatch(r"fn drop \( self \) { let \w+ { (\w+ : _ , )*(\w+ : _ )?} = self ; }", drop):
-                    self.stop(named, "its impl does more than to take a value apart")
-            self.at = end
-            return self.erase(start)
-        self.plain(["{"])
+            return
+        named = self.at
         self.at += 1
-        self.items(self.member, "}")
-        self.at += 1
+        self.past("{")
+        if trait == "Model":
+            self.items(self.ghost_member, "}")
+            self.at += 1
+        else:
+            inside, self.at = self.at, self.close(self.at - 1)
+            # Its body is `let NAME { field: _, .. } = self;`.
+            drop = " ".join(token.text for token in self.tokens[inside : self.at - 1])
+            if not re.fullmatch(r"fn drop \( self \) { let \w+ { (\w+ : _ , )*(\w+ : _ )?} = self ; }", drop):
+                self.stop(named, "its impl does more than to take a value apart")
+        self.erase(start)
+
+    def ghost_member(self, start, tested):
+        if not self.has(start, "ghost"):
+            self.stop(start, "it isn't `ghost` in an impl of `Model`")
+        self.member(start, tested)
 
     def law(self, start, tested):
         """What may stand in a module of laws."""
         if self.has(self.at, "ghost"):
             return self.ghost(start)
-        if self.has(self.at, "use"):
+        if self.take("use"):
             return self.imported()
         self.visibility()
         begin = self.at
