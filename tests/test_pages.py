@@ -204,25 +204,17 @@ def test_code_of_the_pages(page, block):
 
 # ---- contracts
 
+# A public function with its contract: up to a brace behind its head, or to one below its clauses.
+FUNCTION = re.compile(r"""^(\ *)pub\ fn\ (\w+)
+    (?: (?:(?!\n\ *(?:requires|ensures)\ )[\s\S])*? (?=\ \{(?:.*\})?$) | [\s\S]*? (?=\n\1\{\}?$) )""", re.M | re.X)
+
+
 def contracts_in(text):
     """Each public function of a module's text, with the type that it is of, its name and its contract."""
-    owner, taken, name = "", None, ""
-    for line in text.split("\n"):
-        if it := re.match(r"impl(?:<[^>]*>)? (?:[\w<>: ]+ for )?(\w+)", line):
-            owner = it[1]
-        if line == "}":
-            owner = ""
-        if it := re.match(r"( *)pub fn (\w+)", line):
-            taken, indent, name = [], it[1], it[2]
-        if taken is None:
-            continue
-        alone = line.strip() in ("{", "{}")
-        clauses = re.search(r"^ *(requires|ensures) ", "\n".join([*taken, line]), re.M)
-        ends = alone or line.endswith((" {", "}")) and not clauses
-        taken += [] if alone else [(re.sub(r" \{(.*\})?$", "", line) if ends else line).removeprefix(indent)]
-        if ends:
-            yield owner, name, "\n".join(taken)
-            taken = None
+    for item in text.split("\n}\n"):
+        owner = re.search(r"^impl(?:<[^>]*>)? (?:[\w<>: ]+ for )?(\w+)", item, re.M)
+        for it in FUNCTION.finditer(item):
+            yield owner[1] if owner else "", it[2], re.sub(f"^{it[1]}", "", it[0], flags=re.M)
 
 
 def contracts():
