@@ -92,7 +92,6 @@ CRATES = {
     "getopts_bytes": ("bindings/rust/src/bytes", "fallible", LIBRARY),
     "getopts_shell": ("bindings/shell/src/program", "host", HOST),
 }
-LEFT_OUT = ["laws", "tests"]
 # Words that may stand in no signature, body or type.
 STRANGE = set("""requires ensures ghost tactic Model Drop mod use fn impl trait struct enum union static extern
     unsafe macro_rules async await dyn where crate""".split())
@@ -118,10 +117,9 @@ TOKEN = re.compile(
     (?P<token>
         b?r(?P<hashes>\#*)"(?:.|\n)*?"(?P=hashes) | b?"(?:[^"\\]|\\(?:.|\n))*"
         | b?'(?:[^'\\\n]|\\[^\n][^'\n]*)' | '[A-Za-z_]\w*
-        | [A-Za-z_]\w* | \d\w*(?:\.\d\w*)? | (?P<sign>[^\s\w]) | (?P<other>.) | \Z)""",
+        | [A-Za-z_]\w* | \d\w*(?:\.\d\w*)? | [{}()\[\]<>;:,.=+*/%&|^!?\#@$-] | (?P<strange>.) | \Z)""",
     re.X,
 )
-SIGNS = set("{}()[]<>;:,.=+-*/%&|^!?#@$")
 BRACKETS = {"{": "}", "(": ")", "[": "]"}
 # The comment lines right above a token, with its own line's white space.
 ABOVE = re.compile(r"(\n *//(?!!)[^\n]*)*\n *\Z")
@@ -150,8 +148,7 @@ def tokens_of(source):
     tokens, line = [], 1
     for match in TOKEN.finditer(source):
         line += match["lead"].count("\n")
-        strange = match["other"] or match["sign"] and match["sign"] not in SIGNS
-        tokens.append(Token(match["token"], match["lead"], line, strange))
+        tokens.append(Token(match["token"], match["lead"], line, match["strange"]))
         line += match["token"].count("\n")
     return tokens
 
@@ -191,11 +188,11 @@ class Eraser:
                     return place + 1
         self.stop(at, "nothing closes it")
 
-    def after(self, at, end):
-        """The place after the next sign like this that stands in no brackets."""
-        while self.text(at) not in tuple(end):
+    def after(self, at):
+        """The place after the next `;` that stands in no brackets."""
+        while self.text(at) != ";":
             if at >= len(self.tokens) or self.text(at) in BRACKETS.values():
-                self.stop(at, f"no '{end[0]}' stands before it")
+                self.stop(at, "no ';' stands before it")
             at = self.close(at) if self.text(at) in BRACKETS else at + 1
         return at + 1
 
@@ -295,13 +292,13 @@ class Eraser:
     def ghost(self, start):
         """`ghost use .. ;`"""
         self.expect("ghost use")
-        self.at = self.after(self.at, ";")
+        self.at = self.after(self.at)
         self.erase(start)
 
     def item(self, start, tested):
         for law in ("mod laws;", "pub use laws::", "use std::marker::Model;", *(["mod tests;"] if tested else [])):
             if self.has(self.at, law):
-                self.at = self.after(self.at, ";")
+                self.at = self.after(self.at)
                 return self.erase(start)
         if tested:
             self.stop(start, "what is built for tests alone is a module `tests`")
@@ -403,7 +400,7 @@ class Eraser:
     def imported(self):
         """`use .. ;`, of this crate, of another of this repository, or of what IMPORTS has."""
         start = self.at
-        self.at = self.after(self.at, ";")
+        self.at = self.after(self.at)
         tree = "".join(token.text for token in self.tokens[start : self.at - 1])
         path, _, names = tree.partition("::{")
         if tree.startswith(("std::", "core::", "alloc::")):
@@ -473,7 +470,7 @@ class Eraser:
             if token.strange:
                 self.stop(at, "it isn't Rust")
             if text == "use":
-                imported = self.after(at, ";")
+                imported = self.after(at)
             named = self.text(at - 1) == "fn" or self.has(at - 2, "#[") or at < imported
             if not re.fullmatch(r"[A-Za-z_]\w*", text) or text in KEYWORDS or named:
                 continue
@@ -549,7 +546,7 @@ def sources():
     for name in CRATES:
         paths = sorted((TOP / "crates" / name / "src").glob("*.rt"))
         laws = [read(path, "law") for path in paths if path.stem == "laws"]
-        crates[name] = {path: read(path) for path in paths if path.stem not in LEFT_OUT}
+        crates[name] = {path: read(path) for path in paths if path.stem not in ("laws", "tests")}
         for eraser in [*crates[name].values(), *laws]:
             names, held = defined(eraser)
             known, values = known | names, values | held
