@@ -179,12 +179,6 @@ def copy(tmp_path):
     return copy_tree(tmp_path / "copy")
 
 
-def manual(page):
-    """A page of the manual is well formed."""
-    need("man", "groff")
-    assert run("man", "--warnings", "-E", "UTF-8", "-l", page)[1] == ""
-
-
 def preloaded(source, room):
     """A library to preload, built by the toolchain's compiler and linker."""
     tools, flags = kit() / "toolchain/bin", "-O2 -Wall -Wextra -Werror -ffreestanding -nostdinc -fPIC -c".split()
@@ -199,14 +193,14 @@ def refuse(tmp_path_factory):
     return preloaded(ROOT / "tests/memory/refuse.c", tmp_path_factory.mktemp("refuse"))
 
 
-def refused_in_turn(preload, words, refusal=(b"", 3), like=None, marks=False, by=()):
+def refused_in_turn(preload, words, refusal=(b"", 3), like=None, marks=False):
     """Refuses each request for memory in turn, alone and with all after it, and returns how many were. A run with a
     refusal writes `refusal`, its output and status; with none refused it answers as the words `like`, or as ever. With
     marks the requests between the program's marks count."""
     def outcome(at, on):
         env = {"REFUSE_AT": str(at), "REFUSE_ON": str(on), "REFUSE_MARKS": str(int(marks))}
         env.update({"LD_PRELOAD": str(preload)} if preload else {})
-        done = subprocess.run([str(word) for word in (*by, *words)], capture_output=True, env={**os.environ, **env})
+        done = subprocess.run([str(word) for word in words], capture_output=True, env={**os.environ, **env})
         said = done.stderr.splitlines()[-1].split() if done.stderr else []
         # A program that ends by a signal says nothing of its refusals.
         refused, met = (int(said[1]), int(said[3])) if said[:1] == [b"refused"] else (1, None)

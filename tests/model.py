@@ -26,7 +26,7 @@ class Options:
     """Groups, a style and a mode, and the readings of a line by them."""
 
     def __init__(self, groups=(), stops=False, long_only=False):
-        self.groups, self.stops, self.long_only = list(groups), stops, long_only
+        self.groups, self.stops, self.long_only = [*groups], stops, long_only
 
     def resolve(self, name):
         """The place of the group that a name resolves to: by its main name, or else by its alias."""
@@ -271,14 +271,13 @@ def rows_of(text):
 
 def held(rows):
     """The rows, with a canonical line asked beyond them below each line of words and the positions of each name; how
-    many lines of answers the rules give of how many there are; and the rows whose answers the rules don't give."""
-    session, beyond, given, lines, differ, case = Session(), [], 0, 0, [], b""
+    many lines of answers the rules give; and the rows whose answers the rules don't give."""
+    session, beyond, given, differ, case = Session(), [], 0, [], b""
     for one, answers in rows:
         word, fields = parts(one)
         case = one if word == "case" else case
         expected = session.answer(word, fields)
         beyond.append((one, answers))
-        lines += len(answers)
         if word != "case" and expected != [None]:
             given += len(answers)
             if expected != answers:
@@ -289,4 +288,4 @@ def held(rows):
                 names = {name: 0 for group in session.options.groups for name in (group.short, group.long) if name}
                 asked += [line("positions", name) for name in names]
             beyond += [(more, session.answer(*parts(more))) for more in asked]
-    return beyond, given, lines, differ
+    return beyond, given, differ

@@ -1,11 +1,12 @@
 """The pages: what they name, quote and state is what the sources, the proofs and the records have. And no module uses one
-that uses it.
+that uses it, and scripts, Rust and manual pages are well formed.
 
 Each figure of ten or more on a page is counted, measured or recorded (FIGURES). With --fix those that differ are replaced,
 and CONTRACTS.md is written anew from the sources.
 """
 
 import functools
+import graphlib
 import os
 import re
 import shutil
@@ -330,16 +331,28 @@ def test_names_and_links(page):
 
 @pytest.mark.parametrize("crate", sorted({name.split("/")[1] for name in sources}))
 def test_no_module_uses_one_that_uses_it(crate):
-    left = {}
+    uses = {}
     for name, text in sources.items():
         if (it := re.match(rf"crates/{crate}/src/(\w+)\.rt$", name)) and it[1] not in ("lib", "main"):
-            left[it[1]] = set(re.findall(r"^\s*use crate::(\w+)", text, re.M)) - {it[1]}
-    while ready := [module for module in left if not left[module] & set(left)]:
-        for module in ready:
-            del left[module]
-    assert not left, f"in a circle: {', '.join(left)}"
+            uses[it[1]] = set(re.findall(r"^\s*use crate::(\w+)", text, re.M)) - {it[1]}
+    # It raises an error that names the modules of a circle.
+    graphlib.TopologicalSorter(uses).prepare()
 
+
+# ---- form
 
 def test_shell_scripts():
     need("shellcheck")
     run("shellcheck", *(name for name in tracked if name.endswith(".sh")), cwd=ROOT)
+
+
+@pytest.mark.parametrize("manifest", [name for name in tracked if name.endswith("/Cargo.toml")])
+def test_rust(manifest):
+    need("cargo", "rustfmt")
+    run("cargo", "fmt", "--check", cwd=(ROOT / manifest).parent)
+
+
+@pytest.mark.parametrize("page", [name for name in tracked if re.search(r"\.\d$", name)])
+def test_manual(page):
+    need("man", "groff")
+    assert run("man", "--warnings", "-E", "UTF-8", "-l", ROOT / page)[1] == ""

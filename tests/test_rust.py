@@ -109,9 +109,7 @@ def test_no_warning(cargo, features):
     cargo("check", *features, env={"RUSTFLAGS": "-D warnings"})
 
 
-def test_form(cargo):
-    for folder in (cargo.folder, cargo.folder / "../../tests/differential/twin"):
-        run("cargo", "fmt", "--check", cwd=folder)
+def test_lints(cargo):
     cargo("clippy", "--all-targets", "--features", "proved canonical", "--", "-D", "warnings")
     cargo("clippy", "--features", "bare", "--", "-D", "warnings")
 

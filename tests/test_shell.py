@@ -13,7 +13,7 @@ import subprocess
 from pathlib import Path
 
 import pytest
-from conftest import MACHINE, ROOT, answer, manual, need, rows_in, run
+from conftest import MACHINE, ROOT, answer, need, rows_in, run
 from shell import lines, tables
 from targets import cargo_for, copied, offline, runner
 
@@ -277,15 +277,6 @@ def test_install(carried, tmp_path):
     install("--uninstall", "a prefix")
     install("--uninstall", "/usr", DESTDIR="stage/")
     assert not [path for path in tmp_path.rglob("*") if not path.is_dir()]
-
-
-def test_manual():
-    manual(SHELL / "getopts_shell.1")
-
-
-def test_cargo_form():
-    need("cargo", "rustfmt")
-    run("cargo", "fmt", "--check", cwd=SHELL)
 
 
 def test_cargo_without_a_warning(tmp_path):
