@@ -38,15 +38,11 @@ def none(failures):
 @functools.cache
 def tables():
     """The tables of bench/last_run.txt: by their titles and jobs, the figures by the names of their columns."""
-    kept, title, columns = {}, None, []
-    for line in read("bench/last_run.txt").split("\n"):
-        cells = re.split(r"\s{2,}", line.strip())
-        if cells[0] == "job":
-            columns = cells[1:]
-        elif columns and len(cells) == len(columns) + 1:
-            kept[title, cells[0]] = dict(zip(columns, cells[1:]))
-        else:
-            title, columns = line.strip(), []
+    kept = {}
+    for title, heads, rows in re.findall(r"^(.+)\njob (.*)\n((?:.+\n)*)", read("bench/last_run.txt"), re.M):
+        columns = re.split(r"\s{2,}", heads.strip())
+        for job, *cells in (re.split(r"\s{2,}", row) for row in rows.splitlines()):
+            kept[title, job] = dict(zip(columns, cells))
     return kept
 
 
