@@ -178,28 +178,11 @@ class Session:
     def __init__(self):
         self.options, self.read = Options(), None
 
-    def declare(self, word, fields):
-        if word == "style":
-            self.options.stops = fields[0] == b"stop"
-        elif word == "mode":
-            self.options.long_only = fields[0] == b"long-only"
-        elif word in ("opt", "add_group"):
-            self.options.groups.append(Group(fields[0], fields[1], fields[4].decode(), fields[5].decode()))
-        elif word in KINDS:
-            self.options.groups.append(Group(fields[0], fields[1], *KINDS[word]))
-        elif word == "anew":
-            self.__init__()
-        else:
-            return word == "keep"
-        return True
-
     def answer(self, word, fields):
         """The lines that answer a line, each `None` where the rules here don't say it."""
-        if word == "case":
+        if word in ("case", "anew"):
             self.__init__()
-            return [line("case", *fields)]
-        if self.declare(word, fields):
-            return []
+            return [line("case", *fields)] if word == "case" else []
         if word in ("words", "parse_words", "parse_filtered", "ignoring_counts"):
             self.read = self.options.parse(fields, word != "ignoring_counts")
             return [self.result("accepted", self.read)]
@@ -211,12 +194,21 @@ class Session:
         if word in ("option", "positions", "any") and (self.read is None or len(self.read) == 2):
             return [line(word, "nothing")]
         if word == "any":
-            return [self.any(fields)]
+            return [self.any([self.given(name) for name in fields])]
         if word in ("option", "positions"):
-            place = self.options.resolve(fields[0])
-            own = [(at, value) for mine, at, value in self.read[0] if mine == place]
-            return [line(word, fields[0], "undefined")] if place is None else getattr(self, word)(own, *fields)
-        return [None]
+            own = self.given(fields[0])
+            return [line(word, fields[0], "undefined")] if own is None else getattr(self, word)(own, *fields)
+        if word == "style":
+            self.options.stops = fields[0] == b"stop"
+        elif word == "mode":
+            self.options.long_only = fields[0] == b"long-only"
+        elif word in ("opt", "add_group"):
+            self.options.groups.append(Group(fields[0], fields[1], fields[4].decode(), fields[5].decode()))
+        elif word in KINDS:
+            self.options.groups.append(Group(fields[0], fields[1], *KINDS[word]))
+        elif word != "keep":
+            return [None]
+        return []
 
     def result(self, word, read):
         if len(read) == 2:
@@ -230,14 +222,18 @@ class Session:
         written = self.options.canonical(read)
         return line(word, "none") if written is None else line(word, "line", *written)
 
-    def any(self, names):
-        places = [self.options.resolve(name) for name in names]
-        firsts = [[value for mine, _, value in self.read[0] if mine == place][:1] for place in places]
-        present = "true" if any(first for first in firsts) else "false"
-        if None in places:
+    def given(self, name):
+        """The places and values of an option's occurrences, or None where there is none of this name."""
+        place = self.options.resolve(name)
+        return None if place is None else [(at, value) for mine, at, value in self.read[0] if mine == place]
+
+    def any(self, given):
+        firsts = [own[0][1] for own in given if own]
+        present = "true" if firsts else "false"
+        if None in given:
             return line("any", present, "undefined")
-        value = next((first[0] for first in firsts if first and first[0] is not None), None)
-        return line("any", present, present, optional(value), optional(value))
+        value = optional(next((first for first in firsts if first is not None), None))
+        return line("any", present, present, value, value)
 
     def option(self, own, name, default):
         values = [value for _, value in own if value is not None]
