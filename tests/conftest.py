@@ -198,13 +198,12 @@ def refused_in_turn(preload, words, refusal=(b"", 3), like=None, marks=False):
     refusal writes `refusal`, its output and status; with none refused it answers as the words `like`, or as ever. With
     marks the requests between the program's marks count."""
     def outcome(at, on):
-        env = {"REFUSE_AT": str(at), "REFUSE_ON": str(on), "REFUSE_MARKS": str(int(marks))}
+        env = {**os.environ, "REFUSE_AT": str(at), "REFUSE_ON": str(on), "REFUSE_MARKS": str(int(marks))}
         env.update({"LD_PRELOAD": str(preload)} if preload else {})
-        done = subprocess.run([str(word) for word in words], capture_output=True, env={**os.environ, **env})
-        said = done.stderr.splitlines()[-1].split() if done.stderr else []
+        done = subprocess.run([str(word) for word in words], capture_output=True, env=env)
         # A program that ends by a signal says nothing of its refusals.
-        refused, met = (int(said[1]), int(said[3])) if said[:1] == [b"refused"] else (1, None)
-        return (done.stdout, done.returncode), refused, met
+        said = re.search(rb"^refused (\d+) marks (\d+)\n\Z", done.stderr, re.M)
+        return (done.stdout, done.returncode), *((int(said[1]), int(said[2])) if said else (1, None))
 
     ever, _, marked = outcome(0, 0)
     assert (marked > 0) == marks and marked % 2 == 0
