@@ -123,13 +123,10 @@ TOKEN = re.compile(
 BRACKETS = {"{": "}", "(": ")", "[": "]"}
 # The comment lines right above a token, with its own line's white space.
 ABOVE = re.compile(r"(\n *//(?!!)[^\n]*)*\n *\Z")
-
-
 KEYWORDS = set("""as break const continue crate else enum fn for if impl in let loop match mod move mut pub ref
     return self struct super type use while""".split())
 # The names that renaming gives, which no source may have.
-GIVEN = {word for name in CALLS.values() for word in re.findall(r"\w+", name) if word.startswith("try_")}
-GIVEN |= {"of_capacity", "copy_of", "TryClone", "try_resize", "trimmed_ascii"}
+GIVEN = re.compile(r"try_\w+|of_capacity|copy_of|TryClone|trimmed_ascii")
 
 
 class NotRust(Exception):
@@ -454,7 +451,7 @@ class Eraser:
         for at, token in enumerate(self.tokens):
             if token.text == "/" and self.text(at + 1) in ("*", "/") and not self.tokens[at + 1].lead:
                 self.stop(at, "it begins a block comment")
-            if token.text in GIVEN:
+            if GIVEN.fullmatch(token.text):
                 self.stop(at, "it is a name that renaming gives")
         at = 0
         while at < len(self.tokens):
