@@ -101,10 +101,6 @@ def canonical(options, given, free):
     """The canonical line of what words give."""
     mains = [long or short for short, long, _, _ in options]
     return [f"--{mains[place]}" + ("" if value is None else f"={value}") for place, value in given] + ["--"] + free
-def canonical(options, given, free):
-    """The canonical line of what words give."""
-    mains = [long or short for short, long, _, _ in options]
-    return [f"--{mains[place]}" + ("" if value is None else f"={value}") for place, value in given] + ["--"] + free
 
 
 def random_scripts(program, way, count):
