@@ -39,17 +39,15 @@ class Options:
         return None if place is None else self.groups[place].kind
 
     def long_forms(self, word):
-        """The word as dashes, a name and perhaps an attached argument, in each way that the mode has."""
-        rests = [word[2:]] if word.startswith(b"--") and word != b"--" else []
-        rests += [word[1:]] if self.long_only and is_dashed(word) and not word.startswith(b"--") else []
-        for rest in rests:
-            name, equals, value = rest.partition(b"=")
+        """The name of a word that has a long form in this mode, and perhaps the argument attached to it."""
+        dashes = re.match(rb"(?s)--(?=.)|-(?=[^-])", word)
+        if dashes and (dashes[0] == b"--" or self.long_only):
+            name, equals, value = word[dashes.end():].partition(b"=")
             yield name, value if equals else None
 
     def cluster(self, word):
         """What follows the dash of a cluster."""
-        is_cluster = not self.long_only and is_dashed(word) and not word.startswith(b"--")
-        return word[1:] if is_cluster else b""
+        return word[1:] if re.match(b"-[^-]", word) and not self.long_only else b""
 
     def items(self, word, after):
         """Each lawful item that begins with this word: what it mentions, its words, whether it is bare."""

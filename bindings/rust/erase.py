@@ -38,53 +38,23 @@ TOP = Path(__file__).resolve().parents[2]
 RUSTFMT = ["rustfmt", "--edition", "2021", "--config", "style_edition=2024,reorder_imports=false"]
 
 # Rattle's calls that may be refused memory, by those of `fallible.rs`.
-CALLS = {
-    "push": "try_push",
-    "push_str": "try_push_str",
-    "reserve": "try_grow",
-    "reserve_exact": "try_grow_exact",
-    "sort_by": "try_sort_by",
-    "extend_from_slice": "try_extend_from_slice",
-    "with_capacity": "of_capacity",
-    "String::new": "String::empty",
-    "String::from_str": "String::copy_of",
-    "Vec::new": "Vec::empty",
-    "vec![in alloc; 0; room]": "Vec::filled(alloc, 0, room)",
-    "clone": "try_clone",
-    "impl Clone for": "impl TryClone for",
+CALLS = {name: f"try_{name}" for name in "push push_str sort_by extend_from_slice clone".split()} | {
+    "reserve": "try_grow", "reserve_exact": "try_grow_exact", "with_capacity": "of_capacity",
+    "String::new": "String::empty", "String::from_str": "String::copy_of", "Vec::new": "Vec::empty",
+    "vec![in alloc; 0; room]": "Vec::filled(alloc, 0, room)", "impl Clone for": "impl TryClone for",
 }
 # What `Display` is written to is a type parameter in Rattle.
-DISPLAY = {
-    "fmt<W: fmt::Write>": "fmt",
-    "fmt::Formatter<W>": "fmt::Formatter<'_>",
-}
+DISPLAY = {"fmt<W: fmt::Write>": "fmt", "fmt::Formatter<W>": "fmt::Formatter<'_>"}
 # Where the library's names are in Rust.
-LIBRARY = {
-    "mod matches;": "pub(crate) mod matches;",
-    "crate::": "super::",
-    "std::": "core::",
-    "std::alloc": "crate::alloc",
-    "std::convert": "crate::convert",
-    "std::error": "crate::error",
-    "std::vec": "crate::heap::vec",
-    "str::from_utf8": "core::str::from_utf8",
-    "unicode_width": "crate::width",
+LIBRARY = {f"std::{name}": f"crate::{name}" for name in ("alloc", "convert", "error")} | {
+    "std::": "core::", "std::vec": "crate::heap::vec", "str::from_utf8": "core::str::from_utf8",
+    "crate::": "super::", "unicode_width": "crate::width", "mod matches;": "pub(crate) mod matches;",
 }
 # The calls and names of the program for shell scripts, by those of its `host.rs`.
-HOST = {
-    "resize": "try_resize",
-    "trim_ascii": "trimmed_ascii",
-    "format!": "text!",
-    "write!": "add!",
-    "writeln!": "add_line!",
-    "std::alloc": "crate::host::alloc",
-    "std::env": "crate::host::env",
-    "std::io": "crate::host::io",
-    "getopts::": "crate::getopts::",
-    "getopts_bytes::": "::getopts::bytes::",
-    "crate::": "super::",
-    "str::from_utf8": "std::str::from_utf8",
-    "fn main": "pub fn main",
+HOST = {f"std::{name}": f"crate::host::{name}" for name in ("alloc", "env", "io")} | {
+    "resize": "try_resize", "trim_ascii": "trimmed_ascii", "str::from_utf8": "std::str::from_utf8",
+    "format!": "text!", "write!": "add!", "writeln!": "add_line!", "fn main": "pub fn main",
+    "crate::": "super::", "getopts::": "crate::getopts::", "getopts_bytes::": "::getopts::bytes::",
 }
 # Each crate: where its Rust goes, the module that has the calls above, and the names besides them.
 CRATES = {
