@@ -78,10 +78,10 @@ def need(*tools):
 
 def run(*words, status=0, env=None, **how):
     """Runs a command, which has to end with this status, and returns what it wrote to its two streams."""
-    how = {"capture_output": True, "text": True, "errors": "surrogateescape", **how}
-    done = subprocess.run([str(word) for word in words], env={**os.environ, **(env or {})}, **how)
-    assert done.returncode == status, f"{words[0]}: status {done.returncode}\n{done.stdout[-3000:]}{done.stderr[-3000:]}"
-    return done.stdout, done.stderr
+    done = subprocess.run([str(word) for word in words], capture_output=True, env={**os.environ, **(env or {})}, **how)
+    said = os.fsdecode(done.stdout), os.fsdecode(done.stderr)
+    assert done.returncode == status, f"{words[0]}: status {done.returncode}\n{said[0][-3000:]}{said[1][-3000:]}"
+    return said
 
 
 def answer(*words, env=None, **how):
@@ -179,12 +179,6 @@ def copy(tmp_path):
     return copy_tree(tmp_path / "copy")
 
 
-def manual(page):
-    """A page of the manual is well formed."""
-    need("man", "groff")
-    assert run("man", "--warnings", "-E", "UTF-8", "-l", page)[1] == ""
-
-
 def preloaded(source, room):
     """A library to preload, built by the toolchain's compiler and linker."""
     tools, flags = kit() / "toolchain/bin", "-O2 -Wall -Wextra -Werror -ffreestanding -nostdinc -fPIC -c".split()
@@ -199,18 +193,17 @@ def refuse(tmp_path_factory):
     return preloaded(ROOT / "tests/memory/refuse.c", tmp_path_factory.mktemp("refuse"))
 
 
-def refused_in_turn(preload, words, refusal=(b"", 3), like=None, marks=False, by=()):
+def refused_in_turn(preload, words, refusal=(b"", 3), like=None, marks=False):
     """Refuses each request for memory in turn, alone and with all after it, and returns how many were. A run with a
     refusal writes `refusal`, its output and status; with none refused it answers as the words `like`, or as ever. With
     marks the requests between the program's marks count."""
     def outcome(at, on):
-        env = {"REFUSE_AT": str(at), "REFUSE_ON": str(on), "REFUSE_MARKS": str(int(marks))}
+        env = {**os.environ, "REFUSE_AT": str(at), "REFUSE_ON": str(on), "REFUSE_MARKS": str(int(marks))}
         env.update({"LD_PRELOAD": str(preload)} if preload else {})
-        done = subprocess.run([str(word) for word in (*by, *words)], capture_output=True, env={**os.environ, **env})
-        said = done.stderr.splitlines()[-1].split() if done.stderr else []
+        done = subprocess.run([str(word) for word in words], capture_output=True, env=env)
         # A program that ends by a signal says nothing of its refusals.
-        refused, met = (int(said[1]), int(said[3])) if said[:1] == [b"refused"] else (1, None)
-        return (done.stdout, done.returncode), refused, met
+        said = re.search(rb"^refused (\d+) marks (\d+)\n\Z", done.stderr, re.M)
+        return (done.stdout, done.returncode), *((int(said[1]), int(said[2])) if said else (1, None))
 
     ever, _, marked = outcome(0, 0)
     assert (marked > 0) == marks and marked % 2 == 0

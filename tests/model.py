@@ -25,35 +25,29 @@ class Group:
 class Options:
     """Groups, a style and a mode, and the readings of a line by them."""
 
-    def __init__(self):
-        self.groups, self.stops, self.long_only = [], False, False
+    def __init__(self, groups=(), stops=False, long_only=False):
+        self.groups, self.stops, self.long_only = [*groups], stops, long_only
 
     def resolve(self, name):
-        """The place of the group that a name resolves to."""
+        """The place of the group that a name resolves to: by its main name, or else by its alias."""
         mains = [group.main for group in self.groups]
-        if name in mains:
-            return mains.index(name)
-        for group in self.groups:
-            if group.alias is not None and group.alias == name:
-                return mains.index(group.main)
-        return None
+        named = [name, *(group.main for group in self.groups if group.alias == name)]
+        return next((mains.index(main) for main in named if main in mains), None)
 
     def kind(self, name):
         place = self.resolve(name)
         return None if place is None else self.groups[place].kind
 
     def long_forms(self, word):
-        """The word as dashes, a name and perhaps an attached argument, in each way that the mode has."""
-        rests = [word[2:]] if word.startswith(b"--") and word != b"--" else []
-        rests += [word[1:]] if self.long_only and is_dashed(word) and not word.startswith(b"--") else []
-        for rest in rests:
-            name, equals, value = rest.partition(b"=")
+        """The name of a word that has a long form in this mode, and perhaps the argument attached to it."""
+        dashes = re.match(rb"(?s)--(?=.)|-(?=[^-])", word)
+        if dashes and (dashes[0] == b"--" or self.long_only):
+            name, equals, value = word[dashes.end():].partition(b"=")
             yield name, value if equals else None
 
     def cluster(self, word):
         """What follows the dash of a cluster."""
-        is_cluster = not self.long_only and is_dashed(word) and not word.startswith(b"--")
-        return word[1:] if is_cluster else b""
+        return word[1:] if re.match(b"-[^-]", word) and not self.long_only else b""
 
     def items(self, word, after):
         """Each lawful item that begins with this word: what it mentions, its words, whether it is bare."""
@@ -83,14 +77,15 @@ class Options:
                 if after and not is_dashed(after[0]):
                     yield mentions + [(place, after[0])], 2, False
 
-    def readings(self, words):
-        """Each reading of the words: occurrences, free words and the trailing start. There is one at most."""
+    def readings(self, words, whole=False):
+        """Each reading of the words: occurrences, free words and the trailing start. There is one at most. In a whole
+        one no word ends the options."""
         found = {len(words): [([], [], None)]}
         for at in range(len(words) - 1, -1, -1):
             found[at] = []
-            if words[at] == b"--":
+            if words[at] == b"--" and not whole:
                 found[at].append(([], words[at + 1:], 0 if words[at + 1:] else None))
-            if self.stops and not is_dashed(words[at]):
+            if self.stops and not is_dashed(words[at]) and not whole:
                 found[at].append(([], words[at:], None))
             for mentions, used, bare in self.items(words[at], words[at + 1:]):
                 after = at + used
@@ -104,9 +99,9 @@ class Options:
         return found[0]
 
     def faults(self, words):
-        """Each scan fault of the words. Those before the word at fault have a reading that ends there."""
+        """Each scan fault of the words. Those before the word at fault have a whole reading."""
         for at, word in enumerate(words):
-            if not self.readable_to_its_end(words[:at]):
+            if not self.readings(words[:at], whole=True):
                 continue
             for name, value in self.long_forms(word):
                 kind = self.kind(name)
@@ -125,16 +120,6 @@ class Options:
                     yield "UnrecognizedOption", letter
                 elif self.kind(letter) == "yes" and end + 1 == len(text) and at + 1 == len(words):
                     yield "ArgumentMissing", letter
-
-    def readable_to_its_end(self, words):
-        """Whether the words have a reading with no stop and no rest."""
-        found = {len(words)}
-        for at in range(len(words) - 1, -1, -1):
-            for _, used, bare in self.items(words[at], words[at + 1:]):
-                after = at + used
-                if after in found and (not bare or after == len(words) or is_dashed(words[after])):
-                    found.add(at)
-        return 0 in found
 
     def parse(self, words, with_counts=True):
         """The occurrences, free words and trailing start, or the fault and its name."""
@@ -191,28 +176,11 @@ class Session:
     def __init__(self):
         self.options, self.read = Options(), None
 
-    def declare(self, word, fields):
-        if word == "style":
-            self.options.stops = fields[0] == b"stop"
-        elif word == "mode":
-            self.options.long_only = fields[0] == b"long-only"
-        elif word in ("opt", "add_group"):
-            self.options.groups.append(Group(fields[0], fields[1], fields[4].decode(), fields[5].decode()))
-        elif word in KINDS:
-            self.options.groups.append(Group(fields[0], fields[1], *KINDS[word]))
-        elif word == "anew":
-            self.__init__()
-        else:
-            return word == "keep"
-        return True
-
     def answer(self, word, fields):
         """The lines that answer a line, each `None` where the rules here don't say it."""
-        if word == "case":
+        if word in ("case", "anew"):
             self.__init__()
-            return [line("case", *fields)]
-        if self.declare(word, fields):
-            return []
+            return [line("case", *fields)] if word == "case" else []
         if word in ("words", "parse_words", "parse_filtered", "ignoring_counts"):
             self.read = self.options.parse(fields, word != "ignoring_counts")
             return [self.result("accepted", self.read)]
@@ -224,12 +192,21 @@ class Session:
         if word in ("option", "positions", "any") and (self.read is None or len(self.read) == 2):
             return [line(word, "nothing")]
         if word == "any":
-            return [self.any(fields)]
+            return [self.any([self.given(name) for name in fields])]
         if word in ("option", "positions"):
-            place = self.options.resolve(fields[0])
-            own = [(at, value) for mine, at, value in self.read[0] if mine == place]
-            return [line(word, fields[0], "undefined")] if place is None else getattr(self, word)(own, *fields)
-        return [None]
+            own = self.given(fields[0])
+            return [line(word, fields[0], "undefined")] if own is None else getattr(self, word)(own, *fields)
+        if word == "style":
+            self.options.stops = fields[0] == b"stop"
+        elif word == "mode":
+            self.options.long_only = fields[0] == b"long-only"
+        elif word in ("opt", "add_group"):
+            self.options.groups.append(Group(fields[0], fields[1], fields[4].decode(), fields[5].decode()))
+        elif word in KINDS:
+            self.options.groups.append(Group(fields[0], fields[1], *KINDS[word]))
+        elif word != "keep":
+            return [None]
+        return []
 
     def result(self, word, read):
         if len(read) == 2:
@@ -243,14 +220,18 @@ class Session:
         written = self.options.canonical(read)
         return line(word, "none") if written is None else line(word, "line", *written)
 
-    def any(self, names):
-        places = [self.options.resolve(name) for name in names]
-        firsts = [[value for mine, _, value in self.read[0] if mine == place][:1] for place in places]
-        present = "true" if any(first for first in firsts) else "false"
-        if None in places:
+    def given(self, name):
+        """The places and values of an option's occurrences, or None where there is none of this name."""
+        place = self.options.resolve(name)
+        return None if place is None else [(at, value) for mine, at, value in self.read[0] if mine == place]
+
+    def any(self, given):
+        firsts = [own[0][1] for own in given if own]
+        present = "true" if firsts else "false"
+        if None in given:
             return line("any", present, "undefined")
-        value = next((first[0] for first in firsts if first and first[0] is not None), None)
-        return line("any", present, present, optional(value), optional(value))
+        value = optional(next((first for first in firsts if first is not None), None))
+        return line("any", present, present, value, value)
 
     def option(self, own, name, default):
         values = [value for _, value in own if value is not None]
@@ -284,14 +265,13 @@ def rows_of(text):
 
 def held(rows):
     """The rows, with a canonical line asked beyond them below each line of words and the positions of each name; how
-    many lines of answers the rules give of how many there are; and the rows whose answers the rules don't give."""
-    session, beyond, given, lines, differ, case = Session(), [], 0, 0, [], b""
+    many lines of answers the rules give; and the rows whose answers the rules don't give."""
+    session, beyond, given, differ, case = Session(), [], 0, [], b""
     for one, answers in rows:
         word, fields = parts(one)
         case = one if word == "case" else case
         expected = session.answer(word, fields)
         beyond.append((one, answers))
-        lines += len(answers)
         if word != "case" and expected != [None]:
             given += len(answers)
             if expected != answers:
@@ -302,4 +282,4 @@ def held(rows):
                 names = {name: 0 for group in session.options.groups for name in (group.short, group.long) if name}
                 asked += [line("positions", name) for name in names]
             beyond += [(more, session.answer(*parts(more))) for more in asked]
-    return beyond, given, lines, differ
+    return beyond, given, differ

@@ -6,7 +6,7 @@ import shlex
 import shutil
 
 import pytest
-from conftest import LINES, ROOT, ROWS, answer, manual, need, refused_in_turn, run
+from conftest import LINES, ROOT, ROWS, answer, need, refused_in_turn, run
 from targets import OLD, cargo_for, copied, need_std, offline, runner
 
 C = ROOT / "bindings/c"
@@ -97,11 +97,10 @@ def test_threads(build):
     run(*build(C / "tests/threads.c", "-pthread"))
 
 
-def test_form(library, tmp_path):
-    """The crate's form and lints, and that all that is unsafe stands in one file."""
-    need("cargo", "rustfmt")
+def test_lints(library, tmp_path):
+    """The crate's lints, and that all that is unsafe stands in one file."""
+    need("cargo")
     folder = copied(tmp_path, "bindings/c", "bindings/rust") / "bindings/c"
-    run("cargo", "fmt", "--check", cwd=folder)
     run("cargo", "clippy", "--release", *offline(), "--", "-D", "warnings", cwd=folder)
     unsafe = [path.name for path in (C / "src").glob("*.rs") if re.search(r"\bunsafe\b(?!_code)", path.read_text())]
     assert [name for name in unsafe if name != "lib.rs"] == ["c.rs"]
@@ -278,7 +277,6 @@ def test_usage_of_install():
         assert "usage: bindings/c/install.sh [--uninstall] PREFIX" in run("sh", C / "install.sh", *words, status=1)[1]
 
 
-def test_pages():
+def test_example_of_the_page():
     example = re.search(r"^```c\n(.*?)^```", (C / "README.md").read_text(), re.M | re.S)[1]
     assert example == (C / "head.c").read_text() and len(example.splitlines()) < 60
-    manual(C / "getopts.3")

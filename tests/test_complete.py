@@ -1,29 +1,216 @@
-"""Completion of a script's words in real terminals."""
+"""Completion by getopts_shell: its own answers, and in bash, zsh and fish, each in a terminal of its own.
+
+Lines are typed with a tab at the end and run; a command of the same name then says which words it was given. What is
+expected is computed here and by model.py, by the rules, and not by the program.
+"""
+
+import os
+import pty
+import re
+import select
+import shlex
+import time
 
 import pytest
-from conftest import need
-from shell import complete
+from conftest import answer, need, run
+from model import Group, Options
+
+TABLE = """
+[-i|--input FILE]  read this file
+[-o|--output FILE]  write to FILE: a 'new' one
+[-v|--verbose]..  say more, and \\more\\
+[-c|--color [WHEN]]  colour the `output` $HOME
+[-L FILE]..  add a folder
+[--a:b]
+[-h|--help]  print this help
+"""
+# Of each option its short and long name, its argument, whether it may come again, and its description.
+OPTIONS = re.findall(r"^\[(?:-(\w))?\|?(?:--([\w:]+))?( FILE| \[WHEN\])?\](\.\.)?(?:  (.*))?$", TABLE, re.M)
+KINDS = {"": "no", " FILE": "yes", " [WHEN]": "maybe"}
+FILES = ["files"]
+# The commands, and how each reads its words.
+FLAGS = {"backup": "", "stops": "-s", "longs": "-l"}
+# Files that may be completed.
+NAMES = ["file.txt", "spa ce"]
+
+
+def offers(before, word, flags=""):
+    """What may be offered at a word after these words: files, or forms of options with their descriptions."""
+    groups = [Group(short.encode(), long.encode(), KINDS[argument], "multi") for short, long, argument, _, _ in OPTIONS]
+    long_only = "l" in flags
+    readings = Options(groups, "s" in flags, long_only).readings([one.encode() for one in before], whole=True)
+    if not readings or not word.startswith("-"):
+        return FILES
+    given, offered = {place for place, _, _ in readings[0][0]}, []
+    for place, (short, long, argument, many, description) in enumerate(OPTIONS):
+        forms = [("--" + long, True), ("-" + long, long_only)] if long else []
+        for form, is_long in forms + ([("-" + short, long_only)] if short else []):
+            if place in given and not many or form == "-" + long and not long_only:
+                continue
+            if form.startswith(word):
+                offered.append(f"{form}\t{description}")
+            elif is_long and argument and word.startswith(form + "="):
+                offered.append("value")
+    return offered
+
+
+@pytest.mark.parametrize("flags", ["-s", "-l", "-sl", ""])
+def test_what_may_come(shell, flags):
+    """The program's own answers, at each word of these lines and after them."""
+    for line in ["", "-", "--", "--i", "x --", "-- -", "-v --verb", "-v -v", "-i -", "-i", "-ix --", "--input --",
+                 "--input -- --", "--input= --in", "-c --", "-c x -", "--color --c", "--output=f", "--verbose=",
+                 "--color=a=b", "--nope -", "-vc -", "-o=x", "-L x -L", "-input -", "-input x -", "-help --h",
+                 "-output=x", "- -", "x", "--a", "-hvi - --"]:
+        words = [*line.split(), ""]
+        for at, word in enumerate(words):
+            said = run(shell, *flags.split(), "--complete-words", "zsh", "backup", TABLE, *words[:at + 1])
+            assert said == ("".join(f"{one}\n" for one in offers(words[:at], word, flags)), ""), (line, at)
 
 
 @pytest.fixture
 def room(shell, tmp_path):
     """A folder with the program, and with scripts that log their words, in `bin`, and files to complete in `here`."""
-    for folder in ("bin", "here"):
+    for folder in ("bin", "here", "site"):
         (tmp_path / folder).mkdir()
     (tmp_path / "bin/getopts_shell").symlink_to(shell)
-    for name in complete.LINES:
+    for name in FLAGS:
         (tmp_path / "bin" / name).write_text('#!/bin/sh\nprintf "%s\\0" "$@" >>"$LOG"\nprintf "\\001" >>"$LOG"\n')
         (tmp_path / "bin" / name).chmod(0o755)
-    for name in complete.NAMES:
+    for name in NAMES:
         (tmp_path / "here" / name).write_text("")
     return tmp_path
+
+
+# A name and a table of any bytes.
+NAME, ANY = "it's \\ a; $(touch ran) `touch ran`", "[-a]  \\ ' \\' $(touch ran) `touch ran`\\"
+BASH = "COMP_LINE='x ' COMP_POINT=2 COMP_WORDS=(x '') COMP_CWORD=1 COMP_TYPE=9; _getopts_shell_offer "
+
+
+@pytest.mark.parametrize("name, before, ask", [
+    ("bash", "", BASH + shlex.quote(NAME)),
+    ("zsh", "compdef() { call=$1; }\n", "CURRENT=2 words=(x '') PREFIX=; eval $call"),
+    ("fish", "function complete; set -g call $argv[-1]; end\n", "function commandline; echo x; end; eval echo $call")])
+def test_names_and_tables_of_any_bytes(room, name, before, ask):
+    """They come to the program as they are, and the shell runs none of them."""
+    need(name)
+    code, _ = run(room / "bin/getopts_shell", "--complete", name, NAME, ANY)
+    (room / "bin/getopts_shell").unlink()
+    (room / "bin/getopts_shell").write_text('#!/bin/sh\nprintf "%s\\n" "$@" >"$HOME/words"\n')
+    (room / "bin/getopts_shell").chmod(0o755)
+    env = {"PATH": f"{room}/bin:{os.environ['PATH']}", "HOME": str(room)}
+    answer(name, "-c", before + code + ask, env=env, cwd=room)
+    assert (room / "words").read_text().startswith(f"--complete-words\n{name}\n{NAME}\n{ANY}\n")
+    assert not (room / "ran").exists()
+
+
+@pytest.mark.parametrize("name, named", [("backup", True), ("back-up_2.sh", True), ("a\n: ran", False), ("a b", False),
+                                         ("-k", False)])
+def test_first_line_for_zsh(shell, name, named):
+    code, _ = run(shell, "--complete", "zsh", "--", name, ANY)
+    assert code.startswith(f"#compdef {name}\n" if named else "") and code.startswith("#") == named
+
+
+# ---- in a terminal
+
+class Terminal:
+    """A shell in a terminal, once it has read the code for each script, or finds it as files in zsh's `$fpath`, in a
+    folder with a log of the words that its commands were given."""
+
+    def __init__(self, name, room, files):
+        home = room / ("config/fish/config.fish" if name == "fish" else f".{name}rc")
+        home.parent.mkdir(parents=True, exist_ok=True)
+        for script, flags in FLAGS.items():
+            code, errors = run(room / "bin/getopts_shell", *flags.split(), "--complete", name, script, TABLE)
+            assert not errors
+            (room / "site" / f"_{script}").write_text(code)
+        read = 'for file in "$HOME"/site/*; do eval "$(cat "$file")"; done\n'
+        home.write_text({
+            "bash": "set -u\nPS1='> '\nbind 'set show-all-if-ambiguous on'\nbind 'set completion-query-items 0'\n"
+                    f"bind 'set page-completions off'\nbind 'set enable-bracketed-paste off'\n{read}",
+            "zsh": f"PS1='> '\n{'fpath=($HOME/site $fpath)' * files}\nautoload -Uz compinit\n"
+                   f"compinit -u -d $HOME/dump\n{read * (not files)}",
+            "fish": "set -g fish_greeting\nset -g fish_autosuggestion_enabled 0\ncat $HOME/site/* | source\n"}[name])
+        words = ["bash", "--noprofile", "--rcfile", str(home)] if name == "bash" else [name]
+        env = {"PATH": f"{room}/bin:{os.environ['PATH']}", "HOME": str(room), "XDG_CONFIG_HOME": str(room / "config"),
+               "XDG_DATA_HOME": str(room / "data"), "TERM": "vt100" if name != "fish" else "xterm",
+               "LC_ALL": "C.UTF-8", "LOG": str(room / "log"), "COLUMNS": "120"}
+        self.log, self.seen, self.text = room / "log", 0, b""
+        self.log.write_bytes(b"")
+        self.process, self.fd = pty.fork()
+        if self.process == 0:
+            os.chdir(room / "here")
+            os.execvpe(name, [*words, "-i"], env)
+
+    def read(self, seconds):
+        while select.select([self.fd], [], [], seconds)[0]:
+            try:
+                self.text += os.read(self.fd, 65536)
+            except OSError:
+                return
+
+    def type(self, keys):
+        """Types keys, and waits for the words of the command that they run: the words, and what the terminal showed."""
+        self.text, end = b"", time.monotonic() + 60
+        os.write(self.fd, keys.encode())
+        while time.monotonic() < end:
+            self.read(0.02)
+            lines = self.log.read_bytes().split(b"\x01")[:-1]
+            if len(lines) > self.seen:
+                self.seen = len(lines)
+                self.read(0.05)
+                return lines[-1].decode().split("\0")[:-1], self.text.decode(errors="replace")
+        return None, self.text.decode(errors="replace")
+
+    def close(self):
+        os.write(self.fd, b"\x04exit\r")
+        os.close(self.fd)
+        os.waitpid(self.process, 0)
+
+
+# What is typed of a line before the tab: the words, where the last is completed.
+LINES = {
+    "backup": ["--inp", "-v --verb", "--he", "-h --he", "x --inp", "-i --inp", "-i x --inp", "--input=x --outp",
+               "--input=x --inp", "-- --inp", "fi", "-o fi", "--output=fi", "--output=sp", "--verbose=fi", "--color=fi",
+               "-c --inp", "--input 'a b' --outp", "--a", "--a:", "-vi", "x\\ y --verb", "--output=x=fi",
+               "--nope --inp", "--input=\"a b\" --outp", "-- fi"],
+    "stops": ["--inp", "x --inp", "-v x --inp", "x fi", "-o x --inp"],
+    "longs": ["-inp", "--inp", "-input x -outp", "-output=fi", "-input -outp", "-v -verb"],
+}
+
+
+def words_after(name, typed, flags):
+    """The words of a typed line once its last is completed, if that is sure: at most one thing fits. One offer is
+    inserted, and a space; a file after what stands before it."""
+    *before, word = shlex.split(typed)
+    offered = offers(before, word, flags)
+    if offered in (FILES, ["value"]):
+        # (bash itself completes files after the last `=` of a word)
+        place = word.rfind("=") if name == "bash" else word.find("=") if offered == ["value"] else -1
+        fits = [word[:place + 1] + file for file in NAMES if file.startswith(word[place + 1:])]
+    else:
+        forms = [line.split("\t")[0] for line in offered]
+        fits = [os.path.commonprefix(forms)] if forms else []
+    return before + (fits if len(fits) == 1 else [word])
 
 
 @pytest.mark.parametrize("name, files", [("bash", False), ("zsh", False), ("zsh", True), ("fish", False)])
 def test_completion_in_a_terminal(room, name, files):
     need(name)
-    complete.in_terminal(name, f"{room}/bin/getopts_shell", room, files)
-
-
-def test_names_and_tables_of_any_bytes(room):
-    complete.quoted(f"{room}/bin/getopts_shell", room)
+    terminal = Terminal(name, room, files)
+    terminal.type("backup ready\r")
+    for script, lines in LINES.items():
+        for typed in lines:
+            got, shown = terminal.type(f"{script} {typed}\t\r")
+            assert got == words_after(name, typed, FLAGS[script]), shown
+            assert not re.search("command not found|unbound|getopts_shell", shown), typed
+    # A script by its path.
+    got, shown = terminal.type(f"{room}/bin/backup --inp\t\r")
+    assert got == ["--input"], shown
+    # Where several options fit, each is shown with its description as the table has it, but for one that was given.
+    _, shown = terminal.type("backup -h -\t" + ("" if name != "fish" else "\x1b") + "\r")
+    shown = " ".join(re.sub(r"\x1b\[[0-9;?]*[a-zA-Z]|\x1b\(B|\x0f", "", shown).split())
+    for line in offers(["-h"], "-"):
+        form, description = line.split("\t")
+        assert form in shown and " ".join(description.split()) in shown
+    assert "--help" not in shown
+    terminal.close()

@@ -1,11 +1,12 @@
 """The pages: what they name, quote and state is what the sources, the proofs and the records have. And no module uses one
-that uses it.
+that uses it, and scripts, Rust and manual pages are well formed.
 
 Each figure of ten or more on a page is counted, measured or recorded (FIGURES). With --fix those that differ are replaced,
 and CONTRACTS.md is written anew from the sources.
 """
 
 import functools
+import graphlib
 import os
 import re
 import shutil
@@ -37,15 +38,11 @@ def none(failures):
 @functools.cache
 def tables():
     """The tables of bench/last_run.txt: by their titles and jobs, the figures by the names of their columns."""
-    kept, title, columns = {}, None, []
-    for line in read("bench/last_run.txt").split("\n"):
-        cells = re.split(r"\s{2,}", line.strip())
-        if cells[0] == "job":
-            columns = cells[1:]
-        elif columns and len(cells) == len(columns) + 1:
-            kept[title, cells[0]] = dict(zip(columns, cells[1:]))
-        else:
-            title, columns = line.strip(), []
+    kept = {}
+    for title, heads, rows in re.findall(r"^(.+)\njob (.*)\n((?:.+\n)*)", read("bench/last_run.txt"), re.M):
+        columns = re.split(r"\s{2,}", heads.strip())
+        for job, *cells in (re.split(r"\s{2,}", row) for row in rows.splitlines()):
+            kept[title, job] = dict(zip(columns, cells))
     return kept
 
 
@@ -204,25 +201,17 @@ def test_code_of_the_pages(page, block):
 
 # ---- contracts
 
+# A public function with its contract: up to a brace behind its head, or to one below its clauses.
+FUNCTION = re.compile(r"""^(\ *)pub\ fn\ (\w+)
+    (?: (?:(?!\n\ *(?:requires|ensures)\ )[\s\S])*? (?=\ \{(?:.*\})?$) | [\s\S]*? (?=\n\1\{\}?$) )""", re.M | re.X)
+
+
 def contracts_in(text):
     """Each public function of a module's text, with the type that it is of, its name and its contract."""
-    owner, taken, name = "", None, ""
-    for line in text.split("\n"):
-        if it := re.match(r"impl(?:<[^>]*>)? (?:[\w<>: ]+ for )?(\w+)", line):
-            owner = it[1]
-        if line == "}":
-            owner = ""
-        if it := re.match(r"( *)pub fn (\w+)", line):
-            taken, indent, name = [], it[1], it[2]
-        if taken is None:
-            continue
-        alone = line.strip() in ("{", "{}")
-        clauses = re.search(r"^ *(requires|ensures) ", "\n".join([*taken, line]), re.M)
-        ends = alone or line.endswith((" {", "}")) and not clauses
-        taken += [] if alone else [(re.sub(r" \{(.*\})?$", "", line) if ends else line).removeprefix(indent)]
-        if ends:
-            yield owner, name, "\n".join(taken)
-            taken = None
+    for item in text.split("\n}\n"):
+        owner = re.search(r"^impl(?:<[^>]*>)? (?:[\w<>: ]+ for )?(\w+)", item, re.M)
+        for it in FUNCTION.finditer(item):
+            yield owner[1] if owner else "", it[2], re.sub(f"^{it[1]}", "", it[0], flags=re.M)
 
 
 def contracts():
@@ -338,16 +327,28 @@ def test_names_and_links(page):
 
 @pytest.mark.parametrize("crate", sorted({name.split("/")[1] for name in sources}))
 def test_no_module_uses_one_that_uses_it(crate):
-    left = {}
+    uses = {}
     for name, text in sources.items():
         if (it := re.match(rf"crates/{crate}/src/(\w+)\.rt$", name)) and it[1] not in ("lib", "main"):
-            left[it[1]] = set(re.findall(r"^\s*use crate::(\w+)", text, re.M)) - {it[1]}
-    while ready := [module for module in left if not left[module] & set(left)]:
-        for module in ready:
-            del left[module]
-    assert not left, f"in a circle: {', '.join(left)}"
+            uses[it[1]] = set(re.findall(r"^\s*use crate::(\w+)", text, re.M)) - {it[1]}
+    # It raises an error that names the modules of a circle.
+    graphlib.TopologicalSorter(uses).prepare()
 
+
+# ---- form
 
 def test_shell_scripts():
     need("shellcheck")
     run("shellcheck", *(name for name in tracked if name.endswith(".sh")), cwd=ROOT)
+
+
+@pytest.mark.parametrize("manifest", [name for name in tracked if name.endswith("/Cargo.toml")])
+def test_rust(manifest):
+    need("cargo", "rustfmt")
+    run("cargo", "fmt", "--check", cwd=(ROOT / manifest).parent)
+
+
+@pytest.mark.parametrize("page", [name for name in tracked if re.search(r"\.\d$", name)])
+def test_manual(page):
+    need("man", "groff")
+    assert run("man", "--warnings", "-E", "UTF-8", "-l", ROOT / page)[1] == ""

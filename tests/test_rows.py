@@ -32,7 +32,7 @@ def written(rows):
 def all_rows():
     """All rows, with what the rules answer beyond them: each line's canonical line, and each name's positions."""
     rows = [row for file in ROWS for row in rows_of(file.read_bytes())]
-    asked, given, _, differ = held(rows)
+    asked, given, differ = held(rows)
     assert not differ, b"\n  ".join(differ[0]).decode()
     assert given > 5000 and len(asked) > len(rows) + 15_000
     return asked

@@ -13,8 +13,8 @@ import subprocess
 from pathlib import Path
 
 import pytest
-from conftest import MACHINE, ROOT, answer, manual, need, rows_in, run
-from shell import common, complete, lines, tables
+from conftest import MACHINE, ROOT, answer, need, rows_in, run
+from shell import lines, tables
 from targets import cargo_for, copied, offline, runner
 
 SHELL = ROOT / "bindings/shell"
@@ -118,24 +118,22 @@ def test_row(program, row):
     (status, *words), text = row
     if "wine" in program.parent.name and sum(map(len, words)) > 10_000:
         pytest.skip("words that are too long for Windows")
-    streams = (text, "") if status == "0" else ("", text)
-    common.expect(f"{[word[:60] for word in words]}", common.run([program, *words]), int(status), *streams)
+    assert run(program, *words, status=int(status)) == ((text, "") if status == "0" else ("", text))
 
 
 @OTHERS
 @pytest.mark.parametrize("name", ["bash", "zsh", "fish"])
 def test_completion_is_that_of_the_carried_program(program, name, carried):
     words = ["--complete", name, "backup", TABLE]
-    common.expect(words, common.run([program, *words]), 0, common.run([carried, *words]).stdout.decode())
+    assert run(program, *words) == (run(carried, *words)[0], "")
 
 
 @HERE
 @pytest.mark.parametrize("own", [["-V", "opt_"], ["-AV", "opt_"]], ids=" ".join)
 @pytest.mark.parametrize("words", [["--help"], ["-x"], ["x"], ["-ia", "-ib"], ["-i"]], ids=" ".join)
 def test_help_and_faults_are_those_without_variables(program, own, words):
-    plain = common.run([program, "try", TABLE, *words])
-    common.expect("with variables", common.run([program, *own, "try", TABLE, *words]),
-                  plain.returncode, plain.stdout.decode(), plain.stderr.decode())
+    plain, variables = (subprocess.run([program, *more, "try", TABLE, *words], capture_output=True) for more in ([], own))
+    assert (plain.returncode, plain.stdout, plain.stderr) == (variables.returncode, variables.stdout, variables.stderr)
 
 
 @HERE
@@ -143,28 +141,20 @@ def test_tables_with_one_byte_changed(program):
     tables.changed_tables(program)
 
 
-@pytest.mark.parametrize("program", [PROVED], indirect=True)
-def test_what_may_come(program):
-    complete.answers(program)
-
-
 def by_getopt(options, words):
     """What getopt(1) reads, in canonical form, or None where it refuses the words."""
     colons = {"no": "", "yes": ":", "maybe": "::"}
     shorts = "".join(short + colons[kind] for short, _, kind, _ in options if short)
     longs = ",".join(long + colons[kind] for _, long, kind, _ in options if long)
-    done = common.run(["getopt", "-o", shorts, "--long", longs, "--", *words])
-    if done.returncode != 0:
+    wrote, status = answer("getopt", "-o", shorts, "--long", longs, "--", *words)
+    if status:
         return None
-    names = {}
-    for place, (short, long, _, _) in enumerate(options):
-        names |= {f"-{short}": place, f"--{long}": place}
-    wrote, given = shlex.split(os.fsdecode(done.stdout)), []
+    names = {name: place for place, (short, long, _, _) in enumerate(options) for name in (f"-{short}", f"--{long}")}
+    wrote, given = shlex.split(os.fsdecode(wrote)), []
     while (name := wrote.pop(0)) != "--":
-        place = names[name]
-        value = wrote.pop(0) if options[place][2] != "no" else None
-        # With getopt(1) an optional argument that is empty is none.
-        given.append((place, None if options[place][2] == "maybe" and not value else value))
+        kind = options[names[name]][2]
+        value = wrote.pop(0) if kind != "no" else None
+        given.append((names[name], None if kind == "maybe" and not value else value))
     return lines.canonical(options, given, wrote)
 
 
@@ -173,10 +163,11 @@ def test_lines_as_getopt_reads_them(program):
     need("getopt")
     if answer("getopt", "--test")[1] != 4:
         pytest.skip("this getopt isn't that of util-linux")
-    rng, asked, refused = random.Random(44), 0, 0
+    rng, asked = random.Random(44), 0
     while asked < 500:
         options, words, given, _ = lines.case_of(rng, alone=0)
-        if any(options[place][2] == "maybe" and value == "" for place, value in given):
+        # With getopt(1) an optional argument stands in the option's word, and one that is empty is none.
+        if any(options[place][2] == "maybe" and value in ["", *words] for place, value in given):
             continue
         if rng.random() < 0.2:
             short, long, kind, _ = rng.choice(options)
@@ -184,11 +175,10 @@ def test_lines_as_getopt_reads_them(program):
             words.insert(0, rng.choice(["-x", "--nope", "--nope=b"] + flags))
         if rng.random() < 0.1 and "--" not in words:
             words += [f"-{short}" if short else f"--{long}" for short, long, kind, _ in options if kind == "yes"][:1]
-        done = common.run([program, "try", lines.written(options), *words])
-        ours = shlex.split(os.fsdecode(done.stdout))[2:] if done.returncode == 0 else None
+        said, status = answer(program, "try", lines.written(options), *words)
+        ours = None if status else shlex.split(os.fsdecode(said))[2:]
         assert ours == by_getopt(options, words), words
-        asked, refused = asked + 1, refused + (ours is None)
-    print(f"{asked} lines, {refused} refused by both")
+        asked += 1
 
 
 # ---- in each shell
@@ -222,13 +212,12 @@ def test_scripts_of_the_page(program, one_shell, tmp_path, monkeypatch):
         monkeypatch.setenv(name, "1")
         monkeypatch.setenv(f"opt_{name}", "1")
     for (status, *words), text in rows_in("tests/shell/scripts.rows"):
-        done = common.run([*one_shell, *words], cwd=tmp_path)
-        wrote = (done.stdout or done.stderr).decode()
-        if text.endswith("...\n") and wrote.startswith(text[:-4]):
-            text = wrote
-        common.expect(words, done, int(status), *((text, "") if status == "0" else ("", text)))
-    code = common.run([*one_shell, "backup", "--completion", "fish"], cwd=tmp_path)
-    assert code.returncode == 0 and b"\n_getopts_shell_complete 'backup' '\n-i|--input FILE " in code.stdout
+        said = run(*one_shell, *words, status=int(status), cwd=tmp_path)
+        wrote, other = said if status == "0" else said[::-1]
+        begin = text.removesuffix("...\n")
+        assert (wrote if begin == text else wrote[:len(begin)], other) == (begin, ""), words
+    code, _ = run(*one_shell, "backup", "--completion", "fish", cwd=tmp_path)
+    assert "\n_getopts_shell_complete 'backup' '\n-i|--input FILE " in code
 
 
 @HERE
@@ -237,7 +226,7 @@ def test_sentence_of_the_page(program, one_shell, row):
     (_, where, out), script = row
     if where != "all" and one_shell[0] not in where.split():
         pytest.skip(f"it is said of {where}")
-    assert common.run([*one_shell, "-c", script]).stdout == out.encode()
+    assert subprocess.run([*one_shell, "-c", script], capture_output=True).stdout == out.encode()
 
 
 @pytest.mark.parametrize("words", ["-vi a x", "--input=a -v -- -v", "--help", "-x", "--completion fish"])
@@ -288,15 +277,6 @@ def test_install(carried, tmp_path):
     install("--uninstall", "a prefix")
     install("--uninstall", "/usr", DESTDIR="stage/")
     assert not [path for path in tmp_path.rglob("*") if not path.is_dir()]
-
-
-def test_manual():
-    manual(SHELL / "getopts_shell.1")
-
-
-def test_cargo_form():
-    need("cargo", "rustfmt")
-    run("cargo", "fmt", "--check", cwd=SHELL)
 
 
 def test_cargo_without_a_warning(tmp_path):

@@ -3,7 +3,7 @@
 import subprocess
 
 import pytest
-from conftest import ROOT, VECTORS, need
+from conftest import ROOT, VECTORS, need, run
 from test_rows import all_rows, written
 
 CRATES = sorted(path.parent.name for path in (ROOT / "crates").glob("*/src"))
@@ -18,24 +18,23 @@ def unproved(request):
     need("rt")
 
 
-def tried(crate, *words, folder=None):
+def tried(crate, *words, status=0):
     """What `rt try` writes in a crate."""
-    return subprocess.run(["nice", "rt", "try", *(str(word) for word in words)], cwd=folder or ROOT / "crates" / crate,
-                          stdin=subprocess.DEVNULL, capture_output=True, text=True)
+    return run("nice", "rt", "try", *words, status=status, cwd=ROOT / "crates" / crate, stdin=subprocess.DEVNULL)
 
 
 @pytest.mark.parametrize("crate", PROGRAMS)
-def test_program(crate, tmp_path):
+def test_program(crate):
     """The program writes what is stored, in a folder with its data."""
     folder = ROOT / "crates" / crate
     words = (folder / "args").read_text().splitlines() if (folder / "args").exists() else []
-    done = tried(crate, "--", *(folder / "data" / word if (folder / "data" / word).is_file() else word for word in words))
+    words = [folder / "data" / word if (folder / "data" / word).is_file() else word for word in words]
     status = int((folder / "status").read_text()) if (folder / "status").exists() else 0
-    assert (done.returncode, done.stdout) == (status, (folder / "stdout").read_text()), done.stderr[-3000:]
+    assert tried(crate, "--", *words, status=status)[0] == (folder / "stdout").read_text()
 
 
 def test_rows(tmp_path):
     """The rows, and what the rules ask beyond them. The large rows take minutes unproved."""
     (tmp_path / "beyond.rows").write_bytes(written(all_rows()))
-    done = tried("getopts_vectors", "--", tmp_path / "beyond.rows", VECTORS / "data/refused.rows")
-    assert done.returncode == 0 and done.stdout.count(" 0 differ\n") == 2, (done.stdout + done.stderr)[-3000:]
+    said, _ = tried("getopts_vectors", "--", tmp_path / "beyond.rows", VECTORS / "data/refused.rows")
+    assert said.count(" 0 differ\n") == 2

@@ -26,14 +26,8 @@ fail() {
 
 remove=
 case ${1:-} in
---help | -h)
-    sed -n '2,/^[^#]/s/^# \{0,1\}//p' "$0"
-    exit
-    ;;
---uninstall)
-    remove=yes
-    shift
-    ;;
+--help | -h) sed -n '2,/^[^#]/s/^# \{0,1\}//p' "$0"; exit ;;
+--uninstall) remove=yes; shift ;;
 esac
 if [ $# != 1 ] || [ -z "$1" ] || [ "${1#-}" != "$1" ]; then
     fail "usage: bindings/c/install.sh [--uninstall] PREFIX"

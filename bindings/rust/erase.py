@@ -38,53 +38,23 @@ TOP = Path(__file__).resolve().parents[2]
 RUSTFMT = ["rustfmt", "--edition", "2021", "--config", "style_edition=2024,reorder_imports=false"]
 
 # Rattle's calls that may be refused memory, by those of `fallible.rs`.
-CALLS = {
-    "push": "try_push",
-    "push_str": "try_push_str",
-    "reserve": "try_grow",
-    "reserve_exact": "try_grow_exact",
-    "sort_by": "try_sort_by",
-    "extend_from_slice": "try_extend_from_slice",
-    "with_capacity": "of_capacity",
-    "String::new": "String::empty",
-    "String::from_str": "String::copy_of",
-    "Vec::new": "Vec::empty",
-    "vec![in alloc; 0; room]": "Vec::filled(alloc, 0, room)",
-    "clone": "try_clone",
-    "impl Clone for": "impl TryClone for",
+CALLS = {name: f"try_{name}" for name in "push push_str sort_by extend_from_slice clone".split()} | {
+    "reserve": "try_grow", "reserve_exact": "try_grow_exact", "with_capacity": "of_capacity",
+    "String::new": "String::empty", "String::from_str": "String::copy_of", "Vec::new": "Vec::empty",
+    "vec![in alloc; 0; room]": "Vec::filled(alloc, 0, room)", "impl Clone for": "impl TryClone for",
 }
 # What `Display` is written to is a type parameter in Rattle.
-DISPLAY = {
-    "fmt<W: fmt::Write>": "fmt",
-    "fmt::Formatter<W>": "fmt::Formatter<'_>",
-}
+DISPLAY = {"fmt<W: fmt::Write>": "fmt", "fmt::Formatter<W>": "fmt::Formatter<'_>"}
 # Where the library's names are in Rust.
-LIBRARY = {
-    "mod matches;": "pub(crate) mod matches;",
-    "crate::": "super::",
-    "std::": "core::",
-    "std::alloc": "crate::alloc",
-    "std::convert": "crate::convert",
-    "std::error": "crate::error",
-    "std::vec": "crate::heap::vec",
-    "str::from_utf8": "core::str::from_utf8",
-    "unicode_width": "crate::width",
+LIBRARY = {f"std::{name}": f"crate::{name}" for name in ("alloc", "convert", "error")} | {
+    "std::": "core::", "std::vec": "crate::heap::vec", "str::from_utf8": "core::str::from_utf8",
+    "crate::": "super::", "unicode_width": "crate::width", "mod matches;": "pub(crate) mod matches;",
 }
 # The calls and names of the program for shell scripts, by those of its `host.rs`.
-HOST = {
-    "resize": "try_resize",
-    "trim_ascii": "trimmed_ascii",
-    "format!": "text!",
-    "write!": "add!",
-    "writeln!": "add_line!",
-    "std::alloc": "crate::host::alloc",
-    "std::env": "crate::host::env",
-    "std::io": "crate::host::io",
-    "getopts::": "crate::getopts::",
-    "getopts_bytes::": "::getopts::bytes::",
-    "crate::": "super::",
-    "str::from_utf8": "std::str::from_utf8",
-    "fn main": "pub fn main",
+HOST = {f"std::{name}": f"crate::host::{name}" for name in ("alloc", "env", "io")} | {
+    "resize": "try_resize", "trim_ascii": "trimmed_ascii", "str::from_utf8": "std::str::from_utf8",
+    "format!": "text!", "write!": "add!", "writeln!": "add_line!", "fn main": "pub fn main",
+    "crate::": "super::", "getopts::": "crate::getopts::", "getopts_bytes::": "::getopts::bytes::",
 }
 # Each crate: where its Rust goes, the module that has the calls above, and the names besides them.
 CRATES = {
@@ -92,7 +62,6 @@ CRATES = {
     "getopts_bytes": ("bindings/rust/src/bytes", "fallible", LIBRARY),
     "getopts_shell": ("bindings/shell/src/program", "host", HOST),
 }
-LEFT_OUT = ["laws", "tests"]
 # Words that may stand in no signature, body or type.
 STRANGE = set("""requires ensures ghost tactic Model Drop mod use fn impl trait struct enum union static extern
     unsafe macro_rules async await dyn where crate""".split())
@@ -118,20 +87,16 @@ TOKEN = re.compile(
     (?P<token>
         b?r(?P<hashes>\#*)"(?:.|\n)*?"(?P=hashes) | b?"(?:[^"\\]|\\(?:.|\n))*"
         | b?'(?:[^'\\\n]|\\[^\n][^'\n]*)' | '[A-Za-z_]\w*
-        | [A-Za-z_]\w* | \d\w*(?:\.\d\w*)? | (?P<sign>[^\s\w]) | (?P<other>.) | \Z)""",
+        | [A-Za-z_]\w* | \d\w*(?:\.\d\w*)? | [{}()\[\]<>;:,.=+*/%&|^!?\#@$-] | (?P<strange>.) | \Z)""",
     re.X,
 )
-SIGNS = set("{}()[]<>;:,.=+-*/%&|^!?#@$")
 BRACKETS = {"{": "}", "(": ")", "[": "]"}
 # The comment lines right above a token, with its own line's white space.
 ABOVE = re.compile(r"(\n *//(?!!)[^\n]*)*\n *\Z")
-
-
 KEYWORDS = set("""as break const continue crate else enum fn for if impl in let loop match mod move mut pub ref
     return self struct super type use while""".split())
 # The names that renaming gives, which no source may have.
-GIVEN = {word for name in CALLS.values() for word in re.findall(r"\w+", name) if word.startswith("try_")}
-GIVEN |= {"of_capacity", "copy_of", "TryClone", "try_resize", "trimmed_ascii"}
+GIVEN = re.compile(r"try_\w+|of_capacity|copy_of|TryClone|trimmed_ascii")
 
 
 class NotRust(Exception):
@@ -150,8 +115,7 @@ def tokens_of(source):
     tokens, line = [], 1
     for match in TOKEN.finditer(source):
         line += match["lead"].count("\n")
-        strange = match["other"] or match["sign"] and match["sign"] not in SIGNS
-        tokens.append(Token(match["token"], match["lead"], line, strange))
+        tokens.append(Token(match["token"], match["lead"], line, match["strange"]))
         line += match["token"].count("\n")
     return tokens
 
@@ -191,11 +155,11 @@ class Eraser:
                     return place + 1
         self.stop(at, "nothing closes it")
 
-    def after(self, at, end):
-        """The place after the next sign like this that stands in no brackets."""
-        while self.text(at) not in tuple(end):
+    def after(self, at):
+        """The place after the next `;` that stands in no brackets."""
+        while self.text(at) != ";":
             if at >= len(self.tokens) or self.text(at) in BRACKETS.values():
-                self.stop(at, f"no '{end[0]}' stands before it")
+                self.stop(at, "no ';' stands before it")
             at = self.close(at) if self.text(at) in BRACKETS else at + 1
         return at + 1
 
@@ -209,10 +173,15 @@ class Eraser:
 
     # ---- the grammar: each of these goes from `at` to what follows
 
+    def take(self, pattern):
+        """Goes past this, if it stands here, and returns whether it does."""
+        there = self.has(self.at, pattern)
+        self.at += len(words(pattern)) if there else 0
+        return there
+
     def expect(self, pattern):
-        if not self.has(self.at, pattern):
+        if not self.take(pattern):
             self.stop(self.at, f"'{pattern}' has to stand here")
-        self.at += len(words(pattern))
 
     def name(self):
         if not re.fullmatch(r"[A-Za-z_]\w*", self.text(self.at)) or self.text(self.at) in STRANGE:
@@ -235,30 +204,26 @@ class Eraser:
                     self.stop(at, "it may not stand here")
             self.at = end
 
-    def braces(self):
-        """`{ .. }`"""
-        self.expect("{")
-        self.plain(["}"])
+    def past(self, end):
+        """Goes past the next sign like this."""
+        self.plain([end])
         self.at += 1
 
     def generics(self):
-        """`< .. >`, of whose bounds those of `Drop` are deleted."""
+        """`< .. >`, if it stands here, of whose bounds those of `Drop` are deleted."""
         depth = 0
-        while self.at < len(self.tokens):
+        while depth or self.has(self.at, "<"):
             text, before, after = self.text(self.at), self.text(self.at - 1), self.text(self.at + 1)
             if text == "Drop" and (before == "+" or before == ":" and after in (">", ",")):
                 self.delete(self.at - 1, self.at + 1)
                 self.at -= 1
-            elif text in STRANGE:
+            elif text in STRANGE or not text:
                 self.stop(self.at, "it is no bound")
             elif text in BRACKETS:
                 self.at = self.close(self.at)
             else:
                 depth += (text == "<") - (text == ">" and before != "-")
                 self.at += 1
-                if depth == 0:
-                    return
-        self.stop(self.at, "nothing closes it")
 
     def items(self, one, end=""):
         while self.text(self.at) != end:
@@ -272,39 +237,35 @@ class Eraser:
         while self.text(self.at) == "#":
             start, inner = self.at, self.has(self.at + 1, "!")
             self.at += 2 if inner else 1
-            end, name = self.close(self.at), self.text(self.at + 1)
+            end, name, derived = self.close(self.at), self.text(self.at + 1), []
             if self.has(start, "#[cfg(test)]"):
                 tested = True
             elif name == "derive":
                 derived = [token.text for token in self.tokens[self.at + 3 : end - 2] if token.text != ","]
                 if set(derived) - DERIVED or inner:
                     self.stop(start, "something else is derived")
-                if derived == ["Drop"]:
-                    self.at = end
-                    self.delete(start, end)
-                    end = start
-                elif "Drop" in derived:
-                    at = next(at for at in range(self.at, end) if self.text(at) == "Drop")
-                    self.delete(*(at - 1, at + 1) if self.text(at - 1) == "," else (at, at + 2))
-                    end -= 2
-            elif name == "tactic":
+            elif name != "tactic" and (name not in ATTRIBUTES or inner):
+                self.stop(start, "no attribute of this name is known")
+            if name == "tactic" or derived == ["Drop"]:
                 self.delete(start, end)
                 end = start
-            elif name not in ATTRIBUTES or inner:
-                self.stop(start, "no attribute of this name is known")
+            elif "Drop" in derived:
+                at = next(at for at in range(self.at, end) if self.text(at) == "Drop")
+                self.delete(*(at - 1, at + 1) if self.text(at - 1) == "," else (at, at + 2))
+                end -= 2
             self.at = end
         return tested
 
     def ghost(self, start):
         """`ghost use .. ;`"""
         self.expect("ghost use")
-        self.at = self.after(self.at, ";")
+        self.at = self.after(self.at)
         self.erase(start)
 
     def item(self, start, tested):
         for law in ("mod laws;", "pub use laws::", "use std::marker::Model;", *(["mod tests;"] if tested else [])):
             if self.has(self.at, law):
-                self.at = self.after(self.at, ";")
+                self.at = self.after(self.at)
                 return self.erase(start)
         if tested:
             self.stop(start, "what is built for tests alone is a module `tests`")
@@ -312,48 +273,43 @@ class Eraser:
             return self.ghost(start)
         self.visibility()
         kind = self.text(self.at)
-        if kind == "impl":
+        if self.take("impl"):
             self.implementation(start)
-        elif kind == "use":
+        elif self.take("use"):
             self.imported()
-        elif kind == "mod":
-            self.at += 1
+        elif self.take("mod"):
             self.name()
             self.expect(";")
-        elif kind in ("struct", "enum"):
-            self.at += 1
+        elif self.take("struct") or self.take("enum"):
             self.name()
-            if self.has(self.at, "<"):
-                self.generics()
-            if kind == "struct" and self.has(self.at, "{"):
-                return self.fields()
-            if self.has(self.at, "{"):
-                return self.braces()
-            self.plain([";"])
-            self.at += 1
+            self.generics()
+            if kind == "enum":
+                self.body()
+            elif self.has(self.at, "{"):
+                self.fields()
+            else:
+                self.past(";")
         else:
             self.member(start, False)
 
     def fields(self):
         """`{ field.. }`, of which those that are ghost are deleted."""
-        self.at += 1
-        while not self.has(self.at, "}"):
+        self.expect("{")
+        while not self.take("}"):
             start = self.at
-            if self.has(self.at, "ghost"):
-                self.at += 1
+            if self.take("ghost"):
                 self.name()
                 self.expect(":")
-                self.at = self.clause_end()
+                self.logic()
                 self.expect(",")
                 self.erase(start)
             else:
                 self.plain([",", "}"])
-                self.at += self.has(self.at, ",")
-        self.at += 1
+                self.take(",")
 
     def visibility(self):
-        if self.has(self.at, "pub"):
-            self.at = self.close(self.at + 1) if self.has(self.at + 1, "(") else self.at + 1
+        if self.take("pub") and self.has(self.at, "("):
+            self.at = self.close(self.at)
 
     def member(self, start, tested):
         """What may stand in an impl."""
@@ -361,47 +317,43 @@ class Eraser:
             self.stop(start, "no member is for tests alone")
         if self.has(self.at, "ghost use"):
             return self.ghost(start)
-        if self.has(self.at, "ghost"):
-            self.at += 1
+        if self.take("ghost"):
             self.name()
             self.expect("=")
-            self.at = self.clause_end()
+            self.logic()
             self.expect(";")
             return self.erase(start)
         self.visibility()
-        if self.text(self.at) in ("const", "type"):
-            self.at += 1
+        if self.take("const") or self.take("type"):
             self.name()
-            self.plain([";"])
-            self.at += 1
+            self.past(";")
         else:
             self.function()
 
     def function(self):
         self.expect("fn")
         self.name()
-        if self.has(self.at, "<"):
-            self.generics()
+        self.generics()
         if not self.has(self.at, "("):
             self.stop(self.at, "parameters have to stand here")
         self.plain(["-", "{", "requires", "ensures"])
-        if self.has(self.at, "->"):
-            self.at += 2
+        if self.take("->"):
             self.plain(["{", "requires", "ensures"])
         while self.text(self.at) in ("requires", "ensures"):
-            self.clause()
-        self.braces()
+            start = self.at
+            self.at += 1
+            if not self.has(self.at, "{"):
+                self.name()
+            self.logic()
+            self.erase(start)
+        self.body()
 
-    def clause(self):
-        start = self.at
-        self.at += 1
-        if not self.has(self.at, "{"):
-            self.name()
-        self.at = self.clause_end()
-        self.erase(start)
+    def body(self):
+        self.expect("{")
+        self.past("}")
 
-    def clause_end(self):
-        """The place after `{ .. }` of the logic, in which nothing may stand that hides a bracket."""
+    def logic(self):
+        """`{ .. }` of the logic, in which nothing may stand that hides a bracket."""
         if not self.has(self.at, "{"):
             self.stop(self.at, "'{' has to stand here")
         end = self.close(self.at)
@@ -410,13 +362,12 @@ class Eraser:
             comment = token.text + after.text in ("--", "{-", "-}", "/*") and not after.lead
             if comment or "//" in token.lead or token.text.lstrip("b")[:1] == "'":
                 self.stop(at, "no comment, and no character, may stand in a clause")
-        return end
+        self.at = end
 
     def imported(self):
         """`use .. ;`, of this crate, of another of this repository, or of what IMPORTS has."""
-        self.at += 1
         start = self.at
-        self.at = self.after(self.at, ";")
+        self.at = self.after(self.at)
         tree = "".join(token.text for token in self.tokens[start : self.at - 1])
         path, _, names = tree.partition("::{")
         if tree.startswith(("std::", "core::", "alloc::")):
@@ -426,39 +377,37 @@ class Eraser:
                     self.stop(start, f"{one} isn't among what may be imported")
 
     def implementation(self, start):
-        self.at += 1
-        if self.has(self.at, "<"):
-            self.generics()
-        if self.text(self.at) in ("Model", "Drop") and self.has(self.at + 1, "for"):
-            model, named = self.has(self.at, "Model"), self.at
+        self.generics()
+        trait = self.text(self.at) if self.has(self.at + 1, "for") else ""
+        if trait not in ("Model", "Drop"):
+            self.past("{")
+            self.items(self.member, "}")
             self.at += 1
-            self.plain(["{"])
-            inside, end = self.at + 1, self.close(self.at)
-            if model:
-                self.at = inside
-                while self.at < end - 1:
-                    if not self.has(self.at, "ghost"):
-                        self.stop(self.at, "it isn't `ghost` in an impl of `Model`")
-                    before = len(self.tokens)
-                    self.member(self.at, False)
-                    end -= before - len(self.tokens)
-            else:
-                # Its body is `let NAME { field: _, .. } = self;`.
-                drop = " ".join(token.text for token in self.tokens[inside : end - 1])
-                if not re.fullmatch(r"fn drop \( self \) { let \w+ { (\w+ : _ , )*(\w+ : _ )?} = self ; }", drop):
-                    self.stop(named, "its impl does more than to take a value apart")
-            self.at = end
-            return self.erase(start)
-        self.plain(["{"])
+            return
+        named = self.at
         self.at += 1
-        self.items(self.member, "}")
-        self.at += 1
+        self.past("{")
+        if trait == "Model":
+            self.items(self.ghost_member, "}")
+            self.at += 1
+        else:
+            inside, self.at = self.at, self.close(self.at - 1)
+            # Its body is `let NAME { field: _, .. } = self;`.
+            drop = " ".join(token.text for token in self.tokens[inside : self.at - 1])
+            if not re.fullmatch(r"fn drop \( self \) { let \w+ { (\w+ : _ , )*(\w+ : _ )?} = self ; }", drop):
+                self.stop(named, "its impl does more than to take a value apart")
+        self.erase(start)
+
+    def ghost_member(self, start, tested):
+        if not self.has(start, "ghost"):
+            self.stop(start, "it isn't `ghost` in an impl of `Model`")
+        self.member(start, tested)
 
     def law(self, start, tested):
         """What may stand in a module of laws."""
         if self.has(self.at, "ghost"):
             return self.ghost(start)
-        if self.has(self.at, "use"):
+        if self.take("use"):
             return self.imported()
         self.visibility()
         begin = self.at
@@ -472,7 +421,7 @@ class Eraser:
         for at, token in enumerate(self.tokens):
             if token.text == "/" and self.text(at + 1) in ("*", "/") and not self.tokens[at + 1].lead:
                 self.stop(at, "it begins a block comment")
-            if token.text in GIVEN:
+            if GIVEN.fullmatch(token.text):
                 self.stop(at, "it is a name that renaming gives")
         at = 0
         while at < len(self.tokens):
@@ -488,7 +437,7 @@ class Eraser:
             if token.strange:
                 self.stop(at, "it isn't Rust")
             if text == "use":
-                imported = self.after(at, ";")
+                imported = self.after(at)
             named = self.text(at - 1) == "fn" or self.has(at - 2, "#[") or at < imported
             if not re.fullmatch(r"[A-Za-z_]\w*", text) or text in KEYWORDS or named:
                 continue
@@ -564,7 +513,7 @@ def sources():
     for name in CRATES:
         paths = sorted((TOP / "crates" / name / "src").glob("*.rt"))
         laws = [read(path, "law") for path in paths if path.stem == "laws"]
-        crates[name] = {path: read(path) for path in paths if path.stem not in LEFT_OUT}
+        crates[name] = {path: read(path) for path in paths if path.stem not in ("laws", "tests")}
         for eraser in [*crates[name].values(), *laws]:
             names, held = defined(eraser)
             known, values = known | names, values | held

@@ -5,25 +5,14 @@
 set -eu
 unset CDPATH
 remove=
-if [ "${1-}" = --uninstall ]; then
-    remove=yes
-    shift
-fi
-if [ $# != 1 ]; then
-    set -- ''
-fi
+[ "${1-}" != --uninstall ] || { remove=yes; shift; }
+[ $# = 1 ] || set -- ''
 case $1 in
-'' | -*)
-    echo "usage: install.sh [--uninstall] PREFIX" >&2
-    exit 2
-    ;;
+'' | -*) echo "usage: install.sh [--uninstall] PREFIX" >&2; exit 2 ;;
 /*) to=${DESTDIR-}$1 ;;
 *) to=${DESTDIR-}$PWD/$1 ;;
 esac
-case $to in
-/*) ;;
-*) to=$PWD/$to ;;
-esac
+case $to in /*) ;; *) to=$PWD/$to ;; esac
 program=$to/bin/getopts_shell page=$to/share/man/man1/getopts_shell.1
 if [ -n "$remove" ]; then
     rm -f "$program" "$page"
@@ -32,10 +21,7 @@ if [ -n "$remove" ]; then
 fi
 cd "$(dirname "$0")"
 machine=${MACHINE:-$(uname -m)}
-case $machine in
-amd64) machine=x86_64 ;;
-arm64) machine=aarch64 ;;
-esac
+case $machine in amd64) machine=x86_64 ;; arm64) machine=aarch64 ;; esac
 if [ ! -f "$machine/getopts_shell" ]; then
     echo "install.sh: there is no program for $machine, only for" */getopts_shell | sed 's|/getopts_shell||g' >&2
     exit 1
