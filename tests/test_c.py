@@ -49,7 +49,12 @@ def library(tmp_path_factory):
     return of
 
 
-@pytest.fixture(params=BUILDS)
+# What is built for a target, one worker builds.
+pytestmark = pytest.mark.xdist_group("C")
+
+
+@pytest.fixture(params=[pytest.param(name, marks=pytest.mark.xdist_group(f"C for {target}") if target else ())
+                        for name, (_, target, _) in BUILDS.items()])
 def build(request, tmp_path, library):
     """Builds a program of a source as one compiler does, and returns the words that run it."""
     compiler, target, by = BUILDS[request.param]

@@ -15,6 +15,8 @@ RUST = ROOT / "bindings/rust"
 TWIN = ROOT / "tests/differential/twin"
 ERASED = {"getopts": RUST / "src/proved", "getopts_bytes": RUST / "src/bytes",
           "getopts_shell": ROOT / "bindings/shell/src/program"}
+# What cargo builds, one worker builds.
+pytestmark = pytest.mark.xdist_group("Rust")
 
 
 # ---- the source

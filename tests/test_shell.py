@@ -137,8 +137,8 @@ def test_help_and_faults_are_those_without_variables(program, own, words):
 
 
 @HERE
-def test_tables_with_one_byte_changed(program):
-    tables.changed_tables(program)
+def test_tables_with_one_byte_changed(program, cases):
+    tables.changed_tables(program, cases(2_000))
 
 
 def by_getopt(options, words):
@@ -193,7 +193,7 @@ def random_scripts(program, way, count):
 def test_random_lines(program, one_shell, tmp_path, cases, way):
     if way == "arrays" and one_shell[0] not in lines.WITH_ARRAYS:
         pytest.skip(f"{one_shell[0]} has no arrays")
-    count = cases(2000 if program.parent.name == "bin-shell" else 500)
+    count = cases(500 if program.parent.name == "bin-shell" else 100)
     lines.in_shell(one_shell, tmp_path, *random_scripts(program, way, count))
 
 

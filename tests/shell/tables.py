@@ -57,16 +57,15 @@ def table_fault(table):
     return None
 
 
-def changed_tables(program):
-    """Each byte of good lines, changed in turn to each of many others, left out and doubled."""
+def changed_tables(program, most):
+    """Each byte of good lines, changed in turn to each of many others, left out and doubled: so many of these at most."""
     good = ["-v|--verbose  say more", "[-c|--color [WHEN]]..\tcolour it", "[-o|--output FILE]  write",
             "[-V|--version]!  print it"]
     others = [chr(c) for c in range(32, 128)] + ["", "\t", "\n", "\r", "\x01"]
-    for at, line in enumerate(good):
-        for place in range(len(line)):
-            for other in others + [2 * line[place]]:
-                table = "\n".join(good[:at] + [line[:place] + other + line[place + 1:]] + good[at + 1:])
-                fault = table_fault(table)
-                said, status = answer(program, "--usage", "x", table)
-                said = (said, status) if status else (b"", 0)
-                assert said == ((f"getopts_shell: {fault}\n".encode(), 5) if fault else (b"", 0)), f"{table!r}: {said}"
+    tables = ["\n".join([*good[:at], line[:place] + other + line[place + 1:], *good[at + 1:]])
+              for at, line in enumerate(good) for place in range(len(line)) for other in [*others, 2 * line[place]]]
+    for table in tables[::max(1, len(tables) // most)]:
+        fault = table_fault(table)
+        said, status = answer(program, "--usage", "x", table)
+        said = (said, status) if status else (b"", 0)
+        assert said == ((f"getopts_shell: {fault}\n".encode(), 5) if fault else (b"", 0)), f"{table!r}: {said}"
