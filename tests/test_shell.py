@@ -15,7 +15,7 @@ from pathlib import Path
 import pytest
 from conftest import MACHINE, ROOT, answer, need, rows_in, run
 from shell import lines, tables
-from targets import cargo_for, copied, offline, runner
+from targets import cargo, cargo_for, copied, offline, runner
 
 SHELL = ROOT / "bindings/shell"
 SHELLS = ["dash", "bash", "bash --posix", "zsh", "ksh93", "mksh", "yash", "busybox sh"]
@@ -280,6 +280,5 @@ def test_install(carried, tmp_path):
 
 
 def test_cargo_without_a_warning(tmp_path):
-    need("cargo", "cc")
     folder = copied(tmp_path, "bindings/rust", "bindings/shell") / "bindings/shell"
-    run("cargo", "check", *offline(), cwd=folder, env={"RUSTFLAGS": "-D warnings"})
+    cargo(folder, "check", env={"RUSTFLAGS": "-D warnings"})
