@@ -7,7 +7,7 @@ import shlex
 import shutil
 
 import pytest
-from conftest import LINES, ROOT, ROWS, answer, need, refused_in_turn, run
+from conftest import LINES, ROOT, ROWS, answer, need, refused_in_turn, run, script
 from targets import OLD, cargo, cargo_for, copied, need_std, runner
 
 C = ROOT / "bindings/c"
@@ -240,9 +240,8 @@ def test_tools_that_lack(tmp_path):
     assert "there is no no-cargo: install Rust 1.68 or later (Debian's package cargo" in errors
     _, errors = run("sh", C / "install.sh", tmp_path / "to", status=1, env={"CC": "no-cc"})
     assert "there is no no-cc: install a C compiler (Debian's package gcc)" in errors
-    (tmp_path / "cargo").write_text("#!/bin/sh\nexit 101\n")
-    (tmp_path / "cargo").chmod(0o755)
-    _, errors = run("sh", C / "install.sh", tmp_path / "to", status=1, env={"CARGO": str(tmp_path / "cargo")})
+    failing = script(tmp_path / "cargo", "#!/bin/sh\nexit 101\n")
+    _, errors = run("sh", C / "install.sh", tmp_path / "to", status=1, env={"CARGO": str(failing)})
     assert "librust-unicode-width-dev" in errors and not (tmp_path / "to").exists()
 
 

@@ -8,12 +8,11 @@ import random
 import re
 import shlex
 import shutil
-import stat
 import subprocess
 from pathlib import Path
 
 import pytest
-from conftest import MACHINE, ROOT, answer, need, rows_in, run
+from conftest import MACHINE, ROOT, answer, need, rows_in, run, script
 from shell import lines, tables
 from targets import cargo, cargo_for, copied, offline, runner
 
@@ -33,20 +32,13 @@ EACH = pytest.mark.parametrize("program", [PROVED, "carried", BY_CARGO, "by_qemu
 OTHERS = pytest.mark.parametrize("program", [BY_CARGO, "by_qemu", BY_WINE], indirect=True)
 
 
-def wrapped(path, text):
-    """A script that runs a program by another."""
-    path.write_text(text)
-    path.chmod(path.stat().st_mode | stat.S_IXUSR)
-    return path
-
-
 @pytest.fixture(scope="session")
 def by_qemu(tmp_path_factory):
     if MACHINE == "aarch64":
         pytest.skip("this machine is one")
     need("qemu-aarch64")
     text = f'#!/bin/sh\nexec qemu-aarch64 "{SHELL}/aarch64/getopts_shell" "$@"\n'
-    return wrapped(tmp_path_factory.mktemp("qemu") / "by_qemu", text)
+    return script(tmp_path_factory.mktemp("qemu") / "by_qemu", text)
 
 
 @pytest.fixture(scope="session")
@@ -70,7 +62,7 @@ def by_wine(tmp_path_factory, other_targets):
     cargo_for(target, folder, "build", "--release", "--ignore-rust-version",
               env={"RUSTFLAGS": "-Zcrate-attr=feature(let_else)"})
     wine = shutil.which(runner(target, room)[0])
-    by = wrapped(room / "by_wine", f"""#!/usr/bin/env bash
+    by = script(room / "by_wine", f"""#!/usr/bin/env bash
 # What wine itself says is left out.
 "{wine}" "{folder}/target/{target}/release/getopts_shell.exe" "$@" 2>"{room}/errors"
 status=$?
