@@ -124,8 +124,9 @@ def test_completion_is_that_of_the_carried_program(program, name, carried):
 @pytest.mark.parametrize("own", [["-V", "opt_"], ["-AV", "opt_"]], ids=" ".join)
 @pytest.mark.parametrize("words", [["--help"], ["-x"], ["x"], ["-ia", "-ib"], ["-i"]], ids=" ".join)
 def test_help_and_faults_are_those_without_variables(program, own, words):
-    plain, variables = (subprocess.run([program, *more, "try", TABLE, *words], capture_output=True) for more in ([], own))
-    assert (plain.returncode, plain.stdout, plain.stderr) == (variables.returncode, variables.stdout, variables.stderr)
+    both = [subprocess.run([program, *more, "try", TABLE, *words], capture_output=True) for more in ([], own)]
+    plain, variables = ((done.returncode, done.stdout, done.stderr) for done in both)
+    assert plain == variables
 
 
 @HERE
