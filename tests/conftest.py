@@ -90,6 +90,13 @@ def answer(*words, env=None, **how):
     return done.stdout + done.stderr, done.returncode
 
 
+def script(path, text):
+    """Writes a program."""
+    path.write_text(text)
+    path.chmod(0o755)
+    return path
+
+
 def wait_for(*crates):
     """Where test.sh runs `rt ci` beside the tests: waits until it has proved these crates, or took them over."""
     log = Path(os.environ.get("CI_LOG", "/nowhere"))

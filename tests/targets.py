@@ -43,6 +43,12 @@ def offline():
             "--config", f'source.debian.directory="{REGISTRY}"']
 
 
+def cargo(folder, *words, env=None):
+    """Runs the cargo on the path in a folder, and returns what it wrote."""
+    need("cargo", "cc")
+    return run("cargo", words[0], *offline(), *words[1:], cwd=folder, env=env)
+
+
 def runner(target, room):
     """What runs a target's programs."""
     (room / "wasi.mjs").write_text(WASI)
@@ -61,15 +67,16 @@ def need_std(target):
 
 def cargo_for(target, folder, *words, env=None):
     """Runs Debian's cargo for a target on a copy of a crate, in whose folder it writes, and returns what it wrote."""
-    cargo, (linker, by) = Path("/usr/bin/cargo"), TARGETS[target]
-    if not cargo.exists() or not offline():
+    linker, by = TARGETS[target]
+    if not Path("/usr/bin/cargo").exists() or not offline():
         pytest.skip("there is no /usr/bin/cargo or no unicode-width: apt-get install cargo librust-unicode-width-dev")
     need(*[linker] if linker else [])
     need_std(target)
     name = f"CARGO_TARGET_{target.upper().replace('-', '_')}"
     settings = {f"{name}_LINKER": linker, f"{name}_RUNNER": " ".join(runner(target, folder)) if by else None}
     env = {**{key: word for key, word in settings.items() if word}, **(env or {})}
-    return run(cargo, words[0], *offline(), "--quiet", "--target", target, *words[1:], cwd=folder, env={**OLD, **env})
+    words = [words[0], *offline(), "--quiet", "--target", target, *words[1:]]
+    return run("/usr/bin/cargo", *words, cwd=folder, env={**OLD, **env})
 
 
 def copied(to, *names):

@@ -1,13 +1,14 @@
 """The library for C: its calls on six targets, as each C compiler of this machine builds them, and the installation."""
 
+import functools
 import os
 import re
 import shlex
 import shutil
 
 import pytest
-from conftest import LINES, ROOT, ROWS, answer, need, refused_in_turn, run
-from targets import OLD, cargo_for, copied, need_std, offline, runner
+from conftest import LINES, ROOT, ROWS, answer, need, refused_in_turn, run, script
+from targets import OLD, cargo, cargo_for, copied, need_std, runner
 
 C = ROOT / "bindings/c"
 WARNINGS = "-std=c11 -Wall -Wextra -Wpedantic -Wshadow -Wconversion -Wno-sign-conversion -Werror".split()
@@ -32,19 +33,15 @@ BUILDS = {
 @pytest.fixture(scope="module")
 def library(tmp_path_factory):
     """library(TARGET): the archive that cargo builds, once for each target."""
-    room, built = tmp_path_factory.mktemp("c"), {}
-
+    @functools.cache
     def of(target):
-        if target not in built:
-            folder = copied(room / (target or "host"), "bindings/c", "bindings/rust") / "bindings/c"
-            if target:
-                words = ["build", "--release", "--ignore-rust-version"]
-                cargo_for(target, folder, *words, env={"RUSTFLAGS": "--cfg old_rustc"})
-            else:
-                need("cargo", "cc")
-                run("cargo", "build", "--release", *offline(), cwd=folder, env={"RUSTFLAGS": "-D warnings"})
-            built[target] = folder / "target" / (target or "") / "release/libgetopts.a"
-        return built[target]
+        folder = copied(tmp_path_factory.mktemp("c"), "bindings/c", "bindings/rust") / "bindings/c"
+        if target:
+            words = ["build", "--release", "--ignore-rust-version"]
+            cargo_for(target, folder, *words, env={"RUSTFLAGS": "--cfg old_rustc"})
+        else:
+            cargo(folder, "build", "--release", env={"RUSTFLAGS": "-D warnings"})
+        return folder / "target" / (target or "") / "release/libgetopts.a"
 
     return of
 
@@ -76,9 +73,7 @@ def build(request, tmp_path, library):
 def test_rows(build):
     program = build(C / "tests/rows.c")
     for rows in ROWS:
-        out = run(*program, rows)[0]
-        assert ", 0 differ" in out
-        print(out)
+        assert ", 0 differ" in run(*program, rows)[0]
 
 
 def test_calls(build):
@@ -102,11 +97,10 @@ def test_threads(build):
     run(*build(C / "tests/threads.c", "-pthread"))
 
 
-def test_lints(library, tmp_path):
+def test_lints(tmp_path):
     """The crate's lints, and that all that is unsafe stands in one file."""
-    need("cargo")
     folder = copied(tmp_path, "bindings/c", "bindings/rust") / "bindings/c"
-    run("cargo", "clippy", "--release", *offline(), "--", "-D", "warnings", cwd=folder)
+    cargo(folder, "clippy", "--release", "--", "-D", "warnings")
     unsafe = [path.name for path in (C / "src").glob("*.rs") if re.search(r"\bunsafe\b(?!_code)", path.read_text())]
     assert [name for name in unsafe if name != "lib.rs"] == ["c.rs"]
     assert "#![deny(unsafe_code)]" in (C / "src/lib.rs").read_text()
@@ -251,9 +245,8 @@ def test_tools_that_lack(tmp_path):
     assert "there is no no-cargo: install Rust 1.68 or later (Debian's package cargo" in errors
     _, errors = run("sh", C / "install.sh", tmp_path / "to", status=1, env={"CC": "no-cc"})
     assert "there is no no-cc: install a C compiler (Debian's package gcc)" in errors
-    (tmp_path / "cargo").write_text("#!/bin/sh\nexit 101\n")
-    (tmp_path / "cargo").chmod(0o755)
-    _, errors = run("sh", C / "install.sh", tmp_path / "to", status=1, env={"CARGO": str(tmp_path / "cargo")})
+    failing = script(tmp_path / "cargo", "#!/bin/sh\nexit 101\n")
+    _, errors = run("sh", C / "install.sh", tmp_path / "to", status=1, env={"CARGO": str(failing)})
     assert "librust-unicode-width-dev" in errors and not (tmp_path / "to").exists()
 
 

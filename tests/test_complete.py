@@ -12,7 +12,7 @@ import shlex
 import time
 
 import pytest
-from conftest import answer, need, run
+from conftest import answer, need, run, script
 from model import Group, Options
 
 TABLE = """
@@ -74,8 +74,7 @@ def room(shell, tmp_path):
         (tmp_path / folder).mkdir()
     (tmp_path / "bin/getopts_shell").symlink_to(shell)
     for name in FLAGS:
-        (tmp_path / "bin" / name).write_text('#!/bin/sh\nprintf "%s\\0" "$@" >>"$LOG"\nprintf "\\001" >>"$LOG"\n')
-        (tmp_path / "bin" / name).chmod(0o755)
+        script(tmp_path / "bin" / name, '#!/bin/sh\nprintf "%s\\0" "$@" >>"$LOG"\nprintf "\\001" >>"$LOG"\n')
     for name in NAMES:
         (tmp_path / "here" / name).write_text("")
     return tmp_path
@@ -95,8 +94,7 @@ def test_names_and_tables_of_any_bytes(room, name, before, ask):
     need(name)
     code, _ = run(room / "bin/getopts_shell", "--complete", name, NAME, ANY)
     (room / "bin/getopts_shell").unlink()
-    (room / "bin/getopts_shell").write_text('#!/bin/sh\nprintf "%s\\n" "$@" >"$HOME/words"\n')
-    (room / "bin/getopts_shell").chmod(0o755)
+    script(room / "bin/getopts_shell", '#!/bin/sh\nprintf "%s\\n" "$@" >"$HOME/words"\n')
     env = {"PATH": f"{room}/bin:{os.environ['PATH']}", "HOME": str(room)}
     answer(name, "-c", before + code + ask, env=env, cwd=room)
     assert (room / "words").read_text().startswith(f"--complete-words\n{name}\n{NAME}\n{ANY}\n")
@@ -119,10 +117,10 @@ class Terminal:
     def __init__(self, name, room, files):
         home = room / ("config/fish/config.fish" if name == "fish" else f".{name}rc")
         home.parent.mkdir(parents=True, exist_ok=True)
-        for script, flags in FLAGS.items():
-            code, errors = run(room / "bin/getopts_shell", *flags.split(), "--complete", name, script, TABLE)
+        for command, flags in FLAGS.items():
+            code, errors = run(room / "bin/getopts_shell", *flags.split(), "--complete", name, command, TABLE)
             assert not errors
-            (room / "site" / f"_{script}").write_text(code)
+            (room / "site" / f"_{command}").write_text(code)
         read = 'for file in "$HOME"/site/*; do eval "$(cat "$file")"; done\n'
         home.write_text({
             "bash": "set -u\nPS1='> '\nbind 'set show-all-if-ambiguous on'\nbind 'set completion-query-items 0'\n"
@@ -198,10 +196,10 @@ def test_completion_in_a_terminal(room, name, files):
     need(name)
     terminal = Terminal(name, room, files)
     terminal.type("backup ready\r")
-    for script, lines in LINES.items():
+    for command, lines in LINES.items():
         for typed in lines:
-            got, shown = terminal.type(f"{script} {typed}\t\r")
-            assert got == words_after(name, typed, FLAGS[script]), shown
+            got, shown = terminal.type(f"{command} {typed}\t\r")
+            assert got == words_after(name, typed, FLAGS[command]), shown
             assert not re.search("command not found|unbound|getopts_shell", shown), typed
     # A script by its path.
     got, shown = terminal.type(f"{room}/bin/backup --inp\t\r")

@@ -1,5 +1,6 @@
 """The Rust crate: it is the proved source, its form, and it answers as the crate getopts 0.2.24, on five targets."""
 
+import functools
 import itertools
 import os
 import re
@@ -8,8 +9,8 @@ import sys
 from pathlib import Path
 
 import pytest
-from conftest import LINES, ROOT, ROWS, answer, need, run
-from targets import TARGETS, UNWINDS, cargo_for, copied, offline, runner
+from conftest import LINES, ROOT, ROWS, answer, run
+from targets import TARGETS, UNWINDS, cargo, cargo_for, copied, runner
 
 RUST = ROOT / "bindings/rust"
 TWIN = ROOT / "tests/differential/twin"
@@ -88,36 +89,28 @@ def test_eraser_stops(file, right, wrong, why, reader):
 # ---- the crate
 
 @pytest.fixture(scope="module")
-def cargo(tmp_path_factory):
-    """cargo(WORD..): in a copy of the crate."""
-    need("cargo", "cc")
-    folder = copied(tmp_path_factory.mktemp("rust"), "bindings/rust") / "bindings/rust"
-    shutil.copytree(TWIN, folder / "../../tests/differential/twin")
-
-    def cargo(*words, env=None):
-        return run("cargo", words[0], *offline(), *words[1:], cwd=folder, env=env)
-
-    cargo.folder = folder
-    return cargo
+def folder(tmp_path_factory):
+    """A copy of the crate."""
+    return copied(tmp_path_factory.mktemp("rust"), "bindings/rust") / "bindings/rust"
 
 
 @pytest.mark.parametrize("features", [["--features", "proved"], ["--no-default-features", "--tests"]])
-def test_crate(cargo, features):
-    cargo("test", *features)
+def test_crate(folder, features):
+    cargo(folder, "test", *features)
 
 
 @pytest.mark.parametrize("features", [[], ["--features", "proved"], ["--no-default-features"], ["--features", "bare"]])
-def test_no_warning(cargo, features):
-    cargo("check", *features, env={"RUSTFLAGS": "-D warnings"})
+def test_no_warning(folder, features):
+    cargo(folder, "check", *features, env={"RUSTFLAGS": "-D warnings"})
 
 
-def test_lints(cargo):
-    cargo("clippy", "--all-targets", "--features", "proved canonical", "--", "-D", "warnings")
-    cargo("clippy", "--features", "bare", "--", "-D", "warnings")
+def test_lints(folder):
+    cargo(folder, "clippy", "--all-targets", "--features", "proved canonical", "--", "-D", "warnings")
+    cargo(folder, "clippy", "--features", "bare", "--", "-D", "warnings")
 
 
-def test_documentation(cargo):
-    cargo("doc", "--no-deps", "--features", "proved", env={"RUSTDOCFLAGS": "-D warnings"})
+def test_documentation(folder):
+    cargo(folder, "doc", "--no-deps", "--features", "proved", env={"RUSTDOCFLAGS": "-D warnings"})
     for name in ("options", "matches", "os"):
         example = False
         for line in (RUST / f"src/{name}.rs").read_text().splitlines():
@@ -125,19 +118,19 @@ def test_documentation(cargo):
             example = line.startswith("    /// ```") or example and not line.startswith(("    }", "impl"))
 
 
-def test_package(cargo):
-    names = cargo("package", "--allow-dirty", "--list")[0].split()
+def test_package(folder):
+    names = cargo(folder, "package", "--allow-dirty", "--list")[0].split()
     assert set("README.md LICENSE-MIT LICENSE-APACHE NOTICE src/proved/mod.rs src/bytes/mod.rs".split()) <= set(names)
     for name in set(names) - {"Cargo.lock", "Cargo.toml.orig", ".cargo_vcs_info.json"}:
         (RUST / name).read_text(encoding="utf-8")
-    tree = cargo("tree", "--edges", "normal", "--prefix", "none")[0].splitlines()
+    tree = cargo(folder, "tree", "--edges", "normal", "--prefix", "none")[0].splitlines()
     assert {line.split()[0] for line in tree} == {"getopts", "unicode-width"}
 
 
 @pytest.fixture(scope="module")
-def example(cargo):
-    cargo("build", "--release", "--example", "show")
-    return cargo.folder / "target/release/examples/show"
+def example(folder):
+    cargo(folder, "build", "--release", "--example", "show")
+    return folder / "target/release/examples/show"
 
 
 @pytest.mark.parametrize("line", LINES)
@@ -162,15 +155,11 @@ def twin_over(room, over, edit=None):
 @pytest.fixture(scope="module")
 def twin(tmp_path_factory):
     """twin(CRATE, FLAG..): the program of tests/differential over a crate in a folder."""
-    need("cargo", "cc")
-    built = {}
-
+    @functools.cache
     def twin(over, *flags, edit=None):
-        if (over, flags, edit) not in built:
-            folder = twin_over(tmp_path_factory.mktemp("twin"), over, edit)
-            run("cargo", "build", "--release", *offline(), *flags, cwd=folder)
-            built[over, flags, edit] = folder / "target/release/twin"
-        return built[over, flags, edit]
+        folder = twin_over(tmp_path_factory.mktemp("twin"), over, edit)
+        cargo(folder, "build", "--release", *flags)
+        return folder / "target/release/twin"
 
     return twin
 

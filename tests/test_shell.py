@@ -8,14 +8,13 @@ import random
 import re
 import shlex
 import shutil
-import stat
 import subprocess
 from pathlib import Path
 
 import pytest
-from conftest import MACHINE, ROOT, answer, need, rows_in, run
+from conftest import MACHINE, ROOT, answer, need, rows_in, run, script
 from shell import lines, tables
-from targets import cargo_for, copied, offline, runner
+from targets import cargo, cargo_for, copied, offline, runner
 
 SHELL = ROOT / "bindings/shell"
 SHELLS = ["dash", "bash", "bash --posix", "zsh", "ksh93", "mksh", "yash", "busybox sh"]
@@ -33,20 +32,13 @@ EACH = pytest.mark.parametrize("program", [PROVED, "carried", BY_CARGO, "by_qemu
 OTHERS = pytest.mark.parametrize("program", [BY_CARGO, "by_qemu", BY_WINE], indirect=True)
 
 
-def wrapped(path, text):
-    """A script that runs a program by another."""
-    path.write_text(text)
-    path.chmod(path.stat().st_mode | stat.S_IXUSR)
-    return path
-
-
 @pytest.fixture(scope="session")
 def by_qemu(tmp_path_factory):
     if MACHINE == "aarch64":
         pytest.skip("this machine is one")
     need("qemu-aarch64")
     text = f'#!/bin/sh\nexec qemu-aarch64 "{SHELL}/aarch64/getopts_shell" "$@"\n'
-    return wrapped(tmp_path_factory.mktemp("qemu") / "by_qemu", text)
+    return script(tmp_path_factory.mktemp("qemu") / "by_qemu", text)
 
 
 @pytest.fixture(scope="session")
@@ -70,7 +62,7 @@ def by_wine(tmp_path_factory, other_targets):
     cargo_for(target, folder, "build", "--release", "--ignore-rust-version",
               env={"RUSTFLAGS": "-Zcrate-attr=feature(let_else)"})
     wine = shutil.which(runner(target, room)[0])
-    by = wrapped(room / "by_wine", f"""#!/usr/bin/env bash
+    by = script(room / "by_wine", f"""#!/usr/bin/env bash
 # What wine itself says is left out.
 "{wine}" "{folder}/target/{target}/release/getopts_shell.exe" "$@" 2>"{room}/errors"
 status=$?
@@ -132,8 +124,9 @@ def test_completion_is_that_of_the_carried_program(program, name, carried):
 @pytest.mark.parametrize("own", [["-V", "opt_"], ["-AV", "opt_"]], ids=" ".join)
 @pytest.mark.parametrize("words", [["--help"], ["-x"], ["x"], ["-ia", "-ib"], ["-i"]], ids=" ".join)
 def test_help_and_faults_are_those_without_variables(program, own, words):
-    plain, variables = (subprocess.run([program, *more, "try", TABLE, *words], capture_output=True) for more in ([], own))
-    assert (plain.returncode, plain.stdout, plain.stderr) == (variables.returncode, variables.stdout, variables.stderr)
+    both = [subprocess.run([program, *more, "try", TABLE, *words], capture_output=True) for more in ([], own)]
+    plain, variables = ((done.returncode, done.stdout, done.stderr) for done in both)
+    assert plain == variables
 
 
 @HERE
@@ -280,6 +273,5 @@ def test_install(carried, tmp_path):
 
 
 def test_cargo_without_a_warning(tmp_path):
-    need("cargo", "cc")
     folder = copied(tmp_path, "bindings/rust", "bindings/shell") / "bindings/shell"
-    run("cargo", "check", *offline(), cwd=folder, env={"RUSTFLAGS": "-D warnings"})
+    cargo(folder, "check", env={"RUSTFLAGS": "-D warnings"})
