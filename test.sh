@@ -35,7 +35,7 @@ with_pytest || get_pytest "apt-get install $packages" by_apt ||
 room=$(mktemp -d)
 trap 'kill $(jobs -p) 2>/dev/null; rm -rf "$room"' EXIT
 tests() {
-    nice -n 10 "$python" -m pytest tests -q --dist loadgroup --durations 15 "${quick[@]}" ${crate:+--getopts="$crate"} "$@"
+    nice -n 5 "$python" -m pytest tests -q --dist loadgroup --durations 15 "${quick[@]}" ${crate:+--getopts="$crate"} "$@"
 }
 crate=${1:-} failed=''
 ended() { [ "$2" = 0 ] || failed="$failed; $1"; echo "== $1: status $2 after $((SECONDS - start)) s"; }
