@@ -251,6 +251,9 @@ def test_tools_that_lack(tmp_path):
     (tmp_path / "cargo").chmod(0o755)
     _, errors = run("sh", C / "install.sh", tmp_path / "to", status=1, env={"CARGO": str(tmp_path / "cargo")})
     assert "librust-unicode-width-dev" in errors and not (tmp_path / "to").exists()
+    (tmp_path / "cargo").write_text("#!/bin/sh\n")
+    _, errors = run("sh", C / "install.sh", tmp_path / "to", status=1, env={"CARGO": str(tmp_path / "cargo")})
+    assert "cargo left no libgetopts.a. If a configuration" in errors and not (tmp_path / "to").exists()
 
 
 @pytest.mark.parametrize("shell", ["dash", "busybox"])

@@ -108,7 +108,8 @@ done
     fail "cargo can't build it. It needs Rust 1.68 or later with the target's standard library, and the crate
 unicode-width: without a network Debian's package librust-unicode-width-dev"
 built=$room/target/${target:+$target/}release/libgetopts.a
-[ -f "$built" ] || fail "cargo left no libgetopts.a for $target"
+[ -f "$built" ] || fail "cargo left no libgetopts.a${target:+ for $target}. If a configuration of cargo names another
+target, name it by CARGO_BUILD_TARGET, and its C compiler by CC"
 
 # put FILE PLACE [MODE]: a link in its place goes, and what it names stays.
 put() {
