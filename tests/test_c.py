@@ -248,6 +248,9 @@ def test_tools_that_lack(tmp_path):
     failing = script(tmp_path / "cargo", "#!/bin/sh\nexit 101\n")
     _, errors = run("sh", C / "install.sh", tmp_path / "to", status=1, env={"CARGO": str(failing)})
     assert "librust-unicode-width-dev" in errors and not (tmp_path / "to").exists()
+    (tmp_path / "cargo").write_text("#!/bin/sh\n")
+    _, errors = run("sh", C / "install.sh", tmp_path / "to", status=1, env={"CARGO": str(tmp_path / "cargo")})
+    assert "cargo left no libgetopts.a. If a configuration" in errors and not (tmp_path / "to").exists()
 
 
 @pytest.mark.parametrize("shell", ["dash", "busybox"])
@@ -259,7 +262,7 @@ def test_destdir_and_uninstall(shell, relative, tmp_path):
     if shell == "busybox":
         tools, words = tmp_path / "tools", ["busybox", "sh"]
         tools.mkdir()
-        for tool in "sed cp ln mkdir chmod rm dirname basename mktemp cat".split():
+        for tool in "sed cp ln mkdir chmod rm rmdir dirname mktemp cat".split():
             (tools / tool).symlink_to(shutil.which("busybox"))
         # Debian's busybox has tools of its own before those on the path, of which ar makes no archives.
         env.update(PATH=f"{tools}:{os.environ['PATH']}", AR=shutil.which("ar"))
@@ -267,6 +270,25 @@ def test_destdir_and_uninstall(shell, relative, tmp_path):
     assert "prefix=/usr/lo cal\n" in (tmp_path / "stage/usr/lo cal/lib/pkgconfig/getopts.pc").read_text()
     run(*words, C / "install.sh", "--uninstall", "/usr/lo cal", env=env, cwd=tmp_path)
     assert not any(path.is_file() for path in (tmp_path / "stage").rglob("*"))
+
+
+def test_files_of_others_stay(tmp_path):
+    """What stood in the folders before, and what a link in the place of a file names; a folder in such a place is told."""
+    need("cargo", "cc")
+    to, others = tmp_path / "to", ["share/doc/getopts/others", "lib/libgetopts.so.2.others", "others.h"]
+    for other in others:
+        (to / other).parent.mkdir(parents=True, exist_ok=True)
+        (to / other).write_text("others'")
+    (to / "include").mkdir()
+    (to / "include/getopts.h").symlink_to(to / "others.h")
+    (to / "lib/libgetopts.so.2.0").write_text("an old version")
+    run("sh", C / "install.sh", to)
+    assert (to / "include/getopts.h").read_bytes() == (C / "getopts.h").read_bytes()
+    run("sh", C / "install.sh", "--uninstall", to)
+    left = {str(path.relative_to(to)): path.read_text() for path in to.rglob("*") if path.is_file()}
+    assert left == {other: "others'" for other in others}
+    (to / "include/getopts.h").mkdir()
+    assert "include/getopts.h" in run("sh", C / "install.sh", to, status=1)[1]
 
 
 def test_usage_of_install():

@@ -267,6 +267,20 @@ def test_install(carried, tmp_path):
         assert (tmp_path / "stage/usr/bin/getopts_shell").read_bytes() == there.read_bytes()
     install("/nowhere", status=1, MACHINE="m68k")
     assert not Path("/nowhere").exists()
+    # A link in the place of a file goes, and what it names stays; a folder there is told, and so is another system.
+    (tmp_path / "page").write_text("others'")
+    (tmp_path / "a prefix/share/man/man1/getopts_shell.1").unlink()
+    (tmp_path / "a prefix/share/man/man1/getopts_shell.1").symlink_to(tmp_path / "page")
+    install("a prefix")
+    assert (tmp_path / "page").read_text() == "others'"
+    (tmp_path / "page").unlink()
+    (tmp_path / "to/bin/getopts_shell").mkdir(parents=True)
+    install("to", status=1)
+    (tmp_path / "bsd").mkdir()
+    (tmp_path / "bsd/uname").write_text('#!/bin/sh\n[ "$1" = -s ] && echo FreeBSD || echo amd64\n')
+    (tmp_path / "bsd/uname").chmod(0o755)
+    install("other", status=1, PATH=f"{tmp_path}/bsd:{os.environ['PATH']}")
+    (tmp_path / "bsd/uname").unlink()
     install("--uninstall", "a prefix")
     install("--uninstall", "/usr", DESTDIR="stage/")
     assert not [path for path in tmp_path.rglob("*") if not path.is_dir()]

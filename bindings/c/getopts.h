@@ -54,7 +54,8 @@ enum getopts_kind {
     GETOPTS_NO = 0,       /* it takes no argument */
     GETOPTS_YES = 1,      /* it needs an argument, in the same word or the next */
     GETOPTS_MAYBE = 2,    /* it may have an argument. Unlike with getopt_long, a short option takes the next word
-                           * too, unless that is an option: `-O f` gives f to O; `--opt f` gives nothing to opt */
+                           * too, unless that is a dash and more: `-O f` gives f to O; `--opt f` gives nothing to
+                           * opt */
     GETOPTS_OPTIONAL = 0, /* it comes at most once */
     GETOPTS_REQ = 4,      /* it comes exactly once */
     GETOPTS_MULTI = 8     /* it comes any number of times */

@@ -9,10 +9,11 @@
 # - PREFIX/share/man/man3: getopts.3, also by the name of each function
 # - PREFIX/share/doc/getopts: README.md, head.c and the licences
 #
-# It needs cargo with Rust 1.68 or later, a C compiler and binutils, and runs by any POSIX shell, also busybox's. It
-# takes unicode-width from Debian's librust-unicode-width-dev where that is installed, and else cargo fetches it. For
-# another target name it and its compiler: CARGO_BUILD_TARGET=aarch64-unknown-linux-gnu CC=aarch64-linux-gnu-gcc. It
-# uses CARGO, CARGO_FLAGS, CC, AR, CFLAGS and LDFLAGS, and writes its files below DESTDIR.
+# It needs cargo with Rust 1.68 or later, a C compiler and binutils, and runs by any POSIX shell, also busybox's (where
+# that has an ar of its own, as Debian's, with AR=/usr/bin/ar). It takes unicode-width from Debian's
+# librust-unicode-width-dev where that is installed, and else cargo fetches it. For another target name it and its
+# compiler: CARGO_BUILD_TARGET=aarch64-unknown-linux-gnu CC=aarch64-linux-gnu-gcc. It uses CARGO, CARGO_FLAGS, CC, AR,
+# CFLAGS and LDFLAGS, and writes its files below DESTDIR.
 set -eu
 unset CDPATH
 here=$(cd "$(dirname "$0")" && pwd)
@@ -49,13 +50,30 @@ soname=libgetopts.so.${version%%.*}
 shared=libgetopts.so.$version
 functions=$(sed -n 's/^[a-z].*[ *]\(getopts_[a-z_]*\)(.*/\1/p' "$here/getopts.h")
 
+# What goes into share/doc/getopts, by its place from here.
+documents="README.md head.c ../../LICENSE-MIT ../../LICENSE-APACHE ../../NOTICE"
+
+# Removes the shared libraries of all versions with the first number of this one.
+remove_versions() {
+    for file in "$to/lib/$soname".*; do
+        case ${file#"$to/lib/$soname."} in
+        *[!0-9.]*) ;;
+        *) rm -f "$file" ;;
+        esac
+    done
+}
+
 if [ -n "$remove" ]; then
-    rm -f "$to/include/getopts.h" "$to/lib/libgetopts.a" "$to/lib/libgetopts.so" "$to/lib/$soname" "$to/lib/$soname".* \
+    rm -f "$to/include/getopts.h" "$to/lib/libgetopts.a" "$to/lib/libgetopts.so" "$to/lib/$soname" \
         "$to/lib/pkgconfig/getopts.pc" "$to/lib/pkgconfig/getopts-static.pc" "$to/share/man/man3/getopts.3"
+    remove_versions
     for function in $functions; do
         rm -f "$to/share/man/man3/$function.3"
     done
-    rm -rf "$to/share/doc/getopts"
+    for file in $documents; do
+        rm -f "$to/share/doc/getopts/${file##*/}"
+    done
+    rmdir "$to/share/doc/getopts" 2>/dev/null || :
     echo "removed from $to"
     exit
 fi
@@ -84,10 +102,13 @@ done
     fail "cargo can't build it. It needs Rust 1.68 or later with the target's standard library, and the crate
 unicode-width: without a network Debian's package librust-unicode-width-dev"
 built=$room/target/${target:+$target/}release/libgetopts.a
-[ -f "$built" ] || fail "cargo left no libgetopts.a for $target"
+[ -f "$built" ] || fail "cargo left no libgetopts.a${target:+ for $target}. If a configuration of cargo names another
+target, name it by CARGO_BUILD_TARGET, and its C compiler by CC"
 
+# put FILE PLACE [MODE]: a link in its place goes, and what it names stays.
 put() {
     mkdir -p "$(dirname "$to/$2")"
+    rm -f "$to/$2"
     cp "$1" "$to/$2"
     chmod "${3:-644}" "$to/$2"
 }
@@ -107,7 +128,7 @@ Cflags: "-I\${includedir}"
 END
 }
 
-rm -f "$to/lib/$soname".*
+remove_versions
 case $($cc -dumpmachine) in
 *linux*)
     # One object that exports the functions of getopts.h and nothing else.
@@ -145,7 +166,7 @@ put "$here/getopts.3" share/man/man3/getopts.3
 for function in $functions; do
     put "$room/page.3" "share/man/man3/$function.3"
 done
-for file in "$here/README.md" "$here/head.c" "$top/LICENSE-MIT" "$top/LICENSE-APACHE" "$top/NOTICE"; do
-    put "$file" "share/doc/getopts/$(basename "$file")"
+for file in $documents; do
+    put "$here/$file" "share/doc/getopts/${file##*/}"
 done
 echo "installed in $to"

@@ -20,6 +20,10 @@ if [ -n "$remove" ]; then
     exit
 fi
 cd "$(dirname "$0")"
+if [ -z "${MACHINE-}" ] && [ "$(uname -s)" != Linux ]; then
+    echo "install.sh: there is no program for $(uname -s), only for Linux: README.md says how cargo builds it" >&2
+    exit 1
+fi
 machine=${MACHINE:-$(uname -m)}
 case $machine in amd64) machine=x86_64 ;; arm64) machine=aarch64 ;; esac
 if [ ! -f "$machine/getopts_shell" ]; then
@@ -28,10 +32,16 @@ if [ ! -f "$machine/getopts_shell" ]; then
 fi
 (cd "$machine" && sha256sum -c getopts_shell.sha256 >/dev/null)
 mkdir -p "$to/bin" "$to/share/man/man1"
-# The old program stays until the new one is whole.
-cp "$machine/getopts_shell" "$program.new"
-chmod 755 "$program.new"
-mv -f "$program.new" "$program"
-cp getopts_shell.1 "$page"
-chmod 644 "$page"
+# put FILE PLACE MODE: the old file stays until the new one is whole.
+put() {
+    if [ -d "$2" ]; then
+        echo "install.sh: $2 is a folder" >&2
+        exit 1
+    fi
+    cp "$1" "$2.new"
+    chmod "$3" "$2.new"
+    mv -f "$2.new" "$2"
+}
+put "$machine/getopts_shell" "$program" 755
+put getopts_shell.1 "$page" 644
 echo "installed $program and its manual page"

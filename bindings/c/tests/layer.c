@@ -146,6 +146,8 @@ static void counts_are_no_reason_to_forget(void) {
     expect(getopts_count(options, "help") == 1 && getopts_position(options, "h", 0) == 0, "help beside it");
     expect(getopts_defined(options, "o") && getopts_count(options, "o") == 0, "the missing option");
     expect(getopts_free_count(options) == 2 && getopts_trailing_start(options) == 1, "the free words beside it");
+    expect(getopts_read(options, 3, help) == GETOPTS_OPTION_MISSING && getopts_trailing_start(options) == -1,
+           "no word after --");
     expect(getopts_read(options, 3, again) == GETOPTS_OPTION_DUPLICATED, "an option that came again");
     expect(strcmp(getopts_message(options), "Option 'output' given more than once") == 0, "its message");
     expect(getopts_count(options, "o") == 2 && strcmp(getopts_value(options, "o", 1), "b") == 0, "both values");

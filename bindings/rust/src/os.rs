@@ -26,6 +26,9 @@ impl Options {
     /// Words are of any bytes on Unix, and may hold lone surrogates on Windows; elsewhere they are texts. The name in a
     /// fault is a text, with U+FFFD for what is none.
     ///
+    /// The characters from U+10FF80 on, the last of those for private use, stand for bytes here: a name that holds one
+    /// is found by `parse` alone.
+    ///
     /// ```
     /// use std::ffi::OsString;
     /// let mut options = getopts::Options::new();

@@ -114,6 +114,15 @@ fn a_fault_has_a_text() {
 }
 
 #[test]
+fn a_name_with_what_stands_for_a_byte_is_found_by_parse_alone() {
+    let (name, mut options) = ("\u{10FF80}", Options::new());
+    options.optflag("", name, "");
+    let word = format!("--{name}");
+    assert!(options.parse([&word]).unwrap().opt_present(name));
+    assert!(options.parse_os([&word]).is_err());
+}
+
+#[test]
 fn values_are_lent() {
     let matches = options()
         .parse(["-oa", "--color=", "x", "-c", "y", "-c"])
