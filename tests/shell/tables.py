@@ -5,7 +5,7 @@ import re
 from conftest import answer
 
 SHORT, LONG_BYTE = "[A-Za-z0-9?@#%+_^,./:]", r"[A-Za-z0-9_.+:\x80-\U0010ffff-]"
-HINT = r"[^ \t\[\]]+(?<!\.\.)"
+HINT = r"(?![-|])[^ \t\[\]]+(?<!\.\.)"
 # What stands in an item's brackets: its names, and perhaps an argument.
 ITEM = re.compile(rf"(?:-({SHORT})|(?:-({SHORT})\|)?--(?!-)({LONG_BYTE}{{2,}}(?<!:)))(?: {HINT}| \[{HINT}\])?")
 BRACKETS = "brackets stand around the option or its argument, and dots only after ']'"
@@ -18,7 +18,7 @@ def reason_of(item):
     short, _, long = ("", "", names) if names.startswith("--") else names.partition("|")
     reasons = [
         ("[" in item and "]" not in item, "no ']'"),
-        (argument.startswith(("-", "|")), "names are written as -s|--long, without a blank or a comma"),
+        (re.match(r"\[?[-|]", argument), "names are written as -s|--long, without a blank or a comma"),
         (" " in end, "a tab or two spaces have to come before the description"),
         (" " in argument, "an argument holds no space, and a tab or two spaces come before a description"),
         ("=" in names, "an argument comes after a space, as in '--long ARG'"),

@@ -16,7 +16,7 @@ use Rattle.getopts.specs.declared.groups.Occur.{Occur}
 use Rattle.getopts_shell.specs.Table.{is_name, is_hint, names_text, MayBeNames, AreNames}
 use Rattle.getopts_shell.specs.Table.{IsArgument}
 use Rattle.getopts_shell.specs.Table.{HasParts, IsBracketed, bare, bracketed, IsItem, end_means}
-use Rattle.getopts_shell.specs.Table.{fits, is_hint_byte}
+use Rattle.getopts_shell.specs.Table.{begins_name, fits, is_hint_byte}
 use Rattle.getopts_shell.specs.declared.row.Mark.{Mark}
 use Rattle.std.specs.Str.Pattern.{RFindsChar}
 use Rattle.std.proofs.lemmas.List.Elements.{All-from_get_or, recursion_from_All}
@@ -344,7 +344,7 @@ hint_open : (rest : Text) → is_hint (91 ∷ rest) ≡ true → ⊥
 hint_open rest is =
     let some = is_empty-cons 91 rest in
     let bad : false ≡ true = ap (λ (b : Bool). not b && (list_all is_hint_byte (91 ∷ rest)
-    && not (ends_with eqb (91 ∷ rest) (46 ∷ 46 ∷ [])))) (sym some) ∙ is in cc
+    && (not (begins_name (91 ∷ rest)) && not (ends_with eqb (91 ∷ rest) (46 ∷ 46 ∷ []))))) (sym some) ∙ is in cc
 
 -- an argument has one kind and one hint
 pub one_argument : (kind another : HasArg) (hint other : Text) (argument : Option Text)

@@ -51,10 +51,15 @@ is_long_name text = not (begins_with_dash text)
 abbrev pub is_hint_byte : ℕ → Bool
 is_hint_byte byte = not (byte == 32) && not (byte == 9) && not (byte == 91) && not (byte == 93)
 
--- whether a text may be a hint: it doesn't end in two dots, which come after brackets
+-- whether a text begins as names do, with a dash or `|`
+abbrev pub begins_name : Text → Bool
+begins_name text = slice_index text 0 == 45 || slice_index text 0 == 124
+
+-- whether a text may be a hint: it doesn't begin as names do, nor end in two dots, which come after
+-- brackets
 abbrev pub is_hint : Text → Bool
-is_hint text = not (is_empty text)
-    && (list_all is_hint_byte text && not (ends_with ◌==◌ text (codes "..")))
+is_hint text = not (is_empty text) && (list_all is_hint_byte text
+    && (not (begins_name text) && not (ends_with ◌==◌ text (codes ".."))))
 
 -- names as they are written: `-s`, `--long` or `-s|--long`
 abbrev pub names_text : Names → Text
@@ -260,9 +265,13 @@ before byte text = before_first (λ other. other == byte) text
 abbrev pub after : ℕ → Text → Text
 after byte text = after_first (λ other. other == byte) text
 
+-- a text without a `[` in front
+abbrev pub unopened : Text → Text
+unopened text = if slice_index text 0 == 91 then drop 1 text else text
+
 -- what stands for the names of an item: all before the first space or `]`, without a `[` in front
 abbrev pub names_in : Text → Text
-names_in item = before 32 (before 93 (if slice_index item 0 == 91 then drop 1 item else item))
+names_in item = before 32 (before 93 (unopened item))
 
 -- the two names that names are, right or wrong, each with its dashes
 abbrev pub dashed : Text → Names
@@ -277,7 +286,7 @@ reasons item =
     let short = (dashed names).short in
     let long = (dashed names).long in
     (holds 91 item && not (holds 93 item), OPEN.now)
-    ∷ (slice_index (after 32 item) 0 == 45 || slice_index (after 32 item) 0 == 124, APART.now)
+    ∷ (begins_name (unopened (after 32 item)), APART.now)
     ∷ (holds 32 (after 93 item), GAP.now)
     ∷ (holds 32 (after 32 item), SPACE.now)
     ∷ (holds 61 names, EQUALS.now)

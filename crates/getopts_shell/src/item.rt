@@ -14,7 +14,7 @@ ghost use Rattle.getopts_shell.specs.Held.{entry_of_row};
 ghost use Rattle.getopts_shell.specs.Table.{is_name, is_name_byte, is_hint, is_hint_byte, AreNames};
 ghost use Rattle.getopts_shell.specs.Table.{is_long_name, is_long_byte, MayBeNames};
 ghost use Rattle.getopts_shell.specs.Table.{IsArgument, HasParts, IsBracketed, IsItem, end_means};
-ghost use Rattle.getopts_shell.specs.Table.{fits};
+ghost use Rattle.getopts_shell.specs.Table.{begins_name, fits, unopened};
 ghost use Rattle.getopts_shell.specs.Table.{after, before, dashed, holds, names_in, reason_of};
 ghost use Rattle.getopts_shell.specs.declared.row.Mark.{Mark as Behind};
 
@@ -224,7 +224,7 @@ fn hinted(kind: HasArg, hint: &str) -> Option<(HasArg, &str)>
 fn is_hint(bytes: &[u8]) -> bool
     ensures { result ≡ is_hint bytes.now }
 {
-    !bytes.is_empty() && are_hint_bytes(bytes) && !bytes.ends_with(b"..")
+    !bytes.is_empty() && are_hint_bytes(bytes) && !begins_name(bytes) && !bytes.ends_with(b"..")
 }
 
 /// Whether bytes may stand in a hint.
@@ -282,7 +282,7 @@ pub(crate) fn reason_of(item: &str) -> &'static str
     let (short, long) = dashed(names);
     let reasons = [
         (is_open(item), OPEN),
-        (begins_name(argument), APART),
+        (begins_name(unopened(argument)), APART),
         (end.contains(&b' '), GAP),
         (argument.contains(&b' '), SPACE),
         (names.contains(&b'='), EQUALS),
@@ -324,7 +324,7 @@ fn is_open(bytes: &[u8]) -> bool
 
 /// Whether bytes begin with a dash or `|`.
 fn begins_name(bytes: &[u8]) -> bool
-    ensures { result ≡ (slice_index bytes.now 0 == 45 || slice_index bytes.now 0 == 124) }
+    ensures { result ≡ begins_name bytes.now }
 {
     matches!(bytes, [b'-' | b'|', ..])
 }
@@ -354,12 +354,18 @@ fn is_too_short(long: &[u8]) -> bool
 fn names_in(item: &[u8]) -> &[u8]
     ensures { result.now ≡ names_in item.now }
 {
-    let opened = if item.starts_with(b"[") {
-        &item[1..]
+    cut_at(cut_at(unopened(item), b']').0, b' ').0
+}
+
+/// Bytes without a `[` in front.
+fn unopened(bytes: &[u8]) -> &[u8]
+    ensures { result.now ≡ unopened bytes.now }
+{
+    if bytes.starts_with(b"[") {
+        &bytes[1..]
     } else {
-        item
-    };
-    cut_at(cut_at(opened, b']').0, b' ').0
+        bytes
+    }
 }
 
 /// The two names that names are, right or wrong, each with its dashes.

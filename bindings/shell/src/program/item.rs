@@ -161,7 +161,7 @@ fn hinted(kind: HasArg, hint: &str) -> Option<(HasArg, &str)> {
 
 /// Whether bytes may be a hint.
 fn is_hint(bytes: &[u8]) -> bool {
-    !bytes.is_empty() && are_hint_bytes(bytes) && !bytes.ends_with(b"..")
+    !bytes.is_empty() && are_hint_bytes(bytes) && !begins_name(bytes) && !bytes.ends_with(b"..")
 }
 
 /// Whether bytes may stand in a hint.
@@ -213,7 +213,7 @@ pub(crate) fn reason_of(item: &str) -> &'static str {
     let (short, long) = dashed(names);
     let reasons = [
         (is_open(item), OPEN),
-        (begins_name(argument), APART),
+        (begins_name(unopened(argument)), APART),
         (end.contains(&b' '), GAP),
         (argument.contains(&b' '), SPACE),
         (names.contains(&b'='), EQUALS),
@@ -269,12 +269,16 @@ fn is_too_short(long: &[u8]) -> bool {
 
 /// What stands for the names of an item: all before the first space or `]`, without a `[` in front.
 fn names_in(item: &[u8]) -> &[u8] {
-    let opened = if item.starts_with(b"[") {
-        &item[1..]
+    cut_at(cut_at(unopened(item), b']').0, b' ').0
+}
+
+/// Bytes without a `[` in front.
+fn unopened(bytes: &[u8]) -> &[u8] {
+    if bytes.starts_with(b"[") {
+        &bytes[1..]
     } else {
-        item
-    };
-    cut_at(cut_at(opened, b']').0, b' ').0
+        bytes
+    }
 }
 
 /// The two names that names are, right or wrong, each with its dashes.

@@ -25,7 +25,7 @@ returns c =
     ∙ ap (λ (reasons : Reasons). option_map_or (λ (reason : Bool × Text). reason.1)
     (find (λ (reason : Bool × Text). reason.0) reasons) BRACKETS.now)
     (same _ _ _ _ _ (rw value at c.is_open.ensures)
-    (same _ _ _ _ _ (rw argument at c.begins_name.ensures)
+    (same _ _ _ _ _ (rw (c.unopened.ensures, argument) at c.begins_name.ensures)
     (same _ _ _ _ _ (rw (c.cut_at-2.ensures.after, value) at c.contains.ensures.value)
     (same _ _ _ _ _ (rw argument at c.contains-2.ensures.value)
     (same _ _ _ _ _ (rw names at c.contains-3.ensures.value)
