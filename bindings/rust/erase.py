@@ -12,7 +12,7 @@ and the word. What is marked by * means nothing when a program runs, and is dele
     file      item..
     item      attribute.. ( ghost* | law* | use | mod NAME ; | const | type | struct | enum | function | impl )
     ghost*    ghost use .. ;
-    law*      mod laws ; | pub use laws:: .. ; | #[cfg(test)] mod tests ; | use std::marker::Model ;
+    law*      mod laws ; | pub use laws:: .. ; | use std::marker::Model ;
     function  pub fn NAME generics ( .. ) -> .. clause.. { body }
     clause*   requires NAME { .. } | ensures NAME { .. }, with no comment inside
     struct    struct NAME generics { field.. }, where ghost* NAME : { .. } , may stand among the fields
@@ -228,19 +228,16 @@ class Eraser:
     def items(self, one, end=""):
         while self.text(self.at) != end:
             start = self.at
-            tested = self.attributes()
-            one(start, tested)
+            self.attributes()
+            one(start)
 
     def attributes(self):
-        """Attributes, of which those that mean nothing in Rust are deleted. Whether one is `#[cfg(test)]`."""
-        tested = False
+        """Attributes, of which those that mean nothing in Rust are deleted."""
         while self.text(self.at) == "#":
             start, inner = self.at, self.has(self.at + 1, "!")
             self.at += 2 if inner else 1
             end, name, derived = self.close(self.at), self.text(self.at + 1), []
-            if self.has(start, "#[cfg(test)]"):
-                tested = True
-            elif name == "derive":
+            if name == "derive":
                 derived = [token.text for token in self.tokens[self.at + 3 : end - 2] if token.text != ","]
                 if set(derived) - DERIVED or inner:
                     self.stop(start, "something else is derived")
@@ -254,7 +251,6 @@ class Eraser:
                 self.delete(*(at - 1, at + 1) if self.text(at - 1) == "," else (at, at + 2))
                 end -= 2
             self.at = end
-        return tested
 
     def ghost(self, start):
         """`ghost use .. ;`"""
@@ -262,13 +258,11 @@ class Eraser:
         self.at = self.after(self.at)
         self.erase(start)
 
-    def item(self, start, tested):
-        for law in ("mod laws;", "pub use laws::", "use std::marker::Model;", *(["mod tests;"] if tested else [])):
+    def item(self, start):
+        for law in ("mod laws;", "pub use laws::", "use std::marker::Model;"):
             if self.has(self.at, law):
                 self.at = self.after(self.at)
                 return self.erase(start)
-        if tested:
-            self.stop(start, "what is built for tests alone is a module `tests`")
         if self.text(self.at) == "ghost":
             return self.ghost(start)
         self.visibility()
@@ -290,7 +284,7 @@ class Eraser:
             else:
                 self.past(";")
         else:
-            self.member(start, False)
+            self.member(start)
 
     def fields(self):
         """`{ field.. }`, of which those that are ghost are deleted."""
@@ -311,10 +305,8 @@ class Eraser:
         if self.take("pub") and self.has(self.at, "("):
             self.at = self.close(self.at)
 
-    def member(self, start, tested):
+    def member(self, start):
         """What may stand in an impl."""
-        if tested:
-            self.stop(start, "no member is for tests alone")
         if self.has(self.at, "ghost use"):
             return self.ghost(start)
         if self.take("ghost"):
@@ -398,12 +390,12 @@ class Eraser:
                 self.stop(named, "its impl does more than to take a value apart")
         self.erase(start)
 
-    def ghost_member(self, start, tested):
+    def ghost_member(self, start):
         if not self.has(start, "ghost"):
             self.stop(start, "it isn't `ghost` in an impl of `Model`")
-        self.member(start, tested)
+        self.member(start)
 
-    def law(self, start, tested):
+    def law(self, start):
         """What may stand in a module of laws."""
         if self.has(self.at, "ghost"):
             return self.ghost(start)
@@ -513,7 +505,7 @@ def sources():
     for name in CRATES:
         paths = sorted((TOP / "crates" / name / "src").glob("*.rt"))
         laws = [read(path, "law") for path in paths if path.stem == "laws"]
-        crates[name] = {path: read(path) for path in paths if path.stem not in ("laws", "tests")}
+        crates[name] = {path: read(path) for path in paths if path.stem != "laws"}
         for eraser in [*crates[name].values(), *laws]:
             names, held = defined(eraser)
             known, values = known | names, values | held

@@ -16,8 +16,7 @@ from pathlib import Path
 # What begins a construct, and what ends it: brackets that close, or a sign outside brackets.
 WHOLE = [(r"(requires|ensures)( \w+)? {", "}"), (r"ghost", ";,"), (r"impl (< .*? > )?(Model|Drop) for .*? {", "}")]
 WHOLE += [(r"# (! )?\[ (tactic|derive \( Drop \) \])", "]"), (r"use std :: marker :: Model", ";")]
-WHOLE += [(r"(# \[ cfg \( test \) \] mod tests|mod laws|pub use laws)", ";"), (r"[+:,] Drop(?= [>,)])", "")]
-WHOLE += [(r"Drop ,", ""), (r",(?= \))", ",")]
+WHOLE += [(r"(mod laws|pub use laws)", ";"), (r"[+:,] Drop(?= [>,)])", ""), (r"Drop ,", ""), (r",(?= \))", ",")]
 CALLS = "push push_str sort_by clone extend_from_slice".split()
 RENAMED = {word: "try_" + word for word in CALLS}
 RENAMED |= {"reserve": "try_grow", "reserve_exact": "try_grow_exact", "with_capacity": "of_capacity"}
@@ -42,7 +41,7 @@ ODD = set("size_of size_of_val align_of align_of_val unsafe static extern macro_
 ODD |= {"of_capacity", "copy_of", "TryClone", "trimmed_ascii"}
 # What stands behind a sign in an attribute, what is derived, and what is imported of Rust.
 DERIVED = r"derive \( ((Clone|Copy|Debug|PartialEq|Eq|Drop) (, )?)+\)"
-SIGNED = rf"# (! )?\[ (inline|cold|must_use|tactic|{DERIVED}|cfg \( test \) \] mod tests)"
+SIGNED = rf"# (! )?\[ (inline|cold|must_use|tactic|{DERIVED})"
 TAKEN = r"use (?!std)|use std :: (alloc|cmp|convert|env|error|fmt|io|marker|process|str|vec) "
 # Calls of Rust that no source defines.
 CALLED = set("""all alloc allocator any arg as_bytes as_slice as_str binary_search_by binary_search_by_key bytes
@@ -129,7 +128,7 @@ def main(source, folder):
     names = {**RENAMED, **(PATHS if library else HOST)}
     imports = f"use crate :: {'fallible' if library else 'host'} :: * ;".split()
     paths = sorted(Path(folder).glob("*.rs"))
-    there = {path.stem for path in Path(source).glob("*.rt")} - {"lib", "main", "laws", "tests"} | {"mod"}
+    there = {path.stem for path in Path(source).glob("*.rt")} - {"lib", "main", "laws"} | {"mod"}
     wrong = len(there ^ {path.stem for path in paths})
     # A source may call what it or another crate here defines, of functions, variants and closures.
     every = Path(source).resolve().parents[1].glob("*/src/*.rt")
@@ -139,7 +138,7 @@ def main(source, folder):
     for body in re.findall(r"enum \w+ (?:< .*? > )?{(.*?)}", text):
         defined |= set(re.findall(r"[A-Z]\w*", body))
     for path in sorted(Path(source).glob("*.rt")):
-        if path.stem != "tests" and (what := odd(path, defined)):
+        if what := odd(path, defined):
             wrong += 1
             print(f"{path}: it may mean something else in Rust at '{what}'")
     for path in paths:
