@@ -291,6 +291,12 @@ def test_files_of_others_stay(tmp_path):
     assert "include/getopts.h" in run("sh", C / "install.sh", to, status=1)[1]
 
 
+@pytest.mark.parametrize("sign", '"$#\\')
+def test_prefix_that_pkg_config_reads_otherwise(sign, tmp_path):
+    errors = run("sh", C / "install.sh", tmp_path / f"a{sign}b", status=1)[1]
+    assert "name one without them" in errors and not list(tmp_path.iterdir())
+
+
 def test_usage_of_install():
     assert "PREFIX/include: getopts.h" in run("sh", C / "install.sh", "--help")[0]
     for words in ([], [""], ["--nope"], ["a", "b"]):

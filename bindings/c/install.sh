@@ -42,6 +42,9 @@ absolute() {
     esac | sed 's,//*$,,'
 }
 prefix=$(absolute "$1")
+case $prefix in
+*[\"\$\#\\]*) fail "pkg-config reads \", \$, # and \\ in a prefix otherwise: name one without them" ;;
+esac
 to=$(absolute "${DESTDIR:-/}")$prefix
 
 # The version of the library. Programs that were linked with one work with each later one of the same first number.

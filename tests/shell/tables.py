@@ -8,7 +8,8 @@ SHORT, LONG_BYTE = "[A-Za-z0-9?@#%+_^,./:]", r"[A-Za-z0-9_.+:\x80-\U0010ffff-]"
 HINT = r"(?![-|])[^ \t\[\]]+(?<!\.\.)"
 # What stands in an item's brackets: its names, and perhaps an argument.
 ITEM = re.compile(rf"(?:-({SHORT})|(?:-({SHORT})\|)?--(?!-)({LONG_BYTE}{{2,}}(?<!:)))(?: {HINT}| \[{HINT}\])?")
-BRACKETS = "brackets stand around the option or its argument, and dots only after ']'"
+DASHES = "a short name comes after '-', a long one after '--'"
+BRACKETS = "brackets stand around the option or its argument, and two or three dots only after ']'"
 
 
 def reason_of(item):
@@ -23,8 +24,9 @@ def reason_of(item):
         (" " in argument, "an argument holds no space, and a tab or two spaces come before a description"),
         ("=" in names, "an argument comes after a space, as in '--long ARG'"),
         ("[" in names, BRACKETS),
-        (names[:1] != "-" or short == "-" or "|" in names and not long.startswith("--") or long.startswith("---"),
-         "a short name comes after '-', a long one after '--'"),
+        (names[:1] != "-" or short == "-", DASHES),
+        ("|" in names and not long.startswith("--"), "a long name comes after '|', with two dashes"),
+        (long.startswith("---"), DASHES),
         ("|" in long, "the short name comes first, then one long one"),
         (len(short.encode()) > 2, "a short name has one byte"),
         (short and not re.fullmatch(SHORT, short[1:]), "a short name is a letter, a digit or one of ?@#%+_^,./:"),
@@ -52,7 +54,7 @@ def table_fault(table):
             return f"line {number} of the options: {item}: {reason_of(item)}"
         for name in filter(None, it.groups()):
             if name in seen:
-                return f"line {number} of the options: the name '{name}' stands there already"
+                return f"line {number} of the options: the name '{name}' stands in an earlier line"
         seen.update(it.groups())
     return None
 

@@ -124,7 +124,7 @@ abbrev pub table_fault_line : TableFault → Text
 table_fault_line (no_option number item) =
     of_line number (item ++ (codes ": " ++ (reason_of item ++ codes "\n")))
 table_fault_line (name_twice number name) =
-    of_line number (codes "the name '" ++ (name ++ codes "' stands there already\n"))
+    of_line number (codes "the name '" ++ (name ++ codes "' stands in an earlier line\n"))
 
 -- ---- a script
 
@@ -201,13 +201,18 @@ is_alone matches entry =
 abbrev pub alone_line : Entry → List Text
 alone_line entry = (codes "--" ++ main_name entry.signature.names) ∷ stop_word ∷ []
 
+-- why a name or a prefix makes no variable
+abbrev pub not_in_variables : Text
+not_in_variables =
+    codes "' makes no variable: a variable's name has letters, digits and '_', no digit first\n"
+
 -- the line of a fault of variables
 abbrev pub variable_fault_line : VariableFault → Text
 variable_fault_line arrays_only = codes "getopts_shell: --arrays needs --variables\n"
 variable_fault_line (no_prefix prefix) =
-    codes "getopts_shell: '" ++ (prefix ++ codes "' makes no variable\n")
+    codes "getopts_shell: '" ++ (prefix ++ not_in_variables)
 variable_fault_line (no_variable number name) =
-    of_line number (codes "'" ++ (name ++ codes "' makes no variable\n"))
+    of_line number (codes "'" ++ (name ++ not_in_variables))
 variable_fault_line (variable_twice number name) =
     of_line number (codes "'" ++ (name ++ codes "' makes the variable of another option\n"))
 
@@ -228,7 +233,8 @@ pub record TellsWords (options : Declared) (words line : List Text) : Type 0 whe
 
 -- what is said where there is no completion in a shell
 abbrev pub no_completion : Text → Answer
-no_completion shell = misused (codes "getopts_shell: no completion for '" ++ (shell ++ codes "'\n"))
+no_completion shell = misused (codes "getopts_shell: no completion for '"
+    ++ (shell ++ codes "', only for bash, zsh and fish\n"))
 
 -- the code that completes a script's words in a shell, or that there is none for it
 abbrev pub completion_answer : Asked → Text → Text → Text → Answer

@@ -18,8 +18,8 @@ use Rattle.getopts.specs.declared.groups.HasArg.{HasArg}
 use Rattle.getopts.specs.declared.groups.HasArg.TheVariants.{Yes, No, Maybe}
 use Rattle.getopts.specs.declared.groups.Occur.{Occur}
 use Rattle.getopts.specs.declared.groups.Occur.TheVariants.{Req, Optional, Multi}
-use Rattle.getopts_shell.specs.declared.item.TheConstants.{APART, BRACKETS, BYTES, COLON, DASHES}
-use Rattle.getopts_shell.specs.declared.item.TheConstants.{EQUALS, GAP, LETTER}
+use Rattle.getopts_shell.specs.declared.item.TheConstants.{APART, BAR, BRACKETS, BYTES, COLON}
+use Rattle.getopts_shell.specs.declared.item.TheConstants.{DASHES, EQUALS, GAP, LETTER}
 use Rattle.getopts_shell.specs.declared.item.TheConstants.{LONG, MARK, OPEN, ORDER, SHORT, SPACE}
 use Rattle.getopts_shell.specs.declared.row.Mark.{Mark}
 use Rattle.getopts_shell.specs.declared.row.Mark.TheVariants.{Plain, Alone, Last}
@@ -292,7 +292,7 @@ reasons item =
     ∷ (holds 61 names, EQUALS.now)
     ∷ (holds 91 names, BRACKETS.now)
     ∷ (not (begins_with_dash names) || length short == 1, DASHES.now)
-    ∷ (holds 124 names && not (starts_with ◌==◌ long (codes "--")), DASHES.now)
+    ∷ (holds 124 names && not (starts_with ◌==◌ long (codes "--")), BAR.now)
     ∷ (starts_with ◌==◌ long (codes "---"), DASHES.now)
     ∷ (holds 124 long, ORDER.now)
     ∷ (nat_lt 2 (length short), SHORT.now)

@@ -370,7 +370,8 @@ fn table_refusal(alloc: Global, error: TableError<'_>) -> Result<String, AllocEr
             format!(in alloc; "getopts_shell: line {number} of the options: {item}: {reason}\n")
         }
         TableError::NameTwice(number, name) => format!(in alloc;
-            "getopts_shell: line {number} of the options: the name '{name}' stands there already\n"
+            "getopts_shell: line {number} of the options: \
+             the name '{name}' stands in an earlier line\n"
         ),
         TableError::OutOfMemory => Err(AllocError),
     }
@@ -397,11 +398,13 @@ fn variable_refusal(alloc: Global, error: VariableError<'_>) -> Result<String, A
         VariableError::ArraysOnly => {
             format!(in alloc; "getopts_shell: --arrays needs --variables\n")
         }
-        VariableError::NoPrefix(prefix) => {
-            format!(in alloc; "getopts_shell: '{prefix}' makes no variable\n")
-        }
+        VariableError::NoPrefix(prefix) => format!(in alloc;
+            "getopts_shell: '{prefix}' makes no variable: \
+             a variable's name has letters, digits and '_', no digit first\n"
+        ),
         VariableError::NoVariable(number, name) => format!(in alloc;
-            "getopts_shell: line {number} of the options: '{name}' makes no variable\n"
+            "getopts_shell: line {number} of the options: '{name}' makes no variable: \
+             a variable's name has letters, digits and '_', no digit first\n"
         ),
         VariableError::VariableTwice(number, name) => format!(in alloc;
             "getopts_shell: line {number} of the options: '{name}' makes the variable of another option\n"
@@ -526,7 +529,9 @@ fn completion_answer(
 fn no_completion(alloc: Global, shell: &str) -> Result<Outcome, AllocError>
     ensures { IfOk result (λ outcome. answer_of outcome ≡ no_completion shell.now) }
 {
-    let text = format!(in alloc; "getopts_shell: no completion for '{shell}'\n")?;
+    let text = format!(in alloc;
+        "getopts_shell: no completion for '{shell}', only for bash, zsh and fish\n"
+    )?;
     Ok(Outcome::misused(text))
 }
 
