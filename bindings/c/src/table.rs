@@ -61,6 +61,10 @@ fn declare_row(options: &mut Options, place: usize, row: &Row<'_>) -> Granted<Wr
     }
 }
 
+/// What a kind is made of.
+const KINDS: &[u8] =
+    b": it has one of GETOPTS_NO, YES and MAYBE, and one of GETOPTS_OPTIONAL, REQ and MULTI";
+
 /// What is wrong with a row: the first of all that may be.
 #[cold]
 fn wrong_row(place: usize, row: &Row<'_>) -> Granted<Wrong> {
@@ -71,7 +75,7 @@ fn wrong_row(place: usize, row: &Row<'_>) -> Granted<Wrong> {
         _ if short.len() > 1 => [b"short name '", shown(short), b"' has ", &len],
         _ if long.len() == 1 => [b"long name '", long, b"' has 1 byte", b""],
         _ if short.len() + long.len() == 0 => [b"both names are empty", b"", b"", b""],
-        _ if kind_of(row.kind).is_none() => [&kind, b" is no kind", b"", b""],
+        _ if kind_of(row.kind).is_none() => [&kind, b" is no kind", KINDS, b""],
         nth => [b"the ", TEXTS[nth.unwrap_or(0)].as_bytes(), b" isn't UTF-8 below U+10FF80", b""],
     };
     let (place, end): (_, &[u8]) = (digits(place)?, if short.len() > 1 { b" bytes" } else { b"" });

@@ -8,6 +8,7 @@
 #include <string.h>
 
 #define LEN_38 "12345678901234567890123456789012345678"
+#define KINDS ": it has one of GETOPTS_NO, YES and MAYBE, and one of GETOPTS_OPTIONAL, REQ and MULTI"
 
 static int failed;
 
@@ -28,11 +29,11 @@ static void wrong_rows_are_named(void) {
         { { "a", "b", NULL, NULL, GETOPTS_NO }, "table[1]: long name 'b' has 1 byte" },
         { { "", "", NULL, NULL, GETOPTS_NO }, "table[1]: both names are empty" },
         { { "", NULL, NULL, NULL, GETOPTS_NO }, "table[1]: both names are empty" },
-        { { "a", NULL, NULL, NULL, (enum getopts_kind)7 }, "table[1]: 7 is no kind" },
-        { { "a", NULL, NULL, NULL, (enum getopts_kind)12 }, "table[1]: 12 is no kind" },
-        { { "a", NULL, NULL, NULL, (enum getopts_kind)(GETOPTS_YES + GETOPTS_STOP) }, "table[1]: 17 is no kind" },
-        { { "a", NULL, NULL, NULL, (enum getopts_kind)GETOPTS_LONG_ONLY }, "table[1]: 32 is no kind" },
-        { { "a", NULL, NULL, NULL, (enum getopts_kind)-1 }, "table[1]: 4294967295 is no kind" },
+        { { "a", NULL, NULL, NULL, (enum getopts_kind)7 }, "table[1]: 7 is no kind" KINDS },
+        { { "a", NULL, NULL, NULL, (enum getopts_kind)12 }, "table[1]: 12 is no kind" KINDS },
+        { { "a", NULL, NULL, NULL, (enum getopts_kind)(GETOPTS_YES + GETOPTS_STOP) }, "table[1]: 17 is no kind" KINDS },
+        { { "a", NULL, NULL, NULL, (enum getopts_kind)GETOPTS_LONG_ONLY }, "table[1]: 32 is no kind" KINDS },
+        { { "a", NULL, NULL, NULL, (enum getopts_kind)-1 }, "table[1]: 4294967295 is no kind" KINDS },
         /* At most 40 bytes of a name are shown, and no character of it is cut. */
         { { LEN_38 "\u00e9", NULL, NULL, NULL, GETOPTS_NO }, "table[1]: short name '" LEN_38 "\u00e9' has 40 bytes" },
         { { LEN_38 "\u00e9x", NULL, NULL, NULL, GETOPTS_NO }, "table[1]: short name '" LEN_38 "\u00e9' has 41 bytes" },
