@@ -275,7 +275,8 @@ fn table_refusal(alloc: Global, error: TableError<'_>) -> Result<String, AllocEr
             text!(in alloc; "getopts_shell: line {number} of the options: {item}: {reason}\n")
         }
         TableError::NameTwice(number, name) => text!(in alloc;
-            "getopts_shell: line {number} of the options: the name '{name}' stands there already\n"
+            "getopts_shell: line {number} of the options: \
+             the name '{name}' stands in an earlier line\n"
         ),
         TableError::OutOfMemory => Err(AllocError),
     }
@@ -296,11 +297,13 @@ fn variable_refusal(alloc: Global, error: VariableError<'_>) -> Result<String, A
         VariableError::ArraysOnly => {
             text!(in alloc; "getopts_shell: --arrays needs --variables\n")
         }
-        VariableError::NoPrefix(prefix) => {
-            text!(in alloc; "getopts_shell: '{prefix}' makes no variable\n")
-        }
+        VariableError::NoPrefix(prefix) => text!(in alloc;
+            "getopts_shell: '{prefix}' makes no variable: \
+             a variable's name has letters, digits and '_', no digit first\n"
+        ),
         VariableError::NoVariable(number, name) => text!(in alloc;
-            "getopts_shell: line {number} of the options: '{name}' makes no variable\n"
+            "getopts_shell: line {number} of the options: '{name}' makes no variable: \
+             a variable's name has letters, digits and '_', no digit first\n"
         ),
         VariableError::VariableTwice(number, name) => text!(in alloc;
             "getopts_shell: line {number} of the options: '{name}' makes the variable of another option\n"
@@ -400,7 +403,9 @@ fn completion_answer(
 
 /// What is said where there is no completion in a shell.
 fn no_completion(alloc: Global, shell: &str) -> Result<Outcome, AllocError> {
-    let text = text!(in alloc; "getopts_shell: no completion for '{shell}'\n")?;
+    let text = text!(in alloc;
+        "getopts_shell: no completion for '{shell}', only for bash, zsh and fish\n"
+    )?;
     Ok(Outcome::misused(text))
 }
 

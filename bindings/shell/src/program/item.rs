@@ -185,9 +185,12 @@ const SPACE: &str = "an argument holds no space, and a tab or two spaces come be
 /// Where its names hold `=`.
 const EQUALS: &str = "an argument comes after a space, as in '--long ARG'";
 /// Where its names hold `[`, or no other reason is so.
-const BRACKETS: &str = "brackets stand around the option or its argument, and dots only after ']'";
+const BRACKETS: &str =
+    "brackets stand around the option or its argument, and two or three dots only after ']'";
 /// Where a name has the wrong dashes.
 const DASHES: &str = "a short name comes after '-', a long one after '--'";
+/// Where no long name stands after `|`.
+const BAR: &str = "a long name comes after '|', with two dashes";
 /// Where another name stands after the long one.
 const ORDER: &str = "the short name comes first, then one long one";
 /// Where its short name has more.
@@ -219,7 +222,7 @@ pub(crate) fn reason_of(item: &str) -> &'static str {
         (names.contains(&b'='), EQUALS),
         (names.contains(&b'['), BRACKETS),
         (lack_dash(names, short), DASHES),
-        (lack_two_dashes(names, long), DASHES),
+        (lack_two_dashes(names, long), BAR),
         (long.starts_with(b"---"), DASHES),
         (long.contains(&b'|'), ORDER),
         (short.len() > 2, SHORT),
