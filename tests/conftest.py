@@ -55,9 +55,9 @@ def other_targets(request):
 
 @pytest.fixture(scope="session")
 def cases(request):
-    """cases(N): how many random cases there are where the gate has N."""
+    """cases(N, MANY): how many random cases there are where the gate has N. With --many there are MANY times as many."""
     option = request.config.getoption
-    return lambda count: count * 10 if option("--many") else max(1, count // 10) if option("--quick") else count
+    return lambda count, many=10: count * many if option("--many") else max(1, count // 10) if option("--quick") else count
 
 
 @pytest.fixture(scope="session")

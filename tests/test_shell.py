@@ -186,7 +186,7 @@ def random_scripts(program, way, count):
 def test_random_lines(program, one_shell, tmp_path, cases, way):
     if way == "arrays" and one_shell[0] not in lines.WITH_ARRAYS:
         pytest.skip(f"{one_shell[0]} has no arrays")
-    count = cases(500 if program.parent.name == "bin-shell" else 100)
+    count = cases(500, 40) if program.parent.name == "bin-shell" else cases(100, 50)
     lines.in_shell(one_shell, tmp_path, *random_scripts(program, way, count))
 
 
