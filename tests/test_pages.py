@@ -89,8 +89,6 @@ FIGURES = [
     ("README.md", r"it takes (\d+) % and (\d+) %", lambda: [share("copied-small"), share("copied-long")]),
     ("README.md", r"takes (\d+) % of the instructions of the crate .* and (\d+) %",
      lambda: [share("small", "bindings/rust"), share("long", "bindings/rust")]),
-    ("docs/DECISIONS.md", r"Up to (\d+) groups have no table",
-     lambda: re.findall(r"const FEW: usize = (\d+)", read("crates/getopts/src/table.rt"))),
     ("tests/differential/README.md", r"first ([\d,]+) of seed 1",
      lambda: [f"{int(re.search(r'choose 1 (.*?) ', read('tests/differential/record.sh'))[1]):,}"]),
     *((f"bindings/{folder}/README.md", r"Rust ([\d.]+) or later",

@@ -1,7 +1,7 @@
 //! Option groups: their kinds, and the names and kinds of many held together.
 
-ghost use Rattle.std.specs.Prelude.{◌≡◌, ◌++◌, ◌∷◌, [], Some, ◌+◌, ◌*◌, ◌≤◌, ◌<◌, ◌^◌, length, map};
-ghost use Rattle.std.specs.Prelude.{not, get_or, slice_get, OnOk, OnErr};
+ghost use Rattle.std.specs.Prelude.{◌≡◌, ◌++◌, ◌∷◌, [], Some, ◌+◌, ◌*◌, ◌≤◌, ◌<◌, ◌^◌, length};
+ghost use Rattle.std.specs.Prelude.{not, slice_get, OnOk, OnErr};
 ghost use Rattle.std.specs.Option.{option_map};
 ghost use Rattle.std.specs.String.{string_bytes, string_len, string_capacity};
 ghost use Rattle.std.specs.Cmp.Lexicographic.{pointwise};
@@ -9,9 +9,9 @@ ghost use Rattle.std.specs.Cmp.Rules.{comparing};
 ghost use Rattle.std.proofs.Common.{rules};
 ghost use Rattle.getopts.specs.Names.{AreLawful, is_empty, main_name};
 ghost use Rattle.getopts.specs.Held.Groups.{signature_view, names_view, names_in, signature_with};
-ghost use Rattle.getopts.specs.Held.Groups.{AreLawfulSignatures};
+ghost use Rattle.getopts.specs.Held.Groups.{AreLawfulSignatures, HasKeys, AreEndsOf, StandAt, two_at};
 ghost use Rattle.getopts.specs.Held.Names.{key_of, short_code};
-ghost use Rattle.getopts.specs.Held.Names.{names_at, name_at, HaveNamesOfBytes};
+ghost use Rattle.getopts.specs.Held.Names.{names_at, HaveNamesOfBytes};
 
 use crate::names::{Names, is_of_bytes, key_of, short_byte};
 use std::alloc::{AllocError, Global};
@@ -96,27 +96,15 @@ impl<'g> PartialEq for Signature<'g> {
     }
 }
 
-/// Where two texts end that stand one after the other in a text.
+/// Where two texts stand, one after the other, in a text.
 #[derive(Debug, Clone, Copy)]
 pub(crate) struct Ends {
+    pub start: usize,
     pub first: usize,
     pub second: usize,
 }
 
-impl PartialEq for Ends {
-    ghost use Rattle.getopts.specs.Held.Groups.{same_ends};
-
-    ghost eq = { same_ends };
-
-    ghost laws = { Prim.search (comparing, rules) depth 12 };
-
-    #[inline(always)]
-    fn eq(&self, other: &Ends) -> bool {
-        self.first == other.first && self.second == other.second
-    }
-}
-
-/// A group among others: where its names end in the text of all names, what they are looked up by, and
+/// A group among others: where its names stand in the text of all names, what they are looked up by, and
 /// its kinds.
 #[derive(Debug, Clone, Copy)]
 struct SignatureRecord {
@@ -134,24 +122,16 @@ impl PartialEq for SignatureRecord {
 
     ghost eq = { same_record };
 
-    ghost laws = { Prim.search (comparing, rules) depth 14 };
+    ghost laws = { Prim.search (comparing, rules) depth 12 };
 
+    /// Whether their names stand at the same places and their kinds are the same.
     #[inline(always)]
     fn eq(&self, other: &SignatureRecord) -> bool {
-        self.names == other.names && self.kinds == other.kinds
+        self.names.start == other.names.start
+            && self.names.first == other.names.first
+            && self.names.second == other.names.second
+            && self.kinds == other.kinds
     }
-}
-
-/// Where the names of the groups before a place end.
-#[inline(always)]
-fn names_start(records: &[SignatureRecord], place: usize) -> usize
-    requires { place ≤ length records.now }
-    ensures { result ≡ get_or (0 ∷ map (λ r. r.names.second) records.now) place 0 }
-{
-    if place == 0 {
-        return 0;
-    }
-    records[place - 1].names.second
 }
 
 /// Adds a text that there is room for, and returns where it ends.
@@ -169,6 +149,42 @@ pub(crate) fn push_reserved(texts: &mut String, text: &str) -> usize
         Ok(()) => texts.len(),
         Err(_) => unreachable!(),
     }
+}
+
+/// Adds two texts that there is room for, and returns where they stand.
+#[inline(always)]
+pub(crate) fn push_two(texts: &mut String, first: &str, second: &str) -> Ends
+    requires { string_len texts.old + (length first.now + length second.now)
+        ≤ string_capacity texts.old }
+    ensures bytes { string_bytes texts.new ≡ string_bytes texts.old ++ (first.now ++ second.now) }
+    ensures two { StandAt (string_bytes texts.new) result (first.now, second.now) }
+{
+    let start = texts.len();
+    let first = push_reserved(texts, first);
+    let second = push_reserved(texts, second);
+    Ends {
+        start,
+        first,
+        second,
+    }
+}
+
+/// The first of the two texts that stand there.
+#[inline(always)]
+pub(crate) fn first_at(text: &str, ends: Ends) -> &str
+    requires { AreEndsOf text.now ends }
+    ensures { result.now ≡ (two_at text.now ends).0 }
+{
+    &text[ends.start..ends.first]
+}
+
+/// The second of them.
+#[inline(always)]
+pub(crate) fn second_at(text: &str, ends: Ends) -> &str
+    requires { AreEndsOf text.now ends }
+    ensures { result.now ≡ (two_at text.now ends).1 }
+{
+    &text[ends.first..ends.second]
 }
 
 /// What reading asks of lawfully named groups: one text of all their names, of each group the short
@@ -234,17 +250,16 @@ impl Signatures {
         requires { place < length self.now }
         ensures { Some result ≡ option_map kinds_of (slice_get self.now place) }
     {
-        self.records[place].kinds
+        self.record(place).kinds
     }
 
-    /// The short name of the group at a place. It starts where the names of the group before it end.
+    /// The short name of the group at a place.
     #[inline(always)]
     pub(crate) fn short(&self, place: usize) -> &str
         requires { place < length self.now }
         ensures { result.now ≡ (names_at (names_in self.now) place).short }
     {
-        let start = names_start(&self.records, place);
-        &self.text[start..self.records[place].names.first]
+        first_at(&self.text, self.records[place].names)
     }
 
     /// The long name of the group at a place.
@@ -253,8 +268,17 @@ impl Signatures {
         requires { place < length self.now }
         ensures { result.now ≡ (names_at (names_in self.now) place).long }
     {
-        let group = self.records[place];
-        &self.text[group.names.first..group.names.second]
+        second_at(&self.text, self.records[place].names)
+    }
+
+    /// What is held of the group at a place.
+    #[inline(always)]
+    fn record(&self, place: usize) -> SignatureRecord
+        requires { place < length self.now }
+        ensures keys { HasKeys result (names_at (names_in self.now) place) }
+        ensures kinds { Some result.kinds ≡ option_map kinds_of (slice_get self.now place) }
+    {
+        self.records[place]
     }
 
     /// The key of the main name of the group at a place.
@@ -263,7 +287,7 @@ impl Signatures {
         requires { place < length self.now }
         ensures { result ≡ key_of (main_name (names_at (names_in self.now) place)) }
     {
-        self.records[place].key
+        self.record(place).key
     }
 
     /// The byte of the short name of the group at a place, or `NO_BYTE`.
@@ -272,7 +296,7 @@ impl Signatures {
         requires { place < length self.now }
         ensures { result ≡ short_code (names_at (names_in self.now) place).short }
     {
-        self.records[place].short
+        self.record(place).short
     }
 
     /// Whether the group at a place has a long name.
@@ -281,7 +305,7 @@ impl Signatures {
         requires { place < length self.now }
         ensures { result ≡ not (is_empty (names_at (names_in self.now) place).long) }
     {
-        self.records[place].has_long
+        self.record(place).has_long
     }
 
     /// The two names of the group at a place.
@@ -309,18 +333,15 @@ impl Signatures {
         }
     }
 
-    /// The name of this number, where each group in turn has two, the short one first. Past the last
-    /// it is empty: the calls that sort and search a table want closures which take every entry.
-    pub(crate) fn name(&self, number: usize) -> &str
-        ensures { result.now ≡ name_at (names_in self.now) number }
+    /// The main name of the group at a place. Past the last it is empty: the calls that sort and search a
+    /// table want closures which take every entry.
+    pub(crate) fn main_or_empty(&self, place: usize) -> &str
+        ensures { result.now ≡ main_name (names_at (names_in self.now) place) }
     {
-        let place = number / 2;
-        if place >= self.len() {
-            ""
-        } else if number % 2 == 0 {
-            self.short(place)
+        if place < self.len() {
+            self.main(place)
         } else {
-            self.long(place)
+            ""
         }
     }
 
@@ -359,11 +380,10 @@ impl Signatures {
             self.records.reserve(1)?;
             self.text.reserve(bytes)?;
         }
-        let first = push_reserved(&mut self.text, short);
-        let second = push_reserved(&mut self.text, long);
+        let names = push_two(&mut self.text, short, long);
         let key = key_of(Names { short, long }.main());
         self.records.push_reserved(SignatureRecord {
-            names: Ends { first, second },
+            names,
             key,
             short: short_byte(short),
             has_long: !long.is_empty(),
@@ -392,6 +412,17 @@ impl PartialEq for Signatures {
     ghost laws = { Prim.search (comparing, rules) depth 12 };
 
     fn eq(&self, other: &Signatures) -> bool {
-        self.text == other.text && self.records == other.records
+        if self.text == other.text && self.records == other.records {
+            return true;
+        }
+        if self.len() != other.len() {
+            return false;
+        }
+        for place in 0..self.len() {
+            if self.get(place) != other.get(place) {
+                return false;
+            }
+        }
+        true
     }
 }

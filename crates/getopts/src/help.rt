@@ -1,7 +1,7 @@
 //! Groups as they are declared: what reading asks of them, and their hints and descriptions.
 
-ghost use Rattle.std.specs.Prelude.{◌≡◌, ◌++◌, ◌∷◌, [], Some, ◌≤◌, ◌<◌, length, map};
-ghost use Rattle.std.specs.Prelude.{get_or, slice_get, OnOk, OnErr};
+ghost use Rattle.std.specs.Prelude.{◌≡◌, ◌++◌, ◌∷◌, [], Some, ◌<◌, length};
+ghost use Rattle.std.specs.Prelude.{slice_get, OnOk, OnErr};
 ghost use Rattle.std.specs.Cmp.Lexicographic.{pointwise};
 ghost use Rattle.std.specs.Cmp.Rules.{comparing};
 ghost use Rattle.std.proofs.Common.{rules};
@@ -9,7 +9,9 @@ ghost use Rattle.getopts.specs.Names.{AreLawful};
 ghost use Rattle.getopts.specs.Options.{MayBeDeclared, group_of, signatures_of};
 ghost use Rattle.getopts.specs.Canon.{main_at};
 
-use crate::groups::{Ends, FIRST_GROUPS, Kinds, Signature, Signatures, push_reserved};
+use crate::groups::{
+    Ends, FIRST_GROUPS, Kinds, Signature, Signatures, first_at, push_two, second_at,
+};
 use std::alloc::{AllocError, Global};
 use std::marker::Model;
 
@@ -24,20 +26,20 @@ pub(crate) struct Group<'g> {
     pub desc: &'g str,
 }
 
-/// Where the hints and descriptions of the groups before a place end.
-#[inline(always)]
-fn help_start(ends: &[Ends], place: usize) -> usize
-    requires { place ≤ length ends.now }
-    ensures { result ≡ get_or (0 ∷ map (λ e. e.second) ends.now) place 0 }
-{
-    if place == 0 {
-        return 0;
+impl<'g> PartialEq for Group<'g> {
+    ghost use Rattle.getopts.specs.Held.Help.{same_group_view};
+
+    ghost eq = { same_group_view };
+
+    ghost laws = { Prim.search (comparing, rules) depth 12 };
+
+    fn eq(&self, other: &Group<'g>) -> bool {
+        self.signature == other.signature && self.hint == other.hint && self.desc == other.desc
     }
-    ends[place - 1].second
 }
 
 /// Lawfully named groups: what reading asks of them, and one text of their hints and descriptions, with
-/// where those of each group end.
+/// where those of each group stand.
 #[derive(Debug)]
 pub(crate) struct Groups {
     signatures: Signatures,
@@ -114,12 +116,11 @@ impl Groups {
         requires { place < length self.now }
         ensures { Some (group_view result) ≡ slice_get self.now place }
     {
-        let start = help_start(&self.ends, place);
-        let ends = self.ends[place];
+        let help = self.ends[place];
         Group {
             signature: self.signatures.get(place),
-            hint: &self.help[start..ends.first],
-            desc: &self.help[ends.first..ends.second],
+            hint: first_at(&self.help, help),
+            desc: second_at(&self.help, help),
         }
     }
 
@@ -147,9 +148,8 @@ impl Groups {
             self.help.reserve(bytes)?;
         }
         self.signatures.push(short, long, kinds)?;
-        let first = push_reserved(&mut self.help, hint);
-        let second = push_reserved(&mut self.help, desc);
-        self.ends.push_reserved(Ends { first, second });
+        let help = push_two(&mut self.help, hint, desc);
+        self.ends.push_reserved(help);
         Ok(())
     }
 }
@@ -174,6 +174,14 @@ impl PartialEq for Groups {
     ghost laws = { Prim.search (comparing, rules) depth 12 };
 
     fn eq(&self, other: &Groups) -> bool {
-        self.signatures == other.signatures && self.help == other.help && self.ends == other.ends
+        if self.len() != other.len() {
+            return false;
+        }
+        for place in 0..self.len() {
+            if self.get(place) != other.get(place) {
+                return false;
+            }
+        }
+        true
     }
 }

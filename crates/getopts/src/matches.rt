@@ -209,6 +209,7 @@ impl MatchedGroups {
     }
 
     /// Whether the groups are the same, with their occurrences.
+    #[inline(never)]
     pub(crate) fn same(&self, other: &MatchedGroups) -> bool
         ensures { result ≡ pointwise same_matched_group self.now other.now }
     {

@@ -1,48 +1,36 @@
 //! What a line gives: its options with their values, held together, and those of one group.
 
-ghost use Rattle.std.specs.Prelude.{◌≡◌, ◌==◌, ◌↔◌, ◌<◌, ◌≤◌, ◌^◌, ◌*◌, ◌+◌, ◌/◌, ◌%◌, ◌∷◌, ◌++◌};
-ghost use Rattle.std.specs.Prelude.{[], Some, IfOk, OnOk, OnErr, IsTrue, map, length, get_or};
+ghost use Rattle.std.specs.Prelude.{◌≡◌, ◌↔◌, ◌<◌, ◌∷◌, ◌++◌};
+ghost use Rattle.std.specs.Prelude.{[], Some, IfOk, OnOk, OnErr, IsTrue, map, length};
 ghost use Rattle.std.specs.Prelude.{slice_get};
 ghost use Rattle.std.specs.Cmp.Lexicographic.{pointwise};
 ghost use Rattle.std.specs.Iterator.{YieldsFirstBy, item_count};
 ghost use Rattle.std.specs.Option.{option_copied, option_map};
+ghost use Rattle.std.specs.Str.{IsUtf8};
 ghost use Rattle.std.specs.String.{string_bytes};
 ghost use Rattle.getopts.specs.Accessors.{first_value, first_value_or, held_found, pair_view};
 ghost use Rattle.getopts.specs.Accessors.{pairs_of, positions_of, values_of};
-ghost use Rattle.getopts.specs.Held.Occurrences.{founds_at, ArePlacesOf, value_ends};
+ghost use Rattle.getopts.specs.Held.Occurrences.{founds_at, ArePlacesOf, StandsAt};
 ghost use Rattle.getopts.specs.Reading.{at_position};
 ghost use Rattle.getopts.specs.Same.{same_found};
 
 use std::alloc::{AllocError, Global};
 use std::marker::Model;
 
-/// One option that a line gives: the place of its group, and the index of its item's first word. One number
-/// says where the values of the line end up to this option's own, and whether it has one.
+/// Where a text stands in a text.
+#[derive(Clone, Copy, Debug)]
+pub(crate) struct Span {
+    pub start: usize,
+    pub end: usize,
+}
+
+/// One option that a line gives: the place of its group, the index of its item's first word, and where its
+/// value stands among those of the line, if it has one.
 #[derive(Clone, Copy, Debug)]
 pub(crate) struct OccurrenceRecord {
     pub group: usize,
     pub position: usize,
-    packed: usize,
-}
-
-impl OccurrenceRecord {
-    ghost use Rattle.getopts.specs.Held.Occurrences.{values_end, has_value};
-
-    /// Where the values end, up to this option's own.
-    #[inline(always)]
-    fn values_end(&self) -> usize
-        ensures { result ≡ values_end self.now }
-    {
-        self.packed / 2
-    }
-
-    /// Whether it has a value.
-    #[inline(always)]
-    fn has_value(&self) -> bool
-        ensures { result ≡ has_value self.now }
-    {
-        self.packed % 2 == 1
-    }
+    pub value: Option<Span>,
 }
 
 /// One option that a line gives, borrowed: the place of its group, the index of its item's first word, and its
@@ -54,47 +42,29 @@ pub(crate) struct Occurrence<'l> {
     pub value: Option<&'l str>,
 }
 
-/// Where the values of the options before a place end.
-#[inline(always)]
-fn values_start(records: &[OccurrenceRecord], place: usize) -> usize
-    requires { place ≤ length records.now }
-    ensures { result ≡ get_or (0 ∷ value_ends records.now) place 0 }
-{
-    if place == 0 {
-        return 0;
-    }
-    records[place - 1].values_end()
-}
-
-/// Where the values end and whether an option has one, as one number. A text has less than 2^63
-/// bytes, so there is room for both.
-#[inline(always)]
-fn packed(end: usize, has_value: bool) -> usize
-    requires { end < 2 ^ 63 }
-    ensures end { result / 2 ≡ end }
-    ensures value { (result % 2 == 1) ≡ has_value }
-{
-    if has_value { 2 * end + 1 } else { 2 * end }
-}
-
 /// The bytes reserved for each option once one has a value, so that short values need no second request.
 const VALUE_BYTES: usize = 8;
 /// The most bytes that `VALUE_BYTES` reserves.
 const MOST_BYTES: usize = 8192;
 
-/// Adds a value, the first with room for so many.
+/// Adds a value, the first with room for so many, and returns where it stands.
 #[inline(always)]
-fn push_value(values: &mut String, value: &str, room: usize) -> Result<(), AllocError>
-    ensures ok { OnOk result (string_bytes values.new ≡ string_bytes values.old ++ value.now) }
+fn push_value(values: &mut String, value: &str, room: usize) -> Result<Span, AllocError>
+    ensures ok { IfOk result (λ span.
+        (string_bytes values.new ≡ string_bytes values.old ++ value.now)
+        × StandsAt (string_bytes values.new) span value.now) }
     ensures err { OnErr result (string_bytes values.new ≡ string_bytes values.old) }
+    ensures utf8 { IsUtf8 value.now }
 {
-    if value.is_empty() {
-        return Ok(());
-    }
-    if values.is_empty() {
+    let start = values.len();
+    if start == 0 && !value.is_empty() {
         values.reserve(room.saturating_mul(VALUE_BYTES).min(MOST_BYTES))?;
     }
-    values.push_str(value)
+    values.push_str(value)?;
+    Ok(Span {
+        start,
+        end: values.len(),
+    })
 }
 
 /// The options that a line gives, in order, and their values as one text.
@@ -157,18 +127,13 @@ impl LineOccurrences {
             (record { group = result.group; value = option_copied result.value })) }
     {
         let held = self.records[place];
-        if !held.has_value() {
-            return Occurrence {
-                group: held.group,
-                position: held.position,
-                value: None,
-            };
-        }
-        let value = &self.values[values_start(&self.records, place)..held.values_end()];
         Occurrence {
             group: held.group,
             position: held.position,
-            value: Some(value),
+            value: match held.value {
+                Some(span) => Some(&self.values[span.start..span.end]),
+                None => None,
+            },
         }
     }
 
@@ -184,13 +149,15 @@ impl LineOccurrences {
             (record { group = group; value = option_copied value.entry }) ∷ []) }
     {
         self.records.reserve(1)?;
-        let text = value.unwrap_or("");
-        push_value(&mut self.values, text, self.records.capacity())?;
-        let packed = packed(self.values.len(), value.is_some());
+        let room = self.records.capacity();
+        let value = match value {
+            Some(text) => Some(push_value(&mut self.values, text, room)?),
+            None => None,
+        };
         self.records.push_reserved(OccurrenceRecord {
             group,
             position,
-            packed,
+            value,
         });
         Ok(())
     }

@@ -19,7 +19,7 @@ use std::alloc::{AllocError, Global};
 
 /// The first capacity of a list of words, and of what words give, at most: an iterator may give fewer than it
 /// promises. More words than that are counted before the first is read.
-pub(crate) const FIRST_ROOM: usize = 1024;
+pub(crate) const FIRST_ROOM: usize = 32;
 
 /// A `&str` is a text.
 fn is_text(word: &str)

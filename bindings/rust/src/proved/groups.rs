@@ -73,21 +73,15 @@ impl<'g> PartialEq for Signature<'g> {
     }
 }
 
-/// Where two texts end that stand one after the other in a text.
+/// Where two texts stand, one after the other, in a text.
 #[derive(Debug, Clone, Copy)]
 pub(crate) struct Ends {
+    pub start: usize,
     pub first: usize,
     pub second: usize,
 }
 
-impl PartialEq for Ends {
-    #[inline(always)]
-    fn eq(&self, other: &Ends) -> bool {
-        self.first == other.first && self.second == other.second
-    }
-}
-
-/// A group among others: where its names end in the text of all names, what they are looked up by, and
+/// A group among others: where its names stand in the text of all names, what they are looked up by, and
 /// its kinds.
 #[derive(Debug, Clone, Copy)]
 struct SignatureRecord {
@@ -101,19 +95,14 @@ struct SignatureRecord {
 }
 
 impl PartialEq for SignatureRecord {
+    /// Whether their names stand at the same places and their kinds are the same.
     #[inline(always)]
     fn eq(&self, other: &SignatureRecord) -> bool {
-        self.names == other.names && self.kinds == other.kinds
+        self.names.start == other.names.start
+            && self.names.first == other.names.first
+            && self.names.second == other.names.second
+            && self.kinds == other.kinds
     }
-}
-
-/// Where the names of the groups before a place end.
-#[inline(always)]
-fn names_start(records: &[SignatureRecord], place: usize) -> usize {
-    if place == 0 {
-        return 0;
-    }
-    records[place - 1].names.second
 }
 
 /// Adds a text that there is room for, and returns where it ends.
@@ -126,6 +115,31 @@ pub(crate) fn push_reserved(texts: &mut String, text: &str) -> usize {
         Ok(()) => texts.len(),
         Err(_) => unreachable!(),
     }
+}
+
+/// Adds two texts that there is room for, and returns where they stand.
+#[inline(always)]
+pub(crate) fn push_two(texts: &mut String, first: &str, second: &str) -> Ends {
+    let start = texts.len();
+    let first = push_reserved(texts, first);
+    let second = push_reserved(texts, second);
+    Ends {
+        start,
+        first,
+        second,
+    }
+}
+
+/// The first of the two texts that stand there.
+#[inline(always)]
+pub(crate) fn first_at(text: &str, ends: Ends) -> &str {
+    &text[ends.start..ends.first]
+}
+
+/// The second of them.
+#[inline(always)]
+pub(crate) fn second_at(text: &str, ends: Ends) -> &str {
+    &text[ends.first..ends.second]
 }
 
 /// What reading asks of lawfully named groups: one text of all their names, of each group the short
@@ -158,39 +172,43 @@ impl Signatures {
     /// The kinds of the group at a place.
     #[inline(always)]
     pub(crate) fn kinds_at(&self, place: usize) -> Kinds {
-        self.records[place].kinds
+        self.record(place).kinds
     }
 
-    /// The short name of the group at a place. It starts where the names of the group before it end.
+    /// The short name of the group at a place.
     #[inline(always)]
     pub(crate) fn short(&self, place: usize) -> &str {
-        let start = names_start(&self.records, place);
-        &self.text[start..self.records[place].names.first]
+        first_at(&self.text, self.records[place].names)
     }
 
     /// The long name of the group at a place.
     #[inline(always)]
     pub(crate) fn long(&self, place: usize) -> &str {
-        let group = self.records[place];
-        &self.text[group.names.first..group.names.second]
+        second_at(&self.text, self.records[place].names)
+    }
+
+    /// What is held of the group at a place.
+    #[inline(always)]
+    fn record(&self, place: usize) -> SignatureRecord {
+        self.records[place]
     }
 
     /// The key of the main name of the group at a place.
     #[inline(always)]
     pub(crate) fn key_at(&self, place: usize) -> u64 {
-        self.records[place].key
+        self.record(place).key
     }
 
     /// The byte of the short name of the group at a place, or `NO_BYTE`.
     #[inline(always)]
     pub(crate) fn short_at(&self, place: usize) -> u16 {
-        self.records[place].short
+        self.record(place).short
     }
 
     /// Whether the group at a place has a long name.
     #[inline(always)]
     pub(crate) fn has_long(&self, place: usize) -> bool {
-        self.records[place].has_long
+        self.record(place).has_long
     }
 
     /// The two names of the group at a place.
@@ -212,16 +230,13 @@ impl Signatures {
         }
     }
 
-    /// The name of this number, where each group in turn has two, the short one first. Past the last
-    /// it is empty: the calls that sort and search a table want closures which take every entry.
-    pub(crate) fn name(&self, number: usize) -> &str {
-        let place = number / 2;
-        if place >= self.len() {
-            ""
-        } else if number % 2 == 0 {
-            self.short(place)
+    /// The main name of the group at a place. Past the last it is empty: the calls that sort and search a
+    /// table want closures which take every entry.
+    pub(crate) fn main_or_empty(&self, place: usize) -> &str {
+        if place < self.len() {
+            self.main(place)
         } else {
-            self.long(place)
+            ""
         }
     }
 
@@ -255,11 +270,10 @@ impl Signatures {
             self.records.try_grow(1)?;
             self.text.try_grow(bytes)?;
         }
-        let first = push_reserved(&mut self.text, short);
-        let second = push_reserved(&mut self.text, long);
+        let names = push_two(&mut self.text, short, long);
         let key = key_of(Names { short, long }.main());
         self.records.push_reserved(SignatureRecord {
-            names: Ends { first, second },
+            names,
             key,
             short: short_byte(short),
             has_long: !long.is_empty(),
@@ -280,6 +294,17 @@ impl TryClone for Signatures {
 
 impl PartialEq for Signatures {
     fn eq(&self, other: &Signatures) -> bool {
-        self.text == other.text && self.records == other.records
+        if self.text == other.text && self.records == other.records {
+            return true;
+        }
+        if self.len() != other.len() {
+            return false;
+        }
+        for place in 0..self.len() {
+            if self.get(place) != other.get(place) {
+                return false;
+            }
+        }
+        true
     }
 }

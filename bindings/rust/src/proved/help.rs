@@ -3,7 +3,7 @@
 
 use crate::fallible::*;
 
-use super::groups::{Ends, FIRST_GROUPS, Kinds, Signature, Signatures, push_reserved};
+use super::groups::{Ends, FIRST_GROUPS, Kinds, Signature, Signatures, first_at, push_two, second_at};
 use crate::alloc::{AllocError, Global};
 
 /// The bytes of the hints and descriptions of the first groups: so many need no second request.
@@ -17,17 +17,14 @@ pub(crate) struct Group<'g> {
     pub desc: &'g str,
 }
 
-/// Where the hints and descriptions of the groups before a place end.
-#[inline(always)]
-fn help_start(ends: &[Ends], place: usize) -> usize {
-    if place == 0 {
-        return 0;
+impl<'g> PartialEq for Group<'g> {
+    fn eq(&self, other: &Group<'g>) -> bool {
+        self.signature == other.signature && self.hint == other.hint && self.desc == other.desc
     }
-    ends[place - 1].second
 }
 
 /// Lawfully named groups: what reading asks of them, and one text of their hints and descriptions, with
-/// where those of each group end.
+/// where those of each group stand.
 #[derive(Debug)]
 pub(crate) struct Groups {
     signatures: Signatures,
@@ -66,12 +63,11 @@ impl Groups {
 
     /// The group at a place.
     pub(crate) fn get(&self, place: usize) -> Group<'_> {
-        let start = help_start(&self.ends, place);
-        let ends = self.ends[place];
+        let help = self.ends[place];
         Group {
             signature: self.signatures.get(place),
-            hint: &self.help[start..ends.first],
-            desc: &self.help[ends.first..ends.second],
+            hint: first_at(&self.help, help),
+            desc: second_at(&self.help, help),
         }
     }
 
@@ -94,9 +90,8 @@ impl Groups {
             self.help.try_grow(bytes)?;
         }
         self.signatures.try_push(short, long, kinds)?;
-        let first = push_reserved(&mut self.help, hint);
-        let second = push_reserved(&mut self.help, desc);
-        self.ends.push_reserved(Ends { first, second });
+        let help = push_two(&mut self.help, hint, desc);
+        self.ends.push_reserved(help);
         Ok(())
     }
 }
@@ -113,6 +108,14 @@ impl TryClone for Groups {
 
 impl PartialEq for Groups {
     fn eq(&self, other: &Groups) -> bool {
-        self.signatures == other.signatures && self.help == other.help && self.ends == other.ends
+        if self.len() != other.len() {
+            return false;
+        }
+        for place in 0..self.len() {
+            if self.get(place) != other.get(place) {
+                return false;
+            }
+        }
+        true
     }
 }

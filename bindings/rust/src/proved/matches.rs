@@ -127,6 +127,7 @@ impl MatchedGroups {
     }
 
     /// Whether the groups are the same, with their occurrences.
+    #[inline(never)]
     pub(crate) fn same(&self, other: &MatchedGroups) -> bool {
         if self.signatures != other.signatures {
             return false;

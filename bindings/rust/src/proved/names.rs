@@ -7,9 +7,6 @@ const ONE_BYTE: u64 = 1 << 8;
 /// What shifts a number by four bytes.
 const FOUR_BYTES: u64 = 1 << 32;
 
-/// What shifts it by seven.
-const SEVEN_BYTES: u64 = 1 << 56;
-
 /// What stands in the place of a short name's byte where there is no short name.
 pub(crate) const NO_BYTE: u16 = 256;
 
@@ -87,12 +84,6 @@ fn short_key(bytes: &[u8]) -> u64 {
         [a, b] => u32::from_be_bytes([*a, *b, 0, 0]) as u64,
         [a, b, c, ..] => u32::from_be_bytes([*a, *b, *c, 0]) as u64,
     }
-}
-
-/// The key of a name of one byte.
-#[inline(always)]
-pub(crate) fn byte_key(byte: u16) -> u64 {
-    byte as u64 * SEVEN_BYTES + 1
 }
 
 /// The byte of a short name, if there is one.

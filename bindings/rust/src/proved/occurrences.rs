@@ -5,27 +5,20 @@ use crate::fallible::*;
 
 use crate::alloc::{AllocError, Global};
 
-/// One option that a line gives: the place of its group, and the index of its item's first word. One number
-/// says where the values of the line end up to this option's own, and whether it has one.
+/// Where a text stands in a text.
+#[derive(Clone, Copy, Debug)]
+pub(crate) struct Span {
+    pub start: usize,
+    pub end: usize,
+}
+
+/// One option that a line gives: the place of its group, the index of its item's first word, and where its
+/// value stands among those of the line, if it has one.
 #[derive(Clone, Copy, Debug)]
 pub(crate) struct OccurrenceRecord {
     pub group: usize,
     pub position: usize,
-    packed: usize,
-}
-
-impl OccurrenceRecord {
-    /// Where the values end, up to this option's own.
-    #[inline(always)]
-    fn values_end(&self) -> usize {
-        self.packed / 2
-    }
-
-    /// Whether it has a value.
-    #[inline(always)]
-    fn has_value(&self) -> bool {
-        self.packed % 2 == 1
-    }
+    pub value: Option<Span>,
 }
 
 /// One option that a line gives, borrowed: the place of its group, the index of its item's first word, and its
@@ -37,37 +30,23 @@ pub(crate) struct Occurrence<'l> {
     pub value: Option<&'l str>,
 }
 
-/// Where the values of the options before a place end.
-#[inline(always)]
-fn values_start(records: &[OccurrenceRecord], place: usize) -> usize {
-    if place == 0 {
-        return 0;
-    }
-    records[place - 1].values_end()
-}
-
-/// Where the values end and whether an option has one, as one number. A text has less than 2^63
-/// bytes, so there is room for both.
-#[inline(always)]
-fn packed(end: usize, has_value: bool) -> usize {
-    if has_value { 2 * end + 1 } else { 2 * end }
-}
-
 /// The bytes reserved for each option once one has a value, so that short values need no second request.
 const VALUE_BYTES: usize = 8;
 /// The most bytes that `VALUE_BYTES` reserves.
 const MOST_BYTES: usize = 8192;
 
-/// Adds a value, the first with room for so many.
+/// Adds a value, the first with room for so many, and returns where it stands.
 #[inline(always)]
-fn push_value(values: &mut String, value: &str, room: usize) -> Result<(), AllocError> {
-    if value.is_empty() {
-        return Ok(());
-    }
-    if values.is_empty() {
+fn push_value(values: &mut String, value: &str, room: usize) -> Result<Span, AllocError> {
+    let start = values.len();
+    if start == 0 && !value.is_empty() {
         values.try_grow(room.saturating_mul(VALUE_BYTES).min(MOST_BYTES))?;
     }
-    values.try_push_str(value)
+    values.try_push_str(value)?;
+    Ok(Span {
+        start,
+        end: values.len(),
+    })
 }
 
 /// The options that a line gives, in order, and their values as one text.
@@ -99,18 +78,13 @@ impl LineOccurrences {
     #[inline(always)]
     pub(crate) fn at(&self, place: usize) -> Occurrence<'_> {
         let held = self.records[place];
-        if !held.has_value() {
-            return Occurrence {
-                group: held.group,
-                position: held.position,
-                value: None,
-            };
-        }
-        let value = &self.values[values_start(&self.records, place)..held.values_end()];
         Occurrence {
             group: held.group,
             position: held.position,
-            value: Some(value),
+            value: match held.value {
+                Some(span) => Some(&self.values[span.start..span.end]),
+                None => None,
+            },
         }
     }
 
@@ -123,13 +97,15 @@ impl LineOccurrences {
         value: Option<&str>,
     ) -> Result<(), AllocError> {
         self.records.try_grow(1)?;
-        let text = value.unwrap_or("");
-        push_value(&mut self.values, text, self.records.capacity())?;
-        let packed = packed(self.values.len(), value.is_some());
+        let room = self.records.capacity();
+        let value = match value {
+            Some(text) => Some(push_value(&mut self.values, text, room)?),
+            None => None,
+        };
         self.records.push_reserved(OccurrenceRecord {
             group,
             position,
-            packed,
+            value,
         });
         Ok(())
     }

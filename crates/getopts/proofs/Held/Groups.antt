@@ -1,99 +1,53 @@
--- Signatures and groups by what is held of them: which stands at a place, what one more adds, and
--- when two lists are the same.
-use Rattle.std.proofs.Common.{Bool, ◌≡◌, ◌&&◌, ℕ, zero, suc, ◌-◌, ◌<◌, List, [], ◌∷◌, map, ◌++◌}
-use Rattle.std.proofs.Common.{length, get_or, drop, slice_get, Some, refl, ap}
-use Rattle.std.proofs.Common.{sym, ◌∙◌, subst, arith}
-use Rattle.std.specs.Bool.{Decides}
-use Rattle.std.specs.Ordering.{on, eq_of_both}
-use Rattle.std.specs.Cmp.Lexicographic.{pointwise, pointwise_decides}
-use Rattle.std.specs.Str.{IsUtf8, bytes_eq}
-use Rattle.std.proofs.lemmas.Bool.Decides.{Decides-and, Decides-like, Decides-eqb}
-use Rattle.std.proofs.lemmas.Bool.Decides.{same_from_decides}
+-- Signatures and groups by what is held of them: which stands at a place, and what one more adds.
+use Rattle.std.proofs.Common.{◌≡◌, ℕ, zero, suc, ◌-◌, ◌<◌, List, [], ◌∷◌, map, ◌++◌, length}
+use Rattle.std.proofs.Common.{get_or, drop, slice_get, Some, refl, ap, sym, ◌∙◌, subst, arith}
+use Rattle.std.specs.List.{AllByRecursion}
+use Rattle.std.specs.Option.{option_map}
+use Rattle.std.specs.Str.{IsUtf8}
+use Rattle.std.specs.String.{string_bytes}
 use Rattle.std.proofs.lemmas.List.{length-map, map-append}
 use Rattle.std.proofs.lemmas.List.Elements.{All-nil, All-take, All-drop}
-use Rattle.std.proofs.lemmas.Option.{same_Some}
-use Rattle.std.proofs.lemmas.Slice.Eq.{bytes_eq-Decides}
+use Rattle.std.proofs.lemmas.Option.{same_Some, slice_get-map}
 use Rattle.getopts.specs.Names.{Text, IsLawfullyNamed, main_name}
 use Rattle.getopts.specs.Options.{Signature, Group, MayBeDeclared, signatures_of}
-use Rattle.getopts.specs.Held.Pieces.{IsWellCut, IsOfBytes}
-use Rattle.getopts.specs.Same.{same_signature, same_group}
-use Rattle.getopts.specs.Held.Names.{names_at, HaveNamesOfBytes}
-use Rattle.getopts.specs.Held.Groups.{signature_with, kinds_of, same_kinds, same_record, same_ends}
-use Rattle.getopts.specs.Held.Groups.{names_in, text_ends, signatures_with}
-use Rattle.getopts.specs.Held.Groups.{AreLawfulSignatures, HasKeys, HaveKeys}
-use Rattle.getopts.specs.Held.Help.{groups_with, groups_view, HoldGroups}
-use Rattle.std.specs.String.{string_bytes}
 use Rattle.getopts.specs.Canon.{main_at}
+use Rattle.getopts.specs.Held.Pieces.{IsOfBytes}
+use Rattle.getopts.specs.Held.Names.{names_at, HaveNamesOfBytes}
+use Rattle.getopts.specs.Held.Groups.{signature_with, names_in, two_at, AreEndsOf, StandAt}
+use Rattle.getopts.specs.Held.Groups.{signature_in, AreLawfulSignatures, HasKeys, IsHeld}
+use Rattle.getopts.specs.Held.Help.{groups_with, groups_view, HoldGroups}
 use Rattle.getopts.specs.declared.help.Groups.TheInside.{Inside}
 use Rattle.getopts.specs.declared.groups.Ends.{Ends}
 use Rattle.getopts.specs.declared.groups.SignatureRecord.{SignatureRecord}
-use Rattle.getopts.specs.declared.groups.Kinds.{Kinds}
-use Rattle.getopts.proofs.Lists.{AllByRecursion-unmap}
-use Rattle.getopts.proofs.Held.Options.{same_signature-decides, same_group-decides}
-use Rattle.getopts.proofs.Held.Twos.{between, twos_from, length-twos_from, twos_pushed, twos_told}
-use Rattle.getopts.proofs.Held.Twos.{start_at}
-
--- where the names of each group end
-abbrev pub ends_in : List SignatureRecord → List Ends
-ends_in records = map (λ r. r.names) records
-
--- a signature by its record, where its names start here in the text of all
-abbrev pub signature_by : Text → ℕ → SignatureRecord → Signature
-signature_by text start r =
-    signature_with r.kinds (between text start r.names.first)
-    (between text r.names.first r.names.second)
-
--- signatures by their records, where the names of the first start here
-abbrev pub signatures_from : Text → ℕ → List SignatureRecord → List Signature
-signatures_from text start records =
-    signatures_with records (twos_from text start (ends_in records))
-
--- ---- signatures at a place
-
--- there are as many signatures as records
-pub length-signatures_from : (text : Text) (start : ℕ) (records : List SignatureRecord)
-    → length (signatures_from text start records) ≡ length records
-length-signatures_from text start [] = refl
-length-signatures_from text start (r ∷ records) =
-    ap suc (length-signatures_from text r.names.second records)
+use Rattle.getopts.proofs.Lists.{AllByRecursion-unmap, AllByRecursion-at, AllByRecursion-append}
+use Rattle.getopts.proofs.Lists.{slice_get-read, each_kept}
+use Rattle.getopts.proofs.Held.Twos.{two-append}
 
 -- the record of a signature that is there
-pub record_within : (text : Text) (start : ℕ) (records : List SignatureRecord)
-    (signatures : List Signature) (place : ℕ) → signatures_from text start records ≡ signatures
-    → place < length signatures → place < length records
-record_within text start records signatures place are within =
+pub record_within : (text : Text) (records : List SignatureRecord) (signatures : List Signature)
+    (place : ℕ) → map (signature_in text) records ≡ signatures → place < length signatures
+    → place < length records
+record_within text records signatures place are within =
     omega (
       arith,
       within,
       ap (λ (signatures : List Signature). length signatures) are,
-      length-signatures_from text start records,
+      length-map records (signature_in text),
     )
 
--- the place where names start is the one that the code finds
-pub names_start_at : (start : ℕ) (records : List SignatureRecord) (i : ℕ)
-    → get_or (start ∷ map (λ r. r.names.second) records) i 0 ≡ start_at start (ends_in records) i
-names_start_at start [] i = refl
-names_start_at start (r ∷ records) zero = refl
-names_start_at start (r ∷ records) (suc i) = names_start_at r.names.second records i
-
--- the signature at a place
-pub signatures_from-at : (text : Text) (start : ℕ) (records : List SignatureRecord) (i : ℕ)
-    (r : SignatureRecord) → slice_get records i ≡ Some r
-    → slice_get (signatures_from text start records) i
-    ≡ Some (signature_by text (start_at start (ends_in records) i) r)
-signatures_from-at text start [] i r at = cc at
-signatures_from-at text start (first ∷ records) zero r at =
-    ap (λ (r : SignatureRecord). Some (signature_by text start r)) (same_Some first r at)
-signatures_from-at text start (first ∷ records) (suc i) r at =
-    signatures_from-at text first.names.second records i r at
-
--- the ends of its names
-pub ends_in-at : (records : List SignatureRecord) (i : ℕ) (r : SignatureRecord)
-    → slice_get records i ≡ Some r → slice_get (ends_in records) i ≡ Some r.names
-ends_in-at [] i r at = cc at
-ends_in-at (first ∷ records) zero r at =
-    ap (λ (r : SignatureRecord). Some r.names) (same_Some first r at)
-ends_in-at (first ∷ records) (suc i) r at = ends_in-at records i r at
+-- what is held of the record at a place, and the signature there
+pub held_at : (text : Text) (records : List SignatureRecord) (signatures : List Signature)
+    (place : ℕ) (r : SignatureRecord) → AllByRecursion (IsHeld text) records
+    → map (signature_in text) records ≡ signatures → place < length signatures
+    → r ≡ get_or records place r
+    → IsHeld text r × (slice_get signatures place ≡ Some (signature_in text r))
+held_at text records signatures place r held are within is =
+    let at = slice_get-read records place r
+    (record_within text records signatures place are within) is in (
+      AllByRecursion-at (IsHeld text) records place r held at,
+      rw (← are) (slice_get-map (signature_in text) records place
+          ∙ ap (option_map (signature_in text)) at),
+    )
 
 -- ---- names
 
@@ -107,71 +61,60 @@ names_at-signature (first ∷ signatures) zero signature is =
 names_at-signature (first ∷ signatures) (suc place) signature is =
     names_at-signature signatures place signature is
 
--- what the record at a place has, by the names there
-pub HasKeys-at : (records : List SignatureRecord) (signatures : List Signature) (i : ℕ)
-    (r : SignatureRecord) → HaveKeys records signatures → slice_get records i ≡ Some r
-    → HasKeys r (names_at (names_in signatures) i)
-HasKeys-at [] signatures i r keyed at = cc at
-HasKeys-at (first ∷ records) [] i r keyed at = absurd keyed
-HasKeys-at (first ∷ records) (signature ∷ signatures) zero r keyed at =
-    subst (λ (r : SignatureRecord). HasKeys r signature.names) (same_Some first r at) keyed.0
-HasKeys-at (first ∷ records) (signature ∷ signatures) (suc i) r keyed at =
-    HasKeys-at records signatures i r keyed.1 at
-
 -- where the text of all is of bytes, each name is
-pub HaveNamesOfBytes-from : (text : Text) → IsOfBytes text
-    → (start : ℕ) (records : List SignatureRecord)
-    → HaveNamesOfBytes (names_in (signatures_from text start records))
-HaveNamesOfBytes-from text bytes start [] place =
+pub HaveNamesOfBytes-in : (text : Text) → IsOfBytes text → (records : List SignatureRecord)
+    → HaveNamesOfBytes (names_in (map (signature_in text) records))
+HaveNamesOfBytes-in text bytes [] place =
     (All-nil (λ byte. byte < 256), All-nil (λ byte. byte < 256))
-HaveNamesOfBytes-from text bytes start (r ∷ records) zero = (
-  All-take (λ byte. byte < 256) (r.names.first - start) (drop start text)
-      (All-drop (λ byte. byte < 256) start text bytes),
+HaveNamesOfBytes-in text bytes (r ∷ records) zero = (
+  All-take (λ byte. byte < 256) (r.names.first - r.names.start) (drop r.names.start text)
+      (All-drop (λ byte. byte < 256) r.names.start text bytes),
   All-take (λ byte. byte < 256) (r.names.second - r.names.first) (drop r.names.first text)
       (All-drop (λ byte. byte < 256) r.names.first text bytes),
 )
-HaveNamesOfBytes-from text bytes start (r ∷ records) (suc place) =
-    HaveNamesOfBytes-from text bytes r.names.second records place
+HaveNamesOfBytes-in text bytes (r ∷ records) (suc place) =
+    HaveNamesOfBytes-in text bytes records place
 
 -- ---- one more
 
--- one more signature has the names after the others
-signatures_with-push : (added : SignatureRecord) (names : Text × Text)
-    (records : List SignatureRecord) (twos : List (Text × Text)) → length twos ≡ length records
-    → signatures_with (records ++ added ∷ []) (twos ++ names ∷ [])
-    ≡ signatures_with records twos ++ signature_with added.kinds names.0 names.1 ∷ []
-signatures_with-push added names [] [] as_many = refl
-signatures_with-push added names [] (two ∷ twos) as_many = absurd (omega (arith, as_many))
-signatures_with-push added names (r ∷ records) [] as_many = absurd (omega (arith, as_many))
-signatures_with-push added names (r ∷ records) (two ∷ twos) as_many =
-    ap (λ (more : List Signature). signature_with r.kinds two.0 two.1 ∷ more)
-    (signatures_with-push added names records twos (omega (arith, as_many)))
+-- with more text, records are held as before, and one more is the last
+pub signatures-push : (text more : Text) → IsUtf8 more → (records : List SignatureRecord)
+    → AllByRecursion (IsHeld text) records
+    → (added : SignatureRecord) → IsHeld (text ++ more) added
+    → AllByRecursion (IsHeld (text ++ more)) (records ++ added ∷ [])
+    × (map (signature_in (text ++ more)) (records ++ added ∷ [])
+    ≡ map (signature_in text) records ++ signature_in (text ++ more) added ∷ [])
+signatures-push text more utf8 records held added last =
+    let kept = each_kept (IsHeld text) (IsHeld (text ++ more)) (signature_in text)
+    (signature_in (text ++ more)) (λ r held.
+    let stand = two-append text more utf8 r.names held.ends in
+    let same : signature_in (text ++ more) r ≡ signature_in text r =
+    ap (λ (names : Text × Text). signature_with r.kinds names.0 names.1) stand.are in (
+      record {
+        ends = stand.ends;
+        keys = subst (λ (s : Signature). HasKeys r s.names) (sym same) held.keys;
+      },
+      same,
+    )) records held in (
+      AllByRecursion-append (IsHeld (text ++ more)) records (added ∷ []) kept.0 (last, tt),
+      map-append (signature_in (text ++ more)) records (added ∷ [])
+          ∙ ap (λ (ss : List Signature). ss ++ signature_in (text ++ more) added ∷ []) kept.1,
+    )
 
--- The record of a group whose two names were added one after the other.
-module _ (text short long one all : Text) (one_is : one ≡ text ++ short)
-    (all_is : all ≡ one ++ long) (added : SignatureRecord)
-    (short_end : added.names.first ≡ length one) (long_end : added.names.second ≡ length all)
-    (short_utf8 : IsUtf8 short) (long_utf8 : IsUtf8 long) where
-  -- with it the text is again cut where all names end, and it has the last signature
-  pub signatures_pushed : (records : List SignatureRecord)
-      → IsWellCut text (text_ends (ends_in records))
-      → IsWellCut all (text_ends (ends_in (records ++ added ∷ [])))
-      × (signatures_from all 0 (records ++ added ∷ [])
-      ≡ signatures_from text 0 records ++ signature_with added.kinds short long ∷ [])
-  signatures_pushed records cut =
-      let twos = twos_pushed text short long one all one_is all_is added.names short_end long_end
-      short_utf8 long_utf8 (ends_in records) cut in
-      let ends : ends_in (records ++ added ∷ []) ≡ ends_in records ++ added.names ∷ [] =
-      map-append (λ (r : SignatureRecord). r.names) records (added ∷ []) in
-      let as_many : length (twos_from text 0 (ends_in records)) ≡ length records =
-      length-twos_from text 0 (ends_in records)
-      ∙ length-map records (λ (r : SignatureRecord). r.names) in (
-        subst (λ ends. IsWellCut all (text_ends ends)) (sym ends) twos.0,
-        ap (λ ends. signatures_with (records ++ added ∷ []) (twos_from all 0 ends)) ends
-            ∙ ap (signatures_with (records ++ added ∷ [])) twos.1
-            ∙ signatures_with-push added (short, long) records (twos_from text 0 (ends_in records))
-            as_many,
-      )
+-- with more text, two texts of each group stand as before, and two more are the last
+pub twos-push : (text more : Text) → IsUtf8 more → (ends : List Ends)
+    → AllByRecursion (AreEndsOf text) ends → (added : Ends) (two : Text × Text)
+    → StandAt (text ++ more) added two
+    → AllByRecursion (AreEndsOf (text ++ more)) (ends ++ added ∷ [])
+    × (map (two_at (text ++ more)) (ends ++ added ∷ []) ≡ map (two_at text) ends ++ two ∷ [])
+twos-push text more utf8 ends held added two last =
+    let kept = each_kept (AreEndsOf text) (AreEndsOf (text ++ more)) (two_at text)
+    (two_at (text ++ more)) (λ e held. let stand = two-append text more utf8 e held in
+    (stand.ends, stand.are)) ends held in (
+      AllByRecursion-append (AreEndsOf (text ++ more)) ends (added ∷ []) kept.0 (last.ends, tt),
+      map-append (two_at (text ++ more)) ends (added ∷ [])
+          ∙ (λ i. kept.1 i ++ last.are i ∷ []),
+    )
 
 -- one more group has the texts after the others
 pub groups_with-push : (signature : Signature) (texts : Text × Text) (signatures : List Signature)
@@ -237,8 +180,8 @@ pub signatures_held : (inside : Inside) (groups : List Group) → HoldGroups ins
     → groups_view inside ≡ groups
     → (inside.signatures ≡ signatures_of groups) × (length groups ≡ length inside.signatures)
 signatures_held inside groups holds are =
-    let twos = twos_from (string_bytes inside.help) 0 inside.ends.items in
-    let as_many = length-twos_from (string_bytes inside.help) 0 inside.ends.items
+    let twos = map (two_at (string_bytes inside.help)) inside.ends.items in
+    let as_many = length-map inside.ends.items (two_at (string_bytes inside.help))
     ∙ holds.as_many in (
       sym (ap signatures_of (sym are) ∙ signatures_of-with inside.signatures twos as_many),
       ap (λ (groups : List Group). length groups) (sym are)
@@ -261,157 +204,3 @@ MayBeDeclared-lawful groups lawful = record {
   shorts = AllByRecursion-unmap (λ (s : Signature). IsUtf8 s.names.short)
       (λ (g : Group). g.signature) groups lawful.shorts;
 }
-
--- ---- the same
-
--- the names of signatures, two by two
-twos-signatures : (records : List SignatureRecord) (twos : List (Text × Text))
-    → length twos ≡ length records
-    → map (λ (s : Signature). (s.names.short, s.names.long)) (signatures_with records twos) ≡ twos
-twos-signatures [] [] as_many = refl
-twos-signatures [] (two ∷ twos) as_many = absurd (omega (arith, as_many))
-twos-signatures (r ∷ records) [] as_many = absurd (omega (arith, as_many))
-twos-signatures (r ∷ records) (two ∷ twos) as_many =
-    ap (λ (more : List (Text × Text)). two ∷ more)
-    (twos-signatures records twos (omega (arith, as_many)))
-
--- the hints and descriptions of groups, two by two
-twos-groups : (signatures : List Signature) (twos : List (Text × Text))
-    → length twos ≡ length signatures
-    → map (λ (g : Group). (g.hint, g.description)) (groups_with signatures twos) ≡ twos
-twos-groups [] [] as_many = refl
-twos-groups [] (two ∷ twos) as_many = absurd (omega (arith, as_many))
-twos-groups (first ∷ signatures) [] as_many = absurd (omega (arith, as_many))
-twos-groups (first ∷ signatures) (two ∷ twos) as_many =
-    ap (λ (more : List (Text × Text)). two ∷ more)
-    (twos-groups signatures twos (omega (arith, as_many)))
-
--- what the names and kinds rest on, of each record
-abbrev plain : List SignatureRecord → List (Ends × Kinds)
-plain records = map (λ r. (r.names, r.kinds)) records
-
--- signatures by that
-abbrev signatures_by : Text → ℕ → List (Ends × Kinds) → List Signature
-signatures_by text start [] = []
-signatures_by text start (p ∷ more) =
-    signature_with p.1 (between text start p.0.first) (between text p.0.first p.0.second)
-    ∷ signatures_by text p.0.second more
-
-signatures_by-plain : (text : Text) (start : ℕ) (records : List SignatureRecord)
-    → signatures_from text start records ≡ signatures_by text start (plain records)
-signatures_by-plain text start [] = refl
-signatures_by-plain text start (r ∷ records) =
-    ap (λ (more : List Signature). signature_by text start r ∷ more)
-    (signatures_by-plain text r.names.second records)
-
--- it is told by the ends of names, and by the kinds of the groups
-plain_told : (text other : Text) (start other_start : ℕ) (records others : List SignatureRecord)
-    → ends_in records ≡ ends_in others
-    → signatures_from text start records ≡ signatures_from other other_start others
-    → plain records ≡ plain others
-plain_told text other start other_start [] [] ends same = refl
-plain_told text other start other_start [] (o ∷ others) ends same = cc ends
-plain_told text other start other_start (r ∷ records) [] ends same = cc ends
-plain_told text other start other_start (r ∷ records) (o ∷ others) ends same =
-    let names : r.names ≡ o.names = cc ends in
-    let more_ends : ends_in records ≡ ends_in others = cc ends in
-    let first : signature_by text start r ≡ signature_by other other_start o = cc same in
-    let kinds : r.kinds ≡ o.kinds = ap kinds_of first in
-    let more : signatures_from text r.names.second records
-    ≡ signatures_from other o.names.second others = cc same in
-    let rest = plain_told text other r.names.second o.names.second records others more_ends more in
-    λ i. (names i, kinds i) ∷ rest i
-
-same_kinds-decides : (a b : Kinds) → Decides (same_kinds a b) (a ≡ b)
-same_kinds-decides a b = Decides-like (same_kinds a b) (λ e. ap kinds_of e)
-    (λ e. ap (λ (k : Kinds). signature_with k [] []) e)
-    (same_signature-decides (signature_with a [] []) (signature_with b [] []))
-
--- the test of two ends says exactly that they are equal
-same_ends-decides : (a b : Ends) → Decides (same_ends a b) (a ≡ b)
-same_ends-decides a b = Decides-like (same_ends a b)
-    (λ h. λ i. record { first = h.0 i; second = h.1 i })
-    (λ e. (ap (λ x. x.first) e, ap (λ x. x.second) e))
-    (Decides-and _ _ (Decides-eqb a.first b.first) (Decides-eqb a.second b.second))
-
--- the test of what two records rest on
-abbrev same_plain : Ends × Kinds → Ends × Kinds → Bool
-same_plain = eq_of_both (on (λ p. p.0) same_ends) (on (λ p. p.1) same_kinds)
-
-same_plain-decides : (a b : Ends × Kinds) → Decides (same_plain a b) (a ≡ b)
-same_plain-decides a b = Decides-like (same_plain a b) (λ h. λ i. (h.0 i, h.1 i))
-    (λ e. (ap (λ p. p.0) e, ap (λ p. p.1) e))
-    (Decides-and _ _ (same_ends-decides a.0 b.0) (same_kinds-decides a.1 b.1))
-
--- it is that of the records
-pointwise-plain : (records others : List SignatureRecord)
-    → pointwise same_record records others ≡ pointwise same_plain (plain records) (plain others)
-pointwise-plain [] [] = refl
-pointwise-plain [] (o ∷ others) = refl
-pointwise-plain (r ∷ records) [] = refl
-pointwise-plain (r ∷ records) (o ∷ others) =
-    ap (λ b. same_record r o && b) (pointwise-plain records others)
-
--- signatures are the same where their records and the text of all names are
-pub same_signatures : (text other : Text) (records others : List SignatureRecord)
-    → IsWellCut text (text_ends (ends_in records)) → IsWellCut other (text_ends (ends_in others))
-    → (bytes_eq text other && pointwise same_record records others)
-    ≡ pointwise same_signature (signatures_from text 0 records) (signatures_from other 0 others)
-same_signatures text other records others cut other_cut =
-    let by_parts : Decides (bytes_eq text other && pointwise same_plain (plain records) (plain others))
-    ((text ≡ other) × (plain records ≡ plain others)) =
-    Decides-and _ _ (bytes_eq-Decides text other)
-    (pointwise_decides same_plain-decides (plain records) (plain others)) in
-    let as_many = λ (text : Text) (records : List SignatureRecord).
-    length-twos_from text 0 (ends_in records)
-    ∙ length-map records (λ (r : SignatureRecord). r.names) in
-    let told : signatures_from text 0 records ≡ signatures_from other 0 others → (text ≡ other)
-    × (plain records ≡ plain others) = λ e.
-    let parts = twos_told text other (ends_in records) (ends_in others) cut other_cut
-    (sym (twos-signatures records (twos_from text 0 (ends_in records)) (as_many text records))
-    ∙ ap (map (λ (s : Signature). (s.names.short, s.names.long))) e
-    ∙ twos-signatures others (twos_from other 0 (ends_in others)) (as_many other others)) in
-    (parts.0, plain_told text other 0 0 records others parts.1 e) in
-    let alike : (text ≡ other) × (plain records ≡ plain others)
-    → signatures_from text 0 records ≡ signatures_from other 0 others = λ same.
-    signatures_by-plain text 0 records ∙ (λ i. signatures_by (same.0 i) 0 (same.1 i))
-    ∙ sym (signatures_by-plain other 0 others) in
-    ap (λ b. bytes_eq text other && b) (pointwise-plain records others)
-    ∙ same_from_decides _ _ (Decides-like _ alike told by_parts)
-    (pointwise_decides same_signature-decides (signatures_from text 0 records)
-    (signatures_from other 0 others))
-
--- groups are the same where their signatures, the text of their help and its ends are
-pub same_groups : (signatures other_signatures : List Signature) (text other : Text)
-    (ends others : List Ends) → IsWellCut text (text_ends ends)
-    → IsWellCut other (text_ends others) → length ends ≡ length signatures
-    → length others ≡ length other_signatures
-    → (pointwise same_signature signatures other_signatures && bytes_eq text other
-    && pointwise same_ends ends others)
-    ≡ pointwise same_group (groups_with signatures (twos_from text 0 ends))
-    (groups_with other_signatures (twos_from other 0 others))
-same_groups signatures other_signatures text other ends others cut other_cut size other_size =
-    let by_parts : Decides (pointwise same_signature signatures other_signatures
-    && bytes_eq text other && pointwise same_ends ends others)
-    (((signatures ≡ other_signatures) × (text ≡ other)) × (ends ≡ others)) =
-    Decides-and _ _ (Decides-and _ _
-    (pointwise_decides same_signature-decides signatures other_signatures)
-    (bytes_eq-Decides text other)) (pointwise_decides same_ends-decides ends others) in
-    let as_many = length-twos_from text 0 ends ∙ size in
-    let other_as_many = length-twos_from other 0 others ∙ other_size in
-    let told : groups_with signatures (twos_from text 0 ends)
-    ≡ groups_with other_signatures (twos_from other 0 others)
-    → ((signatures ≡ other_signatures) × (text ≡ other)) × (ends ≡ others) = λ e.
-    let parts = twos_told text other ends others cut other_cut
-    (sym (twos-groups signatures (twos_from text 0 ends) as_many)
-    ∙ ap (map (λ (g : Group). (g.hint, g.description))) e
-    ∙ twos-groups other_signatures (twos_from other 0 others) other_as_many) in
-    let known = sym (signatures_of-with signatures (twos_from text 0 ends) as_many)
-    ∙ ap signatures_of e
-    ∙ signatures_of-with other_signatures (twos_from other 0 others) other_as_many in
-    ((known, parts.0), parts.1) in
-    same_from_decides _ _
-    (Decides-like _ (λ same i. groups_with (same.0.0 i) (twos_from (same.0.1 i) 0 (same.1 i))) told
-    by_parts)
-    (pointwise_decides same_group-decides (groups_with signatures (twos_from text 0 ends))
-    (groups_with other_signatures (twos_from other 0 others)))

@@ -1,12 +1,11 @@
 -- The occurrences of a group, by the places where they stand.
-use Rattle.std.proofs.Common.{◌≡◌, ◌<◌, ◌≤◌, ◌+◌, ℕ, zero, suc, ◌==◌, ◌&&◌, Bool, true, false, List}
+use Rattle.std.proofs.Common.{◌≡◌, ◌<◌, ◌+◌, ℕ, zero, suc, ◌==◌, ◌&&◌, Bool, true, false, List}
 use Rattle.std.proofs.Common.{[], ◌∷◌, ◌++◌, map, length, take, slice_get, Option, Bor, Some, None}
 use Rattle.std.proofs.Common.{refl, ap, sym, ◌∙◌, arith}
 use Rattle.std.specs.List.{AllByRecursion, filter_map, cons_option}
 use Rattle.std.specs.Cmp.Lexicographic.{pointwise}
 use Rattle.std.specs.Option.{option_copied, option_eq, option_map}
-use Rattle.std.proofs.lemmas.List.{length-map, map-append, take_all}
-use Rattle.std.proofs.lemmas.Bool.{and_from, and_parts, and_left, and_right, false≢true}
+use Rattle.std.proofs.lemmas.List.{length-map, map-append}
 use Rattle.std.proofs.lemmas.List.Elements.{filter_map-append}
 use Rattle.std.proofs.lemmas.Option.{slice_get-map}
 use Rattle.getopts.specs.Names.{Text}
@@ -14,7 +13,7 @@ use Rattle.getopts.specs.Matches.{Found, found_part}
 use Rattle.getopts.specs.Accessors.{positions_of, values_of, pair_of, pairs_of, held_found}
 use Rattle.getopts.specs.Reading.{Occurrence}
 use Rattle.getopts.specs.Same.{same_found}
-use Rattle.getopts.proofs.Lists.{element, take-more}
+use Rattle.getopts.proofs.Lists.{element, take-more, pointwise-differ, pointwise-take_more}
 
 -- as many elements as places
 length-at_places : {X : Type 0} (xs : List X) (places : List ℕ)
@@ -95,34 +94,6 @@ module _ (founds : List Found) (i : ℕ) (next : Option (ℕ × Option (Bor Text
       ≡ pairs_of (take i founds) ++ pairs_of (cons_option (option_map held_found next) [])
   pairs-more = ap pairs_of founds-more
       ∙ filter_map-append pair_of (take i founds) (cons_option (option_map held_found next) [])
-
-module _ {X : Type 0} (E : X → X → Bool) where
-  -- lists that differ at a place differ
-  pointwise-differ : (xs ys : List X) (i : ℕ)
-      → option_eq E (slice_get xs i) (slice_get ys i) ≡ false → pointwise E xs ys ≡ false
-  pointwise-differ [] [] i differ = differ
-  pointwise-differ [] (y ∷ ys) i differ = refl
-  pointwise-differ (x ∷ xs) [] i differ = refl
-  pointwise-differ (x ∷ xs) (y ∷ ys) zero differ = and_left (E x y) (pointwise E xs ys) differ
-  pointwise-differ (x ∷ xs) (y ∷ ys) (suc i) differ =
-      and_right (E x y) (pointwise E xs ys) (pointwise-differ xs ys i differ)
-
-  -- fronts that are the same, with one more element that is
-  pointwise-take_more : (xs ys : List X) (i : ℕ) → pointwise E (take i xs) (take i ys) ≡ true
-      → option_eq E (slice_get xs i) (slice_get ys i) ≡ true
-      → pointwise E (take (i + 1) xs) (take (i + 1) ys) ≡ true
-  pointwise-take_more [] [] i same here = let none : length {A = X} [] ≤ i + 1 =
-      omega arith in rw (take_all (i + 1) [] none)
-  pointwise-take_more [] (y ∷ ys) zero same here = absurd (false≢true here)
-  pointwise-take_more [] (y ∷ ys) (suc i) same here = absurd (false≢true same)
-  pointwise-take_more (x ∷ xs) [] zero same here = absurd (false≢true here)
-  pointwise-take_more (x ∷ xs) [] (suc i) same here = absurd (false≢true same)
-  pointwise-take_more (x ∷ xs) (y ∷ ys) zero same here = and_from (E x y) true here refl
-  pointwise-take_more (x ∷ xs) (y ∷ ys) (suc i) same here =
-      let later : suc i + 1 ≡ suc (i + 1) = omega arith in
-      let parts = and_parts (E x y) (pointwise E (take i xs) (take i ys)) same in
-      rw later (and_from (E x y) (pointwise E (take (i + 1) xs) (take (i + 1) ys)) parts.0
-      (pointwise-take_more xs ys i parts.1 here))
 
 -- two occurrences as they are read, compared as the code compares them
 abbrev pub same_read : Option (ℕ × Option (Bor Text)) → Option (ℕ × Option (Bor Text)) → Bool

@@ -1,13 +1,14 @@
--- Texts held as one: where it is cut, also after one more.
-use Rattle.std.proofs.Common.{◌≡◌, ℕ, List, [], ◌∷◌, ◌++◌, length, get_or, subst, inl, inr, refl}
-use Rattle.std.proofs.Common.{arith, length-append}
+-- A text in a text of all: where it may be cut, and what stands between two places, also with more after it.
+use Rattle.std.proofs.Common.{◌≡◌, ℕ, ◌-◌, ◌≤◌, List, ◌++◌, length, get_or, take, drop, subst, inl}
+use Rattle.std.proofs.Common.{inr, refl, ap, ◌∙◌, arith, length-append}
 use Rattle.std.specs.Str.{IsUtf8, IsCharBoundary}
 use Rattle.std.proofs.lemmas.Bool.{cases_lt}
-use Rattle.std.proofs.lemmas.List.{get_or_append_left}
-use Rattle.std.proofs.lemmas.List.Elements.{All-push, All-weaker}
-use Rattle.std.proofs.lemmas.Str.{IsCharBoundary-at_seam, IsCharBoundary-end}
-use Rattle.getopts.specs.Held.Pieces.{pieces, IsWellCut}
-use Rattle.getopts.proofs.Held.Pieces.{AreEnds-push, pieces-push}
+use Rattle.std.proofs.lemmas.List.{get_or_append_left, take-append-le, drop-append-le, length-drop}
+use Rattle.std.proofs.lemmas.List.{take_all}
+use Rattle.std.proofs.lemmas.Str.{IsCharBoundary-at_seam}
+use Rattle.std.proofs.Math.Seq.{drop-append_seam}
+use Rattle.getopts.specs.Names.{Text}
+use Rattle.getopts.specs.Held.Pieces.{between}
 
 -- where a text may be cut, it may also be cut with more after it
 pub IsCharBoundary-append : (text more : List ℕ) → IsUtf8 more → (place : ℕ)
@@ -24,19 +25,15 @@ IsCharBoundary-append text more utf8 place cut = elim (cases_lt place (length te
       (IsCharBoundary-at_seam (text ++ more) text more refl utf8)
 ]
 
--- one more text is the last one, and ends where the one text does
-pub texts_push : (text more grown : List ℕ) (ends grown_ends : List ℕ) → grown ≡ text ++ more
-    → grown_ends ≡ ends ++ length grown ∷ [] → IsUtf8 more → IsWellCut text ends
-    → IsWellCut grown grown_ends × (pieces grown 0 grown_ends ≡ pieces text 0 ends ++ more ∷ [])
-texts_push text more grown ends grown_ends at_text at_ends utf8 cut =
-    let both = text ++ more in
-    let between = All-weaker (IsCharBoundary text) (IsCharBoundary both)
-    (IsCharBoundary-append text more utf8) ends cut.between_characters in
-    rw (at_ends, at_text) (
-      record {
-        in_order = AreEnds-push text more 0 ends cut.in_order;
-        between_characters = All-push (IsCharBoundary both) ends (length both) between
-            (IsCharBoundary-end both);
-      },
-      pieces-push text more 0 ends cut.in_order,
-    )
+-- what stands in a text stands there with more after it
+pub between-append : (text more : Text) (start end : ℕ) → start ≤ end → end ≤ length text
+    → between (text ++ more) start end ≡ between text start end
+between-append text more start end ordered within =
+    ap (λ (rest : Text). take (end - start) rest) (drop-append-le start text more (omega arith))
+    ∙ take-append-le (end - start) (drop start text) more (omega (arith, length-drop start text))
+
+-- what was added stands from the old end to the new one
+pub between-added : (text more : Text) → between (text ++ more) (length text) (length (text ++ more)) ≡ more
+between-added text more =
+    rw (drop-append_seam text more)
+    (take_all (length (text ++ more) - length text) more (omega (arith, length-append text more)))

@@ -1,14 +1,14 @@
 -- What is seen of the names and kinds of groups that are held or borrowed.
-use Rattle.std.specs.Prelude.{◌≡◌, ◌==◌, ℕ, Bool, not, List, [], ◌∷◌, map}
-use Rattle.std.specs.List.{AllByRecursion, AllZip}
+use Rattle.std.specs.Prelude.{◌≡◌, ◌==◌, ◌≤◌, Bool, not, List, [], map}
+use Rattle.std.specs.List.{AllByRecursion}
 use Rattle.std.specs.Ordering.{on, eq_of_both}
-use Rattle.std.specs.Str.{IsUtf8}
+use Rattle.std.specs.Str.{IsUtf8, IsCharBoundary}
 use Rattle.std.specs.String.{string_bytes}
 use Rattle.getopts.specs.Names.{Text, Names, IsLawfullyNamed, is_empty, main_name}
 use Rattle.getopts.specs.Options.{Signature}
 use Rattle.getopts.specs.Same.{same_signature}
+use Rattle.getopts.specs.Held.Pieces.{between}
 use Rattle.getopts.specs.Held.Names.{key_of, short_code}
-use Rattle.getopts.specs.Held.Pieces.{pieces, IsWellCut}
 use Rattle.getopts.specs.declared.names.Names.{Names as HeldNames}
 use Rattle.getopts.specs.declared.groups.Kinds.{Kinds}
 use Rattle.getopts.specs.declared.groups.Ends.{Ends}
@@ -40,30 +40,35 @@ names_in signatures = map (λ signature. signature.names) signatures
 abbrev pub same_kinds : Kinds → Kinds → Bool
 same_kinds = on (λ kinds. signature_with kinds [] []) same_signature
 
--- where texts end that stand two by two, in order
-abbrev pub text_ends : List Ends → List ℕ
-text_ends [] = []
-text_ends (e ∷ ends) = e.first ∷ e.second ∷ text_ends ends
+-- whether two records' names stand at the same places, and their kinds are the same
+abbrev pub same_record : SignatureRecord → SignatureRecord → Bool
+same_record = eq_of_both (on (λ group. group.names.start) ◌==◌)
+    (eq_of_both (on (λ group. group.names.first) ◌==◌)
+    (eq_of_both (on (λ group. group.names.second) ◌==◌) (on (λ group. group.kinds) same_kinds)))
 
--- texts two by two
-abbrev pub by_twos : List Text → List (Text × Text)
-by_twos (first ∷ second ∷ texts) = (first, second) ∷ by_twos texts
-by_twos texts = []
+-- the two texts that stand there
+abbrev pub two_at : Text → Ends → Text × Text
+two_at text e = (between text e.start e.first, between text e.first e.second)
 
--- the texts that end at these places of the text of all, two by two
-abbrev pub twos_in : Text → List Ends → List (Text × Text)
-twos_in text ends = by_twos (pieces text 0 (text_ends ends))
+-- the places are in order, and between characters
+pub record AreEndsOf (text : Text) (e : Ends) : Type 0 where
+  pub start : IsCharBoundary text e.start
+  pub first : (e.start ≤ e.first) × IsCharBoundary text e.first
+  pub second : (e.first ≤ e.second) × IsCharBoundary text e.second
 
--- signatures by their kinds, each with the next two names
-abbrev pub signatures_with : List SignatureRecord → List (Text × Text) → List Signature
-signatures_with (group ∷ groups) (names ∷ more) =
-    signature_with group.kinds names.0 names.1 ∷ signatures_with groups more
-signatures_with groups more = []
+-- there stand these two texts
+pub record StandAt (text : Text) (e : Ends) (two : Text × Text) : Type 0 where
+  pub ends : AreEndsOf text e
+  pub are : two_at text e ≡ two
+
+-- the signature of a record, by the text of all names
+abbrev pub signature_in : Text → SignatureRecord → Signature
+signature_in text group =
+    let names = two_at text group.names in signature_with group.kinds names.0 names.1
 
 -- what is held of names and kinds
 abbrev pub signatures_view : Inside → List Signature
-signatures_view inside = signatures_with inside.records.items
-    (twos_in (string_bytes inside.text) (map (λ group. group.names) inside.records.items))
+signatures_view inside = map (signature_in (string_bytes inside.text)) inside.records.items
 
 -- each group is lawfully named, and its short name is a text
 pub record AreLawfulSignatures (signatures : List Signature) : Type 0 where
@@ -76,26 +81,15 @@ pub record HasKeys (group : SignatureRecord) (names : Names) : Type 0 where
   pub short : group.short ≡ short_code names.short
   pub has_long : group.has_long ≡ not (is_empty names.long)
 
--- each record has those of its names
-abbrev pub HaveKeys : List SignatureRecord → List Signature → Type 0
-HaveKeys groups signatures =
-    AllZip (λ group signature. HasKeys group signature.names) groups signatures
+-- the names of a record stand in the text of all names, and it has their keys
+pub record IsHeld (text : Text) (group : SignatureRecord) : Type 0 where
+  pub ends : AreEndsOf text group.names
+  pub keys : HasKeys group (signature_in text group).names
 
--- the one text is cut where names end, which are lawful
+-- each record is held, and its group is lawful
 pub record HoldSignatures (inside : Inside) : Type 0 where
-  pub cut : IsWellCut (string_bytes inside.text)
-      (text_ends (map (λ group. group.names) inside.records.items))
+  pub held : AllByRecursion (IsHeld (string_bytes inside.text)) inside.records.items
   pub lawful : AreLawfulSignatures (signatures_view inside)
-  pub keyed : HaveKeys inside.records.items (signatures_view inside)
-
--- whether the two ends are the same
-abbrev pub same_ends : Ends → Ends → Bool
-same_ends = eq_of_both (on (λ e. e.first) ◌==◌) (on (λ e. e.second) ◌==◌)
-
--- whether the ends and the kinds of two records are the same; the names tell the rest
-abbrev pub same_record : SignatureRecord → SignatureRecord → Bool
-same_record = eq_of_both (on (λ group. group.names) same_ends)
-    (on (λ group. group.kinds) same_kinds)
 
 -- the signature of a borrowed group
 abbrev pub signature_view : HeldSignature → Signature

@@ -1,10 +1,12 @@
 -- What is seen of groups that are held, with their hints and descriptions, or borrowed.
-use Rattle.std.specs.Prelude.{◌≡◌, List, [], ◌∷◌, length}
+use Rattle.std.specs.Prelude.{◌≡◌, Bool, List, [], ◌∷◌, length, map}
+use Rattle.std.specs.List.{AllByRecursion}
+use Rattle.std.specs.Ordering.{on}
 use Rattle.std.specs.String.{string_bytes}
 use Rattle.getopts.specs.Names.{Text}
 use Rattle.getopts.specs.Options.{Signature, Group}
-use Rattle.getopts.specs.Held.Pieces.{IsWellCut}
-use Rattle.getopts.specs.Held.Groups.{text_ends, twos_in, signature_view}
+use Rattle.getopts.specs.Same.{same_group}
+use Rattle.getopts.specs.Held.Groups.{two_at, AreEndsOf, signature_view}
 use Rattle.getopts.specs.declared.help.Group.{Group as HeldGroup}
 use Rattle.getopts.specs.declared.help.Groups.TheInside.{Inside}
 
@@ -20,11 +22,11 @@ groups_with signatures more = []
 -- the groups that are held
 abbrev pub groups_view : Inside → List Group
 groups_view inside =
-    groups_with inside.signatures (twos_in (string_bytes inside.help) inside.ends.items)
+    groups_with inside.signatures (map (two_at (string_bytes inside.help)) inside.ends.items)
 
--- the one text is cut where hints and descriptions end, and each group has those
+-- each group has a hint and a description in the text of all
 pub record HoldGroups (inside : Inside) : Type 0 where
-  pub cut : IsWellCut (string_bytes inside.help) (text_ends inside.ends.items)
+  pub held : AllByRecursion (AreEndsOf (string_bytes inside.help)) inside.ends.items
   pub as_many : length inside.ends.items ≡ length inside.signatures
 
 -- a borrowed group
@@ -34,3 +36,7 @@ group_view held = record {
   hint = held.hint.now;
   description = held.desc.now;
 }
+
+-- whether two borrowed groups are the same
+abbrev pub same_group_view : HeldGroup → HeldGroup → Bool
+same_group_view = on group_view same_group

@@ -3,7 +3,7 @@ use Rattle.std.specs.Prelude.{◌≡◌, false, None, List, [], map}
 use Rattle.std.specs.String.{string_bytes}
 use Rattle.getopts.specs.Names.{Text}
 use Rattle.getopts.specs.Options.{Grammar, MayBeDeclared, names_of, grammar_of}
-use Rattle.getopts.specs.Held.Table.{IsTableIfAny}
+use Rattle.getopts.specs.Held.Table.{IsTableOf}
 use Rattle.getopts.specs.Canon.{Content}
 use Rattle.getopts.specs.Reading.{Dashes, is_dashed, stop_word, Reading, IsReading}
 use Rattle.getopts.specs.Reading.{occurrences_of, free_words, trailing_start}
@@ -20,7 +20,7 @@ scanner_grammar scanner = grammar_of scanner.options.now
 -- the options of a scanner are declared, and its table is that of their names, if it has one
 pub record IsLawfulScanner (scanner : Scanner) : Type 0 where
   pub declared : MayBeDeclared scanner.options.now.groups
-  pub table : IsTableIfAny (names_of scanner.options.now.groups) scanner.table.now.entries.items
+  pub table : IsTableOf (names_of scanner.options.now.groups) scanner.table.now.letters.items scanner.table.now.words.items
 
 -- what a word is to a line
 abbrev pub HasShape : Grammar → Text → Shape → Type 0

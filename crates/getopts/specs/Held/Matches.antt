@@ -7,13 +7,13 @@ use Rattle.getopts.specs.Matches.{MatchedGroup, matched, KeepsCounts}
 use Rattle.getopts.specs.Held.Groups.{names_in}
 use Rattle.getopts.specs.Held.Index.{index_of}
 use Rattle.getopts.specs.Held.Line.{ReadsLine}
-use Rattle.getopts.specs.Held.Table.{IsTableIfAny}
+use Rattle.getopts.specs.Held.Table.{IsTableOf}
 use Rattle.getopts.specs.declared.matches.MatchedGroups.TheInside.{Inside}
 use Rattle.getopts.specs.declared.matches.ReadLine.{ReadLine}
 
 -- a line that was read holds the table and the index of groups with these signatures
 pub record IsOfSignatures (signatures : List Signature) (read : ReadLine) : Type 0 where
-  pub table : IsTableIfAny (names_in signatures) read.table.entries.items
+  pub table : IsTableOf (names_in signatures) read.table.letters.items read.table.words.items
   pub index : read.index ≡ index_of (length signatures) read.line.found
 
 -- words were read to this line by declared options
@@ -33,5 +33,5 @@ matched_view inside = matched 0 inside.signatures inside.found
 
 -- they keep their table, and where the occurrences of each group stand
 pub record KeepsGroups (inside : Inside) : Type 0 where
-  pub table : IsTableIfAny (names_in inside.signatures) inside.table.entries.items
+  pub table : IsTableOf (names_in inside.signatures) inside.table.letters.items inside.table.words.items
   pub index : inside.index ≡ index_of (length inside.signatures) inside.found

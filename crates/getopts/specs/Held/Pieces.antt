@@ -1,7 +1,6 @@
 -- Lists and texts cut into pieces.
 use Rattle.std.specs.Prelude.{◌≡◌, ℕ, ◌-◌, ◌<◌, ◌≤◌, List, [], ◌∷◌, length, take, drop}
 use Rattle.std.specs.List.{All}
-use Rattle.std.specs.Str.{IsCharBoundary}
 use Rattle.getopts.specs.Names.{Text}
 
 -- the pieces of a list that end at these places, where the first starts here
@@ -14,10 +13,9 @@ abbrev pub AreEnds : {A : Type 0} → List A → ℕ → List ℕ → Type 0
 AreEnds items start [] = start ≡ length items
 AreEnds items start (end ∷ ends) = (start ≤ end) × AreEnds items end ends
 
--- the ends cut the whole text, in order and between its characters
-pub record IsWellCut (text : Text) (ends : List ℕ) : Type 0 where
-  pub in_order : AreEnds text 0 ends
-  pub between_characters : All (IsCharBoundary text) ends
+-- what stands in a text from one place to another
+abbrev pub between : Text → ℕ → ℕ → Text
+between text start end = take (end - start) (drop start text)
 
 -- each element is a byte
 abbrev pub IsOfBytes : Text → Type 0

@@ -1,17 +1,17 @@
 -- One more group has its names at the end of the text of all.
-use Rattle.std.proofs.Common.{◌≡◌, not, List, [], ◌∷◌, ◌++◌, ap, ◌∙◌, arith}
+use Rattle.std.proofs.Common.{◌≡◌, not, List, [], ◌∷◌, ◌++◌, map, ap, sym, ◌∙◌, subst, arith}
 use Rattle.std.proofs.lemmas.Grind.{common_steps}
-use Rattle.std.proofs.lemmas.Slice.Zip.{all_zipped_more}
+use Rattle.std.proofs.lemmas.Str.{IsUtf8-append}
+use Rattle.std.specs.List.{AllByRecursion}
 use Rattle.std.specs.Str.{IsUtf8}
 use Rattle.std.specs.String.{string_bytes}
-use Rattle.getopts.specs.Names.{IsLawfullyNamed}
+use Rattle.getopts.specs.Names.{Text, IsLawfullyNamed}
 use Rattle.getopts.specs.Options.{Signature}
-use Rattle.getopts.specs.Held.Groups.{text_ends, signature_with, HasKeys}
+use Rattle.getopts.specs.Held.Groups.{signature_with, signature_in, HasKeys, IsHeld}
 use Rattle.getopts.specs.Held.Names.{key_of}
-use Rattle.getopts.specs.Held.Pieces.{IsWellCut}
 use Rattle.getopts.specs.declared.groups.SignatureRecord.{SignatureRecord}
 use Rattle.getopts.proofs.Lists.{AllByRecursion-append}
-use Rattle.getopts.proofs.Held.Groups.{ends_in, signatures_from, signatures_pushed}
+use Rattle.getopts.proofs.Held.Groups.{signatures-push}
 use Rattle.getopts.proofs.groups.Signatures.push.Goals as goal
 use Rattle.getopts.proofs.groups.Signatures.push.Goals.{then-is_empty+in_ok-reserve+in_ok-reserve-2}
 use Rattle.getopts.proofs.groups.Signatures.push.Goals.{
@@ -21,10 +21,7 @@ use Rattle.getopts.proofs.groups.Signatures.push.Goals.{
 -- the record that is added
 abbrev added : goal.After-push_reserved → SignatureRecord
 added c = record {
-  names = record {
-    first = c.push_reserved-first.result;
-    second = c.push_reserved-second.result;
-  };
+  names = c.push_two-names.result;
   key = c.key_of-key.result;
   short = c.short_byte.result;
   has_long = not c.is_empty-2.result;
@@ -45,19 +42,24 @@ items c = c.push_reserved.ensures.items
           rw w.self-inside-is w.in_ok-reserve-3.ensures.items
     ])
 
-pushed : (c : goal.After-push_reserved)
-    → let text = string_bytes c.push_reserved-second.new.texts in
-    let records = c.push_reserved.new.self.items in IsWellCut text (text_ends (ends_in records))
-    × (signatures_from text 0 records
-    ≡ signatures_from (string_bytes c.self.inside.text) 0 c.self.inside.records.items
-    ++ signature c ∷ [])
-pushed c =
-    rw (items c)
-    (signatures_pushed (string_bytes c.self.inside.text) c.args.short.now c.args.long.now
-    (string_bytes c.push_reserved-first.new.texts) (string_bytes c.push_reserved-second.new.texts)
-    (grind (arith, common_steps)) (grind (arith, common_steps)) (added c)
-    c.push_reserved-first.ensures.end c.push_reserved-second.ensures.end c.utf8.short c.utf8.long
-    c.self.inside.records.items c.self.invariant.cut)
+-- the texts that are added
+abbrev more : goal.After-push_reserved → Text
+more c = c.args.short.now ++ c.args.long.now
+
+text : (c : goal.After-push_reserved) → string_bytes c.push_two-names.new.texts
+    ≡ string_bytes c.self.inside.text ++ more c
+text c = c.push_two-names.ensures.bytes
+    ∙ ap (λ (t : Text). t ++ more c) (elim c.if-is_empty.branch [
+      | then-is_empty+in_ok-reserve+in_ok-reserve-2 w ↦
+          rw w.self-inside-is (grind (arith, common_steps))
+      | else-is_empty+in_ok-reserve-3+in_ok-reserve-4 w ↦
+          rw w.self-inside-is (grind (arith, common_steps))
+    ])
+
+signature_is : (c : goal.After-push_reserved)
+    → signature_in (string_bytes c.push_two-names.new.texts) (added c) ≡ signature c
+signature_is c = ap (λ (names : Text × Text). signature_with c.args.kinds names.0 names.1)
+    c.push_two-names.ensures.two.are
 
 has_keys : (c : goal.After-push_reserved) → HasKeys (added c) (signature c).names
 has_keys c = record {
@@ -66,11 +68,29 @@ has_keys c = record {
   has_long = ap not c.is_empty-2.ensures;
 }
 
+last : (c : goal.After-push_reserved)
+    → IsHeld (string_bytes c.push_two-names.new.texts) (added c)
+last c = record {
+  ends = c.push_two-names.ensures.two.ends;
+  keys = subst (λ (s : Signature). HasKeys (added c) s.names) (sym (signature_is c)) (has_keys c);
+}
+
+pushed : (c : goal.After-push_reserved)
+    → let all = string_bytes c.push_two-names.new.texts in
+    let records = c.push_reserved.new.self.items in AllByRecursion (IsHeld all) records
+    × (map (signature_in all) records ≡ map (signature_in (string_bytes c.self.inside.text))
+    c.self.inside.records.items ++ signature c ∷ [])
+pushed c =
+    let both = signatures-push (string_bytes c.self.inside.text) (more c)
+    (IsUtf8-append _ _ c.utf8.short c.utf8.long) c.self.inside.records.items
+    c.self.invariant.held (added c) (rw (← text c) (last c)) in
+    rw (items c, ← signature_is c) (rw (← text c) at both)
+
 pub invariant_of-self-2 : goal.invariant_of-self-2
 invariant_of-self-2 c =
     let same = (pushed c).1 in
     record {
-      cut = (pushed c).0;
+      held = (pushed c).0;
       lawful = record {
         named = rw same
             (AllByRecursion-append (λ (s : Signature). IsLawfullyNamed s.names) _
@@ -79,8 +99,6 @@ invariant_of-self-2 c =
             (AllByRecursion-append (λ (s : Signature). IsUtf8 s.names.short) _
             (signature c ∷ []) c.self.invariant.lawful.shorts (c.utf8.short, tt));
       };
-      keyed = rw (same, items c) (all_zipped_more _ _ _ (added c) (signature c)
-          c.self.invariant.keyed (has_keys c));
     }
 
 pub returns-clause-ok : goal.returns-clause-ok

@@ -1,23 +1,66 @@
--- Signatures are the same where the text of all names and the records are.
-use Rattle.getopts.proofs.Held.Groups.{same_signatures}
+-- They are the same where they are as many, and the same at each place.
+use Rattle.std.proofs.Common.{sym, ◌∙◌}
+use Rattle.std.proofs.Common.{◌≡◌, true, map, List, [], ◌∷◌}
+use Rattle.std.specs.Cmp.Lexicographic.{pointwise}
+use Rattle.getopts.specs.Names.{Text}
+use Rattle.getopts.specs.Held.Groups.{signature_in, same_record, same_kinds, two_at}
+use Rattle.getopts.specs.Held.Pieces.{between}
+use Rattle.std.proofs.lemmas.Slice.Eq.{bytes_eq-Decides}
+use Rattle.std.specs.Str.{bytes_eq}
+use Rattle.std.specs.String.{string_bytes}
+use Rattle.std.proofs.Common.{◌==◌, ap}
+use Rattle.getopts.specs.declared.groups.SignatureRecord.{SignatureRecord}
+use Rattle.std.proofs.lemmas.Bool.{not-true, not-false, and_parts, and_from, eqb-true}
+use Rattle.std.specs.Option.{option_eq}
+use Rattle.getopts.specs.Same.{same_signature}
+use Rattle.getopts.proofs.Lists.{pointwise-differ, pointwise-take_more}
 use Rattle.getopts.proofs.groups.SignaturesPartialEq.eq.Goals as goal
 
-pub returns-then-eq : goal.returns-then-eq
-returns-then-eq c =
-    rw (
-      ← c.self.view_is,
-      ← c.other.view_is,
-      ← same_signatures _ _ _ _ c.self.invariant.cut c.other.invariant.cut,
-      ← c.eq.ensures,
-      c.if-eq.true,
-    ) c.eq-then-eq.ensures
+pub returns-then-ne : goal.returns-then-ne
+returns-then-ne c =
+    sym (pointwise-differ same_signature _ _ c.loop-place.place
+    ((λ i. option_eq same_signature (sym c.get.ensures i) (sym c.get-in-loop-place.ensures i))
+    ∙ not-true _ (sym c.ne.ensures ∙ c.if-ne.true)))
 
-pub returns-else-eq : goal.returns-else-eq
-returns-else-eq c =
-    rw (
-      ← c.self.view_is,
-      ← c.other.view_is,
-      ← same_signatures _ _ _ _ c.self.invariant.cut c.other.invariant.cut,
-      ← c.eq.ensures,
-      c.if-eq.false,
-    )
+pub loop-place-preserved : goal.loop-place-preserved
+loop-place-preserved c = record {
+  as_many = c.loop-place.invariant.as_many;
+  same = pointwise-take_more same_signature _ _ c.loop-place.place c.loop-place.invariant.same
+      ((λ i. option_eq same_signature (sym c.get.ensures i) (sym c.get-in-loop-place.ensures i))
+      ∙ not-false _ (sym c.ne.ensures ∙ c.if-ne.false));
+}
+
+-- records alike have the same signatures in one text
+one : (text : Text) (r q : SignatureRecord) → same_record r q ≡ true
+    → same_signature (signature_in text r) (signature_in text q) ≡ true
+one text r q same =
+    let start = and_parts (r.names.start == q.names.start) _ same in
+    let first = and_parts (r.names.first == q.names.first) _ start.1 in
+    let second = and_parts (r.names.second == q.names.second) _ first.1 in
+    let s = eqb-true r.names.start q.names.start start.0 in
+    let f = eqb-true r.names.first q.names.first first.0 in
+    let e = eqb-true r.names.second q.names.second second.0 in
+    let names = and_from (bytes_eq (two_at text r.names).0 (two_at text q.names).0)
+    (bytes_eq (two_at text r.names).1 (two_at text q.names).1)
+    ((bytes_eq-Decides _ _).1 (λ i. between text (s i) (f i)))
+    ((bytes_eq-Decides _ _).1 (λ i. between text (f i) (e i))) in
+    and_from _ (same_kinds r.kinds q.kinds) names second.1
+
+all : (text : Text) (rs qs : List SignatureRecord) → pointwise same_record rs qs ≡ true
+    → pointwise same_signature (map (signature_in text) rs) (map (signature_in text) qs) ≡ true
+all text [] [] same = same
+all text [] (q ∷ qs) same = same
+all text (r ∷ rs) [] same = same
+all text (r ∷ rs) (q ∷ qs) same =
+    let parts = and_parts (same_record r q) (pointwise same_record rs qs) same in
+    and_from (same_signature (signature_in text r) (signature_in text q)) _
+    (one text r q parts.0) (all text rs qs parts.1)
+
+pub returns-then-eq-2 : goal.returns-then-eq-2
+returns-then-eq-2 c =
+    let text : string_bytes c.self.inside.text ≡ string_bytes c.other.inside.text =
+    (bytes_eq-Decides _ _).0 (sym c.eq.ensures ∙ c.if-eq.true) in
+    let others = ap (λ t. map (signature_in t) c.other.inside.records.items) text ∙ c.other.view_is in
+    sym (all (string_bytes c.self.inside.text) c.self.inside.records.items
+    c.other.inside.records.items (sym c.eq-then-eq.ensures ∙ c.if-eq-2.true))
+    ∙ (λ i. pointwise same_signature (c.self.view_is i) (others i))

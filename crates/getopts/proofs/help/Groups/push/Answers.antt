@@ -1,30 +1,25 @@
 -- One more group has its signature, and its texts at the end of the text of all.
-use Rattle.std.proofs.Common.{◌≡◌, ◌+◌, List, [], ◌∷◌, ◌++◌, length, ap, ◌∙◌, sym, arith}
+use Rattle.std.proofs.Common.{◌≡◌, ◌+◌, List, [], ◌∷◌, ◌++◌, map, length, ap, ◌∙◌, sym, arith}
 use Rattle.std.proofs.Common.{refl, length-append}
 use Rattle.std.proofs.lemmas.Grind.{common_steps}
+use Rattle.std.proofs.lemmas.List.{length-map}
+use Rattle.std.proofs.lemmas.Str.{IsUtf8-append}
+use Rattle.std.specs.List.{AllByRecursion}
 use Rattle.std.specs.String.{string_bytes}
+use Rattle.getopts.specs.Names.{Text}
 use Rattle.getopts.specs.Options.{Signature, Group}
-use Rattle.getopts.specs.Held.Groups.{text_ends, signature_with}
+use Rattle.getopts.specs.Held.Groups.{signature_with, two_at, AreEndsOf}
 use Rattle.getopts.specs.Held.Help.{groups_with}
-use Rattle.getopts.specs.Held.Pieces.{IsWellCut}
 use Rattle.getopts.specs.declared.groups.Ends.{Ends}
-use Rattle.getopts.proofs.Held.Groups.{groups_with-push}
-use Rattle.getopts.proofs.Held.Twos.{twos_from, twos_pushed, length-twos_from}
+use Rattle.getopts.proofs.Held.Groups.{groups_with-push, twos-push}
 use Rattle.getopts.proofs.help.Groups.push.Goals as goal
 use Rattle.getopts.proofs.help.Groups.push.Goals.{then-is_empty+in_ok-reserve+in_ok-reserve-2}
 use Rattle.getopts.proofs.help.Groups.push.Goals.{else-is_empty+in_ok-reserve-3+in_ok-reserve-4}
 
--- the ends that are added
-abbrev added : goal.After-push_reserved → Ends
-added c = record {
-  first = c.push_reserved-first.result;
-  second = c.push_reserved-second.result;
-}
-
 items : (c : goal.After-push_reserved)
-    → c.push_reserved.new.self.items ≡ c.self.inside.ends.items ++ added c ∷ []
+    → c.push_reserved.new.self.items ≡ c.self.inside.ends.items ++ c.push_two-help.result ∷ []
 items c = c.push_reserved.ensures.items
-    ∙ ap (λ (ends : List Ends). ends ++ added c ∷ []) (elim c.if-is_empty.branch [
+    ∙ ap (λ (ends : List Ends). ends ++ c.push_two-help.result ∷ []) (elim c.if-is_empty.branch [
       | then-is_empty+in_ok-reserve+in_ok-reserve-2 w ↦
           rw w.self-inside-is w.in_ok-reserve.ensures.items
       | else-is_empty+in_ok-reserve-3+in_ok-reserve-4 w ↦
@@ -44,24 +39,26 @@ signatures c = c.in_ok-push.ensures.ok
     ])
 
 pushed : (c : goal.After-push_reserved)
-    → let text = string_bytes c.push_reserved-second.new.texts in
-    let ends = c.push_reserved.new.self.items in IsWellCut text (text_ends ends)
-    × (twos_from text 0 ends
-    ≡ twos_from (string_bytes c.self.inside.help) 0 c.self.inside.ends.items
+    → let text = string_bytes c.push_two-help.new.texts in
+    let ends = c.push_reserved.new.self.items in AllByRecursion (AreEndsOf text) ends
+    × (map (two_at text) ends
+    ≡ map (two_at (string_bytes c.self.inside.help)) c.self.inside.ends.items
     ++ (c.args.hint.now, c.args.desc.now) ∷ [])
 pushed c =
-    rw (items c)
-    (twos_pushed (string_bytes c.self.inside.help) c.args.hint.now c.args.desc.now
-    (string_bytes c.push_reserved-first.new.texts) (string_bytes c.push_reserved-second.new.texts)
-    (grind (arith, common_steps)) (grind (arith, common_steps)) (added c)
-    c.push_reserved-first.ensures.end c.push_reserved-second.ensures.end c.utf8.hint c.utf8.desc
-    c.self.inside.ends.items c.self.invariant.cut)
+    let text : string_bytes c.push_two-help.new.texts
+    ≡ string_bytes c.self.inside.help ++ (c.args.hint.now ++ c.args.desc.now) =
+    c.push_two-help.ensures.bytes ∙ ap (λ (t : Text). t ++ (c.args.hint.now ++ c.args.desc.now))
+    (grind (arith, common_steps)) in
+    rw (items c, text) (twos-push (string_bytes c.self.inside.help) (c.args.hint.now
+    ++ c.args.desc.now) (IsUtf8-append _ _ c.utf8.hint c.utf8.desc) c.self.inside.ends.items
+    c.self.invariant.held c.push_two-help.result (c.args.hint.now, c.args.desc.now)
+    (rw text at c.push_two-help.ensures.two))
 
 pub invariant_of-self-2 : goal.invariant_of-self-2
 invariant_of-self-2 c = record {
-  cut = (pushed c).0;
+  held = (pushed c).0;
   as_many = ap (λ (ends : List Ends). length ends) (items c)
-      ∙ length-append c.self.inside.ends.items (added c ∷ [])
+      ∙ length-append c.self.inside.ends.items (c.push_two-help.result ∷ [])
       ∙ ap (λ n. n + 1) c.self.invariant.as_many
       ∙ sym (length-append c.self.inside.signatures
       (signature_with c.args.kinds c.args.short.now c.args.long.now ∷ []))
@@ -71,8 +68,8 @@ invariant_of-self-2 c = record {
 pub returns-clause-ok : goal.returns-clause-ok
 returns-clause-ok c =
     let signature = signature_with c.args.kinds c.args.short.now c.args.long.now in
-    let twos = twos_from (string_bytes c.self.inside.help) 0 c.self.inside.ends.items in
-    let as_many = length-twos_from (string_bytes c.self.inside.help) 0 c.self.inside.ends.items
+    let twos = map (two_at (string_bytes c.self.inside.help)) c.self.inside.ends.items in
+    let as_many = length-map c.self.inside.ends.items (two_at (string_bytes c.self.inside.help))
     ∙ c.self.invariant.as_many in
     (λ k. groups_with (signatures c k) ((pushed c).1 k))
     ∙ groups_with-push signature (c.args.hint.now, c.args.desc.now) c.self.inside.signatures twos

@@ -1,43 +1,21 @@
--- Groups are the same where their signatures, the text of their help and its ends are.
-use Rattle.std.proofs.Common.{◌≡◌, ◌&&◌, ap, ◌∙◌}
-use Rattle.std.specs.Cmp.Lexicographic.{pointwise}
-use Rattle.std.specs.Str.{bytes_eq}
-use Rattle.std.specs.String.{string_bytes}
-use Rattle.getopts.specs.Same.{same_signature, same_group}
-use Rattle.getopts.specs.Held.Groups.{same_ends}
-use Rattle.getopts.proofs.Held.Groups.{same_groups}
+-- They are the same where they are as many, and the same at each place.
+use Rattle.std.proofs.Common.{sym, ◌∙◌}
+use Rattle.std.proofs.lemmas.Bool.{not-true, not-false}
+use Rattle.std.specs.Option.{option_eq}
+use Rattle.getopts.specs.Same.{same_group}
+use Rattle.getopts.proofs.Lists.{pointwise-differ, pointwise-take_more}
 use Rattle.getopts.proofs.help.GroupsPartialEq.eq.Goals as goal
-use Rattle.getopts.proofs.help.GroupsPartialEq.eq.Goals.{Joined-eq, then-eq, else-eq}
 
--- whether the signatures and the texts are the same
-first_two : (c : Joined-eq) → c.if-eq.value
-    ≡ (pointwise same_signature c.self.inside.signatures c.other.inside.signatures
-    && bytes_eq (string_bytes c.self.inside.help) (string_bytes c.other.inside.help))
-first_two c = elim c.if-eq.branch [
-  | then-eq w ↦ rw (← c.eq.ensures, w.if-eq.true) (w.value-is ∙ w.eq-then-eq.ensures)
-  | else-eq w ↦ rw (← c.eq.ensures, w.if-eq.false) (w.value-is ∙ w.if-eq.false)
-]
+pub returns-then-ne : goal.returns-then-ne
+returns-then-ne c =
+    sym (pointwise-differ same_group _ _ c.loop-place.place
+    ((λ i. option_eq same_group (sym c.get.ensures i) (sym c.get-in-loop-place.ensures i))
+    ∙ not-true _ (sym c.ne.ensures ∙ c.if-ne.true)))
 
--- the answer, by the first two and the ends
-answer : (c : Joined-eq)
-    → (c.if-eq.value && pointwise same_ends c.self.inside.ends.items c.other.inside.ends.items)
-    ≡ pointwise same_group c.args.self.now c.args.other.now
-answer c =
-    let first = ap (λ b. b && pointwise same_ends c.self.inside.ends.items c.other.inside.ends.items)
-    (first_two c) in
-    rw (
-      ← c.self.view_is,
-      ← c.other.view_is,
-      ← same_groups _ _ _ _ _ _ c.self.invariant.cut c.other.invariant.cut
-          c.self.invariant.as_many c.other.invariant.as_many,
-    ) first
-
-pub returns-then-eq-2 : goal.returns-then-eq-2
-returns-then-eq-2 c =
-    c.eq-then-eq-2.ensures
-    ∙ (rw c.if-eq-2.true at (answer (goal.at.returns-then-eq-2 c).Joined-eq))
-
-pub returns-else-eq-2 : goal.returns-else-eq-2
-returns-else-eq-2 c =
-    c.if-eq-2.false
-    ∙ (rw c.if-eq-2.false at (answer (goal.at.returns-else-eq-2 c).Joined-eq))
+pub loop-place-preserved : goal.loop-place-preserved
+loop-place-preserved c = record {
+  as_many = c.loop-place.invariant.as_many;
+  same = pointwise-take_more same_group _ _ c.loop-place.place c.loop-place.invariant.same
+      ((λ i. option_eq same_group (sym c.get.ensures i) (sym c.get-in-loop-place.ensures i))
+      ∙ not-false _ (sym c.ne.ensures ∙ c.if-ne.false));
+}

@@ -7,12 +7,14 @@ use Rattle.getopts.proofs.matches.MatchedGroupsClone.clone.Goals as goal
 pub invariant_of-result : goal.invariant_of-result
 invariant_of-result c =
     let signatures : c.in_ok-clone.field-0 ≡ c.self.inside.signatures = c.in_ok-clone.ensures.cases in
-    let table : c.in_ok-clone-2.field-0.entries.items ≡ c.self.inside.table.entries.items =
-    c.in_ok-clone-2.ensures.same in
+    let letters : c.in_ok-clone-2.field-0.letters.items ≡ c.self.inside.table.letters.items =
+    c.in_ok-clone-2.ensures.letters in
+    let words : c.in_ok-clone-2.field-0.words.items ≡ c.self.inside.table.words.items =
+    c.in_ok-clone-2.ensures.words in
     let found : c.in_ok-clone-3.field-0 ≡ c.self.inside.found = c.in_ok-clone-3.ensures.cases in
     let index : c.in_ok-clone-4.field-0 ≡ c.self.inside.index = c.in_ok-clone-4.ensures.cases in
     record {
-      table = rw (signatures, table) c.self.invariant.table;
+      table = rw (signatures, letters, words) c.self.invariant.table;
       index = index ∙ c.self.invariant.index ∙ sym (λ i. index_of (length (signatures i)) (found i));
     }
 

@@ -1,7 +1,14 @@
 -- There are as many occurrences as are held.
 use Rattle.std.proofs.Common.{arith}
-use Rattle.getopts.proofs.Held.Line.{length-with_values}
+use Rattle.std.proofs.lemmas.List.{length-map}
+use Rattle.std.specs.String.{string_bytes}
+use Rattle.getopts.specs.Held.Occurrences.{occurrence_in}
 use Rattle.getopts.proofs.occurrences.LineOccurrences.len.Goals as goal
 
 pub returns : goal.returns
-returns c = rw (← c.self.view_is) (grind (arith, length-with_values))
+returns c =
+    rw (← c.self.view_is) (omega (
+      arith,
+      length-map c.self.inside.records.items
+          (occurrence_in (string_bytes c.self.inside.values)),
+    ))

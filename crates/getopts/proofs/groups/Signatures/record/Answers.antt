@@ -1,0 +1,23 @@
+-- A record has the keys and the kinds of its group.
+use Rattle.std.proofs.Common.{arith, sym, ap}
+use Rattle.std.specs.Option.{option_map}
+use Rattle.getopts.specs.Held.Groups.{kinds_of}
+use Rattle.getopts.proofs.Held.Groups.{held_at, record_within, names_at-signature}
+use Rattle.getopts.proofs.groups.Signatures.record.Goals as goal
+
+pub index-requires : goal.index-requires
+index-requires c =
+    let within = record_within _ c.self.inside.records.items _ _ c.self.view_is c.requires in
+    omega (arith, within)
+
+pub returns-clause-keys : goal.returns-clause-keys
+returns-clause-keys c =
+    let held = held_at _ c.self.inside.records.items _ _ c.index.result.now
+    c.self.invariant.held c.self.view_is c.requires c.index.ensures in
+    rw (names_at-signature _ _ _ held.1) held.0.keys
+
+pub returns-clause-kinds : goal.returns-clause-kinds
+returns-clause-kinds c =
+    let held = held_at _ c.self.inside.records.items _ _ c.index.result.now
+    c.self.invariant.held c.self.view_is c.requires c.index.ensures in
+    sym (ap (option_map kinds_of) held.1)
