@@ -225,9 +225,19 @@ def contracts():
     return "\n\n".join(parts) + "\n"
 
 
+def imports(text):
+    """The lines that bring the words of these contracts into a file, one a module."""
+    modules = {}
+    for source in sorted((ROOT / "crates/getopts/src").glob("*.rt")):
+        for module, names in re.findall(r"ghost use (Rattle[\w.]*)\.\{([^}]*)\};", source.read_text(encoding="utf-8")):
+            used = {name for name in re.split(r",\s*", names) if name.strip("◌") in re.findall(r"\w+|[^\w\s]+", text)}
+            modules.setdefault(module, set()).update(used)
+    return "".join(f"ghost use {module}.{{{', '.join(sorted(names))}}};\n" for module, names in sorted(modules.items()) if names)
+
+
 def test_contracts(request):
     """CONTRACTS.md has the contract of each public function, as the sources have it."""
-    wanted = re.sub(r"^```\w+\n.*?^```", lambda _: f"```text\n{contracts()}```", pages[CONTRACTS], flags=re.M | re.S)
+    wanted = re.sub(r"^```\w+\n.*?^```", lambda _: f"```text\n{contracts()}\n{imports(contracts())}```", pages[CONTRACTS], flags=re.M | re.S)
     if request.config.getoption("--fix") and wanted != pages[CONTRACTS]:
         (ROOT / CONTRACTS).write_text(wanted, encoding="utf-8")
         pages[CONTRACTS] = wanted

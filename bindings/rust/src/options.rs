@@ -272,7 +272,7 @@ impl Options {
     where
         C::Item: AsRef<OsStr>,
     {
-        let matches = self.read(args, |options, words| options.parse_words(Global, words))?;
+        let matches = self.read(args, parse_texts)?;
         Ok(Matches::of(matches))
     }
 
@@ -299,9 +299,7 @@ impl Options {
     where
         C::Item: AsRef<OsStr>,
     {
-        let matches = self.read(args, |options, words| {
-            options.parse_ignoring_counts(Global, words)
-        })?;
+        let matches = self.read(args, read_texts)?;
         Ok(Matches::of(matches))
     }
 
@@ -366,9 +364,7 @@ impl Options {
     where
         C::Item: AsRef<OsStr>,
     {
-        self.read(args, |options, words| {
-            options.canonical_words(Global, words)
-        })
+        self.read(args, canonical_texts)
     }
 
     /// All options in one line.
@@ -418,4 +414,21 @@ impl Options {
         let rows = granted(self.named().usage_rows(Global));
         formatter(&mut rows.into_iter())
     }
+}
+
+// The proved calls at borrowed texts, compiled here once and not in each program that calls them.
+
+pub(crate) fn parse_texts(options: &proved::Options, words: &[&str]) -> proved::Result {
+    options.parse_words(Global, words)
+}
+
+pub(crate) fn read_texts(options: &proved::Options, words: &[&str]) -> proved::Result {
+    options.parse_ignoring_counts(Global, words)
+}
+
+fn canonical_texts(
+    options: &proved::Options,
+    words: &[&str],
+) -> std::result::Result<Option<Vec<String>>, proved::Fail> {
+    options.canonical_words(Global, words)
 }

@@ -1,8 +1,8 @@
 //! Words of any bytes, such as file names that aren't UTF-8.
 
-use crate::alloc::Global;
 use crate::bytes::{plain_text, push_bytes, push_text};
 use crate::fail::granted;
+use crate::options::{parse_texts, read_texts};
 use crate::{Fail, Matches, Options, proved};
 use std::borrow::Cow;
 use std::ffi::{OsStr, OsString};
@@ -50,7 +50,7 @@ impl Options {
     where
         C::Item: AsRef<OsStr>,
     {
-        self.read_os(args, |options, words| options.parse_words(Global, words))
+        self.read_os(args, parse_texts)
     }
 
     /// Reads words as `parse_os` does, but doesn't check how often options came, as `parse_ignoring_counts`.
@@ -71,9 +71,7 @@ impl Options {
     where
         C::Item: AsRef<OsStr>,
     {
-        self.read_os(args, |options, words| {
-            options.parse_ignoring_counts(Global, words)
-        })
+        self.read_os(args, read_texts)
     }
 
     fn read_os<C: IntoIterator>(

@@ -4,3 +4,6 @@ pub mod Callers
 pub mod Theorem
 pub mod FirstFault
 pub mod Results
+pub mod Accepted
+pub mod BeforeFree
+pub mod UsageComputed

@@ -1,5 +1,6 @@
 -- What accepted matches hold of the names that the options declare.
-use Rattle.std.specs.Prelude.{◌≡◌, ◌<◌, ℕ, List, ◌∷◌, ◌++◌, drop, length, map, Some, IfSome, IsSome}
+use Rattle.std.specs.Prelude.{◌≡◌, ◌<◌, ℕ, List, [], ◌∷◌, ◌++◌, drop, length, map, Some, None}
+use Rattle.std.specs.Prelude.{IfSome, IsSome, Ok}
 use Rattle.std.specs.List.{AllByRecursion}
 use Rattle.std.specs.Borrow.{Bor}
 use Rattle.getopts.specs.Names.{Text, texts}
@@ -8,7 +9,8 @@ use Rattle.getopts.specs.Matches.{Matched, MatchedGroup, KeepsCounts}
 use Rattle.getopts.specs.Parse.{IsAccepted}
 use Rattle.getopts.specs.Accessors.{IsDefined, found_of, first_value}
 use Rattle.getopts.specs.Reading.{FitsKind, stop_word}
-use Rattle.getopts.specs.ReadingLaws.{HavePositionsInOrder, HavePositionsBelow, EndIn}
+use Rattle.getopts.specs.Results.{parse_result}
+use Rattle.getopts.specs.ReadingLaws.{HavePositionsInOrder, HavePositionsBelow}
 use Rattle.getopts.specs.declared.groups.HasArg.TheVariants.{Yes}
 use Rattle.getopts.specs.declared.groups.Occur.TheVariants.{Req}
 use Rattle.getopts.specs.declared.groups.ParsingStyle.TheVariants.{StopAtFirstFree}
@@ -41,9 +43,18 @@ pub record HoldDeclared (options : Declared) (groups : List MatchedGroup) : Type
   pub required : (name : Text) → occur_of options.groups name ≡ Some Req
       → length (found_of groups name) ≡ 1
 
--- under `StopAtFirstFree` the free words are the last words of the line
-abbrev pub HaveLastWordsFree : Declared → List Text → List Text → Type 0
-HaveLastWordsFree options words free = options.style ≡ StopAtFirstFree → EndIn words free
+-- The words are some words and then the free ones; without these they give the same options, and nothing free.
+pub record StandBeforeFree (options : Declared) (words : List Text) (matches : Matched)
+    : Type 0 where
+  pub before : List Text
+  pub words_are : words ≡ before ++ matches.free
+  pub alone : parse_result options before
+      ≡ Ok (record matches { free = []; trailing_start = None })
+
+-- under `StopAtFirstFree` options stand before the free words, which are the last words of the line
+abbrev pub HaveLastWordsFree : Declared → List Text → Matched → Type 0
+HaveLastWordsFree options words matches =
+    options.style ≡ StopAtFirstFree → StandBeforeFree options words matches
 
 -- There is one free word at least from the trailing start on.
 -- The words are some words, `--`, and the free words from the trailing start on.
@@ -59,5 +70,5 @@ pub record Accepts (options : Declared) (words : List (Bor Text)) (matches : Mat
     : Type 0 where
   pub accepted : IsAccepted options (texts words) matches
   pub positions_below : HavePositionsBelow (length words) matches.groups
-  pub free_last : HaveLastWordsFree options (texts words) matches.free
+  pub free_last : HaveLastWordsFree options (texts words) matches
   pub trailing : IfSome matches.trailing_start (EndsInTrailing (texts words) matches)

@@ -18,14 +18,16 @@ pub mod Parse
 pub mod ReadingLaws
 -- what accessors answer
 pub mod Accessors
--- what accepted matches hold of declared names
-pub mod Holds
 -- canonical lines and their laws
 pub mod Canon
 -- the results of `canonical`
 pub mod CanonAnswers
--- the results, computed
+-- the results as functions
 pub mod Results
+-- what accepted matches hold of declared names
+pub mod Holds
+-- what those functions give, and what calls return by them
+pub mod Gives
 -- the main theorem
 pub mod Theorem
 -- when options, matches and refusals are equal

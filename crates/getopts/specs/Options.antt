@@ -42,6 +42,11 @@ pub record Declared : Type 0 where
 abbrev pub with_group : Declared → Group → Declared
 with_group options group = record options { groups = options.groups ++ group ∷ [] }
 
+-- the options with these groups last, one after the other
+abbrev pub with_groups : Declared → List Group → Declared
+with_groups options [] = options
+with_groups options (group ∷ groups) = with_groups (with_group options group) groups
+
 -- each group is lawfully named
 abbrev pub AreLawfullyNamed : List Group → Type 0
 AreLawfullyNamed groups = AllByRecursion (λ group. IsLawfullyNamed group.signature.names) groups

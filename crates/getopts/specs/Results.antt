@@ -1,21 +1,17 @@
--- The results, computed. Nobody has to believe these definitions: the law `HasResults` says that
--- what they give is what the relations of `Parse` and `CanonAnswers` say.
-use Rattle.std.specs.Prelude.{◌≡◌, ◌==◌, if◌then◌else◌, ℕ, Bool, true, nat_lt, not, List, [], ◌∷◌}
+-- The results as functions. Nobody has to believe these definitions: the law `HasResults` says that
+-- each gives what a relation of `Gives` or `CanonAnswers` says.
+use Rattle.std.specs.Prelude.{◌==◌, if◌then◌else◌, ℕ, Bool, true, nat_lt, not, List, [], ◌∷◌}
 use Rattle.std.specs.Prelude.{◌++◌, length}
-use Rattle.std.specs.Prelude.{Option, Some, None, Result, Ok, Err, MatchResult}
+use Rattle.std.specs.Prelude.{Option, Some, None, Result, Ok, Err}
 use Rattle.std.specs.List.{list_all}
-use Rattle.getopts.specs.Only.{IsTheOnly}
 use Rattle.getopts.specs.Names.{Text, main_name}
 use Rattle.getopts.specs.Options.{Group, Grammar, Declared, grammar_of}
-use Rattle.getopts.specs.Fail.{Fault, Tells}
+use Rattle.getopts.specs.Fail.{Fault}
 use Rattle.getopts.specs.Reading.{dash, none, separate, one, two, Item, free, line_end}
 use Rattle.getopts.specs.Reading.{stop, rest, Reading, holds_equals}
 use Rattle.getopts.specs.Matches.{MatchedGroup, Matched, matches_of, count_fault}
 use Rattle.getopts.specs.Canon.{Content, content_of, main_at, canonical_line}
-use Rattle.getopts.specs.Parse.{HasReading, HasNoReading}
-use Rattle.getopts.specs.CanonAnswers.{IsParseAnswer, IsCanonicalAnswer}
 use Rattle.getopts.specs.Turn.{Turn, ends, takes, faults, long_turn, cluster_turn}
-use Rattle.getopts.specs.declared.fail.Fail.{Fail}
 use Rattle.getopts.specs.declared.groups.Occur.{Occur}
 use Rattle.getopts.specs.declared.groups.Occur.TheVariants.{Req, Optional, Multi}
 use Rattle.getopts.specs.declared.groups.ParsingStyle.{ParsingStyle}
@@ -131,27 +127,3 @@ abbrev pub canonical_result : Declared → List Text → Result (Option (List Te
 canonical_result options words =
     made_of (λ reading. written_line options.groups (content_of options reading))
     (line_result options words)
-
--- what `parse_ignoring_counts` answers to these words, memory aside
-abbrev pub IsReadAnswer : Declared → List Text → Result Matched Fault → Type 0
-IsReadAnswer options words answer =
-    MatchResult answer (HasReading options words) (HasNoReading options words)
-
--- The results are those of the relations, and no others.
-pub record HasResults (options : Declared) (words : List Text) : Type 0 where
-  pub parse : IsTheOnly (IsParseAnswer options words) (parse_result options words)
-  pub read : IsTheOnly (IsReadAnswer options words) (read_result options words)
-  pub canonical : IsTheOnly (IsCanonicalAnswer options words) (canonical_result options words)
-
--- what is seen of a call's answer is so, or memory is out
-abbrev pub GivesAs : {A X : Type 0} → (A → X) → Result A Fail → (Result X Fault → Type 0) → Type 0
-GivesAs see answer Is =
-    MatchResult answer (λ value. Is (Ok (see value))) (λ fail. Tells fail (λ fault. Is (Err fault)))
-
--- a call's answer is so, or memory is out
-abbrev pub Gives : {X : Type 0} → Result X Fail → (Result X Fault → Type 0) → Type 0
-Gives answer Is = GivesAs (λ value. value) answer Is
-
--- a call answers this result, or that memory is out
-abbrev pub GivesResult : {X : Type 0} → Result X Fail → Result X Fault → Type 0
-GivesResult answer result = Gives answer (λ it. result ≡ it)

@@ -1,5 +1,5 @@
 -- The main theorem: what `parse` answers to which words, and when two canonical lines are equal.
-use Rattle.std.specs.Prelude.{◌≡◌, ◌↔◌, ◌⊎◌, List}
+use Rattle.std.specs.Prelude.{◌≡◌, ◌↔◌, ◌⊎◌, Bool, List}
 use Rattle.getopts.specs.Accessors.{found_of, each_value}
 use Rattle.getopts.specs.Only.{AtMostOne}
 use Rattle.getopts.specs.Names.{Text, AreTexts}
@@ -9,8 +9,10 @@ use Rattle.getopts.specs.Reading.{Reading, IsScanFault}
 use Rattle.getopts.specs.Matches.{Matched, matches_of, IsCountFault}
 use Rattle.getopts.specs.Parse.{Reads, HasReading, IsAccepted, IsRefused}
 use Rattle.getopts.specs.Canon.{Content, content_of, IsPlain, canonical_line, IsCountKeeping, Says}
+use Rattle.getopts.specs.Canon.{with_setting}
+use Rattle.getopts.specs.declared.groups.ParsingStyle.{ParsingStyle}
 use Rattle.getopts.specs.CanonAnswers.{IsWritten}
-use Rattle.getopts.specs.Results.{HasResults}
+use Rattle.getopts.specs.Gives.{HasResults}
 
 -- words have one reading at most
 abbrev pub OneReading : Declared → Type 0
@@ -60,10 +62,11 @@ pub record ReadAgain (options : Declared) (line : List Text) (matches : Matched)
   pub accepted : IsAccepted options line again
   pub same : HoldSame matches again
 
--- A canonical line of words, read again, gives matches that hold the same as theirs.
+-- A canonical line of words, read again in any style and mode, gives matches that hold the same as theirs.
 abbrev pub LinesReadAgain : Declared → Type 0
 LinesReadAgain options = (words line : List Text) (matches : Matched) → IsWritten options words line
-    → HasReading options words matches → ReadAgain options line matches
+    → HasReading options words matches → (style : ParsingStyle) (long_only : Bool)
+    → ReadAgain (with_setting options style long_only) line matches
 
 -- The styles and modes, by which lines say the contents, may differ.
 -- Two plain contents have equal canonical lines exactly if they are equal.

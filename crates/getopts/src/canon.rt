@@ -20,6 +20,7 @@ use crate::options::Options;
 use crate::parse::words_from;
 use crate::scan::Line;
 use std::alloc::{AllocError, Global};
+use std::convert::AsStr;
 
 /// Whether a text holds `=`.
 fn holds_equals(text: &str) -> bool
@@ -98,7 +99,8 @@ impl Options {
     ghost use Rattle.std.specs.Iterator.{IsFinite};
     ghost use Rattle.std.specs.Iterator.Runs.{WholeRun};
     ghost use Rattle.getopts.specs.Parse.{IsRefused};
-    ghost use Rattle.getopts.specs.Results.{GivesAs, canonical_result};
+    ghost use Rattle.getopts.specs.Gives.{GivesAs};
+    ghost use Rattle.getopts.specs.Results.{canonical_result};
     ghost use Rattle.getopts.specs.CanonAnswers.{IsWritten, IsUnwritable, KeepsLineLaws};
     ghost use Rattle.getopts.specs.Theorem.{LinesReadAgain};
 
@@ -126,15 +128,15 @@ impl Options {
     ) -> Result<Option<Vec<String>>, Fail>
         requires can { I.can_next args }
         requires ends { IsFinite (I.remaining args) }
+        ensures result { GivesAs (option_map (λ line. map string_bytes line.items)) result
+            (λ answer. WholeRun I.next_gives args
+            (λ run. canonical_result self.now (texts run.items) ≡ answer)) }
         ensures written { IfOk result (λ answer. IfSome answer (λ line. WholeRun I.next_gives args
             (λ run. IsWritten self.now (texts run.items) (map string_bytes line.items)))) }
         ensures unwritable { IfOk result (λ answer. IfNone answer (WholeRun I.next_gives args
             (λ run. IsUnwritable self.now (texts run.items)))) }
         ensures refused { IfErr result (λ fail. Tells fail (λ fault. WholeRun I.next_gives args
             (λ run. IsRefused self.now (texts run.items) fault))) }
-        ensures result { GivesAs (option_map (λ line. map string_bytes line.items)) result
-            (λ answer. WholeRun I.next_gives args
-            (λ run. canonical_result self.now (texts run.items) ≡ answer)) }
         ensures laws { OnOk result (KeepsLineLaws self.now) }
         ensures read_again { OnOk result (LinesReadAgain self.now) }
     {
@@ -146,19 +148,19 @@ impl Options {
     ///
     /// No list of words is made for it, and its clauses are over the list itself. The Rust crate has no such
     /// call.
-    pub fn canonical_words(
+    pub fn canonical_words<S: AsStr>(
         &self,
         alloc: Global,
-        words: &[&str],
+        words: &[S],
     ) -> Result<Option<Vec<String>>, Fail>
-        ensures written { IfOk result (λ answer. IfSome answer (λ line.
-            IsWritten self.now (texts words.now) (map string_bytes line.items))) }
-        ensures unwritable { IfOk result (λ answer. IfNone answer
-            (IsUnwritable self.now (texts words.now))) }
-        ensures refused { IfErr result (λ fail. Tells fail
-            (IsRefused self.now (texts words.now))) }
         ensures result { GivesAs (option_map (λ line. map string_bytes line.items)) result
-            (λ answer. canonical_result self.now (texts words.now) ≡ answer) }
+            (λ answer. canonical_result self.now (map S.text words.now) ≡ answer) }
+        ensures written { IfOk result (λ answer. IfSome answer (λ line.
+            IsWritten self.now (map S.text words.now) (map string_bytes line.items))) }
+        ensures unwritable { IfOk result (λ answer. IfNone answer
+            (IsUnwritable self.now (map S.text words.now))) }
+        ensures refused { IfErr result (λ fail. Tells fail
+            (IsRefused self.now (map S.text words.now))) }
         ensures laws { OnOk result (KeepsLineLaws self.now) }
         ensures read_again { OnOk result (LinesReadAgain self.now) }
     {

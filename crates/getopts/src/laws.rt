@@ -7,7 +7,7 @@ ghost use Rattle.std.specs.Prelude.{List, Bool};
 ghost use Rattle.getopts.specs.Accessors.{held_names};
 ghost use Rattle.getopts.specs.CanonAnswers.{IsParseAnswer, IsCanonicalAnswer};
 ghost use Rattle.getopts.specs.CanonAnswers.{KeepsLineLaws};
-ghost use Rattle.getopts.specs.Results.{HasResults};
+ghost use Rattle.getopts.specs.Gives.{HasResults};
 ghost use Rattle.getopts.specs.Names.{AreTexts};
 ghost use Rattle.getopts.specs.Names.{Text, MainNameResolves, OneByteIsShort, EmptyResolvesNot};
 ghost use Rattle.getopts.specs.Only.{AtMostOne};

@@ -1,6 +1,6 @@
 //! Reading a line: its words are scanned, and then its counts are checked.
 
-ghost use Rattle.std.specs.Prelude.{◌≡◌, ◌↔◌, IsTrue, IfOk, IfErr, IfSome, OnOk, length};
+ghost use Rattle.std.specs.Prelude.{◌≡◌, ◌↔◌, IsTrue, IfOk, IfErr, IfSome, OnOk, length, map};
 ghost use Rattle.std.specs.Iterator.{IsFinite};
 ghost use Rattle.std.specs.Iterator.Runs.{WholeRun};
 ghost use Rattle.getopts.specs.Matches.{FitsCount, IsCountFault, KeepsCounts, count_fault, matched};
@@ -16,13 +16,15 @@ use crate::options::Options;
 use crate::scan::{FIRST_ROOM, Scanner, are_texts};
 use crate::table::Table;
 use std::alloc::{AllocError, Global};
+use std::convert::AsStr;
 
 impl Options {
     ghost use Rattle.getopts.specs.Options.{grammar_of};
     ghost use Rattle.getopts.specs.ReadingLaws.{HavePositionsBelow};
     ghost use Rattle.getopts.specs.Parse.{IsAccepted, IsRefused, HasReading, HasNoReading};
     ghost use Rattle.getopts.specs.Parse.{KeepsReadingLaws};
-    ghost use Rattle.getopts.specs.Results.{Gives, GivesResult, HasResults, parse_result};
+    ghost use Rattle.getopts.specs.Gives.{GivesAs, GivesResult, HasResults};
+    ghost use Rattle.getopts.specs.Results.{parse_result};
     ghost use Rattle.getopts.specs.Results.{read_result};
     ghost use Rattle.getopts.specs.Holds.{HoldDeclared, HoldGiven, HaveLastWordsFree, Accepts};
     ghost use Rattle.getopts.specs.Holds.{EndsInTrailing};
@@ -39,20 +41,20 @@ impl Options {
     /// `["--output=file", "x"]` all give `output` the value `file`, and the free word `x`.
     ///
     /// The Rust crate has no such call: its `parse` takes an iterator.
-    pub fn parse_words(&self, alloc: Global, words: &[&str]) -> crate::Result
-        ensures accepted { IfOk result (IsAccepted self.now (texts words.now)) }
+    pub fn parse_words<S: AsStr>(&self, alloc: Global, words: &[S]) -> crate::Result
+        ensures result { GivesResult result (parse_result self.now (map S.text words.now)) }
+        ensures accepted { IfOk result (IsAccepted self.now (map S.text words.now)) }
         ensures refused { IfErr result (λ fail. Tells fail
-            (IsRefused self.now (texts words.now))) }
-        ensures result { GivesResult result (parse_result self.now (texts words.now)) }
+            (IsRefused self.now (map S.text words.now))) }
 
         // What was found of each declared option is as it is declared.
         ensures declared { IfOk result (λ matches. HoldDeclared self.now matches.groups) }
         ensures positions_below { IfOk result (λ matches.
             HavePositionsBelow (length words.now) matches.groups) }
         ensures free_last { IfOk result (λ matches.
-            HaveLastWordsFree self.now (texts words.now) matches.free) }
+            HaveLastWordsFree self.now (map S.text words.now) matches) }
         ensures trailing { IfOk result (λ matches. IfSome matches.trailing_start
-            (EndsInTrailing (texts words.now) matches)) }
+            (EndsInTrailing (map S.text words.now) matches)) }
 
         // By these options: other spellings of a line, lines one after the other, and where free words and
         // occurrences stand.
@@ -69,14 +71,14 @@ impl Options {
     /// exactly where all words can be read. Then the matches are what the words give, though a required
     /// option may be missing and an option that may come once may have come again. The faults of
     /// the words themselves come as from `parse_words`. The Rust crate has no such call.
-    pub fn parse_ignoring_counts(&self, alloc: Global, words: &[&str]) -> crate::Result
-        ensures read { IfOk result (HasReading self.now (texts words.now)) }
+    pub fn parse_ignoring_counts<S: AsStr>(&self, alloc: Global, words: &[S]) -> crate::Result
+        ensures result { GivesResult result (read_result self.now (map S.text words.now)) }
+        ensures read { IfOk result (HasReading self.now (map S.text words.now)) }
         ensures refused { IfErr result (λ fail. Tells fail
-            (HasNoReading self.now (texts words.now))) }
-        ensures result { GivesResult result (read_result self.now (texts words.now)) }
+            (HasNoReading self.now (map S.text words.now))) }
         ensures given { IfOk result (λ matches. HoldGiven self.now matches.groups) }
         ensures trailing { IfOk result (λ matches. IfSome matches.trailing_start
-            (EndsInTrailing (texts words.now) matches)) }
+            (EndsInTrailing (map S.text words.now) matches)) }
     {
         let read = self.read_line(alloc, words)?;
         Ok(Matches::of_line(self.signatures().clone()?, read))
@@ -94,12 +96,12 @@ impl Options {
     ) -> crate::Result
         requires can { I.can_next args }
         requires ends { IsFinite (I.remaining args) }
+        ensures result { GivesAs (λ matches. matches) result (λ answer. WholeRun I.next_gives args
+            (λ run. parse_result self.now (texts run.items) ≡ answer)) }
         ensures accepted { IfOk result (λ matches. WholeRun I.next_gives args
             (λ run. Accepts self.now run.items matches)) }
         ensures refused { IfErr result (λ fail. Tells fail (λ fault. WholeRun I.next_gives args
             (λ run. IsRefused self.now (texts run.items) fault))) }
-        ensures result { Gives result (λ answer. WholeRun I.next_gives args
-            (λ run. parse_result self.now (texts run.items) ≡ answer)) }
         ensures declared { IfOk result (λ matches. HoldDeclared self.now matches.groups) }
         ensures laws { OnOk result (KeepsReadingLaws (grammar_of self.now)) }
     {
@@ -109,11 +111,11 @@ impl Options {
 
     /// Reads a line, and checks its counts.
     #[inline(always)]
-    pub(crate) fn accepted_line(&self, alloc: Global, words: &[&str]) -> Result<ReadLine, Fail>
-        ensures accepted { IfOk result (IsAcceptedLine self.now (texts words.now)) }
+    pub(crate) fn accepted_line<S: AsStr>(&self, alloc: Global, words: &[S]) -> Result<ReadLine, Fail>
+        ensures accepted { IfOk result (IsAcceptedLine self.now (map S.text words.now)) }
         ensures refused { IfErr result (λ fail. Tells fail
-            (IsRefused self.now (texts words.now))) }
-        ensures results { HasResults self.now (texts words.now) }
+            (IsRefused self.now (map S.text words.now))) }
+        ensures results { HasResults self.now (map S.text words.now) }
     {
         let read = self.read_line(alloc, words)?;
         check_counts(alloc, self.signatures(), &read)?;
@@ -122,11 +124,11 @@ impl Options {
 
     /// Reads a line, whatever its counts.
     #[inline(always)]
-    fn read_line(&self, alloc: Global, words: &[&str]) -> Result<ReadLine, Fail>
-        ensures read { IfOk result (IsReadLine self.now (texts words.now)) }
+    fn read_line<S: AsStr>(&self, alloc: Global, words: &[S]) -> Result<ReadLine, Fail>
+        ensures read { IfOk result (IsReadLine self.now (map S.text words.now)) }
         ensures refused { IfErr result (λ fail. Tells fail
-            (HasNoReading self.now (texts words.now))) }
-        ensures results { HasResults self.now (texts words.now) }
+            (HasNoReading self.now (map S.text words.now))) }
+        ensures results { HasResults self.now (map S.text words.now) }
     {
         are_texts(words);
         let signatures = self.signatures();

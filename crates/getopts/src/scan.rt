@@ -7,7 +7,7 @@ ghost use Rattle.std.specs.Option.{option_copied};
 ghost use Rattle.getopts.specs.Reading.{Dashes, IsScanFault, dash, holds_equals, is_dashed};
 ghost use Rattle.getopts.specs.Fail.{Tells};
 ghost use Rattle.std.specs.Str.{IsCharBoundary, IsUtf8};
-ghost use Rattle.getopts.specs.Names.{AreTexts, Text, texts};
+ghost use Rattle.getopts.specs.Names.{AreTexts, Text};
 ghost use Rattle.getopts.specs.Turn.{with_equals, first_char, chosen_end, Chooses};
 
 use crate::fail::Fail;
@@ -16,6 +16,7 @@ use crate::occurrences::LineOccurrences;
 use crate::options::Options;
 use crate::table::Table;
 use std::alloc::{AllocError, Global};
+use std::convert::AsStr;
 
 /// The first capacity of a list of words, and of what words give, at most: an iterator may give fewer than it
 /// promises. More words than that are counted before the first is read.
@@ -27,11 +28,11 @@ fn is_text(word: &str)
 {}
 
 /// Each word is UTF-8, as its type says: a law to cite, of which nothing is left once built.
-pub fn are_texts(words: &[&str])
-    ensures { AreTexts (texts words.now) }
+pub fn are_texts<S: AsStr>(words: &[S])
+    ensures { AreTexts (map S.text words.now) }
 {
     for word in words {
-        is_text(word);
+        is_text(word.as_str());
     }
 }
 
@@ -59,7 +60,7 @@ impl Line {
 
     /// Reserves for what many words give. Few words fit in what is there.
     #[inline(always)]
-    fn reserve(&mut self, words: &[&str], stops: bool) -> Result<(), AllocError>
+    fn reserve<S: AsStr>(&mut self, words: &[S], stops: bool) -> Result<(), AllocError>
         requires { IsEmptyLine self.old }
         ensures { OnOk result (IsEmptyLine self.new) }
     {
@@ -72,7 +73,7 @@ impl Line {
     /// Reserves for as many options as there are dashed words, and for as many free words as there are others.
     // Inlined it would make the scan slower.
     #[inline(never)]
-    fn reserve_many(&mut self, words: &[&str], stops: bool) -> Result<(), AllocError>
+    fn reserve_many<S: AsStr>(&mut self, words: &[S], stops: bool) -> Result<(), AllocError>
         requires { IsEmptyLine self.old }
         ensures { OnOk result (IsEmptyLine self.new) }
     {
@@ -112,13 +113,17 @@ fn push_copy(alloc: Global, copies: &mut Vec<String>, word: &str) -> Result<(), 
 }
 
 /// Adds copies of words.
-fn push_copies(alloc: Global, copies: &mut Vec<String>, words: &[&str]) -> Result<(), AllocError>
+fn push_copies<S: AsStr>(
+    alloc: Global,
+    copies: &mut Vec<String>,
+    words: &[S],
+) -> Result<(), AllocError>
     ensures { OnOk result (map string_bytes copies.new.items
-        ≡ map string_bytes copies.old.items ++ texts words.now) }
+        ≡ map string_bytes copies.old.items ++ map S.text words.now) }
 {
     copies.reserve(words.len())?;
     for word in words {
-        push_copy(alloc, copies, word)?;
+        push_copy(alloc, copies, word.as_str())?;
     }
     Ok(())
 }
@@ -161,10 +166,10 @@ fn is_dashed(word: &str) -> bool
 
 /// How many words are dashed, up to where the rest is free. It only says how much to reserve: a wrong
 /// number would cost memory alone.
-fn dashed_words(words: &[&str], stops: bool) -> usize {
+fn dashed_words<S: AsStr>(words: &[S], stops: bool) -> usize {
     let mut dashed: usize = 0;
     'words: for word in words {
-        match word.as_bytes() {
+        match word.as_str().as_bytes() {
             [b'-', b'-'] => break 'words,
             [b'-', _, ..] => dashed = dashed.saturating_add(1),
             _ if stops => break 'words,
@@ -186,24 +191,26 @@ fn first_character(text: &str) -> &str
 
 /// The value of an option of kind Yes or Maybe in a cluster, by the rest of its word and the words
 /// after that, and how many of those it uses.
-fn ending<'w>(
+fn ending<'w, S: AsStr>(
     alloc: Global,
     kind: HasArg,
     name: &str,
     rest: &'w str,
-    after: &[&'w str],
+    after: &'w [S],
 ) -> Result<(Option<&'w str>, usize), Fail>
     requires { kind ≢ HasArg.No }
     ensures ok { IfOk result (λ found. Chooses
-        (chosen_end kind name.now rest.now (texts after.now)) (option_copied found.0) found.1) }
+        (chosen_end kind name.now rest.now (map S.text after.now)) (option_copied found.0) found.1) }
     ensures err { IfErr result (λ fail. Tells fail (λ fault.
-        chosen_end kind name.now rest.now (texts after.now) ≡ Err fault)) }
+        chosen_end kind name.now rest.now (map S.text after.now) ≡ Err fault)) }
 {
     if !rest.is_empty() {
         return Ok((Some(rest), 0));
     }
     match after.first() {
-        Some(word) if kind == HasArg::Yes || !is_dashed(word) => Ok((Some(*word), 1)),
+        Some(word) if kind == HasArg::Yes || !is_dashed(word.as_str()) => {
+            Ok((Some(word.as_str()), 1))
+        }
         None if kind == HasArg::Yes => Err(Fail::argument_missing(alloc, name)),
         _ => Ok((None, 0)),
     }
@@ -229,22 +236,22 @@ impl<'o> Scanner<'o> {
 
     /// Reads an item in long form, by its text after the dashes and the words after its first. Adds
     /// its occurrence, and returns how many of those words it used.
-    fn long<'w>(
+    fn long<'w, S: AsStr>(
         &self,
         alloc: Global,
         text: &'w str,
-        after: &[&'w str],
+        after: &'w [S],
         position: usize,
         found: &mut LineOccurrences,
     ) -> Result<usize, Fail>
         requires lawful { IsLawfulScanner self.now }
         ensures ok { let grammar = scanner_grammar self.now in
             IfOk result (λ used. (dashes : Dashes)
-            → AddsItem grammar (long_turn grammar dashes text.now (texts after.now)) position used
+            → AddsItem grammar (long_turn grammar dashes text.now (map S.text after.now)) position used
             found.old found.new) }
         ensures err { let grammar = scanner_grammar self.now in
             IfErr result (λ fail. (dashes : Dashes) → Tells fail (λ fault.
-            long_turn grammar dashes text.now (texts after.now) ≡ faults fault)) }
+            long_turn grammar dashes text.now (map S.text after.now) ≡ faults fault)) }
     {
         let (name, argument) = name_and_argument(text);
         let (group, kind) = match self.option(name) {
@@ -255,7 +262,7 @@ impl<'o> Scanner<'o> {
             (HasArg::No, None) => (None, 0),
             (HasArg::No, Some(_)) => return Err(Fail::unexpected_argument(alloc, name)),
             (HasArg::Yes, None) => match after.first() {
-                Some(word) => (Some(*word), 1),
+                Some(word) => (Some(word.as_str()), 1),
                 None => return Err(Fail::argument_missing(alloc, name)),
             },
             (HasArg::Yes, Some(value)) => (Some(value), 0),
@@ -286,22 +293,22 @@ impl<'o> Scanner<'o> {
 
     /// Reads a cluster, by its text after the dash and the words after its first. Adds its occurrences,
     /// and returns how many of those words it used.
-    fn cluster(
+    fn cluster<S: AsStr>(
         &self,
         alloc: Global,
         text: &str,
-        after: &[&str],
+        after: &[S],
         position: usize,
         found: &mut LineOccurrences,
     ) -> Result<usize, Fail>
         requires lawful { IsLawfulScanner self.now }
         ensures ok { let grammar = scanner_grammar self.now in
             IfOk result (λ used.
-            AddsItem grammar (cluster_turn grammar [] text.now (texts after.now)) position used
+            AddsItem grammar (cluster_turn grammar [] text.now (map S.text after.now)) position used
             found.old found.new) }
         ensures err { let grammar = scanner_grammar self.now in
             IfErr result (λ fail. Tells fail (λ fault.
-            cluster_turn grammar [] text.now (texts after.now) ≡ faults fault)) }
+            cluster_turn grammar [] text.now (map S.text after.now) ≡ faults fault)) }
     {
         'names: for at in 0..text.len() {
             match self.option_at(text.as_bytes()[at]) {
@@ -339,27 +346,28 @@ impl<'o> Scanner<'o> {
     }
 
     /// Reads a line: its items, and what follows the stop or the first free word.
-    pub(crate) fn scan(&self, alloc: Global, words: &[&str]) -> Result<Line, Fail>
+    pub(crate) fn scan<S: AsStr>(&self, alloc: Global, words: &[S]) -> Result<Line, Fail>
         requires lawful { IsLawfulScanner self.now }
-        requires texts { AreTexts (texts words.now) }
+        requires texts { AreTexts (map S.text words.now) }
         ensures ok { IfOk result (λ line.
-            ReadsLine (scanner_grammar self.now) (texts words.now) line) }
+            ReadsLine (scanner_grammar self.now) (map S.text words.now) line) }
         ensures err { IfErr result (λ fail. Tells fail
-            (IsScanFault (scanner_grammar self.now) (texts words.now))) }
+            (IsScanFault (scanner_grammar self.now) (map S.text words.now))) }
     {
         let stops = self.options.style() == ParsingStyle::StopAtFirstFree;
         let mut line = Line::with_capacity(alloc, words.len().min(FIRST_ROOM))?;
         line.reserve(words, stops)?;
         let mut at = 0;
         'items: while at < words.len() {
+            let word = words[at].as_str();
             let after = &words[at + 1..];
-            at = match self.shape(words[at]) {
+            at = match self.shape(word) {
                 Shape::Free => {
                     if stops {
                         push_copies(alloc, &mut line.free, &words[at..])?;
                         return Ok(line);
                     }
-                    push_copy(alloc, &mut line.free, words[at])?;
+                    push_copy(alloc, &mut line.free, word)?;
                     at + 1
                 }
                 Shape::Stop => {

@@ -1,17 +1,17 @@
 //! What a line asks of the greeter.
 
-ghost use Rattle.std.specs.Prelude.{◌≡◌, IfOk, IfSome};
+ghost use Rattle.std.specs.Prelude.{◌≡◌, map, IfOk, IfSome};
 ghost use Rattle.std.specs.Str.Parse.{ParsesUnsigned};
 ghost use Rattle.getopts.specs.Accessors.{IsDefined, IsReadAs, first_value, found_of};
 ghost use Rattle.getopts.specs.Holds.{HoldDeclared};
-ghost use Rattle.getopts.specs.Names.{texts};
-ghost use Rattle.getopts.specs.Results.{GivesResult};
+ghost use Rattle.getopts.specs.Gives.{GivesResult};
 ghost use Rattle.getopts_greet.specs.Greeting.{IsAskedBy, asked_result, greeter_options};
 ghost use Rattle.getopts_greet.specs.declared.greeting.Refusal.TheVariants.{Line, Number};
 ghost use Rattle.getopts_greet.specs.declared.greeting.Refusal.TheVariants.{OutOfMemory};
 
 use getopts::{Fail, Matches, Options};
 use std::alloc::{AllocError, Global};
+use std::convert::AsStr;
 use std::num::ParseIntError;
 
 /// What a line asks for.
@@ -76,8 +76,8 @@ pub fn options(alloc: Global) -> Result<Options, AllocError>
 }
 
 /// What a line asks for. Faults come first, then help, then what is missing.
-pub fn read(alloc: Global, words: &[&str]) -> Result<Asked, Refusal>
-    ensures { IsAskedBy (asked_result (texts words.now)) result }
+pub fn read<S: AsStr>(alloc: Global, words: &[S]) -> Result<Asked, Refusal>
+    ensures { IsAskedBy (asked_result (map S.text words.now)) result }
 {
     let Some(matches) = matches_of(alloc, words)? else {
         return Ok(Asked::Help);
@@ -89,8 +89,8 @@ pub fn read(alloc: Global, words: &[&str]) -> Result<Asked, Refusal>
 }
 
 /// The matches of a line, or none where it asks for help. A required option may then be missing.
-fn matches_of(alloc: Global, words: &[&str]) -> Result<Option<Matches>, Fail>
-    ensures asked { GivesResult result (asked_result (texts words.now)) }
+fn matches_of<S: AsStr>(alloc: Global, words: &[S]) -> Result<Option<Matches>, Fail>
+    ensures asked { GivesResult result (asked_result (map S.text words.now)) }
     ensures declared { IfOk result (λ asked. IfSome asked (λ matches.
         HoldDeclared greeter_options matches.groups)) }
 {

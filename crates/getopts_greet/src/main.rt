@@ -21,11 +21,7 @@ fn main(rt: HostRuntime) -> ExitCode {
 /// Reads the program's words, and does what they ask for.
 fn run(rt: &HostRuntime) -> io::Result<u8> {
     let words = words(rt)?;
-    let mut lent = Vec::new(rt.alloc());
-    for word in &words {
-        lent.push(word.as_str())?;
-    }
-    match read(rt.alloc(), &lent) {
+    match read(rt.alloc(), &words) {
         Ok(Asked::Help) => help(rt),
         Ok(Asked::Greet(greeting)) => greet(rt, &greeting),
         Err(refusal) => refuse(rt, &refusal),

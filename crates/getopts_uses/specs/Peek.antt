@@ -10,11 +10,8 @@ use Rattle.getopts.specs.Accessors.{values_of}
 use Rattle.getopts.specs.Fail.{Fault, Tells}
 use Rattle.getopts.specs.Matches.{Matched}
 use Rattle.getopts.specs.Names.{Text}
-use Rattle.getopts.specs.Only.{IsTheOnly}
 use Rattle.getopts.specs.Options.{Declared, group_of}
-use Rattle.getopts.specs.Parse.{IsAccepted}
 use Rattle.getopts.specs.Results.{read_result, parse_result}
-use Rattle.getopts.specs.Usage.{IsUsageText, short_usage_text}
 use Rattle.getopts.specs.declared.groups.HasArg.TheVariants.{No, Yes, Maybe}
 use Rattle.getopts.specs.declared.groups.Occur.TheVariants.{Optional, Req, Multi}
 use Rattle.getopts.specs.declared.groups.ParsingStyle.TheVariants.{FloatingFrees}
@@ -81,15 +78,6 @@ IsAskedBy (Ok matches) (Err (Number error)) =
     (first_value (found_of matches.groups (codes "lines"))) (Err error))
 IsAskedBy (Err fault) result = ⊥
 
--- the tool's help: the usage text of its options under their short usage, and no other text
-abbrev pub IsPeekHelp : Text → Type 0
-IsPeekHelp text =
-    IsTheOnly (IsUsageText peek_options (short_usage_text peek_options (codes "peek"))) text
-
--- the words are accepted, and ask for these lines
-abbrev pub AskFor : List Text → Peek → Type 0
-AskFor words peek = (matches : Matched) × IsAccepted peek_options words matches × IsPeekOf matches peek
-
--- a line that was logged asks for the lines that the words ask for
-abbrev pub AsksTheSame : List Text → List Text → Type 0
-AsksTheSame words line = (peek : Peek) → AskFor words peek → AskFor line peek
+-- the tool's help, byte for byte
+abbrev pub peek_help : Text
+peek_help = codes "Usage: peek -n COUNT [-r] [-e TEXT].. [--color [WHEN]] [-h] [-V]\n\nOptions:\n    -n, --lines COUNT   print so many lines\n    -r, --reverse       print the last line first\n    -e, --match TEXT    print lines with TEXT\n        --color [WHEN]  colour the matches\n    -h, --help          print this help\n    -V, --version       print the version\n"

@@ -2,7 +2,8 @@
 
 ghost use Rattle.std.specs.Prelude.{◌≡◌, IfOk};
 ghost use Rattle.getopts.specs.Names.{texts};
-ghost use Rattle.getopts.specs.Results.{GivesResult, parse_result};
+ghost use Rattle.getopts.specs.Gives.{GivesResult};
+ghost use Rattle.getopts.specs.Results.{parse_result};
 ghost use Rattle.getopts_uses.specs.Log.{declared_by, log_options};
 
 use crate::row::Row;

@@ -7,6 +7,7 @@
 #![tactic(auto)]
 
 mod compile;
+mod driver;
 mod flag;
 mod lists;
 mod log;

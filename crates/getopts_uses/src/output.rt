@@ -1,35 +1,42 @@
 //! An optional argument: copied, and lent.
 
-ghost use Rattle.std.specs.Prelude.{◌≡◌, true, codes};
-ghost use Rattle.getopts.specs.Accessors.{IsDefined};
+ghost use Rattle.std.specs.Prelude.{◌≡◌, IfOk, codes};
+ghost use Rattle.getopts.specs.Accessors.{found_of};
+ghost use Rattle.getopts.specs.Names.{texts};
+ghost use Rattle.getopts.specs.Results.{parse_result};
+ghost use Rattle.getopts_uses.specs.Output.{IsOutputBy, is_out, output_options};
 
 use getopts::{Fail, Matches, Options};
-use std::alloc::Global;
+use std::alloc::{AllocError, Global};
 
-/// The output file of a line, if it names one.
-pub fn output_of(alloc: Global, words: &[&str]) -> Result<Option<String>, Fail> {
+/// An output, and a flag.
+fn options(alloc: Global) -> Result<Options, AllocError>
+    ensures { IfOk result (λ options. options ≡ output_options) }
+{
     let mut options = Options::new(alloc);
     options
         .optopt("o", "output", "set output file name", "NAME")?
         .optflagmulti("v", "verbose", "say more")?;
-    let matches = options.parse(alloc, words.iter().copied())?;
+    Ok(options)
+}
+
+/// The output file of a line, if it names one.
+pub fn output_of(alloc: Global, words: &[&str]) -> Result<Option<String>, Fail>
+    ensures { IsOutputBy (parse_result output_options (texts words.now)) result }
+{
+    let matches = options(alloc)?.parse_words(alloc, words)?;
     Ok(matches.opt_str(alloc, "output")?)
 }
 
-/// Whether one of the outputs is the standard output.
+/// Whether the output is the standard one.
 pub fn writes_out(matches: &Matches) -> bool
-    ensures { result ≡ true → IsDefined matches.now.groups (codes "output") }
+    ensures { result ≡ is_out (found_of matches.now.groups (codes "output")) }
 {
     let Some(place) = matches.opt_place("output") else {
         return false;
     };
-    let outputs = matches.occurrences_at(place);
-    for nth in 0..outputs.len() {
-        if let Some((_, Some(output))) = outputs.get(nth) {
-            if output == "-" {
-                return true;
-            }
-        }
+    match matches.occurrences_at(place).get(0) {
+        Some((_, Some(output))) => output == "-",
+        _ => false,
     }
-    false
 }

@@ -5,10 +5,10 @@ ghost use Rattle.std.specs.Str.Parse.{ParsesUnsigned};
 ghost use Rattle.getopts.specs.Accessors.{IsDefined, IsReadAs, first_value, found_of};
 ghost use Rattle.getopts.specs.Holds.{HoldDeclared, HoldGiven};
 ghost use Rattle.getopts.specs.Names.{texts};
-ghost use Rattle.getopts.specs.Results.{GivesResult};
+ghost use Rattle.getopts.specs.Gives.{GivesResult};
 ghost use Rattle.getopts_uses.specs.declared.peek.Refusal.TheVariants.{Line, Number, OutOfMemory};
-ghost use Rattle.getopts_uses.specs.Peek.{IsAskedBy, IsPeekHelp, asked_result};
-ghost use Rattle.getopts_uses.specs.Peek.{gives, peek_options};
+ghost use Rattle.getopts_uses.specs.Peek.{IsAskedBy, asked_result};
+ghost use Rattle.getopts_uses.specs.Peek.{gives, peek_help, peek_options};
 
 use getopts::{Fail, Matches, Options};
 use std::alloc::{AllocError, Global};
@@ -137,7 +137,7 @@ fn number(matches: &Matches, name: &str) -> Result<Option<u32>, ParseIntError>
 
 /// The tool's help: how it is called, and each of its options with what it does.
 pub fn help_text(alloc: Global) -> Result<String, AllocError>
-    ensures { IfOk result (λ text. IsPeekHelp (string_bytes text)) }
+    ensures { IfOk result (λ text. string_bytes text ≡ peek_help) }
 {
     let options = options(alloc)?;
     let brief = options.short_usage(alloc, "peek")?;

@@ -1,13 +1,19 @@
-//! An option in a helper that says of it what callers need.
+//! Options that say of a helper's caller what he needs: any that require an input.
 
-ghost use Rattle.std.specs.Prelude.{◌≡◌, IfOk, IsSome, Some, codes};
+ghost use Rattle.std.specs.Prelude.{◌≡◌, IfErr, IfOk, Some, Ok, Err, codes};
+ghost use Rattle.std.specs.String.{string_bytes};
+ghost use Rattle.getopts.specs.Accessors.{first_value, found_of};
+ghost use Rattle.getopts.specs.Fail.{Tells};
+ghost use Rattle.getopts.specs.Matches.{Matched};
+ghost use Rattle.getopts.specs.Names.{texts};
 ghost use Rattle.getopts.specs.Options.{kind_of, occur_of};
+ghost use Rattle.getopts.specs.Results.{parse_result};
 
 use getopts::{Fail, HasArg, Occur, Options};
 use std::alloc::{AllocError, Global};
 
-/// The options of the program.
-fn options(alloc: Global) -> Result<Options, AllocError>
+/// The options of a program.
+pub fn input_options(alloc: Global) -> Result<Options, AllocError>
     ensures argument { IfOk result (λ options.
         kind_of options.groups (codes "input") ≡ Some HasArg.Yes) }
     ensures required { IfOk result (λ options.
@@ -18,20 +24,16 @@ fn options(alloc: Global) -> Result<Options, AllocError>
     Ok(options)
 }
 
-/// How often input was given.
-pub fn input_count(alloc: Global, words: &[&str]) -> Result<usize, Fail>
-    ensures { IfOk result (λ count. count ≡ 1) }
+/// The input of a line, by any options that require one.
+pub fn input_of(alloc: Global, options: &Options, words: &[&str]) -> Result<String, Fail>
+    requires argument { kind_of options.now.groups (codes "input") ≡ Some HasArg.Yes }
+    requires required { occur_of options.now.groups (codes "input") ≡ Some Occur.Req }
+    ensures input { IfOk result (λ input. (matches : Matched)
+        × (parse_result options.now (texts words.now) ≡ Ok matches)
+        × (first_value (found_of matches.groups (codes "input")) ≡ Some (string_bytes input))) }
+    ensures refused { IfErr result (λ fail. Tells fail (λ fault.
+        parse_result options.now (texts words.now) ≡ Err fault)) }
 {
-    let options = options(alloc)?;
-    let matches = options.parse(alloc, words.iter().copied())?;
-    Ok(matches.opt_count("input"))
-}
-
-/// The input.
-pub fn input_of(alloc: Global, words: &[&str]) -> Result<Option<String>, Fail>
-    ensures { IfOk result (λ input. IsSome input) }
-{
-    let options = options(alloc)?;
-    let matches = options.parse(alloc, words.iter().copied())?;
-    Ok(matches.opt_str(alloc, "input")?)
+    let matches = options.parse_words(alloc, words)?;
+    Ok(matches.opt_str(alloc, "input")?.unwrap())
 }

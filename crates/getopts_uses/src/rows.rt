@@ -7,11 +7,12 @@ mod values;
 mod wrapped;
 
 use crate::compile::read_job;
+use crate::driver;
 use crate::log::read_log;
 use crate::logged::log_line;
 use crate::output::output_of;
 use crate::peek::{help_text, read_request};
-use crate::required::{input_count, input_of};
+use crate::required::{input_of, input_options};
 use crate::subcommand::read_command;
 use crate::wrapper::handed_on;
 use std::alloc::{AllocError, Global};
@@ -57,8 +58,8 @@ fn push_caller(
         "command" => push(text, read_command(alloc, words)),
         "log" => push(text, read_log(alloc, words).map(|matches| matches.free)),
         "output" => push(text, output_of(alloc, words)),
-        "input" => push(text, input_of(alloc, words)),
-        "input_count" => push(text, input_count(alloc, words)),
+        "driver" => push(text, driver::read_job(alloc, words)),
+        "input" => push(text, input_of(alloc, &input_options(alloc)?, words)),
         "fault" => faults::push_faults(alloc, text, words),
         "unreadable" => values::push_unreadable(alloc, text, words),
         "closures" => closures::push_texts(alloc, text),

@@ -11,6 +11,7 @@ use super::options::Options;
 use super::parse::words_from;
 use super::scan::Line;
 use crate::alloc::{AllocError, Global};
+use crate::convert::AsStr;
 
 /// Whether a text holds `=`.
 fn holds_equals(text: &str) -> bool {
@@ -98,10 +99,10 @@ impl Options {
     ///
     /// No list of words is made for it, and its clauses are over the list itself. The Rust crate has no such
     /// call.
-    pub fn canonical_words(
+    pub fn canonical_words<S: AsStr>(
         &self,
         alloc: Global,
-        words: &[&str],
+        words: &[S],
     ) -> Result<Option<Vec<String>>, Fail> {
         let accepted = self.accepted_line(alloc, words)?;
         let groups = self.groups();

@@ -11,6 +11,7 @@ use super::options::Options;
 use super::scan::{FIRST_ROOM, Scanner, are_texts};
 use super::table::Table;
 use crate::alloc::{AllocError, Global};
+use crate::convert::AsStr;
 
 impl Options {
     /// Reads the words of a line, without the program's own name.
@@ -24,7 +25,7 @@ impl Options {
     /// `["--output=file", "x"]` all give `output` the value `file`, and the free word `x`.
     ///
     /// The Rust crate has no such call: its `parse` takes an iterator.
-    pub fn parse_words(&self, alloc: Global, words: &[&str]) -> super::Result {
+    pub fn parse_words<S: AsStr>(&self, alloc: Global, words: &[S]) -> super::Result {
         let accepted = self.accepted_line(alloc, words)?;
         Ok(Matches::of_line(self.signatures().try_clone()?, accepted))
     }
@@ -36,7 +37,7 @@ impl Options {
     /// exactly where all words can be read. Then the matches are what the words give, though a required
     /// option may be missing and an option that may come once may have come again. The faults of
     /// the words themselves come as from `parse_words`. The Rust crate has no such call.
-    pub fn parse_ignoring_counts(&self, alloc: Global, words: &[&str]) -> super::Result {
+    pub fn parse_ignoring_counts<S: AsStr>(&self, alloc: Global, words: &[S]) -> super::Result {
         let read = self.read_line(alloc, words)?;
         Ok(Matches::of_line(self.signatures().try_clone()?, read))
     }
@@ -53,7 +54,11 @@ impl Options {
 
     /// Reads a line, and checks its counts.
     #[inline(always)]
-    pub(crate) fn accepted_line(&self, alloc: Global, words: &[&str]) -> Result<ReadLine, Fail> {
+    pub(crate) fn accepted_line<S: AsStr>(
+        &self,
+        alloc: Global,
+        words: &[S],
+    ) -> Result<ReadLine, Fail> {
         let read = self.read_line(alloc, words)?;
         check_counts(alloc, self.signatures(), &read)?;
         Ok(read)
@@ -61,7 +66,7 @@ impl Options {
 
     /// Reads a line, whatever its counts.
     #[inline(always)]
-    fn read_line(&self, alloc: Global, words: &[&str]) -> Result<ReadLine, Fail> {
+    fn read_line<S: AsStr>(&self, alloc: Global, words: &[S]) -> Result<ReadLine, Fail> {
         are_texts(words);
         let signatures = self.signatures();
         let table = Table::of(alloc, signatures)?;

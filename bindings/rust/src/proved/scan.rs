@@ -9,6 +9,7 @@ use super::occurrences::LineOccurrences;
 use super::options::Options;
 use super::table::Table;
 use crate::alloc::{AllocError, Global};
+use crate::convert::AsStr;
 
 /// The first capacity of a list of words, and of what words give, at most: an iterator may give fewer than it
 /// promises. More words than that are counted before the first is read.
@@ -18,9 +19,9 @@ pub(crate) const FIRST_ROOM: usize = 32;
 fn is_text(word: &str) {}
 
 /// Each word is UTF-8, as its type says: a law to cite, of which nothing is left once built.
-pub fn are_texts(words: &[&str]) {
+pub fn are_texts<S: AsStr>(words: &[S]) {
     for word in words {
-        is_text(word);
+        is_text(word.as_str());
     }
 }
 
@@ -43,7 +44,7 @@ impl Line {
 
     /// Reserves for what many words give. Few words fit in what is there.
     #[inline(always)]
-    fn try_grow(&mut self, words: &[&str], stops: bool) -> Result<(), AllocError> {
+    fn try_grow<S: AsStr>(&mut self, words: &[S], stops: bool) -> Result<(), AllocError> {
         if words.len() <= FIRST_ROOM {
             return Ok(());
         }
@@ -53,7 +54,7 @@ impl Line {
     /// Reserves for as many options as there are dashed words, and for as many free words as there are others.
     // Inlined it would make the scan slower.
     #[inline(never)]
-    fn reserve_many(&mut self, words: &[&str], stops: bool) -> Result<(), AllocError> {
+    fn reserve_many<S: AsStr>(&mut self, words: &[S], stops: bool) -> Result<(), AllocError> {
         let dashed = dashed_words(words, stops);
         self.found.try_grow(dashed)?;
         self.free.try_grow_exact(words.len().saturating_sub(dashed))
@@ -87,10 +88,14 @@ fn push_copy(alloc: Global, copies: &mut Vec<String>, word: &str) -> Result<(), 
 }
 
 /// Adds copies of words.
-fn push_copies(alloc: Global, copies: &mut Vec<String>, words: &[&str]) -> Result<(), AllocError> {
+fn push_copies<S: AsStr>(
+    alloc: Global,
+    copies: &mut Vec<String>,
+    words: &[S],
+) -> Result<(), AllocError> {
     copies.try_grow(words.len())?;
     for word in words {
-        push_copy(alloc, copies, word)?;
+        push_copy(alloc, copies, word.as_str())?;
     }
     Ok(())
 }
@@ -125,10 +130,10 @@ fn is_dashed(word: &str) -> bool {
 
 /// How many words are dashed, up to where the rest is free. It only says how much to reserve: a wrong
 /// number would cost memory alone.
-fn dashed_words(words: &[&str], stops: bool) -> usize {
+fn dashed_words<S: AsStr>(words: &[S], stops: bool) -> usize {
     let mut dashed: usize = 0;
     'words: for word in words {
-        match word.as_bytes() {
+        match word.as_str().as_bytes() {
             [b'-', b'-'] => break 'words,
             [b'-', _, ..] => dashed = dashed.saturating_add(1),
             _ if stops => break 'words,
@@ -148,18 +153,20 @@ fn first_character(text: &str) -> &str {
 
 /// The value of an option of kind Yes or Maybe in a cluster, by the rest of its word and the words
 /// after that, and how many of those it uses.
-fn ending<'w>(
+fn ending<'w, S: AsStr>(
     alloc: Global,
     kind: HasArg,
     name: &str,
     rest: &'w str,
-    after: &[&'w str],
+    after: &'w [S],
 ) -> Result<(Option<&'w str>, usize), Fail> {
     if !rest.is_empty() {
         return Ok((Some(rest), 0));
     }
     match after.first() {
-        Some(word) if kind == HasArg::Yes || !is_dashed(word) => Ok((Some(*word), 1)),
+        Some(word) if kind == HasArg::Yes || !is_dashed(word.as_str()) => {
+            Ok((Some(word.as_str()), 1))
+        }
         None if kind == HasArg::Yes => Err(Fail::argument_missing(alloc, name)),
         _ => Ok((None, 0)),
     }
@@ -175,11 +182,11 @@ impl<'o> Scanner<'o> {
 
     /// Reads an item in long form, by its text after the dashes and the words after its first. Adds
     /// its occurrence, and returns how many of those words it used.
-    fn long<'w>(
+    fn long<'w, S: AsStr>(
         &self,
         alloc: Global,
         text: &'w str,
-        after: &[&'w str],
+        after: &'w [S],
         position: usize,
         found: &mut LineOccurrences,
     ) -> Result<usize, Fail> {
@@ -192,7 +199,7 @@ impl<'o> Scanner<'o> {
             (HasArg::No, None) => (None, 0),
             (HasArg::No, Some(_)) => return Err(Fail::unexpected_argument(alloc, name)),
             (HasArg::Yes, None) => match after.first() {
-                Some(word) => (Some(*word), 1),
+                Some(word) => (Some(word.as_str()), 1),
                 None => return Err(Fail::argument_missing(alloc, name)),
             },
             (HasArg::Yes, Some(value)) => (Some(value), 0),
@@ -216,11 +223,11 @@ impl<'o> Scanner<'o> {
 
     /// Reads a cluster, by its text after the dash and the words after its first. Adds its occurrences,
     /// and returns how many of those words it used.
-    fn cluster(
+    fn cluster<S: AsStr>(
         &self,
         alloc: Global,
         text: &str,
-        after: &[&str],
+        after: &[S],
         position: usize,
         found: &mut LineOccurrences,
     ) -> Result<usize, Fail> {
@@ -258,20 +265,21 @@ impl<'o> Scanner<'o> {
     }
 
     /// Reads a line: its items, and what follows the stop or the first free word.
-    pub(crate) fn scan(&self, alloc: Global, words: &[&str]) -> Result<Line, Fail> {
+    pub(crate) fn scan<S: AsStr>(&self, alloc: Global, words: &[S]) -> Result<Line, Fail> {
         let stops = self.options.style() == ParsingStyle::StopAtFirstFree;
         let mut line = Line::of_capacity(alloc, words.len().min(FIRST_ROOM))?;
         line.try_grow(words, stops)?;
         let mut at = 0;
         'items: while at < words.len() {
+            let word = words[at].as_str();
             let after = &words[at + 1..];
-            at = match self.shape(words[at]) {
+            at = match self.shape(word) {
                 Shape::Free => {
                     if stops {
                         push_copies(alloc, &mut line.free, &words[at..])?;
                         return Ok(line);
                     }
-                    push_copy(alloc, &mut line.free, words[at])?;
+                    push_copy(alloc, &mut line.free, word)?;
                     at + 1
                 }
                 Shape::Stop => {

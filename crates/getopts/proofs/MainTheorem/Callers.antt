@@ -14,7 +14,7 @@ use Rattle.getopts.specs.Options.{Signature, Declared, MayBeDeclared, names_of, 
 use Rattle.getopts.specs.Options.{grammar_of}
 use Rattle.getopts.specs.Reading.{Reading, Mention, Occurrence, occurrences_of, free_words}
 use Rattle.getopts.specs.ReadingLaws.{mentions_of}
-use Rattle.getopts.specs.Canon.{Content, canonical_reading}
+use Rattle.getopts.specs.Canon.{Content, content_of, canonical_reading, with_setting}
 use Rattle.getopts.specs.CanonAnswers.{IsWritten, KeepsLineLaws}
 use Rattle.getopts.specs.Matches.{Found, Matched, found_at, matched, matches_of, KeepsCounts}
 use Rattle.getopts.specs.Accessors.{IsReadAs, place_of, found_in, found_of, each_value, first_value}
@@ -22,6 +22,11 @@ use Rattle.getopts.specs.Accessors.{first_value_or, is_present, values_of}
 use Rattle.getopts.specs.Parse.{Reads, HasReading, IsAccepted}
 use Rattle.getopts.specs.Theorem.{AcceptedExactlyWhen, HoldSame, OneContentHoldsSame}
 use Rattle.getopts.specs.Theorem.{LinesReadAgain}
+use Rattle.getopts.specs.Fail.{Fault}
+use Rattle.getopts.specs.Results.{parse_result}
+use Rattle.getopts.specs.declared.groups.ParsingStyle.{ParsingStyle}
+use Rattle.std.specs.Result.{result_map_both}
+pub use Rattle.getopts.proofs.MainTheorem.Accepted.{parse_result-accepted}
 use Rattle.getopts.proofs.Canonical.Lines.{KeepsCounts-mentions}
 use Rattle.getopts.proofs.Canonical.Answered.{reads_of}
 use Rattle.getopts.proofs.Held.Matches.{signatures-matched}
@@ -119,33 +124,37 @@ values-found_in (signature ∷ signatures) first zero old new same = values-foun
 values-found_in (signature ∷ signatures) first (suc i) old new same =
     values-found_in signatures (first + 1) i old new same
 
--- readings that mention the same have the same values of each name
-values-found_of : (options : Declared) (old new : Reading)
-    → mentions_of (grammar_of options) new ≡ mentions_of (grammar_of options) old → (name : Text)
-    → each_value (found_of (matches_of options new).groups name)
+-- Readings that mention the same, in styles and modes that may differ, have the same values of each name.
+values-found_of : (options : Declared) (style : ParsingStyle) (long_only : Bool)
+    → (old new : Reading)
+    → mentions_of (grammar_of (with_setting options style long_only)) new
+    ≡ mentions_of (grammar_of options) old → (name : Text)
+    → each_value (found_of (matches_of (with_setting options style long_only) new).groups name)
     ≡ each_value (found_of (matches_of options old).groups name)
-values-found_of options old new same name =
+values-found_of options style long_only old new same name =
+    let other = with_setting options style long_only in
     ap (λ (place : Option ℕ). each_value
-    (option_map_or (found_in (matches_of options new).groups) place []))
-    (resolves new)
+    (option_map_or (found_in (matches_of other new).groups) place []))
+    (resolves other new)
     ∙ here (resolution (names_of options.groups) name)
     ∙ ap (λ (place : Option ℕ). each_value
     (option_map_or (found_in (matches_of options old).groups) place []))
-    (sym (resolves old)) where
-      resolves : (reading : Reading)
-          → place_of (matches_of options reading).groups name
-          ≡ resolution (names_of options.groups) name
-      resolves reading = sym (place_of-groups options (matches_of options reading).groups
-          (signatures-matched 0 (signatures_of options.groups)
-          (occurrences_of (grammar_of options) reading)) name)
+    (sym (resolves options old)) where
+      resolves : (by : Declared) (reading : Reading)
+          → place_of (matches_of by reading).groups name
+          ≡ resolution (names_of by.groups) name
+      resolves by reading = sym (place_of-groups by (matches_of by reading).groups
+          (signatures-matched 0 (signatures_of by.groups)
+          (occurrences_of (grammar_of by) reading)) name)
 
       here : (place : Option ℕ)
-          → each_value (option_map_or (found_in (matches_of options new).groups) place [])
+          → each_value (option_map_or
+          (found_in (matches_of (with_setting options style long_only) new).groups) place [])
           ≡ each_value (option_map_or (found_in (matches_of options old).groups) place [])
       here None = refl
       here (Some i) = values-found_in (signatures_of options.groups) 0 i
           (occurrences_of (grammar_of options) old)
-          (occurrences_of (grammar_of options) new) same
+          (occurrences_of (grammar_of (with_setting options style long_only)) new) same
 
 first_of_values : List (Option Text) → Option Text
 first_of_values [] = None
@@ -183,11 +192,14 @@ each_value-values founds others same =
     ∙ sym (values_of-each others)
 
 -- readings with one content give matches that hold the same
-HoldSame-content : (options : Declared) (old new : Reading)
-    → mentions_of (grammar_of options) new ≡ mentions_of (grammar_of options) old
-    → free_words new ≡ free_words old → HoldSame (matches_of options old) (matches_of options new)
-HoldSame-content options old new same free =
-    record { values = values-found_of options old new same; free = free }
+HoldSame-content : (options : Declared) (style : ParsingStyle) (long_only : Bool)
+    → (old new : Reading)
+    → mentions_of (grammar_of (with_setting options style long_only)) new
+    ≡ mentions_of (grammar_of options) old
+    → free_words new ≡ free_words old
+    → HoldSame (matches_of options old) (matches_of (with_setting options style long_only) new)
+HoldSame-content options style long_only old new same free =
+    record { values = values-found_of options style long_only old new same; free = free }
 
 -- words with the content of accepted words are accepted, with matches that hold the same
 pub OneContentHoldsSame_lem : (options : Declared) → AcceptedExactlyWhen options
@@ -207,27 +219,75 @@ OneContentHoldsSame_lem options accepted_when words others old new matches accep
       (accepted_when others (matches_of options new)).1
           (new, record { reads = reads_new; keeps = keeps }, refl),
       subst (λ (those : Matched). HoldSame those (matches_of options new)) matches_are
-          (HoldSame-content options old new told free),
+          (HoldSame-content options options.style options.long_only old new told free),
     )
 
--- a canonical line, read again, gives matches that hold the same
-pub LinesReadAgain_lem : (options : Declared) → OneContentHoldsSame options → KeepsLineLaws options
-    → LinesReadAgain options
-LinesReadAgain_lem options holds_same line_laws words line matches written has =
+-- a canonical line, read again in any style and mode, gives matches that hold the same
+pub LinesReadAgain_lem : (options : Declared) → MayBeDeclared options.groups
+    → KeepsLineLaws options → LinesReadAgain options
+LinesReadAgain_lem options declared line_laws words line matches written has style long_only =
     let with = written.accepted in
-    let back = (line_laws words line written).reads_back options.style options.long_only in
-    let reads = (with.only with.reading).1 refl in
+    let other = with_setting options style long_only in
+    let back = (line_laws words line written).reads_back style long_only in
     let matches_are : matches ≡ matches_of options with.reading =
     has.matches_are
     ∙ ap (matches_of options) ((with.only has.reading).0 (reads_of options words matches has)) in
-    let counts : KeepsCounts matches.groups =
-    subst (λ (those : Matched). KeepsCounts those.groups) (sym matches_are) with.counts in
-    let there : Reads options line (canonical_reading options.groups written.content) =
-    rw written.line_is back.reads.reads in
-    let held = holds_same words line with.reading
-    (canonical_reading options.groups written.content) matches
-    (record { read = has; counts = counts }) reads there (back.same ∙ with.content_is) in
-    record { again = _; accepted = held.0; same = held.1 }
+    let reading = canonical_reading options.groups written.content in
+    let there : Reads other line reading = rw written.line_is back.reads.reads in
+    let said : content_of other reading ≡ content_of options with.reading =
+    back.same ∙ with.content_is in
+    record {
+      again = matches_of other reading;
+      accepted = record {
+        read = record {
+          reading = reading;
+          only = only_reads other declared line reading there;
+          matches_are = refl;
+        };
+        counts = back.reads.keeps;
+      };
+      same = subst (λ (those : Matched). HoldSame those (matches_of other reading))
+          (sym matches_are)
+          (HoldSame-content options style long_only with.reading reading
+          (ap (λ (content : Content). content.mentions) said)
+          (ap (λ (content : Content). content.free) said));
+    }
+
+-- What is seen of a line's matches is seen of its canonical line's too, in each style and mode.
+pub results_again : {X : Type 0} (see : Matched → X)
+    → ((m n : Matched) → HoldSame m n → see n ≡ see m) → (options : Declared)
+    → MayBeDeclared options.groups → LinesReadAgain options
+    → (words line : List Text) → IsWritten options words line
+    → (style : ParsingStyle) (long_only : Bool)
+    → result_map_both see (λ (fault : Fault). fault)
+    (parse_result (with_setting options style long_only) line)
+    ≡ result_map_both see (λ (fault : Fault). fault) (parse_result options words)
+results_again {X} see same options declared law words line written style long_only =
+    let with = written.accepted in
+    let m = matches_of options with.reading in
+    let has : HasReading options words m =
+    record { reading = with.reading; only = with.only; matches_are = refl } in
+    let back = law words line m written has style long_only in
+    let first = parse_result-accepted options declared words m
+    (record { read = has; counts = with.counts }) in
+    let second = parse_result-accepted (with_setting options style long_only) declared line
+    back.again back.accepted in
+    rw (first, second) (ap (λ (x : X). Ok x) (same m back.again back.same))
+
+-- the same of the line that `canonical_words` returns
+pub answer_again : {X Y : Type 0} (see : Matched → X)
+    → ((m n : Matched) → HoldSame m n → see n ≡ see m) → (options : Declared)
+    → MayBeDeclared options.groups → (words : List Text) (lines : Y → List Text)
+    → (answer : Result (Option Y) Fail) → OnOk answer (LinesReadAgain options)
+    → IfOk answer (λ line. IfSome line (λ y. IsWritten options words (lines y)))
+    → IfOk answer (λ line. IfSome line (λ y.
+    result_map_both see (λ (fault : Fault). fault) (parse_result options (lines y))
+    ≡ result_map_both see (λ (fault : Fault). fault) (parse_result options words)))
+answer_again see same options declared words lines (Ok (Some y)) law written =
+    results_again see same options declared law words (lines y) written options.style
+    options.long_only
+answer_again see same options declared words lines (Ok None) law written = tt
+answer_again see same options declared words lines (Err fail) law written = tt
 
 module _ (matches other : Matched) (same : HoldSame matches other) where
   -- Of matches that hold the same, an option's first value is the same.
@@ -271,7 +331,7 @@ pub lines_again : {X Y : Type 0} (Asks : Matched → X → Type 0)
     → ((m : Matched) × IsAccepted options words m × Asks m x)
     → (m : Matched) × IsAccepted options (see y) m × Asks m x))
 lines_again Asks again options words see (Ok (Some y)) law written = λ x asked.
-    let back = law words (see y) asked.0 written asked.1.read in
+    let back = law words (see y) asked.0 written asked.1.read options.style options.long_only in
     (back.again, back.accepted, again asked.0 back.again back.same x asked.2)
 lines_again Asks again options words see (Ok None) law written = tt
 lines_again Asks again options words see (Err fail) law written = tt

@@ -1,8 +1,9 @@
 -- The fault of the first group that breaks its count, computed.
 use Rattle.std.proofs.Common.{◌≡◌, ℕ, Bool, true, false, List, [], ◌∷◌, length, arith}
-use Rattle.std.proofs.Common.{Option, Some, None, MatchOption, refl, ap}
+use Rattle.std.proofs.Common.{Option, Some, None, MatchOption, refl, ap, subst}
 use Rattle.std.specs.Prelude.{if◌then◌else◌}
 use Rattle.std.proofs.lemmas.Bool.Decides.{nat_tests}
+use Rattle.getopts.proofs.Lists.{AllByRecursion-right}
 use Rattle.getopts.specs.Fail.{Fault}
 use Rattle.getopts.specs.Matches.{MatchedGroup, FitsCount, KeepsCount, KeepsCounts, IsCountFault}
 use Rattle.getopts.specs.declared.groups.Occur.{Occur}
@@ -65,3 +66,11 @@ pub first_count_fault-is : (groups : List MatchedGroup)
 first_count_fault-is [] = tt
 first_count_fault-is (group ∷ groups) = HaveFault-first group groups (first_count_fault-is groups)
     (fits_count group.signature.occurrence (length group.found)) refl
+
+-- groups that keep their counts have no fault
+pub no_fault : (groups : List MatchedGroup) → KeepsCounts groups → (fault : Option Fault)
+    → HaveFault groups fault → fault ≡ None
+no_fault groups kept None has = refl
+no_fault groups kept (Some fault) has = absurd (has.broken
+    (AllByRecursion-right KeepsCount has.before (has.group ∷ has.after)
+    (subst KeepsCounts has.groups_are kept)).0)

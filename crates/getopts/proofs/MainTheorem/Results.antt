@@ -16,11 +16,12 @@ use Rattle.getopts.specs.CanonAnswers.{IsParseAnswer, IsCanonicalAnswer, IsWritt
 use Rattle.getopts.specs.Results.{read, first_count_fault, unless_fault, with_counts_kept}
 use Rattle.getopts.specs.Results.{reading_result, line_result}
 use Rattle.getopts.specs.Results.{made_of, written_line, read_result, parse_result}
-use Rattle.getopts.specs.Results.{canonical_result, IsReadAnswer, HasResults, GivesResult, GivesAs}
+use Rattle.getopts.specs.Gives.{IsReadingOf, IsLineOf, IsReadAnswer, HasResults, GivesResult, GivesAs}
+use Rattle.getopts.specs.Results.{canonical_result}
 use Rattle.getopts.proofs.Canonical.Lines.{is_plain-true, is_plain-false, Says-accepted}
 use Rattle.getopts.proofs.Canonical.Lines.{IsSound-says, HasUnwritable-content}
 use Rattle.getopts.proofs.Canonical.Answered.{only_parse_answer, only_canonical_answer}
-use Rattle.getopts.proofs.Canonical.Answered.{only_matches, reads_of}
+use Rattle.getopts.proofs.Canonical.Answered.{only_matches, reads_of, not_refused}
 use Rattle.getopts.proofs.MainTheorem.FirstFault.{HaveFault, first_count_fault-is}
 use Rattle.getopts.proofs.Parsing.Faults.{Tells-weaker}
 use Rattle.getopts.proofs.Parsing.Only.{IsTheOnly-from}
@@ -62,11 +63,13 @@ module _ (options : Declared) (declared : MayBeDeclared options.groups) (words :
   counted : (reading : Reading) → IsReading (grammar_of options) reading words
       → (fault : Option Fault)
       → HaveFault (matches_of options reading).groups fault
-      → IsParseAnswer options words (made_of (matches_of options) (unless_fault reading fault))
+      → IsLineOf options words (unless_fault reading fault)
+      × IsParseAnswer options words (made_of (matches_of options) (unless_fault reading fault))
       × IsCanonicalAnswer options words
       (made_of (λ r. written_line options.groups (content_of options r))
       (unless_fault reading fault))
   counted reading reads None kept = (
+    record { reads = reads; keeps = kept },
     record { read = has_reading reading reads; counts = kept },
     written_answer reading (content_of options reading)
         (record {
@@ -83,11 +86,12 @@ module _ (options : Declared) (declared : MayBeDeclared options.groups) (words :
         read = has_reading reading reads;
         breaks = breaks;
       } in
-      (inr is, inr is)
+      (inr is, inr is, inr is)
 
   line_answers : AreTexts words → (outcome : Result Reading Fault)
       → IsSoundOutcome (grammar_of options) words outcome
-      → IsParseAnswer options words (made_of (matches_of options)
+      → IsLineOf options words (with_counts_kept options outcome)
+      × IsParseAnswer options words (made_of (matches_of options)
       (with_counts_kept options outcome))
       × IsCanonicalAnswer options words
       (made_of (λ r. written_line options.groups (content_of options r))
@@ -96,7 +100,34 @@ module _ (options : Declared) (declared : MayBeDeclared options.groups) (words :
       (first_count_fault (matches_of options reading).groups)
       (first_count_fault-is (matches_of options reading).groups)
   line_answers texts (Err fault) fails =
-      let is = HasNoReading-fault options declared words texts fault fails in (inl is, inl is)
+      let is = HasNoReading-fault options declared words texts fault fails in
+      (inl is, inl is, inl is)
+
+  reading_answer : AreTexts words → (outcome : Result Reading Fault)
+      → IsSoundOutcome (grammar_of options) words outcome → IsReadingOf options words outcome
+  reading_answer texts (Ok reading) reads = reads
+  reading_answer texts (Err fault) fails =
+      HasNoReading-fault options declared words texts fault fails
+
+  only_reading_answer : (answer other : Result Reading Fault) → IsReadingOf options words answer
+      → IsReadingOf options words other → answer ≡ other
+  only_reading_answer (Ok a) (Ok b) is also =
+      ap Ok ((only_reads options declared words b also a).0 is)
+  only_reading_answer (Ok a) (Err fault) is also = absurd (also.no_reading a is)
+  only_reading_answer (Err fault) (Ok b) is also = absurd (is.no_reading b also)
+  only_reading_answer (Err fault) (Err other) is also =
+      ap Err ((also.only fault).0 ((is.only fault).1 refl))
+
+  only_line_answer : (answer other : Result Reading Fault) → IsLineOf options words answer
+      → IsLineOf options words other → answer ≡ other
+  only_line_answer (Ok a) (Ok b) is also =
+      ap Ok ((only_reads options declared words b also.reads a).0 is.reads)
+  only_line_answer (Ok a) (Err fault) is also =
+      absurd (not_refused options words a fault is also)
+  only_line_answer (Err fault) (Ok b) is also =
+      absurd (not_refused options words b fault also is)
+  only_line_answer (Err fault) (Err other) is also =
+      let one = only_parse_answer options words (Err fault) (Err other) is also in cc
 
   read_answer : AreTexts words → (outcome : Result Reading Fault)
       → IsSoundOutcome (grammar_of options) words outcome
@@ -121,18 +152,23 @@ module _ (options : Declared) (declared : MayBeDeclared options.groups) (words :
       let sound = read_sound (grammar_of options)
       (named_here options declared) words texts _ refl in
       let line = line_answers texts (read (grammar_of options) words) sound in
+      let reading = reading_answer texts (read (grammar_of options) words) sound in
       record {
-        parse = IsTheOnly-from (IsParseAnswer options words) (parse_result options words) line.0
+        reading = IsTheOnly-from (IsReadingOf options words) (reading_result options words) reading
+            (λ other is. only_reading_answer other (reading_result options words) is reading);
+        line = IsTheOnly-from (IsLineOf options words) (line_result options words) line.0
+            (λ other is. only_line_answer other (line_result options words) is line.0);
+        parse = IsTheOnly-from (IsParseAnswer options words) (parse_result options words) line.1
             (λ other is. only_parse_answer options words other
-            (parse_result options words) is line.0);
+            (parse_result options words) is line.1);
         read = IsTheOnly-from (IsReadAnswer options words) (read_result options words)
             (read_answer texts (read (grammar_of options) words) sound)
             (λ other is. only_read_answer other (read_result options words) is
             (read_answer texts (read (grammar_of options) words) sound));
         canonical = IsTheOnly-from (IsCanonicalAnswer options words)
-            (canonical_result options words) line.1
+            (canonical_result options words) line.2
             (λ other is. only_canonical_answer options words other
-            (canonical_result options words) is line.1);
+            (canonical_result options words) is line.2);
       }
 
 -- A call that answers what is accepted, or the fault that words are refused with, answers the result.

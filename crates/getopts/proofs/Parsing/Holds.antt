@@ -260,49 +260,6 @@ HoldDeclared-accepted options words matches accepted =
       required = required-groups options matches.groups given.same_groups accepted.counts;
     }
 
--- the words of a tail end in its free words
-EndIn-tail : (tail : Tail) → EndIn (tail_words tail) (tail_frees tail)
-EndIn-tail line_end = ([], refl)
-EndIn-tail (stop words) = (stop_word ∷ [], refl)
-EndIn-tail (rest words) = ([], refl)
-
--- under `StopAtFirstFree` no item is free
-no_free_items : (grammar : Grammar) → grammar.style ≡ StopAtFirstFree → (items : List Item)
-    → AllByRecursion (IsLawfulItem grammar) items → free_items items ≡ []
-no_free_items grammar style [] lawful = refl
-no_free_items grammar style (free word ∷ items) lawful =
-    let floating : grammar.style ≡ FloatingFrees = lawful.0.1 in absurd cc
-no_free_items grammar style (long dashes name argument ∷ items) lawful =
-    no_free_items grammar style items lawful.1
-no_free_items grammar style (cluster names end ∷ items) lawful =
-    no_free_items grammar style items lawful.1
-
--- under `StopAtFirstFree` the words of a reading end in its free words
-EndIn-reading : (grammar : Grammar) (reading : Reading) (words : List Text)
-    → IsReading grammar reading words → grammar.style ≡ StopAtFirstFree
-    → EndIn words (free_words reading)
-EndIn-reading grammar reading words reads style =
-    let tail = EndIn-tail reading.tail in
-    let front = spelled_all reading.items [] in
-    let none : free_words reading ≡ tail_frees reading.tail =
-    ap (λ (frees : List Text). frees ++ tail_frees reading.tail)
-    (no_free_items grammar style reading.items reads.items) in
-    let joined : front ++ (tail.0 ++ tail_frees reading.tail) ≡ (front ++ tail.0)
-    ++ tail_frees reading.tail = simp append_assoc in
-    let parts : words ≡ front ++ tail_words reading.tail = sym reads.spells
-    ∙ spelled_all-append reading.items [] (tail_words reading.tail) in (
-      front ++ tail.0,
-      parts ∙ ap (λ (ws : List Text). front ++ ws) tail.1 ∙ joined
-          ∙ ap (λ (ws : List Text). (front ++ tail.0) ++ ws) (sym none),
-    )
-
--- under `StopAtFirstFree` the words end in the free words that matches hold
-pub HaveLastWordsFree-read : (options : Declared) (words : List Text) (matches : Matched)
-    → HasReading options words matches → HaveLastWordsFree options words matches.free
-HaveLastWordsFree-read options words matches has style =
-    subst (EndIn words) (ap (λ (m : Matched). m.free) (sym has.matches_are))
-    (EndIn-reading (grammar_of options) has.reading words ((has.only has.reading).1 refl) style)
-
 -- the words end in the free words from the trailing start on, after `--`
 pub EndsInTrailing-read : (options : Declared) (words : List Text) (matches : Matched)
     → HasReading options words matches
@@ -327,14 +284,3 @@ EndsInTrailing-read options words matches has = here matches.trailing_start refl
             ∙ ap (λ (tail : Tail). spelled_all has.reading.items (tail_words tail)) tail_is
             ∙ spelled_all-append has.reading.items [] (stop_word ∷ drop start matches.free);
       }
-
--- what accepted words tell of their matches
-pub Accepts-accepted : (options : Declared) (words : List (Bor Text)) (matches : Matched)
-    → IsAccepted options (texts words) matches → Accepts options words matches
-Accepts-accepted options words matches accepted = record {
-  accepted = accepted;
-  positions_below = subst (λ n. HavePositionsBelow n matches.groups) (length-texts words)
-      (positions_below-read options (texts words) matches accepted.read);
-  free_last = HaveLastWordsFree-read options (texts words) matches accepted.read;
-  trailing = EndsInTrailing-read options (texts words) matches accepted.read;
-}

@@ -1,7 +1,7 @@
 -- The option that a word in long form begins, by its name, its kind and its argument.
-use Rattle.std.proofs.Common.{◌≡◌, ℕ, false, List, [], ◌∷◌, ◌++◌, length, drop, Option, Some, None}
+use Rattle.std.proofs.Common.{map, ◌≡◌, ℕ, false, List, [], ◌∷◌, ◌++◌, length, drop, Option, Some, None}
 use Rattle.std.proofs.Common.{Ok, refl, ap, ◌∙◌, slice_get, Bor}
-use Rattle.getopts.specs.Names.{Text, texts}
+use Rattle.getopts.specs.Names.{Text}
 use Rattle.getopts.specs.Options.{Grammar}
 use Rattle.getopts.specs.Reading.{Argument, none, attached, Dashes, long, argument_words}
 use Rattle.getopts.specs.Reading.{value_of, holds_equals, Occurrence, at_position}
@@ -66,14 +66,15 @@ module _ (grammar : Grammar) (dashes : Dashes) (text name : Text) (argument : Op
   }
 
 -- a list of borrowed words that has a first one
-pub texts-first : (words : List (Bor Text)) (word : Bor Text) → slice_get words 0 ≡ Some word
-    → texts words ≡ word.now ∷ drop 1 (texts words)
-texts-first [] word h = cc
-texts-first (x ∷ words) word h =
+pub texts-first : {X : Type 0} (text : X → Text) (words : List X) (word : X)
+    → slice_get words 0 ≡ Some word → map text words ≡ text word ∷ drop 1 (map text words)
+texts-first text [] word h = cc
+texts-first {X} text (x ∷ words) word h =
     let same : x ≡ word = cc in
-    ap (λ (y : Bor Text). y.now ∷ texts words) same
+    ap (λ (y : X). text y ∷ map text words) same
 
 -- a list of borrowed words that has no first one
-pub texts-none : (words : List (Bor Text)) → slice_get words 0 ≡ None → texts words ≡ []
-texts-none [] h = refl
-texts-none (x ∷ words) h = cc
+pub texts-none : {X : Type 0} (text : X → Text) (words : List X) → slice_get words 0 ≡ None
+    → map text words ≡ []
+texts-none text [] h = refl
+texts-none text (x ∷ words) h = cc

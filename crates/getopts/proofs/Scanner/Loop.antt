@@ -2,12 +2,14 @@
 -- goes on.
 use Rattle.std.proofs.Common.{Err, drop-cons, ◌≡◌, ◌<◌, ◌≤◌, ◌+◌, ℕ, List, [], ◌∷◌, ◌++◌, length}
 use Rattle.std.proofs.Common.{map, drop, refl, ap, ◌∙◌, sym, subst, append_assoc, arith, add-one}
-use Rattle.std.proofs.Common.{zero-add, false, add-zero, suc, get_or, Bor, not, eqb, Ok}
+use Rattle.std.proofs.Common.{zero-add, false, add-zero, suc, get_or, not, eqb, Ok}
 use Rattle.std.specs.Bool.{then_some}
 use Rattle.std.proofs.Math.Seq.{drop-append_seam}
-use Rattle.std.proofs.lemmas.List.{drop-map, append-nil, length-append, length-map}
+use Rattle.std.proofs.lemmas.List.{drop-map, append-nil, length-append, length-map, length-drop}
 use Rattle.std.proofs.lemmas.Bool.Decides.{nat_tests}
-use Rattle.getopts.specs.Names.{Text, AreTexts, texts}
+use Rattle.std.proofs.lemmas.Option.{slice_get_within, get_or_from_slice_get}
+use Rattle.std.specs.Prelude.{slice_get, Some}
+use Rattle.getopts.specs.Names.{Text, AreTexts}
 use Rattle.getopts.specs.Options.{Grammar}
 use Rattle.getopts.specs.Fail.{Tells}
 use Rattle.getopts.specs.Reading.{is_dashed, stop_word, Argument, none, separate, Item, free}
@@ -62,22 +64,30 @@ ReadSoFar-none grammar words = record {
 }
 
 -- what is left of borrowed words from a place on is the word there, and the others
-pub texts_from : (words : List (Bor Text)) (word : Bor Text) (at : ℕ) → at < length words
-    → drop at (texts words) ≡ (get_or words at word).now ∷ texts (drop (at + 1) words)
-texts_from words word at within =
-    rw (drop-map (λ (w : Bor Text). w.now) at words, add-one, drop-cons words at word)
+pub texts_from : {X : Type 0} (text : X → Text) (words : List X) (word : X) (at : ℕ)
+    → slice_get words at ≡ Some word
+    → drop at (map text words) ≡ text word ∷ map text (drop (at + 1) words)
+texts_from text words word at there =
+    let within = slice_get_within words at word there in
+    rw (
+      drop-map text at words,
+      add-one,
+      drop-cons words at word within,
+      get_or_from_slice_get words at word word there,
+    ) refl
 
 -- where the words after a stop begin
-pub trailing_after-stop : (start : ℕ) (words : List (Bor Text))
-    → then_some (not (eqb (length words) 0)) start ≡ trailing_after start (stop (texts words))
-trailing_after-stop start [] = refl
-trailing_after-stop start (word ∷ words) =
+pub trailing_after-stop : {X : Type 0} (text : X → Text) (start : ℕ) (words : List X)
+    → then_some (not (eqb (length words) 0)) start ≡ trailing_after start (stop (map text words))
+trailing_after-stop text start [] = refl
+trailing_after-stop text start (word ∷ words) =
     let some : eqb (suc (length words)) 0 ≡ false = grind (arith, nat_tests) in
     rw some refl
 
 -- as many texts as words
-pub length-texts : (words : List (Bor Text)) → length (texts words) ≡ length words
-length-texts words = simp length-map
+pub length-texts : {X : Type 0} (text : X → Text) (words : List X)
+    → length (map text words) ≡ length words
+length-texts text words = simp length-map
 
 -- an argument is one word of its own at most
 pub argument_words-most : (argument : Argument) → length (argument_words argument) ≤ 1
@@ -85,36 +95,37 @@ argument_words-most (separate word) = omega arith
 argument_words-most argument = omega arith
 
 -- A line of borrowed words that was read up to a place.
-module _ {grammar : Grammar} (named : IsNamed grammar) (words : List (Bor Text))
-    (are_texts : AreTexts (texts words)) {at : ℕ} {occurrences : List Occurrence} {frees : List Text}
-    (before : ReadSoFar grammar (texts words) at occurrences frees) where
+module _ {grammar : Grammar} (named : IsNamed grammar) {X : Type 0} (text : X → Text)
+    (words : List X)
+    (are_texts : AreTexts (map text words)) {at : ℕ} {occurrences : List Occurrence} {frees : List Text}
+    (before : ReadSoFar grammar (map text words) at occurrences frees) where
   -- what is left is a tail
   pub IsReading-tail : (tail : Tail)
-      → read grammar (drop at (texts words)) ≡ Ok (record { items = []; tail = tail })
-      → IsReading grammar (record { items = before.items; tail = tail }) (texts words)
-  IsReading-tail tail left = read_sound grammar named (texts words) are_texts
+      → read grammar (drop at (map text words)) ≡ Ok (record { items = []; tail = tail })
+      → IsReading grammar (record { items = before.items; tail = tail }) (map text words)
+  IsReading-tail tail left = read_sound grammar named (map text words) are_texts
       (Ok (record { items = before.items; tail = tail }))
       (before.reads ∙ ap (with_items before.items) left ∙ rw append-nil refl)
 
   -- A word stands there.
-  module _ (d : Bor Text) (within : at < length words) where
+  module _ (d : X) (there : slice_get words at ≡ Some d) where
     -- an item that it begins
     ReadSoFar-item : (item : Item) (argument : Argument) (newer : List Occurrence)
         (new_frees : List Text)
-        → turn grammar (get_or words at d).now (texts (drop (at + 1) words)) ≡ takes item argument
+        → turn grammar (text d) (map text (drop (at + 1) words)) ≡ takes item argument
         → newer ≡ occurrences ++ map (at_position at) (mentions grammar item)
         → new_frees ≡ frees ++ free_items (item ∷ [])
-        → ReadSoFar grammar (texts words) (at + 1 + length (argument_words argument)) newer
+        → ReadSoFar grammar (map text words) (at + 1 + length (argument_words argument)) newer
         new_frees
     ReadSoFar-item item argument newer new_frees said added freed =
-        let word = (get_or words at d).now in
-        let after = texts (drop (at + 1) words) in
-        let left = texts_from words d at within in
+        let word = text d in
+        let after = map text (drop (at + 1) words) in
+        let left = texts_from text words d at there in
         let used = argument_words argument in
         let sound : IsSoundTurn grammar word after (takes item argument) =
         subst (IsSoundTurn grammar word after) said (turn_sound grammar named word after) in
-        let next : drop (at + 1 + length used) (texts words) ≡ sound.0 =
-        drop_past (texts words) after word at (length used) left ∙ ap (drop (length used)) sound.1
+        let next : drop (at + 1 + length used) (map text words) ≡ sound.0 =
+        drop_past (map text words) after word at (length used) left ∙ ap (drop (length used)) sound.1
         ∙ drop-append_seam used sound.0 in
         record {
           items = before.items ++ item ∷ [];
@@ -144,57 +155,77 @@ module _ {grammar : Grammar} (named : IsNamed grammar) (words : List (Bor Text))
         }
 
     -- a free word
-    pub ReadSoFar-free : (new_frees : List Text) → is_dashed (get_or words at d).now ≡ false
-        → grammar.style ≡ FloatingFrees → new_frees ≡ frees ++ (get_or words at d).now ∷ []
-        → ReadSoFar grammar (texts words) (at + 1) occurrences new_frees
+    pub ReadSoFar-free : (new_frees : List Text) → is_dashed (text d) ≡ false
+        → grammar.style ≡ FloatingFrees → new_frees ≡ frees ++ text d ∷ []
+        → ReadSoFar grammar (map text words) (at + 1) occurrences new_frees
     ReadSoFar-free new_frees plain floating pushed =
-        subst (λ (next : ℕ). ReadSoFar grammar (texts words) next occurrences new_frees)
+        subst (λ (next : ℕ). ReadSoFar grammar (map text words) next occurrences new_frees)
         (add-zero (at + 1))
-        (ReadSoFar-item (free (get_or words at d).now) none occurrences new_frees
-        (turn_free grammar (get_or words at d).now (texts (drop (at + 1) words)) plain
+        (ReadSoFar-item (free (text d)) none occurrences new_frees
+        (turn_free grammar (text d) (map text (drop (at + 1) words)) plain
         ∙ rw floating refl)
         (sym (append-nil occurrences)) pushed)
 
     -- an item that a dashed word begins
     pub ReadSoFar-added : (said : Turn) (used : ℕ) (newer : List Occurrence)
-        → turn grammar (get_or words at d).now (texts (drop (at + 1) words)) ≡ said
+        → turn grammar (text d) (map text (drop (at + 1) words)) ≡ said
         → AddsItem grammar said at used occurrences newer
-        → ReadSoFar grammar (texts words) (at + 1 + used) newer frees
+        → ReadSoFar grammar (map text words) (at + 1 + used) newer frees
     ReadSoFar-added said used newer is adds = rw adds.used_is
         (ReadSoFar-item adds.item adds.argument newer frees (is ∙ adds.turn_is) adds.added
         (sym (append-nil frees) ∙ ap (λ (ws : List Text). frees ++ ws) (sym adds.no_free)))
 
+    -- the words that the item takes are there
+    pub used-within : (said : Turn) (used : ℕ) (newer : List Occurrence)
+        → turn grammar (text d) (map text (drop (at + 1) words)) ≡ said
+        → AddsItem grammar said at used occurrences newer → at + 1 + used ≤ length words
+    used-within said used newer is adds =
+        let word = text d in
+        let after = map text (drop (at + 1) words) in
+        let sound : IsSoundTurn grammar word after (takes adds.item adds.argument) =
+        subst (IsSoundTurn grammar word after) (is ∙ adds.turn_is)
+        (turn_sound grammar named word after) in
+        omega (
+          arith,
+          adds.used_is,
+          slice_get_within words at d there,
+          ap length sound.1,
+          length-append {A = Text},
+          length-map (drop (at + 1) words) text,
+          length-drop (at + 1) words,
+        )
+
     -- the tail of the line
     IsReading-ends : (tail : Tail)
-        → turn grammar (get_or words at d).now (texts (drop (at + 1) words)) ≡ ends tail
-        → IsReading grammar (record { items = before.items; tail = tail }) (texts words)
+        → turn grammar (text d) (map text (drop (at + 1) words)) ≡ ends tail
+        → IsReading grammar (record { items = before.items; tail = tail }) (map text words)
     IsReading-ends tail said = IsReading-tail tail
-        (ap (read grammar) (texts_from words d at within) ∙ read_tail grammar _ _ tail said)
+        (ap (read grammar) (texts_from text words d at there) ∙ read_tail grammar _ _ tail said)
 
     -- the rest, from a free word on
-    pub IsReading-rest : is_dashed (get_or words at d).now ≡ false → grammar.style ≡ StopAtFirstFree
-        → IsReading grammar (record { items = before.items; tail = rest (drop at (texts words)) })
-        (texts words)
-    IsReading-rest plain stops = IsReading-ends (rest (drop at (texts words)))
-        (turn_free grammar (get_or words at d).now (texts (drop (at + 1) words)) plain
-        ∙ rw (stops, texts_from words d at within) refl)
+    pub IsReading-rest : is_dashed (text d) ≡ false → grammar.style ≡ StopAtFirstFree
+        → IsReading grammar (record { items = before.items; tail = rest (drop at (map text words)) })
+        (map text words)
+    IsReading-rest plain stops = IsReading-ends (rest (drop at (map text words)))
+        (turn_free grammar (text d) (map text (drop (at + 1) words)) plain
+        ∙ rw (stops, texts_from text words d at there) refl)
 
     -- the stop, and the words after it
-    pub IsReading-stop : (get_or words at d).now ≡ stop_word
+    pub IsReading-stop : text d ≡ stop_word
         → IsReading grammar
-        (record { items = before.items; tail = stop (texts (drop (at + 1) words)) }) (texts words)
-    IsReading-stop stops = IsReading-ends (stop (texts (drop (at + 1) words)))
-        (ap (λ (w : Text). turn grammar w (texts (drop (at + 1) words))) stops
-        ∙ turn_stop grammar (texts (drop (at + 1) words)))
+        (record { items = before.items; tail = stop (map text (drop (at + 1) words)) }) (map text words)
+    IsReading-stop stops = IsReading-ends (stop (map text (drop (at + 1) words)))
+        (ap (λ (w : Text). turn grammar w (map text (drop (at + 1) words))) stops
+        ∙ turn_stop grammar (map text (drop (at + 1) words)))
 
     -- a refusal that tells the fault of the word there
     pub Tells-word : (said : Turn) (fail : Fail)
-        → turn grammar (get_or words at d).now (texts (drop (at + 1) words)) ≡ said
+        → turn grammar (text d) (map text (drop (at + 1) words)) ≡ said
         → Tells fail (λ fault. said ≡ faults fault)
-        → Tells fail (IsScanFault grammar (texts words))
+        → Tells fail (IsScanFault grammar (map text words))
     Tells-word said fail is told =
-        Tells-weaker fail (λ fault. said ≡ faults fault) (IsScanFault grammar (texts words)) told
-        (λ fault fails. read_sound grammar named (texts words) are_texts (Err fault)
+        Tells-weaker fail (λ fault. said ≡ faults fault) (IsScanFault grammar (map text words)) told
+        (λ fault fails. read_sound grammar named (map text words) are_texts (Err fault)
         (before.reads ∙ ap (with_items before.items)
-        (ap (read grammar) (texts_from words d at within)
+        (ap (read grammar) (texts_from text words d at there)
         ∙ read_error grammar _ _ fault (is ∙ fails))))

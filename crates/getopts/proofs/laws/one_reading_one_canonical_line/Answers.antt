@@ -28,7 +28,7 @@ returns c =
       one_line_one_content = OneLineOneContent-options options declared;
       canonical_lines = HasCanonicalLine-options options declared;
       line_laws = line_laws;
-      read_again = LinesReadAgain_lem options holds_same line_laws;
+      read_again = LinesReadAgain_lem options declared line_laws;
       reading_laws = keeps_laws options declared;
       sound = IsSound-says options;
     }

@@ -9,16 +9,16 @@ use Rattle.getopts.proofs.Canonical.Answered.{HasReading-line}
 use Rattle.getopts.proofs.options.Options.accepted_line.Goals as goal
 
 pub returns-in_err-read-clause-refused : goal.returns-in_err-read-clause-refused
-returns-in_err-read-clause-refused c =
+returns-in_err-read-clause-refused g c =
     let left = err_from_is_err_and c.from_residual.result c.from_residual.ensures.1 in
     rw (left.1, left.2)
     (Tells-weaker c.in_err-read.field-0.0 _ _ c.in_err-read.ensures.refused (λ fault is. inl is))
 
 pub check_counts-requires : goal.check_counts-requires
-check_counts-requires c = rw (c.signatures.ensures.signatures) c.in_ok-read.ensures.read.of_groups
+check_counts-requires g c = rw (c.signatures.ensures.signatures) c.in_ok-read.ensures.read.of_groups
 
 pub returns-in_err-check_counts-clause-refused : goal.returns-in_err-check_counts-clause-refused
-returns-in_err-check_counts-clause-refused c =
+returns-in_err-check_counts-clause-refused g c =
     let line = c.in_ok-read.read.line in
     let left = err_from_is_err_and c.from_residual-in_err-check_counts.result
     c.from_residual-in_err-check_counts.ensures.1 in
@@ -36,7 +36,7 @@ returns-in_err-check_counts-clause-refused c =
     })))
 
 pub returns-clause-accepted : goal.returns-clause-accepted
-returns-clause-accepted c = record {
+returns-clause-accepted g c = record {
   is_read = c.in_ok-read.ensures.read;
   keeps = rw c.signatures.ensures.signatures at c.in_ok-check_counts.ensures.ok;
 }

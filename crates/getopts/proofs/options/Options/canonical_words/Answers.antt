@@ -6,39 +6,38 @@ use Rattle.getopts.specs.Theorem.{LinesReadAgain}
 use Rattle.std.proofs.lemmas.Result.{err_from_is_err_and}
 use Rattle.getopts.proofs.Canonical.Answered.{IsWritten-line, IsUnwritable-line, groups_within}
 use Rattle.getopts.proofs.Canonical.Answered.{KeepsLineLaws-lawful}
-use Rattle.getopts.proofs.MainTheorem.Callers.{OneContentHoldsSame_lem, LinesReadAgain_lem}
+use Rattle.getopts.proofs.MainTheorem.Callers.{LinesReadAgain_lem}
 use Rattle.getopts.proofs.MainTheorem.Results.{GivesResult-canonical}
-use Rattle.getopts.proofs.MainTheorem.Theorem.{AcceptedExactlyWhen-options}
 use Rattle.getopts.proofs.options.Options.canonical_words.Goals as goal
 
 pub are_plain-requires : goal.are_plain-requires
-are_plain-requires c =
+are_plain-requires g c =
     rw c.groups-groups.ensures.groups c.in_ok-accepted.ensures.accepted.is_read.of_groups
 
 pub canonical_line-requires : goal.canonical_line-requires
-canonical_line-requires c =
+canonical_line-requires g c =
     rw c.groups-groups.ensures.groups
     (groups_within _ _ c.in_ok-accepted.accepted c.in_ok-accepted.ensures.accepted)
 
 pub returns-in_ok-canonical_line-clause-written : goal.returns-in_ok-canonical_line-clause-written
-returns-in_ok-canonical_line-clause-written c =
+returns-in_ok-canonical_line-clause-written g c =
     IsWritten-line _ _ c.in_ok-accepted.accepted c.in_ok-accepted.ensures.accepted
     (sym (rw c.groups-groups.ensures.groups at c.are_plain.ensures) ∙ c.if-are_plain.true) _
     (rw c.groups-groups.ensures.groups at c.in_ok-canonical_line.ensures)
 
 pub returns-else-are_plain-clause-unwritable : goal.returns-else-are_plain-clause-unwritable
-returns-else-are_plain-clause-unwritable c =
+returns-else-are_plain-clause-unwritable g c =
     IsUnwritable-line _ _ c.in_ok-accepted.accepted c.in_ok-accepted.ensures.accepted
     (sym (rw c.groups-groups.ensures.groups at c.are_plain.ensures) ∙ c.if-are_plain.false)
 
 pub returns-in_ok-canonical_line-clause-laws : goal.returns-in_ok-canonical_line-clause-laws
-returns-in_ok-canonical_line-clause-laws c = KeepsLineLaws-lawful _ c.groups-groups.ensures.declared
+returns-in_ok-canonical_line-clause-laws g c = KeepsLineLaws-lawful _ c.groups-groups.ensures.declared
 
 pub returns-else-are_plain-clause-laws : goal.returns-else-are_plain-clause-laws
-returns-else-are_plain-clause-laws c = KeepsLineLaws-lawful _ c.groups-groups.ensures.declared
+returns-else-are_plain-clause-laws g c = KeepsLineLaws-lawful _ c.groups-groups.ensures.declared
 
 pub returns-in_err-accepted-clause-result : goal.returns-in_err-accepted-clause-result
-returns-in_err-accepted-clause-result c =
+returns-in_err-accepted-clause-result g c =
     let left = err_from_is_err_and c.from_residual.result c.from_residual.ensures.1 in
     rw (left.1, left.2)
     (GivesResult-canonical {Y = List Text} _ _ c.in_err-accepted.ensures.results (λ line. line)
@@ -46,24 +45,23 @@ returns-in_err-accepted-clause-result c =
     c.in_err-accepted.ensures.refused)
 
 pub returns-in_ok-canonical_line-clause-result : goal.returns-in_ok-canonical_line-clause-result
-returns-in_ok-canonical_line-clause-result c =
+returns-in_ok-canonical_line-clause-result g c =
     GivesResult-canonical {Y = List Text} _ _ c.in_ok-accepted.ensures.results (λ line. line)
     (Ok (Some _))
-    (returns-in_ok-canonical_line-clause-written c) tt tt
+    (returns-in_ok-canonical_line-clause-written g c) tt tt
 
 pub returns-else-are_plain-clause-result : goal.returns-else-are_plain-clause-result
-returns-else-are_plain-clause-result c =
+returns-else-are_plain-clause-result g c =
     GivesResult-canonical {Y = List Text} _ _ c.in_ok-accepted.ensures.results (λ line. line)
-    (Ok None) tt (returns-else-are_plain-clause-unwritable c) tt
+    (Ok None) tt (returns-else-are_plain-clause-unwritable g c) tt
 
 -- canonical lines are read again, by the laws above
 again : (options : Declared) → MayBeDeclared options.groups → LinesReadAgain options
-again options declared = LinesReadAgain_lem options
-    (OneContentHoldsSame_lem options (AcceptedExactlyWhen-options options declared))
-    (KeepsLineLaws-lawful options declared)
+again options declared =
+    LinesReadAgain_lem options declared (KeepsLineLaws-lawful options declared)
 
 pub returns-in_ok-canonical_line-clause-read_again : goal.returns-in_ok-canonical_line-clause-read_again
-returns-in_ok-canonical_line-clause-read_again c = again _ c.groups-groups.ensures.declared
+returns-in_ok-canonical_line-clause-read_again g c = again _ c.groups-groups.ensures.declared
 
 pub returns-else-are_plain-clause-read_again : goal.returns-else-are_plain-clause-read_again
-returns-else-are_plain-clause-read_again c = again _ c.groups-groups.ensures.declared
+returns-else-are_plain-clause-read_again g c = again _ c.groups-groups.ensures.declared

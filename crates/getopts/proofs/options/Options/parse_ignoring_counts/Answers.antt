@@ -8,25 +8,25 @@ use Rattle.getopts.proofs.MainTheorem.Results.{GivesResult-read}
 use Rattle.getopts.proofs.options.Options.parse_ignoring_counts.Goals as goal
 
 pub returns-clause-read : goal.returns-clause-read
-returns-clause-read c =
+returns-clause-read g c =
     let signatures : c.in_ok-clone.field-0 ≡ signatures_of c.args.self.now.groups =
     c.in_ok-clone.ensures.cases ∙ c.signatures.ensures.signatures in
     rw (c.of_line.ensures, signatures)
     (HasReading-line _ _ c.in_ok-read.read c.in_ok-read.ensures.read)
 
 pub returns-clause-given : goal.returns-clause-given
-returns-clause-given c = HoldGiven-read _ _ _ (returns-clause-read c)
+returns-clause-given g c = HoldGiven-read _ _ _ (returns-clause-read g c)
 
 pub returns-clause-trailing : goal.returns-clause-trailing
-returns-clause-trailing c = EndsInTrailing-read _ _ _ (returns-clause-read c)
+returns-clause-trailing g c = EndsInTrailing-read _ _ _ (returns-clause-read g c)
 
 pub returns-in_err-read-clause-result : goal.returns-in_err-read-clause-result
-returns-in_err-read-clause-result c =
+returns-in_err-read-clause-result g c =
     let left = err_from_is_err_and c.from_residual.result c.from_residual.ensures.1 in
     rw (left.1, left.2)
     (GivesResult-read _ _ c.in_err-read.ensures.results (Err c.in_err-read.field-0.0) tt
     c.in_err-read.ensures.refused)
 
 pub returns-clause-result : goal.returns-clause-result
-returns-clause-result c =
-    GivesResult-read _ _ c.in_ok-read.ensures.results (Ok c.of_line.result) (returns-clause-read c) tt
+returns-clause-result g c =
+    GivesResult-read _ _ c.in_ok-read.ensures.results (Ok c.of_line.result) (returns-clause-read g c) tt

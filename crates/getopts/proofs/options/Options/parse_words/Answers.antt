@@ -4,45 +4,47 @@ use Rattle.std.proofs.lemmas.Result.{err_from_is_err_and}
 use Rattle.getopts.specs.Options.{signatures_of}
 use Rattle.getopts.specs.ReadingLaws.{HavePositionsBelow}
 use Rattle.getopts.proofs.Canonical.Answered.{IsAccepted-line}
+use Rattle.getopts.proofs.MainTheorem.BeforeFree.{HaveLastWordsFree-accepted}
 use Rattle.getopts.proofs.MainTheorem.Results.{GivesResult-parse}
 use Rattle.getopts.proofs.Parsing.Parsed.{positions_below-read, keeps_laws}
 use Rattle.getopts.proofs.Scanner.Loop.{length-texts}
-use Rattle.getopts.proofs.Parsing.Holds.{HoldDeclared-accepted, HaveLastWordsFree-read}
+use Rattle.getopts.proofs.Parsing.Holds.{HoldDeclared-accepted}
 use Rattle.getopts.proofs.Parsing.Holds.{EndsInTrailing-read}
 use Rattle.getopts.proofs.options.Options.parse_words.Goals as goal
 
 pub returns-clause-accepted : goal.returns-clause-accepted
-returns-clause-accepted c =
+returns-clause-accepted g c =
     let signatures : c.in_ok-clone.field-0 ≡ signatures_of c.args.self.now.groups =
     c.in_ok-clone.ensures.cases ∙ c.signatures.ensures.signatures in
     rw (c.of_line.ensures, signatures)
     (IsAccepted-line _ _ c.in_ok-accepted.accepted c.in_ok-accepted.ensures.accepted)
 
 pub returns-clause-declared : goal.returns-clause-declared
-returns-clause-declared c = HoldDeclared-accepted _ _ _ (returns-clause-accepted c)
+returns-clause-declared g c = HoldDeclared-accepted _ _ _ (returns-clause-accepted g c)
 
 pub returns-clause-positions_below : goal.returns-clause-positions_below
-returns-clause-positions_below c =
-    subst (λ n. HavePositionsBelow n c.of_line.result.groups) (length-texts c.args.words.now)
-    (positions_below-read _ _ _ (returns-clause-accepted c).read)
+returns-clause-positions_below g c =
+    subst (λ n. HavePositionsBelow n c.of_line.result.groups) (length-texts g.S.AsStr.text c.args.words.now)
+    (positions_below-read _ _ _ (returns-clause-accepted g c).read)
 
 pub returns-clause-free_last : goal.returns-clause-free_last
-returns-clause-free_last c = HaveLastWordsFree-read _ _ _ (returns-clause-accepted c).read
+returns-clause-free_last g c =
+    HaveLastWordsFree-accepted _ c.signatures.ensures.declared _ _ (returns-clause-accepted g c)
 
 pub returns-clause-trailing : goal.returns-clause-trailing
-returns-clause-trailing c = EndsInTrailing-read _ _ _ (returns-clause-accepted c).read
+returns-clause-trailing g c = EndsInTrailing-read _ _ _ (returns-clause-accepted g c).read
 
 pub returns-clause-laws : goal.returns-clause-laws
-returns-clause-laws c = keeps_laws c.args.self.now c.signatures.ensures.declared
+returns-clause-laws g c = keeps_laws c.args.self.now c.signatures.ensures.declared
 
 pub returns-in_err-accepted-clause-result : goal.returns-in_err-accepted-clause-result
-returns-in_err-accepted-clause-result c =
+returns-in_err-accepted-clause-result g c =
     let left = err_from_is_err_and c.from_residual.result c.from_residual.ensures.1 in
     rw (left.1, left.2)
     (GivesResult-parse _ _ c.in_err-accepted.ensures.results (Err c.in_err-accepted.field-0.0) tt
     c.in_err-accepted.ensures.refused)
 
 pub returns-clause-result : goal.returns-clause-result
-returns-clause-result c =
+returns-clause-result g c =
     GivesResult-parse _ _ c.in_ok-accepted.ensures.results (Ok c.of_line.result)
-    (returns-clause-accepted c) tt
+    (returns-clause-accepted g c) tt

@@ -7,7 +7,7 @@ use Rattle.getopts.proofs.Held.Signatures.{names-signatures_of}
 use Rattle.getopts.proofs.options.Options.read_line.Goals as goal
 
 pub scan-requires : goal.scan-requires
-scan-requires c = record {
+scan-requires g c = record {
   lawful = record {
     declared = c.signatures-signatures.ensures.declared;
     table = rw (
@@ -19,7 +19,7 @@ scan-requires c = record {
 }
 
 pub returns-in_err-line-clause-refused : goal.returns-in_err-line-clause-refused
-returns-in_err-line-clause-refused c =
+returns-in_err-line-clause-refused g c =
     let left = err_from_is_err_and c.from_residual-in_err-line.result
     c.from_residual-in_err-line.ensures.1 in
     rw (left.1, left.2)
@@ -27,7 +27,7 @@ returns-in_err-line-clause-refused c =
     (HasNoReading-fault _ c.signatures-signatures.ensures.declared _ c.are_texts.ensures))
 
 pub returns-clause-read : goal.returns-clause-read
-returns-clause-read c = record {
+returns-clause-read g c = record {
   declared = c.signatures-signatures.ensures.declared;
   of_groups = record {
     table = rw c.signatures-signatures.ensures.signatures at c.in_ok-table.ensures;
@@ -38,17 +38,17 @@ returns-clause-read c = record {
 }
 
 pub returns-in_err-table-clause-results : goal.returns-in_err-table-clause-results
-returns-in_err-table-clause-results c =
+returns-in_err-table-clause-results g c =
     HasResults-declared _ c.signatures-signatures.ensures.declared _ c.are_texts.ensures
 
 pub returns-in_err-line-clause-results : goal.returns-in_err-line-clause-results
-returns-in_err-line-clause-results c =
+returns-in_err-line-clause-results g c =
     HasResults-declared _ c.signatures-signatures.ensures.declared _ c.are_texts.ensures
 
 pub returns-in_err-index-clause-results : goal.returns-in_err-index-clause-results
-returns-in_err-index-clause-results c =
+returns-in_err-index-clause-results g c =
     HasResults-declared _ c.signatures-signatures.ensures.declared _ c.are_texts.ensures
 
 pub returns-clause-results : goal.returns-clause-results
-returns-clause-results c =
+returns-clause-results g c =
     HasResults-declared _ c.signatures-signatures.ensures.declared _ c.are_texts.ensures

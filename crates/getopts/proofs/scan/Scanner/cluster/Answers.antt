@@ -14,12 +14,13 @@ use Rattle.getopts.proofs.Scanner.Clusters.{text_from}
 use Rattle.getopts.proofs.Scanner.Words.{slice_range-one}
 use Rattle.getopts.proofs.scan.Scanner.cluster.Goals as goal
 use Rattle.getopts.proofs.scan.Scanner.cluster.Goals.{In-Some}
+use Rattle.getopts.proofs.scan.Scanner.cluster.Given.{Over}
 
 pub names-init : goal.names-init
-names-init c = FlagsRead-none c.args.found.now c.utf8.text
+names-init g c = FlagsRead-none c.args.found.now c.utf8.text
 
 pub returns-in-None-clause-err : goal.returns-in-None-clause-err
-returns-in-None-clause-err c =
+returns-in-None-clause-err g c =
     let first = c.first_character-name.ensures
     ∙ ap first_char (c.range_from.ensures.value
     ∙ text_from c.args.text.now c.names.at (omega arith)) in
@@ -28,22 +29,22 @@ returns-in-None-clause-err c =
     (rw c.as_bytes.ensures.value at c.in-None.ensures.option)
     ∙ ap (λ name. faults (unrecognized_option name)) (sym first))
 
-after : (c : In-Some) → IsCharBoundary c.args.text.now (c.names.at + 1)
-after c = IsCharBoundary-after_ascii c.args.text.now c.names.at c.utf8.text (omega arith)
+after : (g : Over) (c : In-Some g) → IsCharBoundary c.args.text.now (c.names.at + 1)
+after g c = IsCharBoundary-after_ascii c.args.text.now c.names.at c.utf8.text (omega arith)
     (rw c.as_bytes.ensures.value at c.in-Some.ensures.ascii)
 
 pub range-name-requires-clause-start_boundary : goal.range-name-requires-clause-start_boundary
-range-name-requires-clause-start_boundary c = λ _. c.names.invariant.boundary
+range-name-requires-clause-start_boundary g c = λ _. c.names.invariant.boundary
 
 pub range-name-requires-clause-end_boundary : goal.range-name-requires-clause-end_boundary
-range-name-requires-clause-end_boundary c = after c
+range-name-requires-clause-end_boundary g c = after g c
 
 pub range_from-requires-in-Some : goal.range_from-requires-in-Some
-range_from-requires-in-Some c =
-    λ _. after (goal.at.range_from-requires-in-Some c).In-Some
+range_from-requires-in-Some g c =
+    λ _. after g (goal.at.range_from-requires-in-Some g c).In-Some
 
 pub returns-in-Some-clause-ok : goal.returns-in-Some-clause-ok
-returns-in-Some-clause-ok c =
+returns-in-Some-clause-ok g c =
     let option = rw c.as_bytes.ensures.value at c.in-Some.ensures.option in
     let name = c.range-name.ensures.value
     ∙ slice_range-one c.args.text.now c.names.at (omega arith) in
@@ -54,7 +55,7 @@ returns-in-Some-clause-ok c =
     c.in_ok-push-in-Some.ensures
 
 pub returns-in_err-value-in-Some-clause-err : goal.returns-in_err-value-in-Some-clause-err
-returns-in_err-value-in-Some-clause-err c =
+returns-in_err-value-in-Some-clause-err g c =
     let left = err_from_is_err_and c.from_residual-in_err-value-in-Some.result
     c.from_residual-in_err-value-in-Some.ensures.1 in
     let option = rw c.as_bytes.ensures.value at c.in-Some.ensures.option in
@@ -69,7 +70,7 @@ returns-in_err-value-in-Some-clause-err c =
     ∙ ap (chosen_turn (λ a. cluster bytes (ends_in byte a))) told))
 
 pub names-preserved : goal.names-preserved
-names-preserved c =
+names-preserved g c =
     let option = rw c.as_bytes.ensures.value at c.in-Some-default-No.ensures.option in
     FlagsRead-more (omega arith) c.names.invariant
     c.in-Some-default-No.group _ c.utf8.text
@@ -78,4 +79,4 @@ names-preserved c =
     c.in_ok-push-in-Some-default-No.ensures
 
 pub returns-clause-ok : goal.returns-clause-ok
-returns-clause-ok c = AddsItem-flags (omega arith) c.names.invariant
+returns-clause-ok g c = AddsItem-flags (omega arith) c.names.invariant

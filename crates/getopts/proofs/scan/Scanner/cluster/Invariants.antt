@@ -1,9 +1,9 @@
 -- The bytes before this place are flags, and their occurrences were added.
-use Rattle.getopts.specs.Names.{texts}
+use Rattle.std.proofs.Common.{map}
 use Rattle.getopts.specs.Held.Line.{scanner_grammar}
 use Rattle.getopts.proofs.Scanner.Clusters.{FlagsRead}
 use Rattle.getopts.proofs.scan.Scanner.cluster.Given as goal
 
 abbrev pub invariant-names : goal.invariant-names
-invariant-names l =
-    FlagsRead (scanner_grammar l.self) l.position l.text (texts l.after) l.at l.fn.found l.found
+invariant-names g l =
+    FlagsRead (scanner_grammar l.self) l.position l.text (map g.S.AsStr.text l.after) l.at l.fn.found l.found

@@ -1,5 +1,5 @@
 -- Each name of a known kind begins an item with its argument, or is a fault.
-use Rattle.std.proofs.Common.{Some, None, refl, rules}
+use Rattle.std.proofs.Common.{map, Some, None, refl, rules}
 use Rattle.std.specs.Option.{option_copied}
 use Rattle.getopts.specs.Fail.{argument_missing, unrecognized_option, unexpected_argument}
 use Rattle.getopts.specs.Names.{texts}
@@ -14,10 +14,10 @@ use Rattle.getopts.proofs.scan.Scanner.long.Goals.{in-No-None, in-Yes-None+in-So
 use Rattle.getopts.proofs.scan.Scanner.long.Goals.{in-Yes-Some, in-Maybe-default}
 
 pub returns-clause-ok : goal.returns-clause-ok
-returns-clause-ok c = λ dashes.
+returns-clause-ok g c = λ dashes.
     let name = c.name_and_argument.result.0.now in
     let argument = option_copied c.name_and_argument.result.1 in
-    let after = texts c.args.after.now in
+    let after = map g.S.AsStr.text c.args.after.now in
     let cut = c.name_and_argument.ensures in
     let named = c.in-Some.ensures in
     let chooses : Chooses (chosen_long c.in-Some.option.1 name argument after)
@@ -28,9 +28,10 @@ returns-clause-ok c = λ dashes.
             w.used-is,
             w.in-Yes-None.is-0,
             w.in-Yes-None.is-1,
-            texts-first c.args.after.now w.in-Some-first.word.now (search rules),
+            texts-first g.S.AsStr.text c.args.after.now w.in-Some-first.word.now (search rules),
+            w.as_str.ensures,
           )
-          (Chooses-ok (separate w.in-Some-first.word.now.now))
+          (Chooses-ok (separate (g.S.AsStr.text w.in-Some-first.word.now)))
       | in-Yes-Some w ↦
           rw (w.used-is, w.in-Yes-Some.is-0, w.in-Yes-Some.is-1)
           (Chooses-ok (attached w.in-Yes-Some.value.now))
@@ -43,29 +44,29 @@ returns-clause-ok c = λ dashes.
     c.in_ok-push.ensures
 
 pub returns-in-None-clause-err : goal.returns-in-None-clause-err
-returns-in-None-clause-err c = λ dashes.
+returns-in-None-clause-err g c = λ dashes.
     let name = c.name_and_argument.result.0.now in
     let cut = c.name_and_argument.ensures in
     Tells-long (scanner_grammar c.args.self.now) dashes c.args.text.now name
-    (option_copied c.name_and_argument.result.1) (texts c.args.after.now) cut.text cut.name None
+    (option_copied c.name_and_argument.result.1) (map g.S.AsStr.text c.args.after.now) cut.text cut.name None
     c.in-None.ensures c.unrecognized_option.result
     (unrecognized_option name) refl c.unrecognized_option.ensures
 
 pub returns-in-No-Some-clause-err : goal.returns-in-No-Some-clause-err
-returns-in-No-Some-clause-err c = λ dashes.
+returns-in-No-Some-clause-err g c = λ dashes.
     let name = c.name_and_argument.result.0.now in
     let cut = c.name_and_argument.ensures in
     Tells-long (scanner_grammar c.args.self.now) dashes c.args.text.now name
-    (Some c.in-No-Some.field-0-1.now) (texts c.args.after.now)
+    (Some c.in-No-Some.field-0-1.now) (map g.S.AsStr.text c.args.after.now)
     (rw c.in-No-Some.is-1 at cut.text) cut.name
     (Some No) (rw c.in-No-Some.is-0 at c.in-Some.ensures.1) c.unexpected_argument.result
     (unexpected_argument name) refl c.unexpected_argument.ensures
 
 pub returns-in-None-first-clause-err : goal.returns-in-None-first-clause-err
-returns-in-None-first-clause-err c = λ dashes.
+returns-in-None-first-clause-err g c = λ dashes.
     let name = c.name_and_argument.result.0.now in
     let cut = c.name_and_argument.ensures in
     Tells-long (scanner_grammar c.args.self.now) dashes c.args.text.now name None
-    (texts c.args.after.now) (rw c.in-Yes-None.is-1 at cut.text) cut.name (Some Yes)
+    (map g.S.AsStr.text c.args.after.now) (rw c.in-Yes-None.is-1 at cut.text) cut.name (Some Yes)
     (rw c.in-Yes-None.is-0 at c.in-Some.ensures.1) c.argument_missing.result (argument_missing name)
-    (rw (texts-none c.args.after.now (search rules)) refl) c.argument_missing.ensures
+    (rw (texts-none g.S.AsStr.text c.args.after.now (search rules)) refl) c.argument_missing.ensures

@@ -1,17 +1,16 @@
 -- The words before this place spell items, whose occurrences and free words were taken.
 use Rattle.std.proofs.Common.{◌≡◌, None, length, map, ◌-◌}
 use Rattle.std.specs.String.{string_bytes}
-use Rattle.getopts.specs.Names.{texts}
 use Rattle.getopts.specs.Held.Line.{scanner_grammar}
 use Rattle.getopts.proofs.Scanner.Loop.{ReadSoFar}
 use Rattle.getopts.proofs.scan.Scanner.scan.Given as goal
 
 abbrev pub invariant-items : goal.invariant-items
-invariant-items l = record {
-  read : ReadSoFar (scanner_grammar l.self) (texts l.words) l.at l.line.found
+invariant-items g l = record {
+  read : ReadSoFar (scanner_grammar l.self) (map g.S.AsStr.text l.words) l.at l.line.found
       (map string_bytes l.line.free.items);
   trailing : l.line.trailing_start ≡ None;
 }
 
 abbrev pub decreases-items : goal.decreases-items
-decreases-items l = length l.words - l.at
+decreases-items g l = length l.words - l.at

@@ -1,0 +1,38 @@
+-- The output file of a line.
+use Rattle.std.specs.Prelude.{◌≡◌, Bool, false, List, [], ◌∷◌, codes, Option, Result, Ok, Err}
+use Rattle.std.specs.Prelude.{String, string_bytes, slice_get}
+use Rattle.std.specs.Option.{option_map, option_map_or}
+use Rattle.std.specs.Str.{bytes_eq}
+use Rattle.getopts.specs.Accessors.{first_value, found_of}
+use Rattle.getopts.specs.Fail.{Fault, Tells}
+use Rattle.getopts.specs.Matches.{Found, Matched}
+use Rattle.getopts.specs.Options.{Declared, group_of}
+use Rattle.getopts.specs.declared.fail.Fail.{Fail}
+use Rattle.std.specs.declared.alloc.Global.{Global}
+use Rattle.getopts.specs.declared.groups.HasArg.TheVariants.{No, Yes}
+use Rattle.getopts.specs.declared.groups.Occur.TheVariants.{Optional, Multi}
+use Rattle.getopts.specs.declared.groups.ParsingStyle.TheVariants.{FloatingFrees}
+
+-- an output, and a flag
+abbrev pub output_options : Declared
+output_options = record {
+  groups =
+      group_of (codes "o") (codes "output") (codes "set output file name") (codes "NAME") Yes Optional
+      ∷ group_of (codes "v") (codes "verbose") (codes "say more") [] No Multi
+      ∷ [];
+  style = FloatingFrees;
+  long_only = false;
+}
+
+-- the output of a line's result, or its fault
+abbrev pub IsOutputBy : Result Matched Fault → Result (Option (String Global)) Fail → Type 0
+IsOutputBy line (Err fail) = Tells fail (λ fault. line ≡ Err fault)
+IsOutputBy (Ok matches) (Ok output) =
+    option_map string_bytes output ≡ first_value (found_of matches.groups (codes "output"))
+IsOutputBy (Err fault) (Ok output) = ⊥
+
+-- whether an output is the standard one
+abbrev pub is_out : List Found → Bool
+is_out founds =
+    option_map_or (λ found. option_map_or (λ value. bytes_eq value (codes "-")) found.value false)
+    (slice_get founds 0) false
